@@ -1,0 +1,18 @@
+//! What every crate of the server speaks of: the numbers of sessions, channels and accounts,
+//! permission bits, the rules for names and texts, and lists that contracts see as lists.
+#![tactic(auto)]
+
+pub mod items;
+pub mod name;
+pub mod number;
+pub mod perm;
+pub mod steps;
+
+pub use items::{Items, Octets, OutOfMemory, Text};
+pub use name::{NameFault, check_name, check_text};
+pub use number::{AccountId, Cause, ChannelId, SessionId, Slot};
+pub use perm::Perm;
+pub use steps::Steps;
+
+#[cfg(test)]
+mod tests;

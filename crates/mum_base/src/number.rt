@@ -1,0 +1,36 @@
+//! The numbers by which sessions, channels and accounts are named on the wire.
+
+/// The number of a session. Numbers are given in order from 1 and never given again.
+#[derive(Clone, Copy, Debug, PartialEq, Eq, PartialOrd, Ord, Hash)]
+pub struct SessionId(pub u32);
+
+/// The number of a channel. The root is channel 0.
+#[derive(Clone, Copy, Debug, PartialEq, Eq, PartialOrd, Ord, Hash)]
+pub struct ChannelId(pub u32);
+
+/// The number of an account. Account 0 is SuperUser.
+#[derive(Clone, Copy, Debug, PartialEq, Eq, PartialOrd, Ord, Hash)]
+pub struct AccountId(pub u32);
+
+/// The place that a session holds while it is connected, below 128. It is given again once it is free.
+#[derive(Clone, Copy, Debug, PartialEq, Eq, PartialOrd, Ord, Hash)]
+pub struct Slot(pub u8);
+
+/// Why a connection was closed.
+#[derive(Clone, Copy, Debug, PartialEq, Eq)]
+pub enum Cause {
+    /// The peer ended its stream.
+    End,
+    /// The stream failed.
+    LinkFault,
+    /// A frame named a payload above the limit.
+    FrameTooLong,
+    /// The login was rejected.
+    Rejected,
+    /// The session was kicked.
+    Kicked,
+    /// A box of the session was full.
+    Lagged,
+    /// Memory ran out. This cause stands in journals alone.
+    Memory,
+}

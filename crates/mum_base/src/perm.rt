@@ -1,0 +1,81 @@
+//! Permission bits, as the Murmur manual and the `ACL` message number them.
+
+ghost use Rattle.std.specs.Prelude.{◌≡◌, ◌↔◌, IsTrue, bit_or};
+ghost use Rattle.mum_base.specs.Perm.{Holds, without_bits};
+
+/// A set of permissions, a bit for each.
+#[derive(Clone, Copy, Debug, PartialEq, Eq, Hash)]
+pub struct Perm(pub u32);
+
+impl Perm {
+    pub const NONE: Perm = Perm(0);
+
+    pub const WRITE: Perm = Perm(0x1);
+
+    pub const TRAVERSE: Perm = Perm(0x2);
+
+    pub const ENTER: Perm = Perm(0x4);
+
+    pub const SPEAK: Perm = Perm(0x8);
+
+    pub const MUTE_DEAFEN: Perm = Perm(0x10);
+
+    pub const MOVE: Perm = Perm(0x20);
+
+    pub const MAKE_CHANNEL: Perm = Perm(0x40);
+
+    pub const LINK_CHANNEL: Perm = Perm(0x80);
+
+    pub const WHISPER: Perm = Perm(0x100);
+
+    pub const TEXT_MESSAGE: Perm = Perm(0x200);
+
+    pub const MAKE_TEMP_CHANNEL: Perm = Perm(0x400);
+
+    pub const LISTEN: Perm = Perm(0x800);
+
+    /// On the root only, as are the four that follow.
+    pub const KICK: Perm = Perm(0x10000);
+
+    pub const BAN: Perm = Perm(0x20000);
+
+    pub const REGISTER: Perm = Perm(0x40000);
+
+    pub const SELF_REGISTER: Perm = Perm(0x80000);
+
+    pub const RESET_USER_CONTENT: Perm = Perm(0x100000);
+
+    /// Every permission.
+    pub const ALL: Perm = Perm(0x1F0FFF);
+
+    /// The permissions that mean something on the root alone.
+    pub const ROOT_ONLY: Perm = Perm(0x1F0000);
+
+    /// What a session may do where no entry says otherwise: Traverse, Enter, Speak, Whisper,
+    /// TextMessage and Listen.
+    pub const START: Perm = Perm(0xB0E);
+
+    /// What Write brings along in its channel: all but Speak and the bits of the root.
+    pub const BY_WRITE: Perm = Perm(0xEF7);
+
+    /// Whether every permission of `p` is held.
+    pub fn has(self, p: Perm) -> bool
+        ensures { IsTrue result ↔ Holds self.0 p.0 }
+    {
+        self.0 & p.0 == p.0
+    }
+
+    /// These permissions and those of `p`.
+    pub fn with(self, p: Perm) -> Perm
+        ensures { result.0 ≡ bit_or self.0 p.0 }
+    {
+        Perm(self.0 | p.0)
+    }
+
+    /// These permissions but for those of `p`.
+    pub fn without(self, p: Perm) -> Perm
+        ensures { result.0 ≡ without_bits self.0 p.0 }
+    {
+        Perm(self.0 ^ (self.0 & p.0))
+    }
+}

@@ -1,0 +1,11 @@
+use Rattle.std.proofs.Common.{arith, ◌≡◌, ℕ, ◌+◌, ◌<◌, ◌≤◌, ◌==◌, min, Bool, false, List, ◌++◌, take, drop, ap, sym, ◌∙◌}
+use Rattle.std.proofs.lemmas.List.{take-append-drop, drop-drop}
+
+-- n more bytes were given, and stand at the front of a buffer
+pub drop-given : (bytes buf : List ℕ) (given n : ℕ) → take n buf ≡ take n (drop given bytes) → drop given bytes ≡ take n buf ++ drop (given + n) bytes
+drop-given bytes buf given n copied =
+    sym (take-append-drop n (drop given bytes)) ∙ ap (λ front. front ++ drop n (drop given bytes)) (sym copied)
+    ∙ ap (λ rest. take n buf ++ rest) (drop-drop n given bytes)
+
+pub min-positive : (n size rest : ℕ) (none : Bool) → n ≡ min size rest → 0 < size → none ≡ (rest == 0) → none ≡ false → 1 ≤ n
+min-positive n size rest none least some tested some_left = grind arith

@@ -1,0 +1,18 @@
+-- What the reads of a whole read took together.
+use Rattle.std.proofs.Common.{ℕ, ◌<◌, List, ◌++◌, length, inl, inr, ap, ◌∙◌, append-nil, sym}
+use Rattle.std.specs.Prelude.{Option, None, Some, IfSome}
+use Rattle.mum_io.specs.Outside.{Consumes, IsAtEnd, IsAllOrLonger}
+
+-- the source is at its end, so all was taken
+pub IsAllOrLonger-at_end : (limit : ℕ) (a b : Option (List ℕ)) (bytes : List ℕ) → Consumes a b bytes → IsAtEnd b
+    → IfSome a (λ left. IsAllOrLonger limit left bytes)
+IsAllOrLonger-at_end limit None b bytes taken end = tt
+IsAllOrLonger-at_end limit (Some xs) None bytes taken end = absurd taken
+IsAllOrLonger-at_end limit (Some xs) (Some ys) bytes taken end =
+    inl (sym (taken ∙ ap (λ rest. bytes ++ rest) end ∙ append-nil bytes))
+
+pub IsAllOrLonger-past_limit : (limit : ℕ) (a b : Option (List ℕ)) (bytes : List ℕ) → Consumes a b bytes → limit < length bytes
+    → IfSome a (λ left. IsAllOrLonger limit left bytes)
+IsAllOrLonger-past_limit limit None b bytes taken longer = tt
+IsAllOrLonger-past_limit limit (Some xs) None bytes taken longer = absurd taken
+IsAllOrLonger-past_limit limit (Some xs) (Some ys) bytes taken longer = inr (ys, taken, longer)

@@ -1,0 +1,29 @@
+//! Where bytes go.
+
+ghost use Rattle.std.specs.Prelude.{◌≡◌, ℕ, ◌<◌, ◌≤◌, List, Option, length};
+ghost use Rattle.mum_io.specs.Outside.{Rose, Writes};
+
+/// How a write ended.
+#[derive(Clone, Copy, Debug, PartialEq, Eq)]
+pub enum WriteEnd {
+    /// This many bytes of the piece were taken from its front, at least one and at most its length.
+    Took(usize),
+    /// The write failed and took nothing, and the count of faults rose.
+    Failed,
+}
+
+/// A sink of bytes.
+pub trait Sink {
+    /// How many writes have failed. The count stands still at its last value, `u64::MAX`.
+    ghost faults: { Self → ℕ };
+
+    /// The bytes that were written, where the sink tells them. Once told, they go on being told.
+    ghost written: { Self → Option (List ℕ) };
+
+    /// Writes a front of the piece behind what was written before.
+    fn write(&mut self, piece: &[u8]) -> WriteEnd
+        requires { 0 < length piece.now }
+        ensures never_falls { faults self.old ≤ faults self.new }
+        ensures cause { result ≡ WriteEnd.Failed → Rose (faults self.old) (faults self.new) }
+        ensures bytes { Writes result (written self.old) (written self.new) piece.now };
+}

@@ -1,0 +1,31 @@
+//! Where bytes come from.
+
+ghost use Rattle.std.specs.Prelude.{◌≡◌, ℕ, ◌<◌, ◌≤◌, List, Option, length};
+ghost use Rattle.mum_io.specs.Outside.{Reads, Rose};
+
+/// How a read ended.
+#[derive(Clone, Copy, Debug, PartialEq, Eq)]
+pub enum ReadEnd {
+    /// This many bytes stand at the front of the slice, at least one and at most its length.
+    Got(usize),
+    /// No byte is left.
+    End,
+    /// The read failed, and the count of faults rose.
+    Failed,
+}
+
+/// A source of bytes.
+pub trait Source {
+    /// How many reads have failed. The count stands still at its last value, `u64::MAX`.
+    ghost faults: { Self → ℕ };
+
+    /// The bytes that are left, where the source tells them. Once told, they go on being told.
+    ghost left: { Self → Option (List ℕ) };
+
+    /// Takes the first bytes that are left to the front of the slice.
+    fn read(&mut self, buf: &mut [u8]) -> ReadEnd
+        requires { 0 < length buf.old }
+        ensures never_falls { faults self.old ≤ faults self.new }
+        ensures cause { result ≡ ReadEnd.Failed → Rose (faults self.old) (faults self.new) }
+        ensures bytes { Reads result (left self.old) (left self.new) buf.new };
+}

@@ -1,0 +1,5 @@
+pub mod Headers
+pub mod Replies
+pub mod Streams
+pub mod CallsOver
+pub mod Taken

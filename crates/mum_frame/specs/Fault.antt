@@ -1,0 +1,9 @@
+-- The numbers of what a stream is closed for.
+use Rattle.std.specs.Prelude.{ℕ, Option, Some, None}
+use Rattle.mum_frame.specs.declared.framer.FrameFault.{FrameFault}
+use Rattle.mum_frame.specs.declared.framer.FrameFault.TheVariants.{FrameTooLong, OutOfMemory}
+
+-- want of memory has no number
+abbrev pub fault_code : FrameFault → Option ℕ
+fault_code (FrameTooLong length) = Some 10
+fault_code OutOfMemory = None

@@ -1,0 +1,6 @@
+pub mod Frame
+pub mod First
+pub mod Fault
+pub mod Stream
+pub mod Calls
+pub mod Pieces

@@ -1,0 +1,57 @@
+//! What follows from the contracts for whole streams, whatever is called in whatever order.
+//! These functions do nothing: each contract is a theorem.
+
+ghost use Rattle.std.specs.Prelude.{◌≡◌, ◌+◌, ◌++◌, ◌<◌, ◌↔◌, ℕ, List, [], Option, Result, All, None, length};
+ghost use Rattle.std.specs.List.{flat_map};
+ghost use Rattle.mum_frame.specs.declared.frame.Frame.{Frame};
+ghost use Rattle.mum_frame.specs.declared.framer.FrameFault.{FrameFault};
+ghost use Rattle.mum_frame.specs.declared.framer.FrameFault.TheVariants.{FrameTooLong};
+ghost use Rattle.mum_frame.specs.Calls.{Call, Leads, bytes_fed, frames_given};
+ghost use Rattle.mum_frame.specs.Frame.{spelling, IsFrame, TooLong, named_length};
+ghost use Rattle.mum_frame.specs.Stream.{Gives, IsFront, Splits};
+
+use crate::frame::HEADER_LENGTH;
+
+/// A frame is known by its spelling, and by the front of any bytes that begin with it.
+pub fn a_spelling_is_of_one_frame()
+    ensures one { (frame other : Frame) (rest behind : List ℕ) → IsFrame frame → IsFrame other →
+        spelling frame ++ rest ≡ spelling other ++ behind → (frame ≡ other) × (rest ≡ behind) }
+    ensures length { (frame : Frame) → length (spelling frame) ≡ HEADER_LENGTH + length frame.payload }
+{}
+
+/// A stream has one reading: its frames, and what no frame within the limit begins.
+pub fn a_stream_has_one_reading()
+    ensures some { (stream : List ℕ) → All (λ byte. byte < 256) stream →
+        (frames : List Frame) × ((rest : List ℕ) × Splits stream frames rest) }
+    ensures one { (stream rest other : List ℕ) (frames others : List Frame) →
+        Splits stream frames rest → Splits stream others other → (frames ≡ others) × (rest ≡ other) }
+    // It is the longest: whatever frames begin the stream, these begin with them.
+    ensures longest { (stream rest behind : List ℕ) (frames front : List Frame) →
+        Splits stream frames rest → All IsFrame front → stream ≡ flat_map spelling front ++ behind →
+        IsFront front frames }
+{}
+
+/// However a stream is cut into pieces, and whenever frames are asked for, a framer gives the
+/// stream's frames in order and no others.
+pub fn frames_come_in_any_pieces()
+    // No byte is lost or made: what was fed is the frames given, and then what is kept.
+    ensures conserved { (calls : List Call) (kept : List ℕ) → Leads [] calls kept →
+        (bytes_fed calls ≡ flat_map spelling (frames_given calls) ++ kept) ×
+        All IsFrame (frames_given calls) }
+    // The frames given so far begin the frames of all bytes fed.
+    ensures prefix { (calls : List Call) (kept rest : List ℕ) (frames : List Frame) →
+        Leads [] calls kept → Splits (bytes_fed calls) frames rest → IsFront (frames_given calls) frames }
+    // None comes exactly where they are all of these frames, and no length is too great.
+    ensures none { (calls : List Call) (kept new : List ℕ) (answer : Result (Option Frame) FrameFault) →
+        Leads [] calls kept → Gives kept answer new →
+        ((answer ≡ Ok None) ↔ (Splits (bytes_fed calls) (frames_given calls) kept × ¬ TooLong kept)) }
+    // A length is refused exactly where they are all of these frames, and it stands behind them.
+    ensures too_long { (calls : List Call) (kept new : List ℕ) (answer : Result (Option Frame) FrameFault) →
+        Leads [] calls kept → Gives kept answer new →
+        ((answer ≡ Err (FrameTooLong (named_length kept))) ↔
+        (Splits (bytes_fed calls) (frames_given calls) kept × TooLong kept)) }
+    // And then each later call refuses it again, whatever is fed in between.
+    ensures for_good { (calls : List Call) (kept later new : List ℕ) (answer : Result (Option Frame) FrameFault) →
+        TooLong kept → Leads kept calls later → Gives later answer new →
+        answer ≡ Err (FrameTooLong (named_length kept)) }
+{}

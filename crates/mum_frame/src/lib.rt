@@ -1,0 +1,16 @@
+//! The frames of a client's stream: a type of two bytes, a payload's length of four, and the
+//! payload. `Framer` takes the stream in pieces of any size and gives its frames one by one;
+//! `put_frame` writes one, and `whole_frame` reads one that stands alone.
+#![tactic(auto)]
+
+pub mod frame;
+pub mod framer;
+pub mod laws;
+pub mod pieces;
+
+pub use frame::{Frame, FrameView, HEADER_LENGTH, PAYLOAD_LIMIT, put_frame, whole_frame};
+pub use framer::{FrameFault, Framer};
+pub use pieces::frames_of_pieces;
+
+#[cfg(test)]
+mod tests;

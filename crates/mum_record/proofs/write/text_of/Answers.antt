@@ -1,0 +1,17 @@
+use Rattle.std.proofs.Common.{◌^◌, ◌<◌, arith, rules, Ok, Err, Result}
+use Rattle.std.specs.Result.{OnOk}
+use Rattle.hex.specs.Hex.{IsBytes}
+use Rattle.mum_record.specs.Grammar.{FitsTypes}
+use Rattle.mum_record.proofs.write.text_of.Goals as goal
+
+-- what holds anyway holds where the result is `Ok`
+OnOk-from : {A E : Type 0} (r : Result A E) (P : Type 0) → P → OnOk r P
+OnOk-from (Ok a) P h = h
+OnOk-from (Err e) P h = tt
+
+pub returns-in_ok-digits-in-Frame-clause-fits : goal.returns-in_ok-digits-in-Frame-clause-fits
+returns-in_ok-digits-in-Frame-clause-fits c =
+    let shown : IsBytes c.as_slice-bytes.result.now = λ i. search rules in
+    let small : IsBytes c.in-Frame.bytes = rw c.as_slice-bytes.ensures at shown in
+    let number : c.in-Frame.connection < 2 ^ 32 = omega arith in
+    OnOk-from c.format-in-Frame.result (FitsTypes c.args.step.now) (rw c.in-Frame.is (number, small))

@@ -1,0 +1,5 @@
+pub mod Rows
+pub mod Spelling
+pub mod Shortest
+pub mod AudioLength
+pub mod Parsing

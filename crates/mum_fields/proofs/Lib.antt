@@ -1,0 +1,10 @@
+pub mod Varints
+pub mod Spellings
+pub mod Walks
+pub mod Fields
+pub mod Texts
+pub mod Payloads
+pub mod Taking
+pub mod Decoding
+pub mod VarintFaults
+pub mod Encoding

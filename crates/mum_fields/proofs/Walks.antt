@@ -1,0 +1,49 @@
+-- Walks, step by step.
+use Rattle.std.proofs.Common.{◌≡◌, ℕ, zero, suc, ◌<◌, ◌≤◌, false, cond, eqb, eq-eqb, [], length, Result, Ok, Err, refl, ap, arith}
+use Rattle.std.proofs.lemmas.Bool.{ne_eqb}
+use Rattle.mum_fields.specs.declared.fault.FieldFault.{FieldFault}
+use Rattle.mum_fields.specs.Field.{Cursor}
+use Rattle.mum_fields.specs.Payload.{Walk, ended, stopped, first, walk_more, walk_with, walk}
+
+-- each step takes a byte or more
+abbrev pub Shortens : {X : Type 0} → (Cursor → Result (X × Cursor) FieldFault) → Type 0
+Shortens {X} step = (c after : Cursor) (x : X) → step c ≡ Ok (x, after) → length after.rest < length c.rest
+
+by_step : {X : Type 0} (step : Cursor → Result (X × Cursor) FieldFault) (c : Cursor) (f g : Cursor → Walk X) (r : Result (X × Cursor) FieldFault) → step c ≡ r
+    → ((x : X) (after : Cursor) → step c ≡ Ok (x, after) → f after ≡ g after) → walk_more f r ≡ walk_more g r
+by_step step c f g (Err e) is same = refl
+by_step step c f g (Ok found) is same = ap (first found.0) (same found.0 found.1 is)
+
+-- it does not matter how many steps may be taken, where they are as many as bytes
+walk_with-most : {X : Type 0} (step : Cursor → Result (X × Cursor) FieldFault) → Shortens step → (m n : ℕ) (c : Cursor) → length c.rest ≤ m → length c.rest ≤ n → walk_with step m c ≡ walk_with step n c
+walk_with-most step shortens zero zero c p q = refl
+walk_with-most step shortens zero (suc n) c p q = rw (eq-eqb (length c.rest) 0 (omega arith)) refl
+walk_with-most step shortens (suc m) zero c p q = rw (eq-eqb (length c.rest) 0 (omega arith)) refl
+walk_with-most step shortens (suc m) (suc n) c p q =
+    ap (λ others. cond (eqb (length c.rest) 0) ended others)
+    (by_step step c (walk_with step m) (walk_with step n) (step c) refl
+    (λ x after is. walk_with-most step shortens m n after (omega (arith, shortens c after x is)) (omega (arith, shortens c after x is))))
+
+pub walk-end : {X : Type 0} (step : Cursor → Result (X × Cursor) FieldFault) (c : Cursor) → c.rest ≡ [] → walk step c ≡ ended
+unfolding walk
+walk-end step c empty = rw empty refl
+
+pub walk-item : {X : Type 0} (step : Cursor → Result (X × Cursor) FieldFault) → Shortens step → (c after : Cursor) (x : X) → step c ≡ Ok (x, after) → walk step c ≡ first x (walk step after)
+unfolding walk
+walk-item step shortens c after x is = by_length (length c.rest) refl
+  where
+    by_length : (m : ℕ) → length c.rest ≡ m → walk_with step (length c.rest) c ≡ first x (walk_with step (length after.rest) after)
+    by_length zero e = absurd (omega (arith, shortens c after x is))
+    by_length (suc m) e =
+        let some : eqb (length c.rest) 0 ≡ false = ne_eqb (length c.rest) 0 (λ none. omega arith) in
+        rw (e, some, is) (ap (first x) (walk_with-most step shortens m (length after.rest) after (omega (arith, shortens c after x is)) (omega arith)))
+
+pub walk-fault : {X : Type 0} (step : Cursor → Result (X × Cursor) FieldFault) (c : Cursor) (e : FieldFault) → 0 < length c.rest → step c ≡ Err e → walk step c ≡ stopped e
+unfolding walk
+walk-fault {X} step c e some is = by_length (length c.rest) refl
+  where
+    by_length : (m : ℕ) → length c.rest ≡ m → walk_with step (length c.rest) c ≡ stopped {X = X} e
+    by_length zero h = absurd (omega arith)
+    by_length (suc m) h =
+        let more : eqb (length c.rest) 0 ≡ false = ne_eqb (length c.rest) 0 (λ none. omega arith) in
+        rw (h, more, is) refl

@@ -1,0 +1,14 @@
+use Rattle.std.proofs.Common.{◌≡◌, None, length}
+use Rattle.std.specs.Option.{option_copied}
+use Rattle.mum_fields.specs.Payload.{start, fields}
+use Rattle.mum_fields.specs.Message.{block_of, last}
+use Rattle.mum_fields.proofs.lookup.last_block.Given as goal
+
+abbrev pub invariant-loop-placed : goal.invariant-loop-placed
+invariant-loop-placed l = record {
+  found : last block_of l.number (option_copied l.found) (fields l.reader).items ≡ last block_of l.number None (fields (start l.payload)).items;
+  fault : (fields l.reader).fault ≡ (fields (start l.payload)).fault;
+}
+
+abbrev pub decreases-loop-placed : goal.decreases-loop-placed
+decreases-loop-placed l = length l.reader.rest

@@ -1,0 +1,9 @@
+pub mod Fault
+pub mod Varint
+pub mod Content
+pub mod Number
+pub mod Field
+pub mod Payload
+pub mod Message
+pub mod Written
+pub mod Cursor

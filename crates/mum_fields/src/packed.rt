@@ -1,0 +1,96 @@
+//! Numbers packed in a block (Protocol Buffers, "Encoding", "Packed Repeated Fields").
+
+ghost use Rattle.std.specs.Prelude.{◌≡◌, ◌↔◌, ◌+◌, ◌^◌, ◌<◌, List, [], ◌++◌, length, map, IfOk, IfErr, IfSome, OnSome, OnOk, OnErr, Ok, Err, Some, None};
+ghost use Rattle.mum_fields.specs.Field.{entry_of, varint_at};
+ghost use Rattle.mum_fields.specs.Payload.{packed as packed_left, Takes};
+ghost use Rattle.mum_fields.specs.Message.{numbers_of, value_fault, packed_numbers, IsFaultOf};
+
+use crate::cursor::Cursor;
+use crate::fault::FieldFault;
+use crate::field::{Placed, Value};
+use crate::message::MessageFault;
+use crate::number::VarintType;
+use std::marker::Model;
+
+/// A cursor over the numbers of a packed block. It copies nothing and takes no memory.
+#[derive(Drop)]
+pub struct Packed<'a> {
+    cursor: Cursor<'a>,
+}
+
+impl<'a> Model for Packed<'a> {
+    ghost use Rattle.mum_fields.specs.Field.{Cursor};
+
+    ghost Value = { Cursor };
+
+    ghost use Rattle.mum_fields.specs.Cursor.{cursor_of};
+
+    ghost view = { λ p. cursor_of p.cursor };
+}
+
+impl<'a> Packed<'a> {
+    /// The numbers of a block that begins at this place of a payload.
+    pub fn within(block: &'a [u8], place: usize) -> Packed<'a>
+        requires { place + length block.now < 2 ^ 64 }
+        ensures { result ≡ record { place = place; rest = block.now } }
+    {
+        Packed {
+            cursor: Cursor { place, rest: block },
+        }
+    }
+
+    /// The next number. Where the block ends inside one, that is the fault Truncated at its first
+    /// byte, at this call and at each later one.
+    pub fn next_number(&mut self) -> Result<Option<u64>, FieldFault>
+        ensures end { (result ≡ Ok None) ↔ (self.old.rest ≡ []) }
+        ensures number { IfOk result (λ found. IfSome found (λ n. varint_at self.old ≡ Ok (n, self.new))) }
+        ensures fault { IfErr result (λ fault. varint_at self.old ≡ Err fault) }
+        ensures takes { Takes (λ n. n) (packed_left self.old) result (packed_left self.new) }
+        ensures shorter { IfOk result (λ found. OnSome found (length self.new.rest < length self.old.rest)) }
+        ensures kept { (result ≡ Ok None) → self.new ≡ self.old }
+        ensures err { OnErr result (self.new ≡ self.old) }
+    {
+        if self.cursor.rest.is_empty() {
+            return Ok(None);
+        }
+        let (number, after) = self.cursor.varint()?;
+        self.cursor = after;
+        Ok(Some(number))
+    }
+}
+
+fn push_packed<N: VarintType>(
+    numbers: &mut Vec<N>,
+    mut packed: Packed<'_>,
+) -> Result<(), MessageFault>
+    ensures ok { OnOk result (numbers.new.items ≡ numbers.old.items ++ map N.value_of (packed_left packed.entry).items) }
+    ensures whole { OnOk result ((packed_left packed.entry).fault ≡ None) }
+    ensures fault { IfErr result (λ e. IsFaultOf e (packed_left packed.entry).fault) }
+    ensures err { OnErr result ((part : List N) × (numbers.new.items ≡ numbers.old.items ++ part)) }
+{
+    while let Some(number) = packed.next_number()? {
+        numbers.push(N::from_varint(number))?;
+    }
+    Ok(())
+}
+
+/// Adds the numbers of one field of a repeated number: a varint by itself, or those packed in its
+/// block. A field of another wire type has none. After a fault the numbers before it are there.
+pub fn push_numbers<N: VarintType>(
+    numbers: &mut Vec<N>,
+    placed: &Placed<'_>,
+) -> Result<(), MessageFault>
+    ensures ok { OnOk result (numbers.new.items ≡ numbers.old.items ++ numbers_of N.value_of (entry_of placed.now)) }
+    ensures whole { OnOk result (value_fault packed_numbers (entry_of placed.now) ≡ None) }
+    ensures fault { IfErr result (λ e. IsFaultOf e (value_fault packed_numbers (entry_of placed.now))) }
+    ensures err { OnErr result ((part : List N) × (numbers.new.items ≡ numbers.old.items ++ part)) }
+{
+    match placed.field.value {
+        Value::Varint(number) => {
+            numbers.push(N::from_varint(number))?;
+            Ok(())
+        }
+        Value::Block(block) => push_packed(numbers, Packed::within(block, placed.at)),
+        _ => Ok(()),
+    }
+}

@@ -1,0 +1,15 @@
+use Rattle.std.proofs.Common.{◌≤◌, length}
+use Rattle.mum_core.proofs.Underway.{Underway}
+use Rattle.mum_core.proofs.replay.replay.Given as goal
+
+abbrev pub invariant-lines : goal.invariant-lines
+invariant-lines g l =
+    let written = g.O.Sink.written in
+    let faults = g.O.Sink.faults in
+    record {
+      underway : Underway (written l.fn.output) (written l.output) l.run.phase l.run.line l.run.left l.rest l.fn.bytes;
+      never_falls : faults l.fn.output ≤ faults l.output;
+    }
+
+abbrev pub decreases-lines : goal.decreases-lines
+decreases-lines g l = length l.rest

@@ -1,0 +1,14 @@
+pub mod State
+pub mod Worker
+pub mod Core
+pub mod Illegal
+pub mod Steps
+pub mod Transcript
+pub mod Built
+pub mod Outbox
+pub mod Start
+pub mod Kept
+pub mod Replay
+pub mod Takes
+pub mod Runs
+pub mod Program

@@ -1,0 +1,21 @@
+//! The core of the server as one machine: the steps of a recording, what each of them changes and
+//! what its transcript says, and the program's call over a whole recording.
+#![tactic(auto)]
+
+pub mod connection;
+pub mod edit;
+mod lines;
+pub mod machine;
+pub mod outbox;
+pub mod program;
+pub mod replay;
+pub mod route;
+pub mod slot;
+pub mod worker;
+
+pub use edit::{Edit, Session};
+pub use machine::{Core, Effects, StepFault};
+pub use program::murmur;
+
+#[cfg(test)]
+mod tests;

@@ -1,0 +1,126 @@
+//! The bounded queue of voice copies that a slot's connection drains.
+
+ghost use Rattle.std.specs.Prelude.{◌≡◌, ◌≤◌, ◌<◌, [], ◌∷◌, ◌++◌, length, IfOk, nat_lt, slice_get, drop};
+ghost use Rattle.std.specs.Option.{option_copied};
+ghost use Rattle.mum_core.specs.Outbox.{Takes};
+
+use mum_base::{Octets, OutOfMemory, SessionId};
+use mum_voice::COPY_LIMIT;
+use std::alloc::Global;
+use std::collections::VecDeque;
+use std::marker::Model;
+
+/// How many copies an outbox holds.
+pub const OUTBOX_CAPACITY: usize = 128;
+
+/// The bytes of a copy: a voice packet as its recipient takes it, of at most 1,025 bytes.
+#[derive(Debug, Drop)]
+pub struct CopyBytes {
+    bytes: Octets,
+}
+
+impl Model for CopyBytes {
+    ghost use Rattle.std.specs.Prelude.{ℕ, List, ◌≤◌, length};
+    ghost use Rattle.mum_voice.specs.declared.packet.TheConstants.{COPY_LIMIT};
+
+    ghost Value = { List ℕ };
+
+    ghost view = { λ c. c.bytes };
+
+    ghost invariant = { λ c. length c.bytes ≤ COPY_LIMIT };
+}
+
+impl CopyBytes {
+    pub fn of(alloc: Global, bytes: &[u8]) -> Result<CopyBytes, OutOfMemory>
+        requires { length bytes.now ≤ COPY_LIMIT }
+        ensures { IfOk result (λ copy. copy ≡ bytes.now) }
+    {
+        Ok(CopyBytes {
+            bytes: Octets::of(alloc, bytes)?,
+        })
+    }
+
+    pub fn as_slice(&self) -> &[u8]
+        ensures value { result.now ≡ self.now }
+        ensures short { length result.now ≤ COPY_LIMIT }
+    {
+        self.bytes.as_slice()
+    }
+}
+
+/// A copy on its way to a session.
+#[derive(Debug, Drop)]
+pub struct Parcel {
+    pub to: SessionId,
+    pub bytes: CopyBytes,
+}
+
+/// What becomes of a parcel that is offered.
+#[derive(Debug, Drop)]
+pub enum Offered {
+    Sent,
+    /// The outbox is full, and the parcel comes back.
+    Full(Parcel),
+}
+
+/// The copies that wait for the connection of one slot, the oldest first.
+#[derive(Debug, Drop)]
+pub struct Outbox {
+    parcels: VecDeque<Parcel>,
+}
+
+impl Model for Outbox {
+    ghost use Rattle.std.specs.Prelude.{List, ◌≤◌, length};
+    ghost use Rattle.std.specs.VecDeque.{deque_capacity};
+    ghost use Rattle.mum_core.specs.declared.outbox.Parcel.{Parcel};
+    ghost use Rattle.mum_core.specs.declared.outbox.TheConstants.{OUTBOX_CAPACITY};
+
+    ghost Value = { List Parcel };
+
+    ghost view = { λ o. o.parcels.items };
+
+    ghost invariant = { λ o. OUTBOX_CAPACITY ≤ deque_capacity o.parcels };
+}
+
+impl Outbox {
+    /// An empty outbox, with room for all that it may ever hold.
+    pub fn new(alloc: Global) -> Result<Outbox, OutOfMemory>
+        ensures { IfOk result (λ outbox. outbox ≡ []) }
+    {
+        Ok(Outbox {
+            parcels: VecDeque::with_capacity(alloc, OUTBOX_CAPACITY)?,
+        })
+    }
+
+    pub fn has_room(&self) -> bool
+        ensures { result ≡ nat_lt (length self.now) OUTBOX_CAPACITY }
+    {
+        self.parcels.len() < OUTBOX_CAPACITY
+    }
+
+    /// Puts a parcel at the back, where there is room. It takes no memory.
+    pub fn offer(&mut self, parcel: Parcel) -> Offered
+        ensures { Takes self.old parcel result self.new }
+    {
+        if !self.has_room() {
+            return Offered::Full(parcel);
+        }
+        self.parcels.push_back_reserved(parcel);
+        Offered::Sent
+    }
+
+    /// The parcel at the front.
+    pub fn front(&self) -> Option<&Parcel>
+        ensures { option_copied result ≡ slice_get self.now 0 }
+    {
+        self.parcels.front()
+    }
+
+    /// Takes the parcel at the front.
+    pub fn take(&mut self) -> Option<Parcel>
+        ensures front { result ≡ slice_get self.old 0 }
+        ensures others { self.new ≡ drop 1 self.old }
+    {
+        self.parcels.pop_front()
+    }
+}

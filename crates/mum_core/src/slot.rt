@@ -1,0 +1,55 @@
+//! The slots of the server.
+
+ghost use Rattle.std.specs.Prelude.{◌≡◌, ◌<◌};
+
+use mum_base::Slot;
+use std::marker::Model;
+
+/// How many sessions there can be, and so how many slots.
+pub const SLOTS: usize = 128;
+
+/// A slot that there is: its number is below 128.
+#[derive(Clone, Copy, Debug, PartialEq, Eq)]
+pub struct ValidSlot {
+    slot: Slot,
+}
+
+impl Model for ValidSlot {
+    ghost use Rattle.std.specs.Prelude.{◌<◌};
+    ghost use Rattle.mum_base.specs.declared.number.Slot.{Slot};
+    ghost use Rattle.mum_core.specs.declared.slot.TheConstants.{SLOTS};
+
+    ghost Value = { Slot };
+
+    ghost view = { λ v. v.slot };
+
+    ghost invariant = { λ v. v.slot.0 < SLOTS };
+
+    ghost inverse = { λ s. record { slot = s } };
+}
+
+impl ValidSlot {
+    pub fn new(number: usize) -> ValidSlot
+        requires { number < SLOTS }
+        ensures { result ≡ record { 0 = number } }
+    {
+        ValidSlot {
+            slot: Slot(number as u8),
+        }
+    }
+
+    /// The slot as an edit names it.
+    pub fn to_slot(self) -> Slot
+        ensures { result ≡ self }
+    {
+        self.slot
+    }
+
+    /// The place of the slot's outbox.
+    pub fn index(self) -> usize
+        ensures place { result ≡ self.0 }
+        ensures below { result < SLOTS }
+    {
+        usize::from(self.slot.0)
+    }
+}

@@ -1,0 +1,39 @@
+//! Workloads of the libraries, one a word. Each prints a checksum of what it did, so that nothing of
+//! it can be left out; `bench/run` times them.
+#![tactic(auto)]
+
+mod frames;
+mod voice;
+
+use anyhow::{Context, Result, bail};
+use std::alloc::Global;
+use std::env;
+
+fn number(word: &str) -> Result<usize> {
+    word.parse::<usize>().context("a size is a number")
+}
+
+fn checksum(alloc: Global, words: &[String]) -> Result<u64> {
+    match words {
+        [word, piece, size] => match word.as_str() {
+            "frames" => frames::small(alloc, number(piece)?, number(size)?),
+            "copy" => frames::copied(alloc, number(piece)?, number(size)?),
+            _ => bail!("no such workload"),
+        },
+        [word, size] => match word.as_str() {
+            "large" => frames::large(alloc, number(size)?),
+            "voice" => voice::copies(false, number(size)?),
+            "voice-position" => voice::copies(true, number(size)?),
+            "copy-packets" => voice::copied_packets(number(size)?),
+            _ => bail!("no such workload"),
+        },
+        _ => bail!("mum_bench WORKLOAD [PIECE] SIZE"),
+    }
+}
+
+fn main(rt: HostRuntime) -> Result<()> {
+    let words: Vec<String> = env::args(&rt)?.skip(1).collect(rt.alloc())?;
+    let sum = checksum(rt.alloc(), &words)?;
+    println!(rt; "{sum}")?;
+    Ok(())
+}

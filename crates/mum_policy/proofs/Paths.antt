@@ -1,0 +1,22 @@
+-- The channel that ends a path is the first of the path upwards.
+use Rattle.std.proofs.Common.{◌≡◌, suc, ◌-◌, ◌<◌, ◌==◌, List, [], ◌∷◌, length, take, get_or, reverse, refl, sym, ap, ◌∙◌, arith}
+use Rattle.std.proofs.Math.Seq.{take-suc}
+use Rattle.std.proofs.lemmas.List.{reverse-append, take_all}
+use Rattle.mum_base.specs.declared.number.ChannelId.{ChannelId}
+use Rattle.mum_policy.specs.declared.policy.Who.{Who}
+use Rattle.mum_policy.specs.Member.{is_in}
+use Rattle.mum_policy.specs.Walk.{is_root}
+
+upwards_from : (path : List ChannelId) (d : ChannelId) → 0 < length path → reverse path ≡ get_or path (length path - 1) d ∷ reverse (take (length path - 1) path)
+upwards_from path d some =
+    let whole : take (suc (length path - 1)) path ≡ path = take_all (suc (length path - 1)) path (omega arith) in
+    let lt : length path - 1 < length path = omega arith in
+    ap reverse (sym whole ∙ take-suc path (length path - 1) d lt) ∙ reverse-append (take (length path - 1) path) (get_or path (length path - 1) d ∷ [])
+
+pub is_in-last : (who : Who) (path : List ChannelId) (d : ChannelId) → 0 < length path → ((get_or path (length path - 1) d).0 == who.channel.0) ≡ is_in who (reverse path)
+unfolding is_in
+is_in-last who path d some = rw (upwards_from path d some) refl
+
+pub is_root-last : (path : List ChannelId) (d : ChannelId) → 0 < length path → ((get_or path (length path - 1) d).0 == 0) ≡ is_root (reverse path)
+unfolding is_root
+is_root-last path d some = rw (upwards_from path d some) refl

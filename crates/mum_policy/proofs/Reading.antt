@@ -1,0 +1,27 @@
+-- One prefix of a group name more is read.
+use Rattle.std.proofs.Common.{◌≡◌, ◌≢◌, ℕ, Bool, true, List, [], ◌∷◌, length, refl, arith}
+use Rattle.std.proofs.lemmas.Bool.{ne_eqb}
+use Rattle.mum_policy.specs.Name.{Understood, asked_by, understood_after}
+
+abbrev pub read : Bool → Bool → List ℕ → Understood
+read negated at_acl name = record { negated = negated; at_acl = at_acl; asks = asked_by name }
+
+pub read_negation : (negated at_acl : Bool) (name rest : List ℕ) (byte : ℕ) → name ≡ byte ∷ rest → byte ≡ 33
+    → understood_after true at_acl rest ≡ understood_after negated at_acl name
+unfolding understood_after
+read_negation negated at_acl name rest byte whole is = rw (whole, is) refl
+
+pub read_at_acl : (negated at_acl : Bool) (name rest : List ℕ) (byte : ℕ) → name ≡ byte ∷ rest → byte ≡ 126
+    → understood_after negated true rest ≡ understood_after negated at_acl name
+unfolding understood_after
+read_at_acl negated at_acl name rest byte whole is = rw (whole, is) refl
+
+pub read_no_prefix : (negated at_acl : Bool) (name rest : List ℕ) (byte : ℕ) → name ≡ byte ∷ rest → byte ≢ 33 → byte ≢ 126
+    → read negated at_acl name ≡ understood_after negated at_acl name
+unfolding understood_after
+read_no_prefix negated at_acl name rest byte whole bang tilde = rw (whole, ne_eqb byte 33 bang, ne_eqb byte 126 tilde) refl
+
+pub read_end : (negated at_acl : Bool) (name : List ℕ) → length name ≡ 0 → read negated at_acl name ≡ understood_after negated at_acl name
+unfolding understood_after
+read_end negated at_acl [] e = refl
+read_end negated at_acl (byte ∷ rest) e = absurd (omega arith)

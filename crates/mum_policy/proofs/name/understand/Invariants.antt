@@ -1,0 +1,9 @@
+use Rattle.std.proofs.Common.{◌≡◌, length}
+use Rattle.mum_policy.specs.Name.{understood, understood_after}
+use Rattle.mum_policy.proofs.name.understand.Given as goal
+
+abbrev pub invariant-prefixes : goal.invariant-prefixes
+invariant-prefixes l = understood_after l.negated l.at_acl l.rest ≡ understood l.name
+
+abbrev pub decreases-prefixes : goal.decreases-prefixes
+decreases-prefixes l = length l.rest

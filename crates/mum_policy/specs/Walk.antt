@@ -1,0 +1,164 @@
+-- What a session may do in a channel: "ACL" of the Murmur manual.
+use Rattle.std.specs.Prelude.{ℕ, ◌+◌, ◌==◌, ◌&&◌, ◌||◌, ◌≡◌, Bool, true, false, not, List, [], ◌∷◌, length, reverse, bit_and, bit_or, Option, Some, None, if◌then◌else◌}
+use Rattle.mum_base.specs.Perm.{without_bits}
+use Rattle.mum_base.specs.declared.number.AccountId.{AccountId}
+use Rattle.mum_base.specs.declared.number.ChannelId.{ChannelId}
+use Rattle.mum_base.specs.declared.perm.Perm.{Perm}
+use Rattle.mum_policy.specs.declared.policy.AclEntry.{AclEntry}
+use Rattle.mum_policy.specs.declared.policy.ChannelPolicy.{ChannelPolicy}
+use Rattle.mum_policy.specs.declared.policy.Who.{Who}
+use Rattle.mum_policy.specs.declared.policy.Whom.{Whom}
+use Rattle.mum_policy.specs.declared.policy.Whom.TheVariants.{Account, Group}
+use Rattle.mum_policy.specs.declared.walk.Walk.{Walk}
+use Rattle.mum_policy.specs.Member.{PolicyMap, member}
+
+-- ---- permissions, by the manual's numbers
+
+abbrev pub write_bit : ℕ
+write_bit = 0x1
+
+abbrev pub traverse_bit : ℕ
+traverse_bit = 0x2
+
+-- Traverse, Enter, Speak, Whisper, TextMessage and Listen
+abbrev pub start_set : Perm
+start_set = record { 0 = 0xB0E }
+
+-- Kick, Ban, Register, SelfRegister and ResetUserContent
+abbrev pub root_only : ℕ
+root_only = 0x1F0000
+
+-- what SuperUser may do, and what Write brings along: all but Speak
+abbrev pub full_set : Bool → ℕ
+full_set on_root = if on_root then 0x1F0EF7 else 0xEF7
+
+abbrev pub holds : ℕ → ℕ → Bool
+holds set bits = bit_and set bits == bits
+
+-- ---- one entry
+
+-- A walk has the set so far, and two marks: whether Traverse and Write were granted on the way.
+abbrev pub walk_start : Walk
+walk_start = record { set = start_set; traverse = true; write = false }
+
+-- it goes on where a mark holds
+abbrev pub goes_on : Walk → Bool
+goes_on walk = walk.traverse || walk.write
+
+-- A mark is set where its bit is granted, and then cleared where its bit is denied.
+abbrev pub marked : Bool → AclEntry → ℕ → Bool
+marked mark entry bit = (mark || holds entry.grant.0 bit) && not (holds entry.deny.0 bit)
+
+-- the set with the grants and without the denies
+abbrev pub granted : Perm → AclEntry → Perm
+granted set entry = record { 0 = without_bits (bit_or set.0 entry.grant.0) entry.deny.0 }
+
+-- In the asked channel an entry applies by `here`, and from a channel above by `subs`.
+abbrev pub applies : Bool → AclEntry → Bool
+applies asked entry = if asked then entry.here else entry.subs
+
+-- Every matching entry, whatever its flags, changes the marks; where it applies, it changes the set.
+unfoldable pub after_match : Bool → AclEntry → Walk → Walk
+after_match asked entry walk =
+    record {
+      set = (if applies asked entry then granted walk.set entry else walk.set);
+      traverse = marked walk.traverse entry traverse_bit;
+      write = marked walk.write entry write_bit;
+    }
+
+-- ---- one channel
+
+abbrev pub is_account : Option AccountId → AccountId → Bool
+is_account None account = false
+is_account (Some own) account = own.0 == account.0
+
+-- an account by its number, a group by its name, asked in the last channel of the path
+abbrev pub names : PolicyMap → List ChannelId → Who → ℕ → Whom → Bool
+names policies path who place (Account account) = is_account who.account account
+names policies path who place (Group name) = member policies path place name who
+
+unfoldable pub matches : PolicyMap → List ChannelId → Who → ℕ → AclEntry → Bool
+matches policies path who place entry = names policies path who place entry.whom
+
+-- the entries in list order, where `matching` says which of them match
+unfoldable pub after_entries : (AclEntry → Bool) → Bool → List AclEntry → Walk → Walk
+after_entries matching asked [] walk = walk
+after_entries matching asked (entry ∷ entries) walk =
+    after_entries matching asked entries (if matching entry then after_match asked entry walk else walk)
+
+-- The set is the start set again where the channel does not inherit; the marks stay.
+abbrev pub entering : Bool → Walk → Walk
+entering inherit walk = record { set = (if inherit then walk.set else start_set); traverse = walk.traverse; write = walk.write }
+
+abbrev pub after_policy : PolicyMap → List ChannelId → Who → ℕ → Bool → ChannelPolicy → Walk → Walk
+after_policy policies path who place asked policy walk =
+    after_entries (matches policies path who place) asked policy.acls (entering policy.inherit_acls walk)
+
+-- a channel without a policy is passed over
+unfoldable pub after_channel : PolicyMap → List ChannelId → Who → ℕ → Bool → Option ChannelPolicy → Walk → Walk
+after_channel policies path who place asked None walk = walk
+after_channel policies path who place asked (Some policy) walk = after_policy policies path who place asked policy walk
+
+abbrev pub entry_count : Option ChannelPolicy → ℕ
+entry_count None = 0
+entry_count (Some policy) = length policy.acls
+
+-- ---- the path
+
+-- nothing is below the asked channel
+abbrev pub is_asked : List ChannelId → Bool
+is_asked [] = true
+is_asked (channel ∷ below) = false
+
+-- from the channel at a place of the path down to the asked one; none where neither mark holds after a
+-- channel, since the walk ends there
+unfoldable pub along : PolicyMap → List ChannelId → Who → ℕ → List ChannelId → Walk → Option Walk
+along policies path who place [] walk = Some walk
+along policies path who place (channel ∷ below) walk =
+    let after : Walk = after_channel policies path who place (is_asked below) (policies channel) walk in
+    if goes_on after then along policies path who (place + 1) below after else None
+
+-- the entries of these channels, up to the one at which the walk ends
+unfoldable pub visits_along : PolicyMap → List ChannelId → Who → ℕ → List ChannelId → Walk → ℕ
+visits_along policies path who place [] walk = 0
+visits_along policies path who place (channel ∷ below) walk =
+    let after : Walk = after_channel policies path who place (is_asked below) (policies channel) walk in
+    entry_count (policies channel) + (if goes_on after then visits_along policies path who (place + 1) below after else 0)
+
+-- ---- the answer
+
+abbrev pub super_user : AccountId
+super_user = record { 0 = 0 }
+
+-- of the asked channel and those above it, whether the asked one is the root
+unfoldable pub is_root : List ChannelId → Bool
+is_root [] = false
+is_root (asked ∷ above) = asked.0 == 0
+
+abbrev pub on_root : List ChannelId → Bool
+on_root path = is_root (reverse path)
+
+-- Write brings all along. Off the root the bits of the root are taken away.
+abbrev pub finished : Bool → ℕ → ℕ
+finished root set =
+    let held : ℕ = (if holds set write_bit then bit_or set (full_set root) else set) in
+    if root then held else without_bits held root_only
+
+abbrev pub set_of : Bool → Option Walk → ℕ
+set_of root None = 0
+set_of root (Some walk) = finished root walk.set.0
+
+unfoldable pub perm : PolicyMap → List ChannelId → Who → ℕ
+perm policies path who =
+    if is_account who.account super_user then full_set (on_root path)
+    else set_of (on_root path) (along policies path who 0 path walk_start)
+
+unfoldable pub visits : PolicyMap → List ChannelId → Who → ℕ
+visits policies path who =
+    if is_account who.account super_user then 0
+    else visits_along policies path who 0 path walk_start
+
+-- the first channel of a path is the root
+abbrev pub BeginsAtRoot : List ChannelId → Type 0
+BeginsAtRoot [] = ⊥
+BeginsAtRoot (first ∷ below) = first.0 ≡ 0

@@ -1,0 +1,136 @@
+//! Which sessions are in a group.
+
+ghost use Rattle.std.specs.Prelude.{◌≡◌, ◌<◌, length, reverse, true, false, if◌then◌else◌};
+ghost use Rattle.std.specs.Option.{option_copied};
+ghost use Rattle.std.specs.Str.{str_eq_ignore_ascii_case};
+ghost use Rattle.mum_policy.specs.Name.{asks_of};
+ghost use Rattle.mum_policy.specs.Member.{definition, definitions, has_token, is_listed, lists, meets, member};
+
+use crate::name::{Asked, understand};
+use crate::policy::{ChannelPolicy, Group, Policies, Who};
+use mum_base::{AccountId, ChannelId, Text};
+
+fn is_token(token: &Text, word: &[u8]) -> bool
+    ensures { result ≡ str_eq_ignore_ascii_case token.now word.now }
+{
+    token.as_slice().eq_ignore_ascii_case(word)
+}
+
+// Whether one of the tokens is the word, ASCII case ignored.
+#[tactic(auto, unfolding(crate::specs::Member::has_token))]
+fn one_is(tokens: &[Text], word: &[u8]) -> bool
+    ensures { result ≡ has_token tokens.now word.now }
+{
+    tokens.iter().any(|token| is_token(token, word))
+}
+
+// The first group of this name.
+#[tactic(auto, unfolding(crate::specs::Member::definition))]
+fn named<'a>(policy: &'a ChannelPolicy, name: &[u8]) -> Option<&'a Group>
+    ensures { option_copied result ≡ definition (Some policy.now) name.now }
+{
+    policy
+        .groups
+        .as_slice()
+        .iter()
+        .find(|group| group.name.as_slice() == name)
+}
+
+// Whether the definition removes the account (false), else adds it (true), else says nothing of it.
+fn decides(group: &Group, account: AccountId) -> Option<bool>
+    ensures { result ≡ (if lists group.now.remove account then Some false
+        else if lists group.now.add account then Some true else None) }
+{
+    if group.remove.as_slice().contains(&account) {
+        Some(false)
+    } else if group.add.as_slice().contains(&account) {
+        Some(true)
+    } else {
+        None
+    }
+}
+
+// The definition of a name by a channel.
+#[tactic(auto, unfolding(crate::specs::Member::definition))]
+fn definition_of<'a, P: Policies>(
+    policies: &'a P,
+    channel: ChannelId,
+    name: &[u8],
+) -> Option<&'a Group>
+    ensures { option_copied result ≡ definition (P.policy_of policies.now channel) name.now }
+{
+    match policies.policy(channel) {
+        Some(policy) => named(policy, name),
+        None => None,
+    }
+}
+
+// Whether the account is in the group that the channels of the path define, the last of them chosen.
+// The nearest definition that speaks of the account decides.
+fn is_in_defined<P: Policies>(
+    policies: &P,
+    path: &[ChannelId],
+    name: &[u8],
+    account: AccountId,
+) -> bool
+    ensures { result ≡ is_listed (definitions (P.policy_of policies.now) name.now (reverse path.now)) (Some account) }
+{
+    let mut above = false;
+    let mut up = path;
+    'upwards: while let Some((channel, rest)) = up.split_last() {
+        if let Some(group) = definition_of(policies, *channel, name) {
+            if above && !group.inheritable {
+                return false;
+            }
+            if let Some(decided) = decides(group, account) {
+                return decided;
+            }
+            if !group.inherit {
+                return false;
+            }
+        }
+        above = true;
+        up = rest;
+    }
+    false
+}
+
+/// Whether the session is in the group of this name, asked for an entry of the channel at `acl_at` of
+/// the path, in the channel that ends the path. The name may have the prefixes `!`, `~`, `#` and `$`.
+#[tactic(auto, unfolding(crate::specs::Member::member))]
+pub fn is_member<P: Policies>(
+    policies: &P,
+    path: &[ChannelId],
+    acl_at: usize,
+    name: &str,
+    who: &Who,
+) -> bool
+    requires { acl_at < length path.now }
+    ensures { result ≡ member (P.policy_of policies.now) path.now acl_at name.now who.now }
+{
+    let name = understand(name.as_bytes());
+    let chosen = if name.at_acl { acl_at } else { path.len() - 1 };
+    name.negated != meets_asked(policies, &path[..=chosen], who, name.asked)
+}
+
+// Whether the session is what is asked, where the last channel of the path is chosen.
+#[tactic(auto, unfolding(crate::specs::Member::meets, crate::specs::Member::is_listed))]
+fn meets_asked<P: Policies>(policies: &P, path: &[ChannelId], who: &Who, asked: Asked) -> bool
+    requires { 0 < length path.now }
+    ensures { result ≡ meets (P.policy_of policies.now) (reverse path.now) who.now (asks_of asked.entry) }
+{
+    let chosen = path[path.len() - 1];
+    let is_in = chosen == who.channel;
+    match asked {
+        Asked::Nobody => false,
+        Asked::Everybody => true,
+        Asked::Registered => who.account.is_some(),
+        Asked::Inside => is_in,
+        Asked::Outside => !is_in,
+        Asked::Token(word) => one_is(who.tokens, word),
+        Asked::Defined(name) => match who.account {
+            Some(account) => is_in_defined(policies, path, name, account),
+            None => false,
+        },
+    }
+}

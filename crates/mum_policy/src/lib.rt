@@ -1,0 +1,16 @@
+//! Who may do what where: which sessions are in a group by its name, and what the access control
+//! lists on the path from the root to a channel leave a session there, after "ACL and groups" of the
+//! Murmur manual. Nothing here takes memory, and nothing can be refused.
+#![tactic(auto)]
+
+pub mod group;
+pub mod name;
+pub mod policy;
+pub mod walk;
+
+pub use group::is_member;
+pub use policy::{AclEntry, ChannelPolicy, Group, Policies, Who, Whom};
+pub use walk::permissions;
+
+#[cfg(test)]
+mod tests;

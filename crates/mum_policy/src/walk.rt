@@ -1,0 +1,200 @@
+//! The walk over the access control lists from the root to a channel.
+
+ghost use Rattle.std.specs.Prelude.{◌≡◌, ◌+◌, ◌<◌, ◌==◌, All, IsSome, length};
+ghost use Rattle.mum_policy.specs.Walk.{BeginsAtRoot, after_match, after_policy, entering, finished, full_set, goes_on, holds, is_account, marked, matches, on_root, perm, visits, walk_start};
+
+use crate::group::is_member;
+use crate::policy::{AclEntry, ChannelPolicy, Policies, Who, Whom};
+use mum_base::{AccountId, ChannelId, Perm, Steps};
+use std::sync::ledger::Ledger;
+
+const ROOT: ChannelId = ChannelId(0);
+
+const SUPER_USER: AccountId = AccountId(0);
+
+/// How far a walk has come.
+#[derive(Clone, Copy, Debug)]
+pub(crate) struct Walk {
+    pub(crate) set: Perm,
+    /// Whether the session may pass the channels so far.
+    pub(crate) traverse: bool,
+    /// Whether Write was granted on the way, which lets it pass too.
+    pub(crate) write: bool,
+}
+
+impl Walk {
+    fn start() -> Walk
+        ensures { result ≡ walk_start }
+    {
+        Walk {
+            set: Perm::START,
+            traverse: true,
+            write: false,
+        }
+    }
+
+    fn goes_on(self) -> bool
+        ensures { result ≡ goes_on self }
+    {
+        self.traverse || self.write
+    }
+
+    // Into a channel that inherits, or not.
+    fn enter(self, inherit: bool) -> Walk
+        ensures { result ≡ entering inherit self }
+    {
+        if inherit {
+            self
+        } else {
+            Walk {
+                set: Perm::START,
+                ..self
+            }
+        }
+    }
+
+    // Past a matching entry, of the asked channel or of one above.
+    #[tactic(auto, unfolding(crate::specs::Walk::after_match))]
+    fn pass(self, entry: &AclEntry, asked: bool) -> Walk
+        ensures { result ≡ after_match asked entry.now self }
+    {
+        let applies = if asked { entry.here } else { entry.subs };
+        Walk {
+            set: if applies {
+                self.set.with(entry.grant).without(entry.deny)
+            } else {
+                self.set
+            },
+            traverse: marked(self.traverse, entry, Perm::TRAVERSE),
+            write: marked(self.write, entry, Perm::WRITE),
+        }
+    }
+}
+
+fn is_held(set: Perm, bits: Perm) -> bool
+    ensures { result ≡ holds set.0 bits.0 }
+{
+    set.has(bits)
+}
+
+// The mark of a permission: set where it is granted, and then cleared where it is denied.
+fn marked(mark: bool, entry: &AclEntry, bit: Perm) -> bool
+    ensures { result ≡ marked mark entry.now bit.0 }
+{
+    (mark || is_held(entry.grant, bit)) && !is_held(entry.deny, bit)
+}
+
+fn is_of(who: &Who, account: AccountId) -> bool
+    ensures { result ≡ is_account who.now.account account }
+{
+    match who.account {
+        Some(own) => own == account,
+        None => false,
+    }
+}
+
+// Whether an entry of the channel at this place of the path speaks of the session.
+#[tactic(auto, unfolding(crate::specs::Walk::matches))]
+fn speaks_of<P: Policies>(
+    policies: &P,
+    path: &[ChannelId],
+    who: &Who,
+    place: usize,
+    entry: &AclEntry,
+) -> bool
+    requires { place < length path.now }
+    ensures { result ≡ matches (P.policy_of policies.now) path.now who.now place entry.now }
+{
+    match &entry.whom {
+        Whom::Account(account) => is_of(who, *account),
+        Whom::Group(name) => is_member(policies, path, place, name.as_str(), who),
+    }
+}
+
+// Past the channel at this place of the path, which has this policy. A step is an entry.
+fn pass_channel<P: Policies, L: Ledger>(
+    policies: &P,
+    path: &[ChannelId],
+    who: &Who,
+    place: usize,
+    policy: &ChannelPolicy,
+    walk: Walk,
+    steps: &mut Steps<L>,
+) -> Walk
+    requires { place < length path.now }
+    ensures walk { result ≡ after_policy (P.policy_of policies.now) path.now who.now place (place + 1 == length path.now) policy.now walk }
+    ensures steps { steps.new ≡ steps.old + length policy.now.acls }
+{
+    let asked = place + 1 == path.len();
+    let mut walk = walk.enter(policy.inherit_acls);
+    let entries = policy.acls.as_slice();
+    'entries: for entry in entries {
+        steps.tick();
+        if speaks_of(policies, path, who, place, entry) {
+            walk = walk.pass(entry, asked);
+        }
+    }
+    walk
+}
+
+fn full_permissions(on_root: bool) -> Perm
+    ensures { result.0 ≡ full_set on_root }
+{
+    if on_root {
+        Perm::BY_WRITE.with(Perm::ROOT_ONLY)
+    } else {
+        Perm::BY_WRITE
+    }
+}
+
+// What a set at the end of a walk gives.
+fn finish(on_root: bool, set: Perm) -> Perm
+    ensures { result.0 ≡ finished on_root set.0 }
+{
+    let held = if is_held(set, Perm::WRITE) {
+        set.with(full_permissions(on_root))
+    } else {
+        set
+    };
+    if on_root {
+        held
+    } else {
+        held.without(Perm::ROOT_ONLY)
+    }
+}
+
+fn ends_at_root(path: &[ChannelId]) -> bool
+    requires { 0 < length path.now }
+    ensures { result ≡ on_root path.now }
+{
+    let asked = path[path.len() - 1];
+    asked == ROOT
+}
+
+/// What the session may do in the last channel of the path, which leads there from the root. A step
+/// is counted for each entry that is read.
+pub fn permissions<P: Policies, L: Ledger>(
+    policies: &P,
+    path: &[ChannelId],
+    who: &Who,
+    steps: &mut Steps<L>,
+) -> Perm
+    requires root { BeginsAtRoot path.now }
+    requires there { All (λ channel. IsSome (P.policy_of policies.now channel)) path.now }
+    ensures value { result.0 ≡ perm (P.policy_of policies.now) path.now who.now }
+    ensures steps { steps.new ≡ steps.old + visits (P.policy_of policies.now) path.now who.now }
+{
+    let on_root = ends_at_root(path);
+    if is_of(who, SUPER_USER) {
+        return full_permissions(on_root);
+    }
+    let mut walk = Walk::start();
+    'channels: for (place, channel) in path.iter().enumerate() {
+        let policy = policies.policy(*channel).unwrap();
+        walk = pass_channel(policies, path, who, place, policy, walk, steps);
+        if !walk.goes_on() {
+            return Perm::NONE;
+        }
+    }
+    finish(on_root, walk.set)
+}

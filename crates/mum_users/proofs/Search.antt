@@ -1,0 +1,82 @@
+-- A search by halving in rows that rise.
+use Rattle.std.proofs.Common.{◌≡◌, ℕ, zero, suc, ◌+◌, ◌<◌, ◌≤◌, Bool, true, false, not, List, [], ◌∷◌, length, get_or, Some, None, refl, sym, ap, ◌∙◌, inl, inr, arith}
+use Rattle.std.specs.Prelude.{IsTrue}
+use Rattle.std.specs.List.{find, position_or_len}
+use Rattle.std.specs.List.Sorted.{IsPartitionPoint, IsPartitionedBy}
+use Rattle.std.proofs.lemmas.Bool.{cases_lt, not_from_false, not_from_true}
+use Rattle.std.proofs.lemmas.Bool.Decides.{nat_tests}
+use Rattle.std.proofs.lemmas.List.Sums.{position_or_len_is}
+use Rattle.mum_base.specs.declared.number.SessionId.{SessionId}
+use Rattle.mum_users.specs.declared.target.TargetRow.{TargetRow}
+use Rattle.mum_users.specs.State.{is_target}
+use Rattle.mum_users.specs.Targets.{target_below}
+use Rattle.mum_users.specs.Proper.{IsBelowAll, Rises, row_below}
+use Rattle.mum_users.proofs.Orders.{IsBelowAll-through, row_through, row_other_way}
+use Rattle.mum_users.proofs.Places.{one_more}
+
+module _ {X : Type 0} (below : X → X → Bool) where
+  IsBelowAll-at : (first : X) (xs : List X) (j : ℕ) (d : X) → IsBelowAll below first xs → j < length xs → IsTrue (below first (get_or xs j d))
+  IsBelowAll-at first [] j d all within = absurd (omega arith)
+  IsBelowAll-at first (x ∷ xs) zero d all within = all.0
+  IsBelowAll-at first (x ∷ xs) (suc j) d all within = IsBelowAll-at first xs j d all.1 (omega arith)
+
+  Rises-at : (xs : List X) (i j : ℕ) (d : X) → Rises below xs → i < j → j < length xs → IsTrue (below (get_or xs i d) (get_or xs j d))
+  Rises-at [] i j d rise lt within = absurd (omega arith)
+  Rises-at (x ∷ xs) i zero d rise lt within = absurd (omega arith)
+  Rises-at (x ∷ xs) zero (suc j) d rise lt within = IsBelowAll-at x xs j d rise.0 (omega arith)
+  Rises-at (x ∷ xs) (suc i) (suc j) d rise lt within = Rises-at xs i j d rise.1 (omega arith) (omega arith)
+
+module _ (session : SessionId) (id : ℕ) where
+  -- what is below a number of a session stands before what is not
+  pub rows_parted : (rows : List TargetRow) → Rises row_below rows → IsPartitionedBy (target_below session id) rows
+  rows_parted rows rise i j d le within lower = elim (cases_lt i j) [
+    | inl lt ↦ row_through (get_or rows i d) (get_or rows j d) (record { session = session; id = id; target = d.target }) (Rises-at row_below rows i j d rise lt within) lower
+    | inr ge ↦ (let same : i ≡ j = omega arith in ap (λ (k : ℕ). target_below session id (get_or rows k d)) same ∙ lower)
+  ]
+
+  -- the place between them is the first that is not below
+  pub place_between : (rows : List TargetRow) (i : ℕ) → i ≤ length rows → IsPartitionPoint (λ row. target_below session id row ≡ true) (λ row. target_below session id row ≡ false) rows i → i ≡ position_or_len (λ row. not (target_below session id row)) rows
+  place_between rows i within parted =
+      let d : TargetRow = record { session = session; id = id; target = record { items = [] } } in
+      sym (position_or_len_is (λ row. not (target_below session id row)) rows i d within
+      (λ k lt. not_from_true _ (parted.0 k d (omega arith) lt))
+      (λ lt. not_from_false _ (parted.1 i d (omega arith) lt)))
+
+  below_is_other : (row : TargetRow) → target_below session id row ≡ true → is_target session id row ≡ false
+  below_is_other row lower = grind (arith, nat_tests)
+
+  pub find-at_place : (rows : List TargetRow) (d : TargetRow) → position_or_len (λ row. not (target_below session id row)) rows < length rows → is_target session id (get_or rows (position_or_len (λ row. not (target_below session id row)) rows) d) ≡ true → find (is_target session id) rows ≡ Some (get_or rows (position_or_len (λ row. not (target_below session id row)) rows) d)
+  find-at_place [] d within there = absurd (omega arith)
+  find-at_place (row ∷ rows) d within there = split (target_below session id row) refl (find-at_place rows d)
+    where
+      split : (b : Bool) → target_below session id row ≡ b → (position_or_len (λ x. not (target_below session id x)) rows < length rows → is_target session id (get_or rows (position_or_len (λ x. not (target_below session id x)) rows) d) ≡ true → find (is_target session id) rows ≡ Some (get_or rows (position_or_len (λ x. not (target_below session id x)) rows) d)) → find (is_target session id) (row ∷ rows) ≡ Some (get_or (row ∷ rows) (position_or_len (λ x. not (target_below session id x)) (row ∷ rows)) d)
+      split true e rest =
+          let inside : 1 + position_or_len (λ x. not (target_below session id x)) rows < length (row ∷ rows) = rw e at within in
+          let is = rw (e, one_more (position_or_len (λ x. not (target_below session id x)) rows)) at there in
+          let head : is_target session id row ≡ false = below_is_other row e in
+          rw (e, one_more (position_or_len (λ x. not (target_below session id x)) rows), head) (rest (omega arith) is)
+      split false e rest = let is : is_target session id row ≡ true = rw e at there in rw (e, is) refl
+
+  above_is_other : (new row : TargetRow) → is_target session id new ≡ true → IsTrue (row_below new row) → is_target session id row ≡ false
+  above_is_other new row is lower = grind (arith, nat_tests)
+
+  none_above : (new : TargetRow) (rows : List TargetRow) → is_target session id new ≡ true → IsBelowAll row_below new rows → find (is_target session id) rows ≡ None
+  none_above new [] is all = refl
+  none_above new (row ∷ rows) is all = let head : is_target session id row ≡ false = above_is_other new row is all.0 in rw head (none_above new rows is all.1)
+
+  pub find-no_place : (rows : List TargetRow) → Rises row_below rows → ((d : TargetRow) → position_or_len (λ row. not (target_below session id row)) rows < length rows → is_target session id (get_or rows (position_or_len (λ row. not (target_below session id row)) rows) d) ≡ false) → find (is_target session id) rows ≡ None
+  find-no_place [] rise other = refl
+  find-no_place (row ∷ rows) rise other = split (target_below session id row) refl (find-no_place rows rise.1)
+    where
+      itself : (r : TargetRow) → is_target session id (record { session = session; id = id; target = r.target }) ≡ true
+      itself r = grind (arith, nat_tests)
+
+      split : (b : Bool) → target_below session id row ≡ b → (((d : TargetRow) → position_or_len (λ x. not (target_below session id x)) rows < length rows → is_target session id (get_or rows (position_or_len (λ x. not (target_below session id x)) rows) d) ≡ false) → find (is_target session id) rows ≡ None) → find (is_target session id) (row ∷ rows) ≡ None
+      split true e rest =
+          let head : is_target session id row ≡ false = below_is_other row e in
+          rw head (rest (λ d lt. rw (e, one_more (position_or_len (λ x. not (target_below session id x)) rows)) at (other d (rw e (omega arith)))))
+      split false e rest =
+          let head : is_target session id row ≡ false = rw e at (other row (rw e (omega arith))) in
+          let new : TargetRow = record { session = session; id = id; target = row.target } in
+          let lower : IsTrue (row_below new row) = row_other_way new row head e in
+          rw head (none_above new rows (itself row) (IsBelowAll-through row_below row_through new row rows lower rise.0))

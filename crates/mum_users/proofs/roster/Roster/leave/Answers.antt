@@ -1,0 +1,6 @@
+use Rattle.mum_users.proofs.Rosters.{IsProper-left}
+use Rattle.mum_users.proofs.roster.Roster.leave.Goals as goal
+
+pub invariant_of-self : goal.invariant_of-self
+invariant_of-self c =
+    rw (c.take_user.ensures, c.take_listener.ensures, c.take_targets.ensures) (IsProper-left _ c.args.session c.self.invariant)

@@ -1,0 +1,35 @@
+use Rattle.std.proofs.Common.{refl}
+use Rattle.std.specs.Prelude.{unwrap_or}
+use Rattle.std.specs.Option.{option_copied}
+use Rattle.std.proofs.lemmas.Result.{err_from_is_err_and}
+use Rattle.mum_users.proofs.Rosters.{IsProper-set, found, here_from, not_found}
+use Rattle.mum_users.proofs.roster.Roster.set_texts.Goals as goal
+
+pub returns-in-None : goal.returns-in-None
+returns-in-None c = (not_found _ _ c.args.session _ c.self.view_is c.as_slice.ensures.value c.in-None.ensures, refl)
+
+pub invariant_of-self : goal.invariant_of-self
+invariant_of-self c =
+    rw (c.change_texts.ensures, c.in_ok-comment-in-Some.ensures, c.in_ok-context-in-Some.ensures) (
+    IsProper-set _ c.args.session
+    (λ user. record user { comment = unwrap_or (option_copied c.args.comment) user.comment; context = unwrap_or (option_copied c.args.context) user.context })
+    _ _ c.index_mut.result.now (record { session = λ _. refl; slot = λ _. refl; name = λ _. refl })
+    c.self.invariant c.as_slice.ensures.value c.in-Some.ensures c.index_mut.ensures.value)
+
+pub returns-in_ok-context-in-Some : goal.returns-in_ok-context-in-Some
+returns-in_ok-context-in-Some c =
+    let changed =
+    found _ _ c.args.session
+    (λ user. record user { comment = unwrap_or (option_copied c.args.comment) user.comment; context = unwrap_or (option_copied c.args.context) user.context })
+    _ _ c.index_mut.result.now c.self.view_is c.self.invariant c.as_slice.ensures.value c.in-Some.ensures c.index_mut.ensures.value in
+    rw (c.change_texts.ensures, c.in_ok-comment-in-Some.ensures, c.in_ok-context-in-Some.ensures) (changed.0, refl, changed.1)
+
+pub returns-in_err-comment-in-Some : goal.returns-in_err-comment-in-Some
+returns-in_err-comment-in-Some c =
+    let p = err_from_is_err_and c.from_residual.result c.from_residual.ensures.1 in
+    rw (p.1, p.2) (here_from _ _ c.args.session _ _ c.self.view_is c.as_slice.ensures.value c.in-Some.ensures, refl)
+
+pub returns-in_err-context-in-Some : goal.returns-in_err-context-in-Some
+returns-in_err-context-in-Some c =
+    let p = err_from_is_err_and c.from_residual-in_err-context-in-Some.result c.from_residual-in_err-context-in-Some.ensures.1 in
+    rw (p.1, p.2) (here_from _ _ c.args.session _ _ c.self.view_is c.as_slice.ensures.value c.in-Some.ensures, refl)

@@ -1,0 +1,10 @@
+use Rattle.std.proofs.Common.{◌≡◌, ◌≤◌, length, take}
+use Rattle.std.specs.List.{sum_by}
+use Rattle.mum_users.specs.declared.target.TheConstants.{TARGET_SESSIONS}
+use Rattle.mum_users.proofs.target.names_too_many.Given as goal
+
+abbrev pub invariant-loop-item : goal.invariant-loop-item
+invariant-loop-item l = record {
+  counted : l.named ≡ sum_by (λ item. length item.sessions) (take l.item-index l.items);
+  within : l.named ≤ TARGET_SESSIONS;
+}

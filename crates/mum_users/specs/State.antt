@@ -1,0 +1,68 @@
+-- What a roster holds, as plain lists.
+use Rattle.std.specs.Prelude.{ℕ, ◌==◌, ◌&&◌, Bool, false, List, [], Option}
+use Rattle.std.specs.Str.{bytes_eq}
+use Rattle.mum_base.specs.declared.number.SessionId.{SessionId}
+use Rattle.mum_base.specs.declared.number.AccountId.{AccountId}
+use Rattle.mum_base.specs.declared.number.ChannelId.{ChannelId}
+use Rattle.mum_base.specs.declared.number.Slot.{Slot}
+use Rattle.mum_users.specs.declared.user.User.{User}
+use Rattle.mum_users.specs.declared.listening.ListenerPair.{ListenerPair}
+use Rattle.mum_users.specs.declared.target.TargetRow.{TargetRow}
+
+pub record RosterState : Type 0 where
+  -- by their slots
+  pub sessions : List User
+  -- by their sessions, those of one session by their channels
+  pub listeners : List ListenerPair
+  -- by their sessions, those of one session by their numbers
+  pub targets : List TargetRow
+  -- the last session number that was given, or 0
+  pub last : ℕ
+
+-- which rows are of a session, a slot, a name, a channel or a number of a target
+abbrev pub has_number : SessionId → User → Bool
+has_number session user = user.session.0 == session.0
+
+abbrev pub has_slot : Slot → User → Bool
+has_slot slot user = user.slot.0 == slot.0
+
+abbrev pub has_name : List ℕ → User → Bool
+has_name name user = bytes_eq user.name name
+
+abbrev pub is_pair : SessionId → ChannelId → ListenerPair → Bool
+is_pair session channel pair = (pair.session.0 == session.0) && (pair.channel.0 == channel.0)
+
+abbrev pub is_of_session : SessionId → ListenerPair → Bool
+is_of_session session pair = pair.session.0 == session.0
+
+abbrev pub is_of_channel : ChannelId → ListenerPair → Bool
+is_of_channel channel pair = pair.channel.0 == channel.0
+
+abbrev pub is_of : SessionId → TargetRow → Bool
+is_of session row = row.session.0 == session.0
+
+abbrev pub is_target : SessionId → ℕ → TargetRow → Bool
+is_target session id row = (row.session.0 == session.0) && (row.id == id)
+
+abbrev pub empty_roster : RosterState
+empty_roster = record { sessions = []; listeners = []; targets = []; last = 0 }
+
+-- the row of a session that joins: in the root channel, with no flag and no texts
+abbrev pub joining : SessionId → Slot → List ℕ → Option AccountId → List (List ℕ) → User
+joining session slot name account tokens = record {
+  session = session;
+  slot = slot;
+  name = name;
+  account = account;
+  channel = record { 0 = 0 };
+  mute = false;
+  deaf = false;
+  suppress = false;
+  self_mute = false;
+  self_deaf = false;
+  priority = false;
+  recording = false;
+  tokens = tokens;
+  comment = [];
+  context = [];
+}

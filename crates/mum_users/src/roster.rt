@@ -1,0 +1,336 @@
+//! The roster, and its calls.
+
+ghost use Rattle.std.specs.Prelude.{◌≡◌, IfOk, IfSome};
+ghost use Rattle.std.specs.Option.{option_copied};
+ghost use Rattle.mum_users.specs.Fault.{Settles, SettlesInPlace};
+
+use crate::fault::UserFault;
+use crate::flags::FlagChange;
+use crate::listening::{
+    CHANNEL_LISTENERS, LISTENED_CHANNELS, ListenerPair, channels_of, is_listening, listeners_of,
+    put_pair, take_listener, take_pair,
+};
+use crate::sessions::{
+    copy_of_users, free_slot, index_of, is_here, name_in_use, row_at, row_of, take_user,
+};
+use crate::target::{
+    LAST_TARGET, Target, TargetRow, copy_of_target, copy_of_targets, is_oversize, put_target,
+    row_of_target, take_target, take_targets,
+};
+use crate::user::{
+    SESSIONS, User, change_flags, change_texts, copy_of_octets, copy_of_text, copy_of_texts,
+    joining_user,
+};
+use mum_base::{AccountId, ChannelId, Octets, OutOfMemory, SessionId, Slot, Text};
+use std::alloc::Global;
+use std::marker::Model;
+
+/// The sessions that are here, the channels they listen to, and their voice targets.
+#[derive(Drop)]
+pub struct Roster {
+    alloc: Global,
+    // By their slots.
+    users: Vec<User>,
+    // By their sessions, then their channels.
+    listeners: Vec<ListenerPair>,
+    // By their sessions, then their numbers.
+    targets: Vec<TargetRow>,
+    last: u32,
+}
+
+impl Model for Roster {
+    ghost use Rattle.mum_users.specs.State.{RosterState};
+    ghost use Rattle.mum_users.specs.Proper.{IsProper};
+
+    ghost Value = { RosterState };
+
+    ghost view = { λ r. record {
+      sessions = r.users.items;
+      listeners = r.listeners.items;
+      targets = r.targets.items;
+      last = r.last;
+    } };
+
+    ghost invariant = { λ r. IsProper (record {
+      sessions = r.users.items;
+      listeners = r.listeners.items;
+      targets = r.targets.items;
+      last = r.last;
+    }) };
+}
+
+impl Roster {
+    ghost use Rattle.mum_users.specs.State.{empty_roster};
+    ghost use Rattle.mum_users.specs.Proper.{IsProper};
+    ghost use Rattle.mum_users.specs.Sessions.{absent_fault, join_fault, joined, left, next_join, next_number, placed, session_at, session_of, with_flags, with_texts, with_tokens, IsLeastFree};
+    ghost use Rattle.mum_users.specs.Listeners.{listen_fault, listening, listens, not_listening};
+    ghost use Rattle.mum_users.specs.Targets.{target_fault, target_of, targeted};
+
+    /// No session is here, and none was.
+    pub fn new(alloc: Global) -> Result<Roster, OutOfMemory>
+        ensures { IfOk result (λ roster. roster ≡ empty_roster) }
+    {
+        Ok(Roster {
+            alloc,
+            users: Vec::with_capacity(alloc, SESSIONS)?,
+            listeners: Vec::new(alloc),
+            targets: Vec::new(alloc),
+            last: 0,
+        })
+    }
+
+    /// The row of a session, in one pass.
+    pub fn session(&self, session: SessionId) -> Option<&User>
+        ensures row { option_copied result ≡ session_of self.now session }
+        ensures proper { IsProper self.now }
+    {
+        row_of(self.users.as_slice(), session)
+    }
+
+    /// The row of the session in a slot, in a number of steps that grows as the logarithm of the
+    /// number of sessions.
+    pub fn at(&self, slot: Slot) -> Option<&User>
+        ensures row { option_copied result ≡ session_at self.now slot }
+        ensures proper { IsProper self.now }
+    {
+        row_at(self.users.as_slice(), slot)
+    }
+
+    /// The number and the slot that the next join takes; `None` where 128 sessions are here or the
+    /// number 4,294,967,295 was given.
+    pub fn next_join(&self) -> Option<(SessionId, Slot)>
+        ensures next { result ≡ next_join self.now }
+        ensures least { IfSome result (λ next. IsLeastFree self.now.sessions next.1.0) }
+        ensures proper { IsProper self.now }
+    {
+        if self.users.len() >= SESSIONS || self.last == u32::MAX {
+            return None;
+        }
+        let slot = free_slot(self.users.as_slice());
+        Some((SessionId(self.last + 1), Slot(slot as u8)))
+    }
+
+    /// Takes a session in, with the least free slot, the next number, the root channel and no flag.
+    ///
+    /// Refused in this order: `NameInUse` where a session has the name, `Full` where 128 sessions are
+    /// here, `SessionsUsedUp` where the number 4,294,967,295 was given.
+    pub fn join(
+        &mut self,
+        name: &str,
+        account: Option<AccountId>,
+        tokens: &[Text],
+    ) -> Result<SessionId, UserFault>
+        ensures { Settles (join_fault self.old name.now) (next_number self.old)
+            (joined self.old name.now account tokens.now) self.old result self.new }
+    {
+        if name_in_use(self.users.as_slice(), name) {
+            return Err(UserFault::NameInUse);
+        }
+        if self.users.len() >= SESSIONS {
+            return Err(UserFault::Full);
+        }
+        if self.last == u32::MAX {
+            return Err(UserFault::SessionsUsedUp);
+        }
+        let slot = free_slot(self.users.as_slice());
+        let session = SessionId(self.last + 1);
+        let user = joining_user(self.alloc, session, Slot(slot as u8), name, account, tokens)?;
+        self.users.insert(slot, user)?;
+        self.last += 1;
+        Ok(session)
+    }
+
+    /// Takes a session out, with its listening and its targets. Refused as `NoSession` where it is not
+    /// here.
+    pub fn leave(&mut self, session: SessionId) -> Result<(), UserFault>
+        ensures { SettlesInPlace (absent_fault self.old session) (left self.old session)
+            self.old result self.new }
+    {
+        if !is_here(self.users.as_slice(), session) {
+            return Err(UserFault::NoSession);
+        }
+        take_user(&mut self.users, session);
+        take_listener(&mut self.listeners, session);
+        take_targets(&mut self.targets, session);
+        Ok(())
+    }
+
+    /// Puts a session into a channel. Refused as `NoSession` where it is not here.
+    pub fn place(&mut self, session: SessionId, channel: ChannelId) -> Result<(), UserFault>
+        ensures { SettlesInPlace (absent_fault self.old session) (placed self.old session channel)
+            self.old result self.new }
+    {
+        match index_of(self.users.as_slice(), session) {
+            None => Err(UserFault::NoSession),
+            Some(index) => {
+                let user = &mut self.users[index];
+                user.channel = channel;
+                Ok(())
+            }
+        }
+    }
+
+    /// Changes the flags of a session. Refused as `NoSession` where it is not here.
+    pub fn set_flags(&mut self, session: SessionId, change: FlagChange) -> Result<(), UserFault>
+        ensures { SettlesInPlace (absent_fault self.old session) (with_flags self.old session change)
+            self.old result self.new }
+    {
+        match index_of(self.users.as_slice(), session) {
+            None => Err(UserFault::NoSession),
+            Some(index) => {
+                change_flags(&mut self.users[index], change);
+                Ok(())
+            }
+        }
+    }
+
+    /// Sets the tokens of a session anew. Refused as `NoSession` where it is not here.
+    pub fn set_tokens(&mut self, session: SessionId, tokens: &[Text]) -> Result<(), UserFault>
+        ensures { Settles (absent_fault self.old session) tt
+            (with_tokens self.old session tokens.now) self.old result self.new }
+    {
+        match index_of(self.users.as_slice(), session) {
+            None => Err(UserFault::NoSession),
+            Some(index) => {
+                let tokens = copy_of_texts(self.alloc, tokens)?;
+                let user = &mut self.users[index];
+                user.tokens = tokens;
+                Ok(())
+            }
+        }
+    }
+
+    /// Sets the comment and the plugin context of a session, as far as they are given. Refused as
+    /// `NoSession` where it is not here.
+    pub fn set_texts(
+        &mut self,
+        session: SessionId,
+        comment: Option<&str>,
+        context: Option<&[u8]>,
+    ) -> Result<(), UserFault>
+        ensures { Settles (absent_fault self.old session) tt
+            (with_texts self.old session (option_copied comment.entry) (option_copied context.entry))
+            self.old result self.new }
+    {
+        match index_of(self.users.as_slice(), session) {
+            None => Err(UserFault::NoSession),
+            Some(index) => {
+                let comment = copy_of_text(self.alloc, comment)?;
+                let context = copy_of_octets(self.alloc, context)?;
+                change_texts(&mut self.users[index], comment, context);
+                Ok(())
+            }
+        }
+    }
+
+    /// Whether a session listens to a channel.
+    pub fn listens(&self, session: SessionId, channel: ChannelId) -> bool
+        ensures { result ≡ listens self.now session channel }
+    {
+        is_listening(self.listeners.as_slice(), session, channel)
+    }
+
+    /// Lets a session listen to a channel. If it does already, nothing changes.
+    ///
+    /// Refused in this order: `NoSession` where it is not here, and, where the pair is new,
+    /// `ListenerLimit` where 64 sessions listen to the channel, and `UserListenerLimit` where the
+    /// session listens to 32 channels.
+    pub fn listen(&mut self, session: SessionId, channel: ChannelId) -> Result<(), UserFault>
+        ensures { Settles (listen_fault self.old session channel) tt
+            (listening self.old session channel) self.old result self.new }
+    {
+        if !is_here(self.users.as_slice(), session) {
+            return Err(UserFault::NoSession);
+        }
+        if is_listening(self.listeners.as_slice(), session, channel) {
+            return Ok(());
+        }
+        if listeners_of(self.listeners.as_slice(), channel) >= CHANNEL_LISTENERS {
+            return Err(UserFault::ListenerLimit);
+        }
+        if channels_of(self.listeners.as_slice(), session) >= LISTENED_CHANNELS {
+            return Err(UserFault::UserListenerLimit);
+        }
+        put_pair(&mut self.listeners, ListenerPair { session, channel })?;
+        Ok(())
+    }
+
+    /// Ends a session's listening to a channel, if it listens. Refused as `NoSession` where it is not
+    /// here.
+    pub fn unlisten(&mut self, session: SessionId, channel: ChannelId) -> Result<(), UserFault>
+        ensures { SettlesInPlace (absent_fault self.old session)
+            (not_listening self.old session channel) self.old result self.new }
+    {
+        if !is_here(self.users.as_slice(), session) {
+            return Err(UserFault::NoSession);
+        }
+        take_pair(&mut self.listeners, session, channel);
+        Ok(())
+    }
+
+    /// The voice target of a session under a number, in a number of steps that grows as the logarithm
+    /// of the number of targets. `None` where the session is not here or has none under the number.
+    pub fn target(&self, session: SessionId, id: u8) -> Option<&Target>
+        ensures { option_copied result ≡ target_of self.now session id }
+    {
+        match row_of_target(self.targets.as_slice(), session, id) {
+            None => None,
+            Some(row) => Some(&row.target),
+        }
+    }
+
+    /// Sets a session's voice target under a number, or, if it has no items, unsets it.
+    ///
+    /// Refused in this order: `NoSession` where the session is not here, `TargetId` where the number
+    /// is not 1 to 30, `TargetSize` where the target has more than 16 items, names more than 128
+    /// sessions over all its items together, or names a group of more than 128 bytes.
+    pub fn set_target(
+        &mut self,
+        session: SessionId,
+        id: u8,
+        target: &Target,
+    ) -> Result<(), UserFault>
+        ensures { Settles (target_fault self.old session id target.now) tt
+            (targeted self.old session id target.now) self.old result self.new }
+    {
+        if !is_here(self.users.as_slice(), session) {
+            return Err(UserFault::NoSession);
+        }
+        if id == 0 || id > LAST_TARGET {
+            return Err(UserFault::TargetId);
+        }
+        if is_oversize(target) {
+            return Err(UserFault::TargetSize);
+        }
+        if target.items.as_slice().is_empty() {
+            take_target(&mut self.targets, session, id);
+            return Ok(());
+        }
+        let target = copy_of_target(self.alloc, target)?;
+        put_target(
+            &mut self.targets,
+            TargetRow {
+                session,
+                id,
+                target,
+            },
+        )?;
+        Ok(())
+    }
+
+    /// An equal roster, with its slots and the last session number that was given.
+    pub fn copy(&self, alloc: Global) -> Result<Roster, OutOfMemory>
+        ensures { IfOk result (λ copy. copy ≡ self.now) }
+    {
+        Ok(Roster {
+            alloc,
+            users: copy_of_users(alloc, self.users.as_slice())?,
+            listeners: Vec::from_slice(alloc, self.listeners.as_slice())?,
+            targets: copy_of_targets(alloc, self.targets.as_slice())?,
+            last: self.last,
+        })
+    }
+}
+
+#[cfg(test)]
+mod tests;

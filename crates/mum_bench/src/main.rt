@@ -2,6 +2,7 @@
 //! it can be left out; `bench/run` times them.
 #![tactic(auto)]
 
+mod acl;
 mod frames;
 mod voice;
 
@@ -15,6 +16,10 @@ fn number(word: &str) -> Result<usize> {
 
 fn checksum(alloc: Global, words: &[String]) -> Result<u64> {
     match words {
+        [word, kind, length, count] => match word.as_str() {
+            "acl" => acl::walks(alloc, kind.as_str(), number(length)?, number(count)?),
+            _ => bail!("no such workload"),
+        },
         [word, piece, size] => match word.as_str() {
             "frames" => frames::small(alloc, number(piece)?, number(size)?),
             "copy" => frames::copied(alloc, number(piece)?, number(size)?),
@@ -27,7 +32,7 @@ fn checksum(alloc: Global, words: &[String]) -> Result<u64> {
             "copy-packets" => voice::copied_packets(number(size)?),
             _ => bail!("no such workload"),
         },
-        _ => bail!("mum_bench WORKLOAD [PIECE] SIZE"),
+        _ => bail!("mum_bench WORKLOAD [KIND] [PIECE] SIZE"),
     }
 }
 

@@ -1,0 +1,87 @@
+//! ChannelRemove: a channel is removed, or is to be.
+
+use crate::draft::{Draft, read};
+use crate::message::{Message, encode};
+use crate::put::put_number;
+use mum_base::{Octets, OutOfMemory};
+use mum_fields::{MessageFault, Placed, Writer, set_varint};
+use std::alloc::Global;
+
+/// Mumble.proto, message ChannelRemove.
+#[derive(Debug, Drop)]
+pub struct ChannelRemove {
+    /// The channel.
+    pub channel_id: Option<u32>,
+}
+
+impl Draft for ChannelRemove {
+    ghost use Rattle.mum_msg_state.specs.Table.{parts};
+    ghost use Rattle.mum_msg_state.specs.Messages.{channel_remove};
+
+    type Message = ChannelRemove;
+
+    ghost rows = { channel_remove };
+
+    ghost values = { parts channel_remove };
+
+    fn new(_alloc: Global) -> ChannelRemove {
+        ChannelRemove { channel_id: None }
+    }
+
+    fn take(&mut self, _alloc: Global, placed: &Placed<'_>) -> Result<(), MessageFault> {
+        set_varint(&mut self.channel_id, 1, placed);
+        Ok(())
+    }
+
+    fn missing(&self) -> Option<u32> {
+        if self.channel_id.is_none() {
+            Some(1)
+        } else {
+            None
+        }
+    }
+
+    fn finish(self) -> ChannelRemove {
+        self
+    }
+}
+
+impl Message for ChannelRemove {
+    ghost use Rattle.std.specs.Prelude.{refl};
+    ghost use Rattle.mum_msg_state.specs.Messages.{channel_remove};
+
+    ghost rows = { channel_remove };
+
+    fn put(&self, writer: &mut Writer) -> Result<(), OutOfMemory> {
+        put_number(writer, 1, &self.channel_id)?;
+        Ok(())
+    }
+
+    ghost in_order = { refl };
+}
+
+impl ChannelRemove {
+    ghost use Rattle.std.specs.Prelude.{◌≡◌, IfOk, None, Ok};
+    ghost use Rattle.mum_fields.specs.Message.{Answers};
+    ghost use Rattle.mum_msg_state.specs.Table.{parts, decoded, spelled, missing};
+    ghost use Rattle.mum_msg_state.specs.Messages.{channel_remove};
+
+    /// The message that a payload is. A field of another number or wire type is passed over. A
+    /// refusal is the first fault of a field with its place, or want of memory; where each field is
+    /// whole, it is the least required number that is missing.
+    pub fn decode(alloc: Global, payload: &[u8]) -> Result<ChannelRemove, MessageFault>
+        ensures { Answers (parts channel_remove) result (decoded channel_remove payload.now) }
+    {
+        read::<ChannelRemove>(alloc, payload)
+    }
+
+    /// The payload of this message: each field that is set, in the order of the numbers. It is read
+    /// back where no required field is missing.
+    pub fn encode(&self, alloc: Global) -> Result<Octets, OutOfMemory>
+        ensures written { IfOk result (λ octets. octets ≡ spelled channel_remove self.now) }
+        ensures read_back { IfOk result (λ octets. missing channel_remove (parts channel_remove self.now) ≡ None
+            → decoded channel_remove octets ≡ Ok (parts channel_remove self.now)) }
+    {
+        encode(self, alloc)
+    }
+}

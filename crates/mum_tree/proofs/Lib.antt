@@ -1,0 +1,13 @@
+pub mod Changed
+pub mod Edits
+pub mod Find
+pub mod Grown
+pub mod Joined
+pub mod Linking
+pub mod Marks
+pub mod Moved
+pub mod Places
+pub mod Reached
+pub mod Shrunk
+pub mod Start
+pub mod Upward

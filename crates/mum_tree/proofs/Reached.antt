@@ -1,0 +1,260 @@
+-- Where links lead, as a list of the rows that were found.
+use Rattle.std.proofs.Common.{◌≡◌, ◌≢◌, ℕ, zero, suc, ◌<◌, ◌≤◌, ◌+◌, ◌||◌, ◌&&◌, ◌⊎◌, Bool, true, false, cond, eqb, ltb, List, [], ◌∷◌, ◌++◌, length, get_or, set, replicate, refl, arith, ap, sym, ◌∙◌, subst, ⊎_elim, append_assoc, length-append}
+use Rattle.std.specs.Bool.{IsTrue}
+use Rattle.std.specs.Prelude.{◌↔◌}
+use Rattle.std.specs.List.{All, AllPairs, Contains, count_by}
+use Rattle.std.proofs.lemmas.Bool.{cases_lt, cases_order, false≢true}
+use Rattle.std.proofs.lemmas.Bool.Decides.{nat_tests}
+use Rattle.std.proofs.lemmas.List.{get_or_default, get_or-set_same, get_or-set_other, get_or-replicate, length-set}
+use Rattle.std.proofs.Math.ListN.{get_or-append}
+use Rattle.std.proofs.lemmas.List.Elements.{All-contains, All-push, Contains-append_left, Contains-get_or, Contains-push, Contains-push_cases}
+use Rattle.std.proofs.lemmas.List.Sums.{count_by-le-length, sum_by-set}
+use Rattle.mum_base.specs.declared.number.ChannelId.{ChannelId}
+use Rattle.mum_tree.specs.declared.channel.Row.{Row}
+use Rattle.mum_tree.specs.Rows.{number, Rise}
+use Rattle.mum_tree.specs.State.{Pair, is_above, new_row}
+use Rattle.mum_tree.specs.Walks.{HasRow, LeadTo, Walk}
+use Rattle.mum_tree.proofs.Find.{number_at}
+
+-- the marks of what was found
+pub count_marked : (marks : List Bool) (n : ℕ) → n < length marks → get_or marks n false ≡ false → count_by (λ mark. mark) (set marks n true) ≡ count_by (λ mark. mark) marks + 1
+count_marked marks n within off =
+    let f : Bool → ℕ = λ mark. cond mark 1 0 in
+    let none : f (get_or marks n false) ≡ 0 = ap f off in
+    let sums : count_by (λ mark. mark) (set marks n true) + f (get_or marks n false) ≡ count_by (λ mark. mark) marks + 1 = sum_by-set f marks n true false within in
+    omega arith
+
+pub room_for_one : (marks : List Bool) (n : ℕ) → n < length marks → get_or marks n false ≡ false → count_by (λ mark. mark) marks < length marks
+room_for_one marks n within off = omega (arith, count_marked marks n within off, count_by-le-length (λ (mark : Bool). mark) (set marks n true), length-set marks n true)
+
+pub no_marks : (many k : ℕ) → k < many → (get_or (replicate many false) k false ≡ true) ↔ Contains [] k
+no_marks many k within = (λ on. absurd (false≢true (sym (get_or-replicate many k false false within) ∙ on)), λ has. let (at, inside, is) = has in absurd (omega arith))
+
+pub marked_more : (marks : List Bool) (seen : List ℕ) (n : ℕ) → length marks ≡ 1024 → n < 1024 → ((k : ℕ) → k < 1024 → (get_or marks k false ≡ true) ↔ Contains seen k) → (k : ℕ) → k < 1024 → (get_or (set marks n true) k false ≡ true) ↔ Contains (seen ++ n ∷ []) k
+marked_more marks seen n whole within marked k below =
+    ⊎_elim
+    (λ (e : k ≡ n). (
+      λ on. subst (λ x. Contains (seen ++ n ∷ []) x) (sym e) (Contains-push seen n),
+      λ has. ap (λ x. get_or (set marks n true) x false) e ∙ get_or-set_same marks n true false (omega arith),
+    ))
+    (λ o.
+    let other : k ≢ n = λ (e : k ≡ n). ⊎_elim (λ (l : k < n). absurd (omega arith)) (λ (g : n < k). absurd (omega arith)) o in
+    let same : get_or (set marks n true) k false ≡ get_or marks k false = get_or-set_other marks n k true false other in (
+      λ on. Contains-append_left seen (n ∷ []) k ((marked k below).0 (sym same ∙ on)),
+      λ has. same ∙ ⊎_elim (λ (old : Contains seen k). (marked k below).1 old) (λ (e : n ≡ k). absurd (other (sym e))) (Contains-push_cases seen n k has),
+    ))
+    (cases_order k n)
+
+-- pairs in order
+above_least : (a b c d : ℕ) → (ltb a c || (eqb c a && ltb b d)) ≡ true → a ≤ c
+above_least a b c d above = grind (arith, nat_tests)
+
+abbrev pub Ordered : List Pair → Type 0
+Ordered links = AllPairs (λ pair later. IsTrue (is_above pair.0 pair.1 later)) links
+
+starts_rise : (links : List Pair) (i j : ℕ) (d : Pair) → Ordered links → i ≤ j → j < length links → (get_or links i d).0.0 ≤ (get_or links j d).0.0
+starts_rise links i j d ordered below within =
+    ⊎_elim
+    (λ (e : i ≡ j). let same : (get_or links i d).0.0 ≡ (get_or links j d).0.0 = ap (λ k. (get_or links k d).0.0) e in omega arith)
+    (λ o. ⊎_elim (λ (l : i < j). above_least (get_or links i d).0.0 (get_or links i d).1.0 (get_or links j d).0.0 (get_or links j d).1.0 (ordered i j d l within)) (λ (g : j < i). absurd (omega arith)) o)
+    (cases_order i j)
+
+pub less_to : (links : List Pair) (at from : ℕ) (x : Pair) → Ordered links → at < length links → (get_or links at x).0.0 < from → (k : ℕ) (d : Pair) → k < at + 1 → (get_or links k d).0.0 < from
+less_to links at from x ordered within less k d below =
+    let same : (get_or links at d).0.0 ≡ (get_or links at x).0.0 = number_at (λ (p : Pair). p.0.0) links at d x within in
+    let rises : (get_or links k d).0.0 ≤ (get_or links at d).0.0 = starts_rise links k at d ordered (omega arith) within in
+    omega arith
+
+pub least_from : (links : List Pair) (at from : ℕ) (x : Pair) → Ordered links → at < length links → from ≤ (get_or links at x).0.0 → (k : ℕ) (d : Pair) → at ≤ k → k < length links → from ≤ (get_or links k d).0.0
+least_from links at from x ordered within least k d above inside =
+    let same : (get_or links at d).0.0 ≡ (get_or links at x).0.0 = number_at (λ (p : Pair). p.0.0) links at d x within in
+    let rises : (get_or links at d).0.0 ≤ (get_or links k d).0.0 = starts_rise links at k d ordered above inside in
+    omega arith
+
+-- past the pairs of a channel there is none of it
+pub past : (links : List Pair) (at k : ℕ) (from to : ChannelId) (d : Pair) → Ordered links → at < length links → (get_or links at d).0.0 ≢ from.0 → from.0 ≤ (get_or links at d).0.0 → at ≤ k → k < length links → get_or links k (from, to) ≡ (from, to) → ⊥
+past links at k from to d ordered within differ least above inside is =
+    let less : from.0 < (get_or links at d).0.0 = omega arith in
+    let rises : from.0 + 1 ≤ (get_or links k (from, to)).0.0 = least_from links at (from.0 + 1) d ordered within (omega arith) k (from, to) above inside in
+    let same : (get_or links k (from, to)).0.0 ≡ from.0 = ap (λ (p : Pair). p.0.0) is in
+    absurd (omega arith)
+
+-- what an addition leaves
+abbrev pub Added : List ℕ → List ℕ → ℕ → Type 0
+Added old new number = (Contains old number × (new ≡ old)) ⊎ (new ≡ old ++ number ∷ [])
+
+abbrev pub Kept : List ℕ → List ℕ → Type 0
+Kept old new = (more : List ℕ) × (new ≡ old ++ more)
+
+append_none : (xs : List ℕ) → xs ≡ xs ++ []
+append_none [] = refl
+append_none (x ∷ xs) = ap (λ rest. x ∷ rest) (append_none xs)
+
+pub added_kept : (old new : List ℕ) (number : ℕ) → Added old new number → Kept old new
+added_kept old new number added = ⊎_elim (λ (same : Contains old number × (new ≡ old)). ([], same.1 ∙ append_none old)) (λ (more : new ≡ old ++ number ∷ []). (number ∷ [], more)) added
+
+pub added_has : (old new : List ℕ) (number : ℕ) → Added old new number → Contains new number
+added_has old new number added =
+    ⊎_elim (λ (same : Contains old number × (new ≡ old)). subst (λ xs. Contains xs number) (sym same.1) same.0)
+    (λ (more : new ≡ old ++ number ∷ []). subst (λ xs. Contains xs number) (sym more) (Contains-push old number)) added
+
+pub added_all : (P : ℕ → Type 0) (old new : List ℕ) (number : ℕ) → Added old new number → All P old → P number → All P new
+added_all P old new number added all here =
+    ⊎_elim (λ (same : Contains old number × (new ≡ old)). subst (λ xs. All P xs) (sym same.1) all)
+    (λ (more : new ≡ old ++ number ∷ []). subst (λ xs. All P xs) (sym more) (All-push P old number all here)) added
+
+pub kept_on : (old new newer : List ℕ) → Kept old new → Kept new newer → Kept old newer
+kept_on old new newer (more, is) (more-2, is-2) =
+    let joined : (old ++ more) ++ more-2 ≡ old ++ (more ++ more-2) = simp append_assoc in
+    (more ++ more-2, is-2 ∙ ap (λ (xs : List ℕ). xs ++ more-2) is ∙ joined)
+
+pub row_kept : (rows : List Row) (old new : List ℕ) (id : ChannelId) → Kept old new → HasRow rows old id → HasRow rows new id
+row_kept rows old new id (more, is) (at, has, within, named) = (at, subst (λ xs. Contains xs at) (sym is) (Contains-append_left old more at has), within, named)
+
+pub kept_at : (old new : List ℕ) (k : ℕ) → Kept old new → k < length old → get_or new k 0 ≡ get_or old k 0
+kept_at old new k (more, is) within = ap (λ xs. get_or xs k 0) is ∙ get_or-append old more 0 k within
+
+pub kept_long : (old new : List ℕ) → Kept old new → length old ≤ length new
+kept_long old new (more, is) = omega (arith, ap length is, length-append old more)
+
+same_id : (x y : ChannelId) → x.0 ≡ y.0 → x ≡ y
+same_id x y e = ap (λ n. record { 0 = n }) e
+
+-- the next pair of a channel
+pub partner_found : (rows : List Row) (links : List Pair) (at place : ℕ) (from : ChannelId) (d : Pair) (old new : List ℕ) → at < length links → place < length rows → ((other : Row) → (get_or rows place other).channel.id ≡ (get_or links at d).1) → Added old new place → ((k : ℕ) (to : ChannelId) → k < at → get_or links k (from, to) ≡ (from, to) → HasRow rows old to) → (k : ℕ) (to : ChannelId) → k < at + 1 → get_or links k (from, to) ≡ (from, to) → HasRow rows new to
+partner_found rows links at place from d old new within seated named added before k to below is =
+    ⊎_elim
+    (λ (l : k < at). row_kept rows old new to (added_kept old new place added) (before k to l is))
+    (λ (g : at ≤ k).
+    let e : k ≡ at = omega arith in
+    let here : get_or links at d ≡ (from, to) = get_or_default links at d (from, to) within ∙ ap (λ j. get_or links j (from, to)) (sym e) ∙ is in
+    (place, added_has old new place added, seated, λ other. named other ∙ ap (λ (p : Pair). p.1) here))
+    (cases_lt k at)
+
+pub partner_linked : (rows : List Row) (links : List Pair) (at place : ℕ) (from : ChannelId) (d : Pair) → at < length links → (get_or links at d).0.0 ≡ from.0 → ((other : Row) → (get_or rows place other).channel.id ≡ (get_or links at d).1) → (other : Row) → Contains links (from, (get_or rows place other).channel.id)
+partner_linked rows links at place from d within starts named other =
+    let pair = get_or links at d in
+    subst (λ (x : ChannelId). Contains links (x, (get_or rows place other).channel.id)) (same_id pair.0 from starts)
+    (subst (λ (x : ChannelId). Contains links (pair.0, x)) (sym (named other)) (Contains-get_or links at d within))
+
+-- the first that is found
+pub started : (old new : List ℕ) (number : ℕ) → old ≡ [] → Added old new number → new ≡ number ∷ []
+started old new number none added =
+    ⊎_elim (λ (same : Contains old number × (new ≡ old)). let (k, within, is) = same.0 in absurd (omega (arith, ap length none)))
+    (λ (more : new ≡ old ++ number ∷ []). more ∙ ap (λ (xs : List ℕ). xs ++ number ∷ []) none) added
+
+-- what is found and closed under links holds all that links lead to
+pub all_found : (rows : List Row) (links : List Pair) (found : List ℕ) (id : ChannelId) → HasRow rows found id → ((k : ℕ) (other : Row) (to : ChannelId) → k < length found → Contains links ((get_or rows (get_or found k 0) other).channel.id, to) → HasRow rows found to) → (steps : ℕ) (to : ChannelId) → Walk links steps id to → HasRow rows found to
+all_found rows links found id here closed zero to walk = subst (HasRow rows found) walk here
+all_found rows links found id here closed (suc steps) to (last, walk, edge) =
+    let (at, (k, within, is), inside, named) = all_found rows links found id here closed steps last walk in
+    let row = new_row 0 id id [] false in
+    let read : get_or found k 0 ≡ at = get_or_default found k 0 at within ∙ is in
+    let same : (get_or rows (get_or found k 0) row).channel.id ≡ last = ap (λ j. (get_or rows j row).channel.id) read ∙ named row in
+    closed k row to within (subst (λ (x : ChannelId). Contains links (x, to)) (sym same) edge)
+
+pub only_linked : (rows : List Row) (links : List Pair) (found : List ℕ) (id to : ChannelId) → All (λ at. (other : Row) → LeadTo links id (get_or rows at other).channel.id) found → HasRow rows found to → LeadTo links id to
+only_linked rows links found id to only (at, has, within, named) =
+    let row = new_row 0 id id [] false in
+    subst (LeadTo links id) (named row) (All-contains (λ at. (other : Row) → LeadTo links id (get_or rows at other).channel.id) found at only has row)
+
+abbrev pub NewOrOld : List Row → List Pair → ChannelId → List ℕ → ℕ → Type 0
+NewOrOld rows links from old at = Contains old at ⊎ ((at < length rows) × ((other : Row) → Contains links (from, (get_or rows at other).channel.id)))
+
+pub only_more : (rows : List Row) (links : List Pair) (id from : ChannelId) (old new : List ℕ) → All (λ at. (other : Row) → LeadTo links id (get_or rows at other).channel.id) old → LeadTo links id from → All (NewOrOld rows links from old) new → All (λ at. (other : Row) → LeadTo links id (get_or rows at other).channel.id) new
+only_more rows links id from old new only (steps, walk) each k d within =
+    let at = get_or new k d in
+    ⊎_elim
+    (λ (has : Contains old at). All-contains (λ at. (other : Row) → LeadTo links id (get_or rows at other).channel.id) old at only has)
+    (λ (is : (at < length rows) × ((other : Row) → Contains links (from, (get_or rows at other).channel.id))). λ other. (suc steps, (from, walk, is.1 other)))
+    (each k d within)
+
+pub seated_more : (rows : List Row) (links : List Pair) (from : ChannelId) (old new : List ℕ) → All (λ at. at < length rows) old → All (NewOrOld rows links from old) new → All (λ at. at < length rows) new
+seated_more rows links from old new seated each k d within =
+    let at = get_or new k d in
+    ⊎_elim
+    (λ (has : Contains old at). All-contains (λ at. at < length rows) old at seated has)
+    (λ (is : (at < length rows) × ((other : Row) → Contains links (from, (get_or rows at other).channel.id))). is.0)
+    (each k d within)
+
+pub closed_more : (rows : List Row) (links : List Pair) (from : ChannelId) (old new : List ℕ) (done : ℕ) → done < length old → ((other : Row) → (get_or rows (get_or old done 0) other).channel.id ≡ from) → Kept old new → ((to : ChannelId) → Contains links (from, to) → HasRow rows new to) → ((k : ℕ) (other : Row) (to : ChannelId) → k < done → Contains links ((get_or rows (get_or old k 0) other).channel.id, to) → HasRow rows old to) → (k : ℕ) (other : Row) (to : ChannelId) → k < done + 1 → Contains links ((get_or rows (get_or new k 0) other).channel.id, to) → HasRow rows new to
+closed_more rows links from old new done within named kept all closed k other to below edge =
+    let was : Contains links ((get_or rows (get_or old k 0) other).channel.id, to) = subst (λ j. Contains links ((get_or rows j other).channel.id, to)) (kept_at old new k kept (omega arith)) edge in
+    ⊎_elim
+    (λ (l : k < done). row_kept rows old new to kept (closed k other to l was))
+    (λ (g : done ≤ k).
+    let e : k ≡ done = omega arith in
+    all to (subst (λ (x : ChannelId). Contains links (x, to)) (ap (λ j. (get_or rows (get_or old j 0) other).channel.id) e ∙ named other) was))
+    (cases_lt k done)
+
+-- the marks of the rows so far
+pub record Marking (rows : List Row) (found : List ℕ) (marks : List ChannelId) (at : ℕ) : Type 0 where
+  pub few : length marks ≤ at
+  pub below : All (λ one. (k : ℕ) (other : Row) → at ≤ k → k < length rows → one.0 < number (get_or rows k other)) marks
+  pub has : (k : ℕ) (other : Row) → k < at → Contains found k → Contains marks (get_or rows k other).channel.id
+  pub only : All (HasRow rows found) marks
+
+pub marking_none : (rows : List Row) (found : List ℕ) (marks : List ChannelId) → marks ≡ [] → Marking rows found marks 0
+marking_none rows found marks none =
+    rw none
+    (record {
+      few = omega arith;
+      below = λ k d within. absurd (omega arith);
+      has = λ k other below. absurd (omega arith);
+      only = λ k d within. absurd (omega arith);
+    })
+
+has_next : (rows : List Row) (found : List ℕ) (marks new : List ChannelId) (at : ℕ) (row : Row) → at < length rows → row ≡ get_or rows at row → Marking rows found marks at → new ≡ marks ++ row.channel.id ∷ [] → (k : ℕ) (other : Row) → k < at + 1 → Contains found k → Contains new (get_or rows k other).channel.id
+has_next rows found marks new at row within read marking is k other below here =
+    subst (λ (xs : List ChannelId). Contains xs (get_or rows k other).channel.id) (sym is)
+    (⊎_elim
+    (λ (l : k < at). Contains-append_left marks (row.channel.id ∷ []) (get_or rows k other).channel.id (marking.has k other l here))
+    (λ (g : at ≤ k).
+    let e : at ≡ k = omega arith in
+    let same : row ≡ get_or rows k other = read ∙ get_or_default rows at row other within ∙ ap (λ j. get_or rows j other) e in
+    subst (λ (r : Row). Contains (marks ++ row.channel.id ∷ []) r.channel.id) same (Contains-push marks row.channel.id))
+    (cases_lt k at))
+
+below_next : (rows : List Row) (marks : List ChannelId) (at : ℕ) (row : Row) → Rise rows → at < length rows → row ≡ get_or rows at row → All (λ one. (k : ℕ) (other : Row) → at ≤ k → k < length rows → one.0 < number (get_or rows k other)) marks → All (λ one. (k : ℕ) (other : Row) → at + 1 ≤ k → k < length rows → one.0 < number (get_or rows k other)) (marks ++ row.channel.id ∷ [])
+below_next rows marks at row rise within read below =
+    All-push (λ one. (k : ℕ) (other : Row) → at + 1 ≤ k → k < length rows → one.0 < number (get_or rows k other)) marks row.channel.id
+    (λ j d inside k other above last. below j d inside k other (omega arith) last)
+    (λ k other above last.
+    let same : number row ≡ number (get_or rows at other) = ap number (read ∙ get_or_default rows at row other within) in
+    let less : number (get_or rows at other) < number (get_or rows k other) = rise at k other (omega arith) last in
+    omega arith)
+
+pub marking_next : (rows : List Row) (found : List ℕ) (marks new : List ChannelId) (at : ℕ) (row : Row) → Rise rows → at < length rows → row ≡ get_or rows at row → Contains found at → Marking rows found marks at → new ≡ marks ++ row.channel.id ∷ [] → Marking rows found new (at + 1)
+marking_next rows found marks new at row rise within read here marking is = record {
+  few = omega (arith, ap length is, length-append marks (row.channel.id ∷ []), marking.few);
+  below = subst (λ (xs : List ChannelId). All (λ one. (k : ℕ) (other : Row) → at + 1 ≤ k → k < length rows → one.0 < number (get_or rows k other)) xs) (sym is) (below_next rows marks at row rise within read marking.below);
+  has = has_next rows found marks new at row within read marking is;
+  only = subst (λ (xs : List ChannelId). All (HasRow rows found) xs) (sym is)
+      (All-push (HasRow rows found) marks row.channel.id marking.only (at, here, within, λ other. ap (λ (r : Row). r.channel.id) (sym (read ∙ get_or_default rows at row other within))));
+}
+
+pub marking_skip : (rows : List Row) (found : List ℕ) (marks new : List ChannelId) (at : ℕ) → (Contains found at → ⊥) → Marking rows found marks at → new ≡ marks → Marking rows found new (at + 1)
+marking_skip rows found marks new at off marking is =
+    rw is
+    (record {
+      few = omega (arith, marking.few);
+      below = λ j d inside k other above last. marking.below j d inside k other (omega arith) last;
+      has = λ k other below here.
+          ⊎_elim (λ (l : k < at). marking.has k other l here)
+          (λ (g : at ≤ k). let e : k ≡ at = omega arith in absurd (off (subst (λ j. Contains found j) e here)))
+          (cases_lt k at);
+      only = marking.only;
+    })
+
+pub marked_exactly : (rows : List Row) (found : List ℕ) (marks : List ChannelId) (at : ℕ) → length rows ≤ at → Marking rows found marks at → (other : ChannelId) → Contains marks other ↔ HasRow rows found other
+marked_exactly rows found marks at done marking other = (
+  λ has. All-contains (HasRow rows found) marks other marking.only has,
+  λ here.
+      let (k, has, within, named) = here in
+      let row = new_row 0 other other [] false in
+      subst (λ (x : ChannelId). Contains marks x) (named row) (marking.has k row (omega arith) has),
+)
+
+-- the channel of a row that was read at a place
+pub read_named : (rows : List Row) (place j : ℕ) (row : Row) → place < length rows → row ≡ get_or rows place row → place ≡ j → (other : Row) → (get_or rows j other).channel.id ≡ row.channel.id
+read_named rows place j row within read e other = ap (λ (r : Row). r.channel.id) (ap (λ k. get_or rows k other) (sym e) ∙ get_or_default rows place other row within ∙ sym read)

@@ -1,0 +1,12 @@
+use Rattle.std.proofs.Common.{◌∙◌, ◌<◌, length, sym, arith}
+use Rattle.std.proofs.lemmas.List.Filters.{FiltersInPlace-more_no, FiltersInPlace-more_set}
+use Rattle.mum_tree.proofs.links.keep_ends.Goals as goal
+use Rattle.mum_tree.proofs.links.keep_ends.Goals.{then-both_there, else-both_there}
+
+pub loop-at-preserved : goal.loop-at-preserved
+loop-at-preserved c =
+    let within : c.loop-at.at < length c.loop-at.links.items = omega (arith, c.loop-at.invariant.filters.long, c.len-at-end.ensures) in
+    elim c.if-both_there.branch [
+      | then-both_there w ↦ rw (w.links-is, w.kept-is) (record { filters = FiltersInPlace-more_set c.loop-at.invariant.filters within (sym c.both_there.ensures ∙ w.if-both_there.true) c.index-link.ensures })
+      | else-both_there w ↦ rw (w.links-is, w.kept-is) (record { filters = FiltersInPlace-more_no c.loop-at.invariant.filters within (sym c.both_there.ensures ∙ w.if-both_there.false) c.index-link.ensures })
+    ]

@@ -1,0 +1,28 @@
+-- The faults of a tree: their numbers, and what each answer says of the first cause that stands.
+use Rattle.std.specs.Prelude.{ℕ, Option, Some, None}
+use Rattle.mum_tree.specs.declared.fault.TreeFault.{TreeFault}
+use Rattle.mum_tree.specs.declared.fault.TreeFault.TheVariants.{NoChannel, SameName, UnderItself, Nesting, Count, RootFixed, TemporaryParent, LinkCount, OutOfMemory}
+
+-- want of memory has no number
+abbrev pub fault_code : TreeFault → Option ℕ
+fault_code NoChannel = Some 30
+fault_code SameName = Some 31
+fault_code UnderItself = Some 32
+fault_code Nesting = Some 33
+fault_code Count = Some 34
+fault_code RootFixed = Some 35
+fault_code TemporaryParent = Some 36
+fault_code LinkCount = Some 37
+fault_code OutOfMemory = None
+
+-- the cause that an answer names: memory runs out only where no cause stands
+abbrev pub named_cause : TreeFault → Option TreeFault
+named_cause NoChannel = Some NoChannel
+named_cause SameName = Some SameName
+named_cause UnderItself = Some UnderItself
+named_cause Nesting = Some Nesting
+named_cause Count = Some Count
+named_cause RootFixed = Some RootFixed
+named_cause TemporaryParent = Some TemporaryParent
+named_cause LinkCount = Some LinkCount
+named_cause OutOfMemory = None

@@ -1,0 +1,20 @@
+-- Where links lead.
+use Rattle.std.specs.Prelude.{◌≡◌, ℕ, zero, suc, ◌<◌, List, length, slice_index_or}
+use Rattle.std.specs.List.{Contains}
+use Rattle.mum_base.specs.declared.number.ChannelId.{ChannelId}
+use Rattle.mum_tree.specs.declared.channel.Row.{Row}
+use Rattle.mum_tree.specs.State.{Pair}
+
+-- so many links, one after the other, lead from a channel to another
+abbrev pub Walk : List Pair → ℕ → ChannelId → ChannelId → Type 0
+Walk links zero from to = from ≡ to
+Walk links (suc steps) from to = (last : ChannelId) × Walk links steps from last × Contains links (last, to)
+
+-- some list of links leads from a channel to another; none leads to the channel itself
+abbrev pub LeadTo : List Pair → ChannelId → ChannelId → Type 0
+LeadTo links from to = (steps : ℕ) × Walk links steps from to
+
+-- the channel's row stands at one of these places in the list of rows
+abbrev pub HasRow : List Row → List ℕ → ChannelId → Type 0
+HasRow rows found id =
+    (at : ℕ) × Contains found at × (at < length rows) × ((other : Row) → (slice_index_or rows at other).channel.id ≡ id)

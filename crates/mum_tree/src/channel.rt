@@ -1,0 +1,42 @@
+//! A channel, what describes it, and the place that it keeps.
+
+use mum_base::{ChannelId, Text};
+
+/// The root of the tree.
+pub const ROOT: ChannelId = ChannelId(0);
+
+/// The most channels of a tree, with the root. Places are below it.
+pub const CHANNEL_LIMIT: usize = 1024;
+
+/// The most channels from the root down to one, with both: a channel is at most 32 under the root.
+pub const PATH_LIMIT: usize = 33;
+
+/// What describes a channel to its visitors (Mumble.proto, `ChannelState`).
+#[derive(Debug, Drop)]
+pub struct ChannelInfo {
+    pub description: Text,
+    /// Where clients sort it among its siblings.
+    pub position: i32,
+    /// The most users that it takes; 0 for no limit of its own.
+    pub max_users: u32,
+}
+
+/// A channel.
+#[derive(Debug, Drop)]
+pub struct Channel {
+    pub id: ChannelId,
+    /// The channel above it. The root's is the root itself.
+    pub parent: ChannelId,
+    pub name: Text,
+    /// It goes when its last user leaves, and has no sub-channels.
+    pub temporary: bool,
+    pub info: ChannelInfo,
+}
+
+/// A channel and its place: a number below 1,024 that no other channel has, kept while the channel
+/// is there and given again once it is gone.
+#[derive(Debug, Drop)]
+pub struct Row {
+    pub place: u16,
+    pub channel: Channel,
+}

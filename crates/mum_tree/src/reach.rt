@@ -1,0 +1,67 @@
+//! Where links lead.
+
+ghost use Rattle.std.specs.Prelude.{◌≡◌, ◌<◌, ◌≤◌, ◌↔◌, ◌⊎◌, ◌++◌, ℕ, List, IsTrue, length, slice_index_or};
+ghost use Rattle.std.specs.List.{All, Contains};
+ghost use Rattle.mum_base.specs.declared.number.ChannelId.{ChannelId};
+ghost use Rattle.mum_tree.specs.declared.channel.Row.{Row};
+ghost use Rattle.mum_tree.specs.Proper.{AreLinks};
+ghost use Rattle.mum_tree.specs.Rows.{is_there, Rise};
+ghost use Rattle.mum_tree.specs.Walks.{HasRow, LeadTo};
+
+use crate::channel::Row;
+use crate::found::Found;
+use crate::links::first_link;
+use crate::rows::place_in_rows;
+use crate::scratch::Scratch;
+use mum_base::ChannelId;
+
+/// Finds the rows of the channels that a link joins to this one.
+fn find_partners(rows: &[Row], links: &[(ChannelId, ChannelId)], from: ChannelId, found: &mut Found)
+    requires rise { Rise rows.now }
+    requires few { length rows.now ≤ 1024 }
+    requires joined { AreLinks rows.now links.now }
+    ensures all { (to : ChannelId) → Contains links.now (from, to) → HasRow rows.now found.new to }
+    ensures only { All (λ at. Contains found.old at ⊎ ((at < length rows.now) × ((other : Row) → Contains links.now (from, (slice_index_or rows.now at other).channel.id)))) found.new }
+    ensures kept { (more : List ℕ) × (found.new ≡ found.old ++ more) }
+{
+    for at in first_link(links, from)..links.len() {
+        let link = links[at];
+        if link.0.0 != from.0 {
+            return;
+        }
+        found.add(place_in_rows(rows, link.1));
+    }
+}
+
+/// Finds the rows of the channels that links lead to, the channel's own among them.
+pub(crate) fn find_linked(rows: &[Row], links: &[(ChannelId, ChannelId)], id: ChannelId) -> Found
+    requires rise { Rise rows.now }
+    requires few { length rows.now ≤ 1024 }
+    requires joined { AreLinks rows.now links.now }
+    requires there { IsTrue (is_there rows.now id) }
+    ensures { (other : ChannelId) → HasRow rows.now result other ↔ LeadTo links.now id other }
+{
+    let mut found = Found::new();
+    found.add(place_in_rows(rows, id));
+    let mut done = 0;
+    while done < found.len() {
+        let from = rows[found.at(done)].channel.id;
+        find_partners(rows, links, from, &mut found);
+        done += 1;
+    }
+    found
+}
+
+/// Marks the channels whose rows were found.
+pub(crate) fn mark_found(rows: &[Row], found: &Found, scratch: &mut Scratch)
+    requires rise { Rise rows.now }
+    requires few { length rows.now ≤ 1024 }
+    ensures { (other : ChannelId) → Contains scratch.new other ↔ HasRow rows.now found.now other }
+{
+    scratch.clear();
+    for at in 0..rows.len() {
+        if found.has(at) {
+            scratch.mark(rows[at].channel.id);
+        }
+    }
+}

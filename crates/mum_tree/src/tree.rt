@@ -1,0 +1,385 @@
+//! The tree of channels, and what is read from it.
+
+ghost use Rattle.std.specs.Prelude.{◌≡◌, ◌<◌, ◌↔◌, ◌&&◌, IfOk, IsTrue, MatchOption, None, slice_get};
+ghost use Rattle.std.specs.List.{Contains};
+ghost use Rattle.std.specs.Option.{option_copied, option_map};
+ghost use Rattle.mum_base.specs.declared.number.ChannelId.{ChannelId};
+ghost use Rattle.mum_tree.specs.Proper.{IsProper};
+ghost use Rattle.mum_tree.specs.Rows.{row_of, is_there, path};
+ghost use Rattle.mum_tree.specs.State.{root_alone, next_number, plain_info, partners, below};
+ghost use Rattle.mum_tree.specs.Walks.{LeadTo};
+ghost use Rattle.mum_tree.specs.Calls.{is_full, fault_of_add, fault_of_link, fault_of_move, Adds, JoinsTwo, Moves, PartsTwo, Removes, Renames, SetsInfo};
+
+use crate::channel::{CHANNEL_LIMIT, Channel, ChannelInfo, PATH_LIMIT, ROOT, Row};
+use crate::fault::TreeFault;
+use crate::links::{has_link, is_crowded, joins, keep_ends, nth_end, place_for};
+use crate::path::Path;
+use crate::reach::{find_linked, mark_found};
+use crate::rows::{
+    both_there, copy_rows, find_path, find_row, has_mark, has_name, least_free_place, locate,
+    nests_too_deep, path_length, places_below, stands, stands_below,
+};
+use crate::scratch::Scratch;
+use mum_base::{ChannelId, OutOfMemory, Text};
+use std::alloc::Global;
+use std::marker::Model;
+
+/// The channels of a server and the links between them. A contract sees them as rows in order of
+/// number, pairs of numbers, and the greatest number that a channel ever had.
+#[derive(Drop)]
+pub struct Tree {
+    alloc: Global,
+    rows: Vec<Row>,
+    links: Vec<(ChannelId, ChannelId)>,
+    greatest: u32,
+}
+
+impl Model for Tree {
+    ghost use Rattle.mum_tree.specs.Proper.{IsProper};
+    ghost use Rattle.mum_tree.specs.State.{TreeState};
+
+    ghost Value = { TreeState };
+
+    ghost view = { λ t. record { channels = t.rows.items; links = t.links.items; greatest = t.greatest } };
+
+    ghost invariant = { λ t. IsProper (record { channels = t.rows.items; links = t.links.items; greatest = t.greatest }) };
+}
+
+/// No description, no place among its siblings, no limit of users.
+fn plain_channel_info(alloc: Global) -> Result<ChannelInfo, OutOfMemory>
+    ensures { IfOk result (λ info. info ≡ plain_info) }
+{
+    Ok(ChannelInfo {
+        description: Text::of(alloc, "")?,
+        position: 0,
+        max_users: 0,
+    })
+}
+
+impl Tree {
+    /// The root alone.
+    pub fn new(alloc: Global) -> Result<Tree, OutOfMemory>
+        ensures { IfOk result (λ tree. tree ≡ root_alone) }
+    {
+        let mut rows = Vec::new(alloc);
+        rows.push(Row {
+            place: 0,
+            channel: Channel {
+                id: ROOT,
+                parent: ROOT,
+                name: Text::of(alloc, "Root")?,
+                temporary: false,
+                info: plain_channel_info(alloc)?,
+            },
+        })?;
+        Ok(Tree {
+            alloc,
+            rows,
+            links: Vec::new(alloc),
+            greatest: 0,
+        })
+    }
+
+    /// What every tree keeps. This does nothing: its contract is the theorem.
+    pub fn is_proper(&self)
+        ensures { IsProper self.now }
+    {
+        let _rows = &self.rows;
+    }
+
+    /// The number for a new channel: one above the greatest that a channel ever had.
+    pub fn next_id(&self) -> Option<ChannelId>
+        ensures { result ≡ next_number self.now }
+    {
+        if self.greatest < u32::MAX {
+            Some(ChannelId(self.greatest + 1))
+        } else {
+            None
+        }
+    }
+
+    /// The channel's row.
+    pub fn channel(&self, id: ChannelId) -> Option<&Channel>
+        ensures { option_copied result ≡ option_map (λ row. row.channel) (row_of self.now.channels id) }
+    {
+        match find_row(&self.rows, id) {
+            Some(row) => Some(&row.channel),
+            None => None,
+        }
+    }
+
+    /// The channel that so many channels precede in order of number.
+    pub fn nth(&self, i: usize) -> Option<ChannelId>
+        ensures { result ≡ option_map (λ row. row.channel.id) (slice_get self.now.channels i) }
+    {
+        match self.rows.get(i) {
+            Some(row) => Some(row.channel.id),
+            None => None,
+        }
+    }
+
+    /// The channel's place, which it keeps while it is there; the root's is 0.
+    pub fn place(&self, id: ChannelId) -> Option<u16>
+        ensures { result ≡ option_map (λ row. row.place) (row_of self.now.channels id) }
+    {
+        match find_row(&self.rows, id) {
+            Some(row) => Some(row.place),
+            None => None,
+        }
+    }
+
+    /// The channels from the root down to one.
+    pub fn path(&self, id: ChannelId) -> Option<Path>
+        ensures { MatchOption result (row_of self.now.channels id ≡ None) (λ found. found ≡ path self.now.channels id) }
+    {
+        find_path(&self.rows, id)
+    }
+
+    /// Whether there are as many channels as there can be.
+    pub fn full(&self) -> bool
+        ensures { result ≡ is_full self.now }
+    {
+        self.rows.len() >= CHANNEL_LIMIT
+    }
+
+    /// The first cause for which a new channel is refused.
+    fn cause_against_adding(
+        &self,
+        id: ChannelId,
+        parent: ChannelId,
+        name: &str,
+    ) -> Option<TreeFault>
+        ensures { result ≡ fault_of_add self.now id parent name.now }
+    {
+        let rows = self.rows.as_slice();
+        let Some(above) = find_row(rows, parent) else {
+            return Some(TreeFault::NoChannel);
+        };
+        if has_name(rows, parent, id, name) {
+            return Some(TreeFault::SameName);
+        }
+        if above.channel.temporary {
+            return Some(TreeFault::TemporaryParent);
+        }
+        if path_length(rows, parent) >= PATH_LIMIT {
+            return Some(TreeFault::Nesting);
+        }
+        if rows.len() >= CHANNEL_LIMIT {
+            return Some(TreeFault::Count);
+        }
+        None
+    }
+
+    /// Puts a new channel under another. It takes the least place that no channel has.
+    /// Refused, in this order: NoChannel, SameName, TemporaryParent, Nesting, Count.
+    pub fn add(
+        &mut self,
+        id: ChannelId,
+        parent: ChannelId,
+        name: &str,
+        temporary: bool,
+    ) -> Result<(), TreeFault>
+        requires { self.old.greatest < id.0 }
+        ensures { Adds self.old id parent name.now temporary result self.new }
+    {
+        if let Some(cause) = self.cause_against_adding(id, parent, name) {
+            return Err(cause);
+        }
+        let channel = Channel {
+            id,
+            parent,
+            name: Text::of(self.alloc, name)?,
+            temporary,
+            info: plain_channel_info(self.alloc)?,
+        };
+        let place = least_free_place(&self.rows);
+        self.rows.push(Row { place, channel })?;
+        self.greatest = id.0;
+        Ok(())
+    }
+
+    /// Gives a channel another name. Refused, in this order: NoChannel, RootFixed, SameName.
+    pub fn rename(&mut self, id: ChannelId, name: &str) -> Result<(), TreeFault>
+        ensures { Renames self.old id name.now result self.new }
+    {
+        let Some(at) = locate(&self.rows, id) else {
+            return Err(TreeFault::NoChannel);
+        };
+        if id.0 == ROOT.0 {
+            return Err(TreeFault::RootFixed);
+        }
+        let parent = self.rows[at].channel.parent;
+        if has_name(&self.rows, parent, id, name) {
+            return Err(TreeFault::SameName);
+        }
+        let name = Text::of(self.alloc, name)?;
+        let row = &mut self.rows[at];
+        row.channel.name = name;
+        Ok(())
+    }
+
+    /// Gives a channel another description, position and limit of users. Refused: NoChannel.
+    /// It takes no memory.
+    pub fn set_info(&mut self, id: ChannelId, info: ChannelInfo) -> Result<(), TreeFault>
+        ensures { SetsInfo self.old id info result self.new }
+    {
+        let Some(at) = locate(&self.rows, id) else {
+            return Err(TreeFault::NoChannel);
+        };
+        let row = &mut self.rows[at];
+        row.channel.info = info;
+        Ok(())
+    }
+
+    /// The channel linked to this one that so many others linked to it precede in order of number.
+    pub fn link_at(&self, id: ChannelId, i: usize) -> Option<ChannelId>
+        ensures { result ≡ slice_get (partners self.now id) i }
+    {
+        nth_end(&self.links, id, i)
+    }
+
+    /// Takes the link between two channels away, if there is one. Refused: NoChannel.
+    /// It takes no memory.
+    pub fn unlink(&mut self, a: ChannelId, b: ChannelId) -> Result<(), TreeFault>
+        ensures { PartsTwo self.old a b result self.new }
+    {
+        if !both_there(&self.rows, a, b) {
+            return Err(TreeFault::NoChannel);
+        }
+        self.links.retain(|link| !joins(link, a, b));
+        Ok(())
+    }
+
+    /// The first cause for which a link is refused.
+    fn cause_against_linking(&self, a: ChannelId, b: ChannelId) -> Option<TreeFault>
+        ensures { result ≡ fault_of_link self.now a b }
+    {
+        if !both_there(&self.rows, a, b) {
+            return Some(TreeFault::NoChannel);
+        }
+        if a.0 == b.0 || has_link(&self.links, a, b) {
+            return None;
+        }
+        if is_crowded(&self.links, a) || is_crowded(&self.links, b) {
+            return Some(TreeFault::LinkCount);
+        }
+        None
+    }
+
+    /// Links two channels. A link of a channel to itself, or one that is there, changes nothing.
+    /// Refused, in this order: NoChannel, LinkCount.
+    pub fn link(&mut self, a: ChannelId, b: ChannelId) -> Result<(), TreeFault>
+        ensures { JoinsTwo self.old a b result self.new }
+    {
+        if let Some(cause) = self.cause_against_linking(a, b) {
+            return Err(cause);
+        }
+        if a.0 == b.0 || has_link(&self.links, a, b) {
+            return Ok(());
+        }
+        self.links.reserve(2)?;
+        let at = place_for(&self.links, a, b);
+        self.links.insert(at, (a, b)).unwrap();
+        let at = place_for(&self.links, b, a);
+        self.links.insert(at, (b, a)).unwrap();
+        Ok(())
+    }
+
+    /// The first cause for which a move is refused.
+    fn cause_against_moving(&self, id: ChannelId, parent: ChannelId) -> Option<TreeFault>
+        ensures { result ≡ fault_of_move self.now id parent }
+    {
+        let rows = self.rows.as_slice();
+        let Some(moved) = find_row(rows, id) else {
+            return Some(TreeFault::NoChannel);
+        };
+        let Some(above) = find_row(rows, parent) else {
+            return Some(TreeFault::NoChannel);
+        };
+        if id.0 == ROOT.0 {
+            return Some(TreeFault::RootFixed);
+        }
+        if has_name(rows, parent, id, moved.channel.name.as_str()) {
+            return Some(TreeFault::SameName);
+        }
+        if stands_below(rows, id, parent) {
+            return Some(TreeFault::UnderItself);
+        }
+        if above.channel.temporary {
+            return Some(TreeFault::TemporaryParent);
+        }
+        if nests_too_deep(rows, id, parent) {
+            return Some(TreeFault::Nesting);
+        }
+        None
+    }
+
+    /// Puts a channel, with all below it, under another. Refused, in this order: NoChannel,
+    /// RootFixed, SameName, UnderItself, TemporaryParent, Nesting. It takes no memory.
+    pub fn move_under(&mut self, id: ChannelId, parent: ChannelId) -> Result<(), TreeFault>
+        ensures { Moves self.old id parent result self.new }
+    {
+        let Some(at) = locate(&self.rows, id) else {
+            return Err(TreeFault::NoChannel);
+        };
+        if let Some(cause) = self.cause_against_moving(id, parent) {
+            return Err(cause);
+        }
+        let row = &mut self.rows[at];
+        row.channel.parent = parent;
+        Ok(())
+    }
+
+    /// Takes away a channel, all below it, and their links. Refused, in this order: NoChannel,
+    /// RootFixed. It takes no memory.
+    pub fn remove_subtree(&mut self, id: ChannelId) -> Result<(), TreeFault>
+        ensures { Removes self.old id result self.new }
+    {
+        if !stands(&self.rows, id) {
+            return Err(TreeFault::NoChannel);
+        }
+        if id.0 == ROOT.0 {
+            return Err(TreeFault::RootFixed);
+        }
+        let gone = places_below(&self.rows, id);
+        self.rows.retain(|row| !has_mark(&gone, row.place));
+        keep_ends(&mut self.links, &self.rows);
+        Ok(())
+    }
+
+    /// An equal tree.
+    pub fn copy(&self, alloc: Global) -> Result<Tree, OutOfMemory>
+        ensures { IfOk result (λ tree. tree ≡ self.now) }
+    {
+        Ok(Tree {
+            alloc,
+            rows: copy_rows(alloc, &self.rows)?,
+            links: Vec::from_slice(alloc, &self.links)?,
+            greatest: self.greatest,
+        })
+    }
+
+    /// Marks a channel and all below it. It takes no memory.
+    pub fn subtree(&self, id: ChannelId, scratch: &mut Scratch)
+        requires { IsTrue (is_there self.now.channels id) }
+        ensures { scratch.new ≡ below self.now id }
+    {
+        let rows = self.rows.as_slice();
+        scratch.clear();
+        for row in rows {
+            let number = row.channel.id;
+            if stands_below(rows, id, number) {
+                scratch.mark(number);
+            }
+        }
+    }
+
+    /// Marks a channel and all that links lead to from it. It takes no memory.
+    pub fn linked(&self, id: ChannelId, scratch: &mut Scratch)
+        requires { IsTrue (is_there self.now.channels id) }
+        ensures { (other : ChannelId) → Contains scratch.new other ↔ LeadTo self.now.links id other }
+    {
+        let found = find_linked(&self.rows, &self.links, id);
+        mark_found(&self.rows, &found, scratch);
+    }
+}

@@ -3,6 +3,8 @@ use mum_base::Text;
 use mum_fields::FieldFault;
 use std::test::Fail;
 
+mod cuts;
+
 fn text(slot: &Option<Text>) -> Option<&str> {
     match slot {
         Some(text) => Some(text.as_str()),
@@ -191,9 +193,19 @@ fn codecs(rt: HostRuntime) -> Result<(), Fail> {
 
 #[test]
 fn removals(rt: HostRuntime) -> Result<(), Fail> {
-    for payload in [b"\x08\x07", b"\x08\x00"] {
-        let message = ChannelRemove::decode(rt.alloc(), payload.as_slice())?;
-        assert_eq!(rt; message.encode(rt.alloc())?.as_slice(), payload.as_slice());
+    let cases: [(&[u8], &[u8]); 4] = [
+        (b"\x08\x07", b"\x08\x07"),
+        (b"\x08\x00", b"\x08\x00"),
+        (b"\x08\x07\x08\x05", b"\x08\x05"),
+        (b"\x08\x05\x0a\x00\x15\x01\x02\x03\x04", b"\x08\x05"),
+    ];
+    for (payload, spelling) in cases {
+        let message = ChannelRemove::decode(rt.alloc(), payload)?;
+        assert_eq!(rt;
+            message.encode(rt.alloc())?.as_slice(),
+            spelling,
+            "{payload:?}"
+        );
     }
     let cases: [(&[u8], &[u8]); 4] = [
         (b"\x08\x05", b"\x08\x05"),
@@ -255,10 +267,14 @@ fn channels(rt: HostRuntime) -> Result<(), Fail> {
 fn users(rt: HostRuntime) -> Result<(), Fail> {
     let every =
         b"\x08\x01\x10\x02\x1a\x01a\x20\x03\x28\x04\x30\x01\x38\x01\x40\x01\x48\x01\x50\x01\x62\x01\xff\x6a\x01i\x72\x01c\x90\x01\x01\x98\x01\x01\xa2\x01\x01t\xa8\x01\x05\xb0\x01\x06";
-    let cases: [(&[u8], &[u8]); 5] = [
+    let cases: [(&[u8], &[u8]); 6] = [
         (b"", b""),
         (b"\x5a\x02\xff\xd8\x62\x02g1\x48\x00", b"\x48\x00\x62\x02g1"),
         (every, every),
+        (
+            b"\x08\x08\x10\x08\x1a\x01z\x20\x08\x28\x08\x30\x00\x38\x00\x40\x00\x48\x00\x50\x00\x98\x01\x00\x08\x01\x10\x02\x1a\x01a\x20\x03\x28\x04\x30\x01\x38\x01\x40\x01\x48\x01\x50\x01\x6a\x01y\x6a\x01i\x98\x01\x01",
+            b"\x08\x01\x10\x02\x1a\x01a\x20\x03\x28\x04\x30\x01\x38\x01\x40\x01\x48\x01\x50\x01\x6a\x01i\x98\x01\x01",
+        ),
         (
             b"\x62\x01a\x62\x01b\x72\x01c\x72\x01d\xa2\x01\x01e\xa2\x01\x01f\xaa\x01\x02\x01\x02\xa8\x01\x03\xb2\x01\x01\x04\x90\x01\x01\x90\x01\x00",
             b"\x62\x01b\x72\x01d\x90\x01\x00\xa2\x01\x01e\xa2\x01\x01f\xa8\x01\x01\xa8\x01\x02\xa8\x01\x03\xb0\x01\x04",
@@ -311,62 +327,6 @@ fn required_fields(rt: HostRuntime) {
         ChannelRemove::decode(rt.alloc(), b"\x0a\x00").err(),
         missing(1)
     );
-}
-
-#[test]
-fn cut_at_every_place(rt: HostRuntime) {
-    let payload = b"\x08\x05\x10\x07\x1a\x02hi\x20\x01";
-    let expected = [
-        missing(1),
-        fault(11, 1),
-        None,
-        fault(11, 3),
-        None,
-        fault(11, 5),
-        fault(15, 6),
-        fault(15, 6),
-        None,
-        fault(11, 9),
-        None,
-    ];
-    for (length, expected) in expected.into_iter().enumerate() {
-        if length <= payload.len() {
-            assert_eq!(rt;
-                UserRemove::decode(rt.alloc(), &payload[..length]).err(),
-                expected,
-                "{length}"
-            );
-        }
-    }
-}
-
-#[test]
-fn cut_lists(rt: HostRuntime) {
-    let payload = b"\x0a\x01a\x1a\x01b\x22\x02\x03\x04\x28\x01";
-    let expected = [
-        None,
-        fault(11, 1),
-        fault(15, 2),
-        None,
-        fault(11, 4),
-        fault(15, 5),
-        None,
-        fault(11, 7),
-        fault(15, 8),
-        fault(15, 8),
-        None,
-        fault(11, 11),
-        None,
-    ];
-    for (length, expected) in expected.into_iter().enumerate() {
-        if length <= payload.len() {
-            assert_eq!(rt;
-                Authenticate::decode(rt.alloc(), &payload[..length]).err(),
-                expected,
-                "{length}"
-            );
-        }
-    }
 }
 
 #[test]

@@ -118,6 +118,11 @@ fn each_cause_has_its_number(rt: HostRuntime) -> Result<(), Fail> {
     is_refused(&rt, add_next(&mut tree, ROOT, "one", false), 31);
     is_refused(&rt, add_next(&mut tree, first, "two", false), 36);
     is_not_made(&rt, tree.rename(ROOT, "one"), 35);
+    match tree.channel(ROOT) {
+        Some(root) => assert_eq!(rt; root.name.as_str(), "Root"),
+        None => assert!(rt; false, "the root is gone"),
+    }
+    is_not_made(&rt, tree.move_under(ROOT, first), 35);
     is_not_made(&rt, tree.remove_subtree(ROOT), 35);
     is_not_made(&rt, tree.unlink(ROOT, ChannelId(9)), 30);
     assert_eq!(rt; TreeFault::OutOfMemory.code(), None);
@@ -166,6 +171,15 @@ fn a_tree_has_at_most_1024_channels(rt: HostRuntime) -> Result<(), Fail> {
     }
     assert_eq!(rt; tree.full(), true);
     is_refused(&rt, add_next(&mut tree, ROOT, "more", false), 34);
+    Ok(())
+}
+
+#[test]
+fn numbers_end(rt: HostRuntime) -> Result<(), Fail> {
+    let mut tree = Tree::new(rt.alloc())?;
+    tree.add(ChannelId(u32::MAX), ROOT, "last", false)?;
+    assert_eq!(rt; tree.next_id(), None);
+    assert_eq!(rt; tree.place(ChannelId(u32::MAX)), Some(1));
     Ok(())
 }
 

@@ -4,7 +4,7 @@ ghost use Rattle.std.specs.Prelude.{◌≡◌, ◌↔◌, IsTrue, bit_or};
 ghost use Rattle.mum_base.specs.Perm.{Holds, without_bits};
 
 /// A set of permissions, a bit for each.
-#[derive(Clone, Copy, Debug, PartialEq, Eq, Hash)]
+#[derive(Clone, Copy, Debug, Default, PartialEq, Eq, Hash)]
 pub struct Perm(pub u32);
 
 impl Perm {

@@ -61,10 +61,15 @@ fn permissions_are_sets_of_bits(rt: HostRuntime) {
 fn names_are_refused_in_order(rt: HostRuntime) -> Result<(), Fail> {
     let long = "a".repeat(rt.alloc(), 129)?;
     let longest = "a".repeat(rt.alloc(), 128)?;
+    // It is bytes that count: each of these letters has two.
+    let wide = "ë".repeat(rt.alloc(), 64)?;
+    let too_wide = "ë".repeat(rt.alloc(), 65)?;
     let cases = [
         ("", Some(NameFault::Empty)),
         (long.as_str(), Some(NameFault::TooLong)),
         (longest.as_str(), None),
+        (wide.as_str(), None),
+        (too_wide.as_str(), Some(NameFault::TooLong)),
         (" \u{1f}", Some(NameFault::ControlCharacter)),
         ("a\u{0}b", Some(NameFault::ControlCharacter)),
         ("\u{7f}", Some(NameFault::ControlCharacter)),
@@ -102,6 +107,15 @@ fn names_are_refused_in_order(rt: HostRuntime) -> Result<(), Fail> {
         assert_eq!(rt; fault.code(), code);
     }
     Ok(())
+}
+
+#[test]
+fn numbers_begin_at_zero(rt: HostRuntime) {
+    assert_eq!(rt; SessionId::default(), SessionId(0));
+    assert_eq!(rt; ChannelId::default(), ChannelId(0));
+    assert_eq!(rt; AccountId::default(), AccountId(0));
+    assert_eq!(rt; Slot::default(), Slot(0));
+    assert_eq!(rt; Perm::default(), Perm::NONE);
 }
 
 // Counts over a ledger of the caller's choice.

@@ -8,3 +8,8 @@ pub mod Taking
 pub mod Decoding
 pub mod VarintFaults
 pub mod Encoding
+pub mod Steps
+pub mod Missing
+pub mod Puts
+pub mod Rows
+pub mod ReadBack

@@ -7,3 +7,5 @@ pub mod Payload
 pub mod Message
 pub mod Written
 pub mod Cursor
+pub mod Table
+pub mod Held

@@ -64,6 +64,16 @@ blocks_in (Fixed4 n) = []
 abbrev pub blocks_of : Entry → List (List ℕ)
 blocks_of e = blocks_in e.content
 
+abbrev pub messages_in : {X : Type 0} → (List Entry → X) → ℕ → Content → List X
+messages_in make place (Varint n) = []
+messages_in make place (Fixed8 n) = []
+messages_in make place (Block block) = make (fields (record { place = place; rest = block })).items ∷ []
+messages_in make place (Fixed4 n) = []
+
+-- a field that is a message in a block: what its own fields make
+abbrev pub messages_of : {X : Type 0} → (List Entry → X) → Entry → List X
+messages_of make e = messages_in make e.place e.content
+
 -- a field of this number adds to what came before
 abbrev pub longer : {X : Type 0} → (Entry → List X) → ℕ → List X → Entry → List X
 longer taken number before e = if e.number == number then before ++ taken e else before

@@ -1,6 +1,8 @@
 use super::*;
 use std::test::Fail;
 
+mod blocks;
+
 // What `next_field` gives at the front of a payload.
 fn first(payload: &[u8]) -> Result<Option<Field<'_>>, FieldFault> {
     let mut reader = Reader::new(payload);

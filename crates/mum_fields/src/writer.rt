@@ -1,11 +1,10 @@
 //! A writer of a payload, field by field.
 
 ghost use Rattle.std.specs.Prelude.{◌≡◌, ℕ, List, [], ◌++◌, ◌<◌, ◌≤◌, ◌^◌, OnOk, OnErr};
-ghost use Rattle.mum_fields.specs.Written.{varint_item, block_item, number_items, block_items, each_number, each_block, spelling, written};
+ghost use Rattle.mum_fields.specs.Written.{varint_item, block_item, spelling};
 
-use crate::number::VarintType;
 use crate::varint::push_varint;
-use mum_base::{Octets, OutOfMemory, Text};
+use mum_base::{Octets, OutOfMemory};
 use std::alloc::Global;
 use std::marker::Model;
 
@@ -37,6 +36,7 @@ fn push_block_field(out: &mut Vec<u8>, number: u32, bytes: &[u8]) -> Result<(), 
 /// A payload that is being written. Its contracts see the bytes so far.
 #[derive(Debug, Drop)]
 pub struct Writer {
+    alloc: Global,
     bytes: Vec<u8>,
 }
 
@@ -54,8 +54,16 @@ impl Writer {
         ensures { result ≡ [] }
     {
         Writer {
+            alloc,
             bytes: Vec::new(alloc),
         }
+    }
+
+    /// An empty payload beside this one.
+    pub fn fresh(&self) -> Writer
+        ensures { result ≡ [] }
+    {
+        Writer::new(self.alloc)
     }
 
     /// Writes a varint field. Want of memory leaves what was written before.
@@ -87,80 +95,6 @@ impl Writer {
             self.bytes.truncate(length);
         }
         done
-    }
-
-    /// Writes a number that is set.
-    pub fn put_number<N: VarintType + Copy>(
-        &mut self,
-        number: u32,
-        slot: &Option<N>,
-    ) -> Result<(), OutOfMemory>
-        requires some { 1 ≤ number }
-        requires few { number < 2 ^ 29 }
-        ensures ok { OnOk result (self.new ≡ self.old ++ written (number_items N.number_of number slot.now)) }
-        ensures err { OnErr result (self.new ≡ self.old) }
-    {
-        match slot {
-            Some(value) => self.put_varint(number, value.to_varint()),
-            None => Ok(()),
-        }
-    }
-
-    /// Writes a text that is set.
-    pub fn put_text(&mut self, number: u32, slot: &Option<Text>) -> Result<(), OutOfMemory>
-        requires some { 1 ≤ number }
-        requires few { number < 2 ^ 29 }
-        ensures ok { OnOk result (self.new ≡ self.old ++ written (block_items number slot.now)) }
-        ensures err { OnErr result (self.new ≡ self.old) }
-    {
-        match slot {
-            Some(text) => self.put_block(number, text.as_slice()),
-            None => Ok(()),
-        }
-    }
-
-    /// Writes bytes that are set.
-    pub fn put_octets(&mut self, number: u32, slot: &Option<Octets>) -> Result<(), OutOfMemory>
-        requires some { 1 ≤ number }
-        requires few { number < 2 ^ 29 }
-        ensures ok { OnOk result (self.new ≡ self.old ++ written (block_items number slot.now)) }
-        ensures err { OnErr result (self.new ≡ self.old) }
-    {
-        match slot {
-            Some(octets) => self.put_block(number, octets.as_slice()),
-            None => Ok(()),
-        }
-    }
-
-    /// Writes each number of a list as a field of its own. Want of memory leaves the numbers
-    /// before it.
-    pub fn put_each_number<N: VarintType + Copy>(
-        &mut self,
-        number: u32,
-        list: &[N],
-    ) -> Result<(), OutOfMemory>
-        requires some { 1 ≤ number }
-        requires few { number < 2 ^ 29 }
-        ensures ok { OnOk result (self.new ≡ self.old ++ written (each_number N.number_of number list.now)) }
-        ensures err { OnErr result ((part : List ℕ) × (self.new ≡ self.old ++ part)) }
-    {
-        for value in list {
-            self.put_varint(number, value.to_varint())?;
-        }
-        Ok(())
-    }
-
-    /// Writes each text of a list as a field of its own. Want of memory leaves the texts before it.
-    pub fn put_each_text(&mut self, number: u32, list: &[Text]) -> Result<(), OutOfMemory>
-        requires some { 1 ≤ number }
-        requires few { number < 2 ^ 29 }
-        ensures ok { OnOk result (self.new ≡ self.old ++ written (each_block number list.now)) }
-        ensures err { OnErr result ((part : List ℕ) × (self.new ≡ self.old ++ part)) }
-    {
-        for text in list {
-            self.put_block(number, text.as_slice())?;
-        }
-        Ok(())
     }
 
     /// The payload that was written, without a copy.

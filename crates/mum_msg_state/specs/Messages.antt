@@ -1,7 +1,7 @@
 -- The messages of this crate, field by field as Mumble.proto has them: a reader checks each row's label, type,
 -- name and number against it.
 use Rattle.std.specs.Prelude.{[], ◌∷◌}
-use Rattle.mum_msg_state.specs.Table.{Table, optional, required, repeated, uint32, uint64, int32, bool, string, bytes}
+use Rattle.mum_fields.specs.Table.{Table, optional, required, repeated, uint32, uint64, int32, bool, string, bytes}
 use Rattle.mum_msg_state.specs.declared.ping.Ping.{Ping}
 use Rattle.mum_msg_state.specs.declared.version.Version.{Version}
 use Rattle.mum_msg_state.specs.declared.authenticate.Authenticate.{Authenticate}

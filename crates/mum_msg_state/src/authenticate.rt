@@ -1,10 +1,10 @@
 //! Authenticate: a client asks to be let in under a name.
 
-use crate::draft::{Draft, read};
-use crate::message::{Message, encode};
-use crate::put::{put_each_number, put_each_text, put_number, put_text};
 use mum_base::{Items, Octets, OutOfMemory, Text};
-use mum_fields::{MessageFault, Placed, Writer, add_numbers, add_text, set_text, set_varint};
+use mum_fields::{
+    Draft, Message, MessageFault, Placed, Writer, add_numbers, add_text, encode, put_each_number,
+    put_each_text, put_number, put_text, read, set_text, set_varint,
+};
 use std::alloc::Global;
 
 /// Mumble.proto, message Authenticate.
@@ -32,7 +32,8 @@ struct AuthenticateDraft {
 }
 
 impl Draft for AuthenticateDraft {
-    ghost use Rattle.mum_msg_state.specs.Table.{parts};
+    ghost use Rattle.std.specs.Prelude.{refl};
+    ghost use Rattle.mum_fields.specs.Table.{parts};
     ghost use Rattle.mum_msg_state.specs.Messages.{authenticate};
 
     type Message = Authenticate;
@@ -66,10 +67,6 @@ impl Draft for AuthenticateDraft {
         Ok(())
     }
 
-    fn missing(&self) -> Option<u32> {
-        None
-    }
-
     fn finish(self) -> Authenticate {
         Authenticate {
             username: self.username,
@@ -79,6 +76,8 @@ impl Draft for AuthenticateDraft {
             opus: self.opus,
         }
     }
+
+    ghost same_rows = { refl };
 }
 
 impl Message for Authenticate {
@@ -96,13 +95,17 @@ impl Message for Authenticate {
         Ok(())
     }
 
+    fn missing(&self) -> Option<u32> {
+        None
+    }
+
     ghost in_order = { refl };
 }
 
 impl Authenticate {
     ghost use Rattle.std.specs.Prelude.{◌≡◌, IfOk, None, Ok};
     ghost use Rattle.mum_fields.specs.Message.{Answers};
-    ghost use Rattle.mum_msg_state.specs.Table.{parts, decoded, spelled, missing};
+    ghost use Rattle.mum_fields.specs.Table.{layout, parts, decoded, spelled, missing};
     ghost use Rattle.mum_msg_state.specs.Messages.{authenticate};
 
     /// The message that a payload is. A field of another number or wire type is passed over. A
@@ -117,7 +120,7 @@ impl Authenticate {
     /// element of a list as a field of its own.
     pub fn encode(&self, alloc: Global) -> Result<Octets, OutOfMemory>
         ensures written { IfOk result (λ octets. octets ≡ spelled authenticate self.now) }
-        ensures read_back { IfOk result (λ octets. missing authenticate (parts authenticate self.now) ≡ None
+        ensures read_back { IfOk result (λ octets. missing (layout authenticate) (parts authenticate self.now) ≡ None
             → decoded authenticate octets ≡ Ok (parts authenticate self.now)) }
     {
         encode(self, alloc)

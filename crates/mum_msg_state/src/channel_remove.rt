@@ -1,10 +1,9 @@
 //! ChannelRemove: a channel is removed, or is to be.
 
-use crate::draft::{Draft, read};
-use crate::message::{Message, encode};
-use crate::put::put_number;
 use mum_base::{Octets, OutOfMemory};
-use mum_fields::{MessageFault, Placed, Writer, set_varint};
+use mum_fields::{
+    Draft, Message, MessageFault, Placed, Writer, encode, put_number, read, required, set_varint,
+};
 use std::alloc::Global;
 
 /// Mumble.proto, message ChannelRemove.
@@ -15,7 +14,8 @@ pub struct ChannelRemove {
 }
 
 impl Draft for ChannelRemove {
-    ghost use Rattle.mum_msg_state.specs.Table.{parts};
+    ghost use Rattle.std.specs.Prelude.{refl};
+    ghost use Rattle.mum_fields.specs.Table.{parts};
     ghost use Rattle.mum_msg_state.specs.Messages.{channel_remove};
 
     type Message = ChannelRemove;
@@ -33,17 +33,11 @@ impl Draft for ChannelRemove {
         Ok(())
     }
 
-    fn missing(&self) -> Option<u32> {
-        if self.channel_id.is_none() {
-            Some(1)
-        } else {
-            None
-        }
-    }
-
     fn finish(self) -> ChannelRemove {
         self
     }
+
+    ghost same_rows = { refl };
 }
 
 impl Message for ChannelRemove {
@@ -57,13 +51,17 @@ impl Message for ChannelRemove {
         Ok(())
     }
 
+    fn missing(&self) -> Option<u32> {
+        required(1, &self.channel_id)
+    }
+
     ghost in_order = { refl };
 }
 
 impl ChannelRemove {
     ghost use Rattle.std.specs.Prelude.{◌≡◌, IfOk, None, Ok};
     ghost use Rattle.mum_fields.specs.Message.{Answers};
-    ghost use Rattle.mum_msg_state.specs.Table.{parts, decoded, spelled, missing};
+    ghost use Rattle.mum_fields.specs.Table.{layout, parts, decoded, spelled, missing};
     ghost use Rattle.mum_msg_state.specs.Messages.{channel_remove};
 
     /// The message that a payload is. A field of another number or wire type is passed over. A
@@ -79,7 +77,7 @@ impl ChannelRemove {
     /// back where no required field is missing.
     pub fn encode(&self, alloc: Global) -> Result<Octets, OutOfMemory>
         ensures written { IfOk result (λ octets. octets ≡ spelled channel_remove self.now) }
-        ensures read_back { IfOk result (λ octets. missing channel_remove (parts channel_remove self.now) ≡ None
+        ensures read_back { IfOk result (λ octets. missing (layout channel_remove) (parts channel_remove self.now) ≡ None
             → decoded channel_remove octets ≡ Ok (parts channel_remove self.now)) }
     {
         encode(self, alloc)

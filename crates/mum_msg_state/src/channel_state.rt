@@ -1,10 +1,10 @@
 //! ChannelState: a channel is new or changed, or is to be.
 
-use crate::draft::{Draft, read};
-use crate::message::{Message, encode};
-use crate::put::{put_each_number, put_number, put_text};
 use mum_base::{Items, Octets, OutOfMemory, Text};
-use mum_fields::{MessageFault, Placed, Writer, add_numbers, set_text, set_varint};
+use mum_fields::{
+    Draft, Message, MessageFault, Placed, Writer, add_numbers, encode, put_each_number, put_number,
+    put_text, read, set_text, set_varint,
+};
 use std::alloc::Global;
 
 /// Mumble.proto, message ChannelState.
@@ -47,7 +47,8 @@ struct ChannelStateDraft {
 }
 
 impl Draft for ChannelStateDraft {
-    ghost use Rattle.mum_msg_state.specs.Table.{parts};
+    ghost use Rattle.std.specs.Prelude.{refl};
+    ghost use Rattle.mum_fields.specs.Table.{parts};
     ghost use Rattle.mum_msg_state.specs.Messages.{channel_state};
 
     type Message = ChannelState;
@@ -96,10 +97,6 @@ impl Draft for ChannelStateDraft {
         Ok(())
     }
 
-    fn missing(&self) -> Option<u32> {
-        None
-    }
-
     fn finish(self) -> ChannelState {
         ChannelState {
             channel_id: self.channel_id,
@@ -114,6 +111,8 @@ impl Draft for ChannelStateDraft {
             max_users: self.max_users,
         }
     }
+
+    ghost same_rows = { refl };
 }
 
 impl Message for ChannelState {
@@ -136,13 +135,17 @@ impl Message for ChannelState {
         Ok(())
     }
 
+    fn missing(&self) -> Option<u32> {
+        None
+    }
+
     ghost in_order = { refl };
 }
 
 impl ChannelState {
     ghost use Rattle.std.specs.Prelude.{◌≡◌, IfOk, None, Ok};
     ghost use Rattle.mum_fields.specs.Message.{Answers};
-    ghost use Rattle.mum_msg_state.specs.Table.{parts, decoded, spelled, missing};
+    ghost use Rattle.mum_fields.specs.Table.{layout, parts, decoded, spelled, missing};
     ghost use Rattle.mum_msg_state.specs.Messages.{channel_state};
 
     /// The message that a payload is. A field of another number or wire type is passed over. A
@@ -157,7 +160,7 @@ impl ChannelState {
     /// element of a list as a field of its own.
     pub fn encode(&self, alloc: Global) -> Result<Octets, OutOfMemory>
         ensures written { IfOk result (λ octets. octets ≡ spelled channel_state self.now) }
-        ensures read_back { IfOk result (λ octets. missing channel_state (parts channel_state self.now) ≡ None
+        ensures read_back { IfOk result (λ octets. missing (layout channel_state) (parts channel_state self.now) ≡ None
             → decoded channel_state octets ≡ Ok (parts channel_state self.now)) }
     {
         encode(self, alloc)

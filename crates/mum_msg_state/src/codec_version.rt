@@ -1,10 +1,10 @@
 //! CodecVersion: which codecs the users of the server are to speak.
 
-use crate::draft::{Draft, read};
-use crate::message::{Message, encode};
-use crate::put::put_number;
 use mum_base::{Octets, OutOfMemory};
-use mum_fields::{MessageFault, Placed, Writer, set_varint};
+use mum_fields::{
+    Draft, Message, MessageFault, Placed, Writer, encode, lesser, put_number, read, required,
+    set_varint,
+};
 use std::alloc::Global;
 
 /// Mumble.proto, message CodecVersion.
@@ -21,7 +21,8 @@ pub struct CodecVersion {
 }
 
 impl Draft for CodecVersion {
-    ghost use Rattle.mum_msg_state.specs.Table.{parts};
+    ghost use Rattle.std.specs.Prelude.{refl};
+    ghost use Rattle.mum_fields.specs.Table.{parts};
     ghost use Rattle.mum_msg_state.specs.Messages.{codec_version};
 
     type Message = CodecVersion;
@@ -47,21 +48,11 @@ impl Draft for CodecVersion {
         Ok(())
     }
 
-    fn missing(&self) -> Option<u32> {
-        if self.alpha.is_none() {
-            Some(1)
-        } else if self.beta.is_none() {
-            Some(2)
-        } else if self.prefer_alpha.is_none() {
-            Some(3)
-        } else {
-            None
-        }
-    }
-
     fn finish(self) -> CodecVersion {
         self
     }
+
+    ghost same_rows = { refl };
 }
 
 impl Message for CodecVersion {
@@ -78,13 +69,20 @@ impl Message for CodecVersion {
         Ok(())
     }
 
+    fn missing(&self) -> Option<u32> {
+        lesser(
+            required(1, &self.alpha),
+            lesser(required(2, &self.beta), required(3, &self.prefer_alpha)),
+        )
+    }
+
     ghost in_order = { refl };
 }
 
 impl CodecVersion {
     ghost use Rattle.std.specs.Prelude.{◌≡◌, IfOk, None, Ok};
     ghost use Rattle.mum_fields.specs.Message.{Answers};
-    ghost use Rattle.mum_msg_state.specs.Table.{parts, decoded, spelled, missing};
+    ghost use Rattle.mum_fields.specs.Table.{layout, parts, decoded, spelled, missing};
     ghost use Rattle.mum_msg_state.specs.Messages.{codec_version};
 
     /// The message that a payload is. A field of another number or wire type is passed over. A
@@ -100,7 +98,7 @@ impl CodecVersion {
     /// back where no required field is missing.
     pub fn encode(&self, alloc: Global) -> Result<Octets, OutOfMemory>
         ensures written { IfOk result (λ octets. octets ≡ spelled codec_version self.now) }
-        ensures read_back { IfOk result (λ octets. missing codec_version (parts codec_version self.now) ≡ None
+        ensures read_back { IfOk result (λ octets. missing (layout codec_version) (parts codec_version self.now) ≡ None
             → decoded codec_version octets ≡ Ok (parts codec_version self.now)) }
     {
         encode(self, alloc)

@@ -1,15 +1,12 @@
 //! The messages of the protocol that tell of the server's state, decoded and encoded. Each is a
-//! struct beside its table of fields; `draft`, `message` and `put` hold what all of them share.
+//! struct beside its table of fields; `mum_fields` holds what all of them share.
 #![tactic(auto)]
 
 pub mod authenticate;
 pub mod channel_remove;
 pub mod channel_state;
 pub mod codec_version;
-pub mod draft;
-pub mod message;
 pub mod ping;
-pub mod put;
 pub mod reject;
 pub mod server_sync;
 pub mod user_remove;

@@ -1,10 +1,9 @@
 //! Ping: each side asks now and then whether the other still hears it.
 
-use crate::draft::{Draft, read};
-use crate::message::{Message, encode};
-use crate::put::put_number;
 use mum_base::{Octets, OutOfMemory};
-use mum_fields::{MessageFault, Placed, Writer, set_varint};
+use mum_fields::{
+    Draft, Message, MessageFault, Placed, Writer, encode, put_number, read, set_varint,
+};
 use std::alloc::Global;
 
 /// Mumble.proto, message Ping. Of its fields only the timestamp is read; a reply repeats it.
@@ -15,7 +14,8 @@ pub struct Ping {
 }
 
 impl Draft for Ping {
-    ghost use Rattle.mum_msg_state.specs.Table.{parts};
+    ghost use Rattle.std.specs.Prelude.{refl};
+    ghost use Rattle.mum_fields.specs.Table.{parts};
     ghost use Rattle.mum_msg_state.specs.Messages.{ping};
 
     type Message = Ping;
@@ -33,13 +33,11 @@ impl Draft for Ping {
         Ok(())
     }
 
-    fn missing(&self) -> Option<u32> {
-        None
-    }
-
     fn finish(self) -> Ping {
         self
     }
+
+    ghost same_rows = { refl };
 }
 
 impl Message for Ping {
@@ -53,13 +51,17 @@ impl Message for Ping {
         Ok(())
     }
 
+    fn missing(&self) -> Option<u32> {
+        None
+    }
+
     ghost in_order = { refl };
 }
 
 impl Ping {
     ghost use Rattle.std.specs.Prelude.{◌≡◌, IfOk, None, Ok};
     ghost use Rattle.mum_fields.specs.Message.{Answers};
-    ghost use Rattle.mum_msg_state.specs.Table.{parts, decoded, spelled, missing};
+    ghost use Rattle.mum_fields.specs.Table.{layout, parts, decoded, spelled, missing};
     ghost use Rattle.mum_msg_state.specs.Messages.{ping};
 
     /// The message that a payload is. A field of another number or wire type is passed over. A
@@ -73,7 +75,7 @@ impl Ping {
     /// The payload of this message: each field that is set, in the order of the numbers.
     pub fn encode(&self, alloc: Global) -> Result<Octets, OutOfMemory>
         ensures written { IfOk result (λ octets. octets ≡ spelled ping self.now) }
-        ensures read_back { IfOk result (λ octets. missing ping (parts ping self.now) ≡ None
+        ensures read_back { IfOk result (λ octets. missing (layout ping) (parts ping self.now) ≡ None
             → decoded ping octets ≡ Ok (parts ping self.now)) }
     {
         encode(self, alloc)

@@ -1,10 +1,10 @@
 //! Reject: the server lets a client not in.
 
-use crate::draft::{Draft, read};
-use crate::message::{Message, encode};
-use crate::put::{put_number, put_text};
 use mum_base::{Octets, OutOfMemory, Text};
-use mum_fields::{MessageFault, Placed, Writer, set_text, set_varint};
+use mum_fields::{
+    Draft, Message, MessageFault, Placed, Writer, encode, put_number, put_text, read, set_text,
+    set_varint,
+};
 use std::alloc::Global;
 
 /// Mumble.proto, message Reject.
@@ -17,7 +17,8 @@ pub struct Reject {
 }
 
 impl Draft for Reject {
-    ghost use Rattle.mum_msg_state.specs.Table.{parts};
+    ghost use Rattle.std.specs.Prelude.{refl};
+    ghost use Rattle.mum_fields.specs.Table.{parts};
     ghost use Rattle.mum_msg_state.specs.Messages.{reject};
 
     type Message = Reject;
@@ -39,13 +40,11 @@ impl Draft for Reject {
         Ok(())
     }
 
-    fn missing(&self) -> Option<u32> {
-        None
-    }
-
     fn finish(self) -> Reject {
         self
     }
+
+    ghost same_rows = { refl };
 }
 
 impl Message for Reject {
@@ -60,13 +59,17 @@ impl Message for Reject {
         Ok(())
     }
 
+    fn missing(&self) -> Option<u32> {
+        None
+    }
+
     ghost in_order = { refl };
 }
 
 impl Reject {
     ghost use Rattle.std.specs.Prelude.{◌≡◌, IfOk, None, Ok};
     ghost use Rattle.mum_fields.specs.Message.{Answers};
-    ghost use Rattle.mum_msg_state.specs.Table.{parts, decoded, spelled, missing};
+    ghost use Rattle.mum_fields.specs.Table.{layout, parts, decoded, spelled, missing};
     ghost use Rattle.mum_msg_state.specs.Messages.{reject};
 
     /// The message that a payload is. A field of another number or wire type is passed over. A
@@ -80,7 +83,7 @@ impl Reject {
     /// The payload of this message: each field that is set, in the order of the numbers.
     pub fn encode(&self, alloc: Global) -> Result<Octets, OutOfMemory>
         ensures written { IfOk result (λ octets. octets ≡ spelled reject self.now) }
-        ensures read_back { IfOk result (λ octets. missing reject (parts reject self.now) ≡ None
+        ensures read_back { IfOk result (λ octets. missing (layout reject) (parts reject self.now) ≡ None
             → decoded reject octets ≡ Ok (parts reject self.now)) }
     {
         encode(self, alloc)

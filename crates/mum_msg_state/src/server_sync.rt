@@ -1,10 +1,10 @@
 //! ServerSync: the server has told a new client of all channels and users.
 
-use crate::draft::{Draft, read};
-use crate::message::{Message, encode};
-use crate::put::{put_number, put_text};
 use mum_base::{Octets, OutOfMemory, Text};
-use mum_fields::{MessageFault, Placed, Writer, set_text, set_varint};
+use mum_fields::{
+    Draft, Message, MessageFault, Placed, Writer, encode, put_number, put_text, read, set_text,
+    set_varint,
+};
 use std::alloc::Global;
 
 /// Mumble.proto, message ServerSync.
@@ -21,7 +21,8 @@ pub struct ServerSync {
 }
 
 impl Draft for ServerSync {
-    ghost use Rattle.mum_msg_state.specs.Table.{parts};
+    ghost use Rattle.std.specs.Prelude.{refl};
+    ghost use Rattle.mum_fields.specs.Table.{parts};
     ghost use Rattle.mum_msg_state.specs.Messages.{server_sync};
 
     type Message = ServerSync;
@@ -47,13 +48,11 @@ impl Draft for ServerSync {
         Ok(())
     }
 
-    fn missing(&self) -> Option<u32> {
-        None
-    }
-
     fn finish(self) -> ServerSync {
         self
     }
+
+    ghost same_rows = { refl };
 }
 
 impl Message for ServerSync {
@@ -70,13 +69,17 @@ impl Message for ServerSync {
         Ok(())
     }
 
+    fn missing(&self) -> Option<u32> {
+        None
+    }
+
     ghost in_order = { refl };
 }
 
 impl ServerSync {
     ghost use Rattle.std.specs.Prelude.{◌≡◌, IfOk, None, Ok};
     ghost use Rattle.mum_fields.specs.Message.{Answers};
-    ghost use Rattle.mum_msg_state.specs.Table.{parts, decoded, spelled, missing};
+    ghost use Rattle.mum_fields.specs.Table.{layout, parts, decoded, spelled, missing};
     ghost use Rattle.mum_msg_state.specs.Messages.{server_sync};
 
     /// The message that a payload is. A field of another number or wire type is passed over. A
@@ -90,7 +93,7 @@ impl ServerSync {
     /// The payload of this message: each field that is set, in the order of the numbers.
     pub fn encode(&self, alloc: Global) -> Result<Octets, OutOfMemory>
         ensures written { IfOk result (λ octets. octets ≡ spelled server_sync self.now) }
-        ensures read_back { IfOk result (λ octets. missing server_sync (parts server_sync self.now) ≡ None
+        ensures read_back { IfOk result (λ octets. missing (layout server_sync) (parts server_sync self.now) ≡ None
             → decoded server_sync octets ≡ Ok (parts server_sync self.now)) }
     {
         encode(self, alloc)

@@ -1,10 +1,10 @@
 //! UserRemove: a user leaves, or is to be kicked or banned.
 
-use crate::draft::{Draft, read};
-use crate::message::{Message, encode};
-use crate::put::{put_number, put_text};
 use mum_base::{Octets, OutOfMemory, Text};
-use mum_fields::{MessageFault, Placed, Writer, set_text, set_varint};
+use mum_fields::{
+    Draft, Message, MessageFault, Placed, Writer, encode, put_number, put_text, read, required,
+    set_text, set_varint,
+};
 use std::alloc::Global;
 
 /// Mumble.proto, message UserRemove.
@@ -21,7 +21,8 @@ pub struct UserRemove {
 }
 
 impl Draft for UserRemove {
-    ghost use Rattle.mum_msg_state.specs.Table.{parts};
+    ghost use Rattle.std.specs.Prelude.{refl};
+    ghost use Rattle.mum_fields.specs.Table.{parts};
     ghost use Rattle.mum_msg_state.specs.Messages.{user_remove};
 
     type Message = UserRemove;
@@ -47,17 +48,11 @@ impl Draft for UserRemove {
         Ok(())
     }
 
-    fn missing(&self) -> Option<u32> {
-        if self.session.is_none() {
-            Some(1)
-        } else {
-            None
-        }
-    }
-
     fn finish(self) -> UserRemove {
         self
     }
+
+    ghost same_rows = { refl };
 }
 
 impl Message for UserRemove {
@@ -74,13 +69,17 @@ impl Message for UserRemove {
         Ok(())
     }
 
+    fn missing(&self) -> Option<u32> {
+        required(1, &self.session)
+    }
+
     ghost in_order = { refl };
 }
 
 impl UserRemove {
     ghost use Rattle.std.specs.Prelude.{◌≡◌, IfOk, None, Ok};
     ghost use Rattle.mum_fields.specs.Message.{Answers};
-    ghost use Rattle.mum_msg_state.specs.Table.{parts, decoded, spelled, missing};
+    ghost use Rattle.mum_fields.specs.Table.{layout, parts, decoded, spelled, missing};
     ghost use Rattle.mum_msg_state.specs.Messages.{user_remove};
 
     /// The message that a payload is. A field of another number or wire type is passed over. A
@@ -96,7 +95,7 @@ impl UserRemove {
     /// back where no required field is missing.
     pub fn encode(&self, alloc: Global) -> Result<Octets, OutOfMemory>
         ensures written { IfOk result (λ octets. octets ≡ spelled user_remove self.now) }
-        ensures read_back { IfOk result (λ octets. missing user_remove (parts user_remove self.now) ≡ None
+        ensures read_back { IfOk result (λ octets. missing (layout user_remove) (parts user_remove self.now) ≡ None
             → decoded user_remove octets ≡ Ok (parts user_remove self.now)) }
     {
         encode(self, alloc)

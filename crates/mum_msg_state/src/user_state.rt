@@ -1,11 +1,9 @@
 //! UserState: a user is new or changed, or is to be.
 
-use crate::draft::{Draft, read};
-use crate::message::{Message, encode};
-use crate::put::{put_each_number, put_each_text, put_number, put_octets, put_text};
 use mum_base::{Items, Octets, OutOfMemory, Text};
 use mum_fields::{
-    MessageFault, Placed, Writer, add_numbers, add_text, set_block, set_text, set_varint,
+    Draft, Message, MessageFault, Placed, Writer, add_numbers, add_text, encode, put_each_number,
+    put_each_text, put_number, put_octets, put_text, read, set_block, set_text, set_varint,
 };
 use std::alloc::Global;
 
@@ -73,7 +71,8 @@ struct UserStateDraft {
 }
 
 impl Draft for UserStateDraft {
-    ghost use Rattle.mum_msg_state.specs.Table.{parts};
+    ghost use Rattle.std.specs.Prelude.{refl};
+    ghost use Rattle.mum_fields.specs.Table.{parts};
     ghost use Rattle.mum_msg_state.specs.Messages.{user_state};
 
     type Message = UserState;
@@ -146,10 +145,6 @@ impl Draft for UserStateDraft {
         Ok(())
     }
 
-    fn missing(&self) -> Option<u32> {
-        None
-    }
-
     fn finish(self) -> UserState {
         UserState {
             session: self.session,
@@ -172,6 +167,8 @@ impl Draft for UserStateDraft {
             listening_channel_remove: Items::from_vec(self.listening_channel_remove),
         }
     }
+
+    ghost same_rows = { refl };
 }
 
 impl Message for UserState {
@@ -202,13 +199,17 @@ impl Message for UserState {
         Ok(())
     }
 
+    fn missing(&self) -> Option<u32> {
+        None
+    }
+
     ghost in_order = { refl };
 }
 
 impl UserState {
     ghost use Rattle.std.specs.Prelude.{◌≡◌, IfOk, None, Ok};
     ghost use Rattle.mum_fields.specs.Message.{Answers};
-    ghost use Rattle.mum_msg_state.specs.Table.{parts, decoded, spelled, missing};
+    ghost use Rattle.mum_fields.specs.Table.{layout, parts, decoded, spelled, missing};
     ghost use Rattle.mum_msg_state.specs.Messages.{user_state};
 
     /// The message that a payload is. A field of another number or wire type is passed over. A
@@ -223,7 +224,7 @@ impl UserState {
     /// element of a list as a field of its own.
     pub fn encode(&self, alloc: Global) -> Result<Octets, OutOfMemory>
         ensures written { IfOk result (λ octets. octets ≡ spelled user_state self.now) }
-        ensures read_back { IfOk result (λ octets. missing user_state (parts user_state self.now) ≡ None
+        ensures read_back { IfOk result (λ octets. missing (layout user_state) (parts user_state self.now) ≡ None
             → decoded user_state octets ≡ Ok (parts user_state self.now)) }
     {
         encode(self, alloc)

@@ -1,10 +1,10 @@
 //! Version: what each side tells first of itself.
 
-use crate::draft::{Draft, read};
-use crate::message::{Message, encode};
-use crate::put::{put_number, put_text};
 use mum_base::{Octets, OutOfMemory, Text};
-use mum_fields::{MessageFault, Placed, Writer, set_text, set_varint};
+use mum_fields::{
+    Draft, Message, MessageFault, Placed, Writer, encode, put_number, put_text, read, set_text,
+    set_varint,
+};
 use std::alloc::Global;
 
 /// Mumble.proto, message Version.
@@ -22,7 +22,8 @@ pub struct Version {
 }
 
 impl Draft for Version {
-    ghost use Rattle.mum_msg_state.specs.Table.{parts};
+    ghost use Rattle.std.specs.Prelude.{refl};
+    ghost use Rattle.mum_fields.specs.Table.{parts};
     ghost use Rattle.mum_msg_state.specs.Messages.{version};
 
     type Message = Version;
@@ -48,13 +49,11 @@ impl Draft for Version {
         Ok(())
     }
 
-    fn missing(&self) -> Option<u32> {
-        None
-    }
-
     fn finish(self) -> Version {
         self
     }
+
+    ghost same_rows = { refl };
 }
 
 impl Message for Version {
@@ -71,13 +70,17 @@ impl Message for Version {
         Ok(())
     }
 
+    fn missing(&self) -> Option<u32> {
+        None
+    }
+
     ghost in_order = { refl };
 }
 
 impl Version {
     ghost use Rattle.std.specs.Prelude.{◌≡◌, IfOk, None, Ok};
     ghost use Rattle.mum_fields.specs.Message.{Answers};
-    ghost use Rattle.mum_msg_state.specs.Table.{parts, decoded, spelled, missing};
+    ghost use Rattle.mum_fields.specs.Table.{layout, parts, decoded, spelled, missing};
     ghost use Rattle.mum_msg_state.specs.Messages.{version};
 
     /// The message that a payload is. A field of another number or wire type is passed over. A
@@ -91,7 +94,7 @@ impl Version {
     /// The payload of this message: each field that is set, in the order of the numbers.
     pub fn encode(&self, alloc: Global) -> Result<Octets, OutOfMemory>
         ensures written { IfOk result (λ octets. octets ≡ spelled version self.now) }
-        ensures read_back { IfOk result (λ octets. missing version (parts version self.now) ≡ None
+        ensures read_back { IfOk result (λ octets. missing (layout version) (parts version self.now) ≡ None
             → decoded version octets ≡ Ok (parts version self.now)) }
     {
         encode(self, alloc)

@@ -1,0 +1,244 @@
+-- What is written of a message is read back as the message.
+use Rattle.std.proofs.Common.{◌≡◌, ℕ, ◌+◌, ◌<◌, ◌≤◌, ◌^◌, ◌&&◌, eq-eqb, ltb, Bool, true, false, List, [], ◌∷◌, ◌++◌, length, if◌then◌else◌, ◌==◌, None, Ok, refl, ap, ◌∙◌, arith}
+use Rattle.std.specs.List.{All, AllByRecursion}
+use Rattle.std.proofs.lemmas.Bool.{ne_eqb, ltb-true}
+use Rattle.mum_fields.specs.Field.{Entry}
+use Rattle.mum_fields.specs.Payload.{Walk, fields}
+use Rattle.mum_fields.specs.Written.{Item, spelling, written, FitsContent, Fits, placed_at, placed_from}
+use Rattle.mum_fields.specs.Message.{Rule, fault_in, any_block, first_fault, every, messages_of, message}
+use Rattle.mum_fields.specs.Table.{Label, Kind, Value, Layout, Nothing, Field, Blocks, Values, Table, layout, parts, rising, unset, value_after, empty, after, rule_of, rules, missing, whole, gathered, decoded, row_items, each_message, items, spelled}
+use Rattle.mum_fields.specs.Held.{IsBlock, IsValue, AreValues}
+use Rattle.mum_fields.proofs.Payloads.{fields-written}
+use Rattle.mum_fields.proofs.Encoding.{placed_from-append, every-append, AreOthers, every-others}
+use Rattle.mum_fields.proofs.Rows.{IsItem, row-items, message-items, row-back, messages-back, value_after-append, value_after-others}
+
+-- ---- lists
+
+all-append : {X : Type 0} (P : X → Type 0) (xs ys : List X) → AllByRecursion P xs → AllByRecursion P ys → AllByRecursion P (xs ++ ys)
+all-append P [] ys p q = q
+all-append P (x ∷ xs) ys p q = (p.0, all-append P xs ys p.1 q)
+
+all-weaker : {X : Type 0} (P Q : X → Type 0) (xs : List X) → ((x : X) → P x → Q x) → AllByRecursion P xs → AllByRecursion Q xs
+all-weaker P Q [] weaker h = tt
+all-weaker P Q (x ∷ xs) weaker h = (weaker x h.0, all-weaker P Q xs weaker h.1)
+
+-- ---- fields whose numbers rise
+
+abbrev Rises : ℕ → Layout → Type 0
+Rises low Nothing = Unit {0}
+Rises low (Field label kind number others) = (low < number) × (number < 536870912) × Rises number others
+Rises low (Blocks inside number others) = (low < number) × (number < 536870912) × Rises number others × Rises 0 inside
+
+first_true : (a b : Bool) → (a && b) ≡ true → a ≡ true
+first_true true b h = refl
+first_true false b h = h
+
+second_true : (a b : Bool) → (a && b) ≡ true → b ≡ true
+second_true true b h = h
+second_true false b h = absurd (cc)
+
+rises : (low : ℕ) (form : Layout) → rising low form ≡ true → Rises low form
+rises low Nothing h = tt
+rises low (Field label kind number others) h =
+    let most = ltb number 536870912 in
+    let behind = second_true (ltb low number) (most && rising number others) h in (
+      ltb-true low number (first_true (ltb low number) (most && rising number others) h),
+      ltb-true number 536870912 (first_true most (rising number others) behind),
+      rises number others (second_true most (rising number others) behind),
+    )
+rises low (Blocks inside number others) h =
+    let most = ltb number 536870912 in
+    let both = rising 0 inside && rising number others in
+    let behind = second_true (ltb low number) (most && both) h in
+    let rest = second_true most both behind in (
+      ltb-true low number (first_true (ltb low number) (most && both) h),
+      ltb-true number 536870912 (first_true most both behind),
+      rises number others (second_true (rising 0 inside) (rising number others) rest),
+      rises 0 inside (first_true (rising 0 inside) (rising number others) rest),
+    )
+
+-- each field has its rule
+abbrev Agrees : (ℕ → Rule) → Layout → Type 0
+Agrees ruling Nothing = Unit {0}
+Agrees ruling (Field label kind number others) = (ruling number ≡ rule_of label kind) × Agrees ruling others
+Agrees ruling (Blocks inside number others) = (ruling number ≡ message (rules inside)) × Agrees ruling others
+
+agrees-more : (number low : ℕ) (rule : Rule) (ruling : ℕ → Rule) (form : Layout) → number ≤ low → Rises low form → Agrees ruling form
+    → Agrees (λ n. if n == number then rule else ruling n) form
+agrees-more number low rule ruling Nothing at_most up h = tt
+agrees-more number low rule ruling (Field label kind own others) at_most up h =
+    (rw (ne_eqb own number (λ e. omega (arith, up.0, at_most))) h.0, agrees-more number own rule ruling others (omega (arith, up.0, at_most)) up.2 h.1)
+agrees-more number low rule ruling (Blocks inside own others) at_most up h =
+    (rw (ne_eqb own number (λ e. omega (arith, up.0, at_most))) h.0, agrees-more number own rule ruling others (omega (arith, up.0, at_most)) up.2 h.1)
+
+agrees : (low : ℕ) (form : Layout) → Rises low form → Agrees (rules form) form
+agrees low Nothing up = tt
+agrees low (Field label kind number others) up =
+    (rw (eq-eqb number number refl) refl, agrees-more number number (rule_of label kind) (rules others) others (omega arith) up.2 (agrees number others up.2))
+agrees low (Blocks inside number others) up =
+    (rw (eq-eqb number number refl) refl, agrees-more number number (message (rules inside)) (rules others) others (omega arith) up.2 (agrees number others up.2))
+
+-- ---- items without a fault
+
+record IsClean (ruling : ℕ → Rule) (item : Item) : Type 0 where
+  number : (1 ≤ item.number) × (item.number < 2 ^ 29)
+  fits : FitsContent item.content
+  clean : (place : ℕ) → fault_in (ruling item.number) place item.content ≡ None
+
+clean-item : (ruling : ℕ → Rule) (number : ℕ) (rule : Rule) (item : Item) → 1 ≤ number → number < 536870912 → ruling number ≡ rule → IsItem number rule item → IsClean ruling item
+clean-item ruling number rule item some few ruled is = record {
+  number = (omega (arith, is.is, some), omega (arith, is.is, few));
+  fits = is.fits;
+  clean = λ place. rw (is.is, ruled) (is.clean place);
+}
+
+no-fault : (ruling : ℕ → Rule) (xs : List Item) (place : ℕ) → AllByRecursion (IsClean ruling) xs → first_fault ruling (placed_from place xs) None ≡ None
+no-fault ruling [] place h = refl
+no-fault ruling (x ∷ xs) place h = rw (h.0.clean (placed_at place x).place) (no-fault ruling xs (place + length (spelling x)) h.1)
+
+-- clean items are read as they were put, at any place
+clean-read : (ruling : ℕ → Rule) (xs : List Item) (place : ℕ) → AllByRecursion (IsClean ruling) xs → fields (record { place = place; rest = written xs }) ≡ record { items = placed_from place xs; fault = None }
+clean-read ruling xs place h = fields-written xs place (all-weaker (IsClean ruling) Fits xs (λ item is. record { number = is.number; content = is.fits }) h)
+
+clean-message : (ruling : ℕ → Rule) (xs : List Item) (place : ℕ) → AllByRecursion (IsClean ruling) xs → message ruling place (written xs) ≡ None
+clean-message ruling xs place h = ap (λ (w : Walk Entry). first_fault ruling w.items w.fault) (clean-read ruling xs place h) ∙ no-fault ruling xs place h
+
+-- the items of one field, and then the others
+clean-more : (ruling : ℕ → Rule) (number : ℕ) (rule : Rule) (own others : List Item) → 1 ≤ number → number < 536870912 → ruling number ≡ rule
+    → AllByRecursion (IsItem number rule) own → AllByRecursion (IsClean ruling) others → AllByRecursion (IsClean ruling) (own ++ others)
+clean-more ruling number rule own others some few ruled is h =
+    all-append (IsClean ruling) own others (all-weaker (IsItem number rule) (IsClean ruling) own (λ item one. clean-item ruling number rule item some few ruled one) is) h
+
+items-clean : (ruling : ℕ → Rule) (low : ℕ) (form : Layout) (values : Values form) → Rises low form → Agrees ruling form → AreValues form values → AllByRecursion (IsClean ruling) (items form values)
+items-clean ruling low Nothing values up agree h = tt
+items-clean ruling low (Field label kind number others) values up agree h =
+    clean-more ruling number (rule_of label kind) (row_items label kind number values.0) (items others values.1) (omega (arith, up.0)) up.1 agree.0
+    (row-items label kind number values.0 h.0)
+    (items-clean ruling number others values.1 up.2 agree.1 h.1)
+items-clean ruling low (Blocks inside number others) values up agree h =
+    clean-more ruling number (message (rules inside)) (each_message (items inside) number values.0) (items others values.1) (omega (arith, up.0)) up.1 agree.0
+    (message-items (items inside) (AreValues inside) (message (rules inside))
+    (λ x place held. clean-message (rules inside) (items inside x) place (items-clean (rules inside) 0 inside x up.3 (agrees 0 inside up.3) held))
+    number values.0 h.0)
+    (items-clean ruling number others values.1 up.2 agree.1 h.1)
+
+-- ---- items of other numbers
+
+abbrev IsValues : (inside : Layout) → List (Values inside) → Type 0
+IsValues inside xs = All (λ x. AreValues inside x × IsBlock (written (items inside x))) xs
+
+own-number : (number : ℕ) (rule : Rule) (own : List Item) → AllByRecursion (IsItem number rule) own → AllByRecursion (λ item. item.number ≡ number) own
+own-number number rule own is = all-weaker (IsItem number rule) (λ item. item.number ≡ number) own (λ item one. one.is) is
+
+message-number : (inside : Layout) (number : ℕ) (xs : List (Values inside)) → IsValues inside xs → AllByRecursion (λ item. item.number ≡ number) (each_message (items inside) number xs)
+message-number inside number xs h = own-number number any_block (each_message (items inside) number xs) (message-items (items inside) (AreValues inside) any_block (λ x place held. refl) number xs h)
+
+above-more : (low number : ℕ) (own others : List Item) → low < number → AllByRecursion (λ item. item.number ≡ number) own → AllByRecursion (λ item. number < item.number) others → AllByRecursion (λ item. low < item.number) (own ++ others)
+above-more low number own others less is h =
+    all-append (λ item. low < item.number) own others
+    (all-weaker (λ item. item.number ≡ number) (λ item. low < item.number) own (λ item one. omega (arith, one, less)) is)
+    (all-weaker (λ item. number < item.number) (λ item. low < item.number) others (λ item more. omega (arith, more, less)) h)
+
+items-above : (low : ℕ) (form : Layout) (values : Values form) → Rises low form → AreValues form values → AllByRecursion (λ item. low < item.number) (items form values)
+items-above low Nothing values up h = tt
+items-above low (Field label kind number others) values up h =
+    above-more low number (row_items label kind number values.0) (items others values.1) up.0
+    (own-number number (rule_of label kind) (row_items label kind number values.0) (row-items label kind number values.0 h.0))
+    (items-above number others values.1 up.2 h.1)
+items-above low (Blocks inside number others) values up h =
+    above-more low number (each_message (items inside) number values.0) (items others values.1) up.0
+    (message-number inside number values.0 h.0)
+    (items-above number others values.1 up.2 h.1)
+
+above-others : (low : ℕ) (xs : List Item) → AllByRecursion (λ item. low < item.number) xs → AreOthers low xs
+above-others low [] h = tt
+above-others low (x ∷ xs) h = ((λ e. omega (arith, h.0)), above-others low xs h.1)
+
+of-others : (low number : ℕ) (xs : List Item) → low < number → AllByRecursion (λ item. item.number ≡ low) xs → AreOthers number xs
+of-others low number [] less h = tt
+of-others low number (x ∷ xs) less h = ((λ e. omega (arith, h.0)), of-others low number xs less h.1)
+
+after-others : (number low : ℕ) (form : Layout) (values : Values form) (xs : List Item) (place : ℕ) → number ≤ low → Rises low form → AllByRecursion (λ item. item.number ≡ number) xs
+    → after form values (placed_from place xs) ≡ values
+after-others number low Nothing values xs place at_most up h = refl
+after-others number low (Field label kind own others) values xs place at_most up h =
+    rw (
+      value_after-others label kind own values.0 xs place (of-others number own xs (omega (arith, up.0, at_most)) h),
+      after-others number own others values.1 xs place (omega (arith, up.0, at_most)) up.2 h,
+    ) refl
+after-others number low (Blocks inside own others) values xs place at_most up h =
+    rw (
+      every-others (messages_of (after inside (empty inside))) own values.0 xs place (of-others number own xs (omega (arith, up.0, at_most)) h),
+      after-others number own others values.1 xs place (omega (arith, up.0, at_most)) up.2 h,
+    ) refl
+
+-- ---- all fields
+
+after-append : (form : Layout) (values : Values form) (es fs : List Entry) → after form values (es ++ fs) ≡ after form (after form values es) fs
+after-append Nothing values es fs = refl
+after-append (Field label kind number others) values es fs = rw (value_after-append label kind number values.0 es fs, after-append others values.1 es fs) refl
+after-append (Blocks inside number others) values es fs = rw (every-append (messages_of (after inside (empty inside))) number values.0 es fs, after-append others values.1 es fs) refl
+
+-- the items of one field change nothing in the later fields
+later-back : (number : ℕ) (others : Layout) (values : Values others) (own : List Item) (place behind : ℕ) → Rises number others → AllByRecursion (λ item. item.number ≡ number) own
+    → after others (empty others) (placed_from behind (items others values)) ≡ values → after others (empty others) (placed_from place own ++ placed_from behind (items others values)) ≡ values
+later-back number others values own place behind up is back =
+    let es = placed_from behind (items others values) in
+    after-append others (empty others) (placed_from place own) es
+    ∙ ap (λ v. after others v es) (after-others number number others (empty others) own place (omega arith) up is)
+    ∙ back
+
+-- later fields change nothing in the values of one
+value-back : (label : Label) (kind : Kind) (number : ℕ) (value : Value label kind) (later : List Item) (place behind : ℕ) → IsValue label kind value → AreOthers number later
+    → value_after label kind number (unset label kind) (placed_from place (row_items label kind number value) ++ placed_from behind later) ≡ value
+value-back label kind number value later place behind held h =
+    value_after-append label kind number (unset label kind) (placed_from place (row_items label kind number value)) (placed_from behind later)
+    ∙ ap (λ v. value_after label kind number v (placed_from behind later)) (row-back label kind number value place held)
+    ∙ value_after-others label kind number value later behind h
+
+abbrev BlocksBack : Layout → Type 0
+BlocksBack inside = (x : Values inside) (place : ℕ) → AreValues inside x → after inside (empty inside) (fields (record { place = place; rest = written (items inside x) })).items ≡ x
+
+blocks-back : (inside : Layout) (number : ℕ) (xs : List (Values inside)) (later : List Item) (place behind : ℕ) → BlocksBack inside → IsValues inside xs → AreOthers number later
+    → every (messages_of (after inside (empty inside))) number [] (placed_from place (each_message (items inside) number xs) ++ placed_from behind later) ≡ xs
+blocks-back inside number xs later place behind back held h =
+    let taken = messages_of (after inside (empty inside)) in
+    every-append taken number [] (placed_from place (each_message (items inside) number xs)) (placed_from behind later)
+    ∙ ap (λ v. every taken number v (placed_from behind later)) (messages-back (after inside (empty inside)) (items inside) (AreValues inside) back number xs [] place held)
+    ∙ every-others taken number xs later behind h
+
+items-back : (low : ℕ) (form : Layout) (values : Values form) (place : ℕ) → Rises low form → AreValues form values → after form (empty form) (placed_from place (items form values)) ≡ values
+items-back low Nothing values place up h = refl
+items-back low (Field label kind number others) values place up h =
+    let own = row_items label kind number values.0 in
+    let later = items others values.1 in
+    let behind = place + length (written own) in
+    let is = own-number number (rule_of label kind) own (row-items label kind number values.0 h.0) in
+    rw (
+      placed_from-append own later place,
+      value-back label kind number values.0 later place behind h.0 (above-others number later (items-above number others values.1 up.2 h.1)),
+      later-back number others values.1 own place behind up.2 is (items-back number others values.1 behind up.2 h.1),
+    ) refl
+items-back low (Blocks inside number others) values place up h =
+    let own = each_message (items inside) number values.0 in
+    let later = items others values.1 in
+    let behind = place + length (written own) in
+    let is = message-number inside number values.0 h.0 in
+    let back : BlocksBack inside = λ x at held.
+    ap (λ (w : Walk Entry). after inside (empty inside) w.items) (clean-read (rules inside) (items inside x) at (items-clean (rules inside) 0 inside x up.3 (agrees 0 inside up.3) held))
+    ∙ items-back 0 inside x at up.3 held in
+    rw (
+      placed_from-append own later place,
+      blocks-back inside number values.0 later place behind back h.0 (above-others number later (items-above number others values.1 up.2 h.1)),
+      later-back number others values.1 own place behind up.2 is (items-back number others values.1 behind up.2 h.1),
+    ) refl
+
+pub read_back : {M : Type 0} (rows : Table M) (m : M) → rising 0 (layout rows) ≡ true → AreValues (layout rows) (parts rows m) → missing (layout rows) (parts rows m) ≡ None → decoded rows (spelled rows m) ≡ Ok (parts rows m)
+read_back {M} rows m in_order held none =
+    let form = layout rows in
+    let values = parts rows m in
+    let all = items form values in
+    let up = rises 0 form in_order in
+    let clean = items-clean (rules form) 0 form values up (agrees 0 form up) held in
+    ap (λ (w : Walk Entry). whole form (gathered form w)) (clean-read (rules form) all 0 clean)
+    ∙ rw (no-fault (rules form) all 0 clean, items-back 0 form values 0 up held, none) refl

@@ -1,6 +1,0 @@
-use Rattle.std.proofs.Common.{◌≡◌, ◌++◌, take}
-use Rattle.mum_fields.specs.Written.{each_block, written}
-use Rattle.mum_fields.proofs.writer.Writer.put_each_text.Given as goal
-
-abbrev pub invariant-loop-text : goal.invariant-loop-text
-invariant-loop-text l = l.self ≡ l.fn.self ++ written (each_block l.number (take l.text-index l.list))

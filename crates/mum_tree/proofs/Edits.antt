@@ -2,8 +2,8 @@
 use Rattle.std.proofs.Common.{◌≡◌, ◌≢◌, ℕ, ◌<◌, ◌≤◌, Bool, true, false, not, cond, eqb, leb, List, [], ◌∷◌, ◌++◌, length, get_or, set, map, Option, Some, None, refl, arith, ap, sym, ◌∙◌, subst, ⊎_elim}
 use Rattle.std.specs.List.{AllPairs, Contains}
 use Rattle.std.specs.Option.{option_map_or, is_some}
-use Rattle.std.proofs.lemmas.Bool.{eqb-true, ne_eqb, leb-false, cases_Bool, cond_both, both_ways, false≢true, not-false}
-use Rattle.std.proofs.lemmas.List.{get_or_default, length-reverse}
+use Rattle.std.proofs.lemmas.Bool.{eqb-true, eq-eqb, ne_eqb, leb-false, cases_Bool, cond_both, both_ways, false≢true, not-false}
+use Rattle.std.proofs.lemmas.List.{length-reverse}
 use Rattle.std.proofs.lemmas.Option.{same_Some}
 use Rattle.mum_base.specs.declared.number.ChannelId.{ChannelId}
 use Rattle.mum_tree.specs.declared.channel.Channel.{Channel}
@@ -126,26 +126,18 @@ informed_proper tree id info proper =
     proper.apart)
     proper
 
-pub rename_allowed : (tree : TreeState) (id : ChannelId) (row : Row) (name : List ℕ) → row_of tree.channels id ≡ Some row → id.0 ≢ 0 → is_taken tree.channels row.channel.parent id name ≡ false → fault_of_rename tree id name ≡ None
-rename_allowed tree id row name found lower free =
-    let there : is_there tree.channels id ≡ true = ap is_some found in
-    let parent : parent_of tree id ≡ row.channel.parent = ap (λ (o : Option Row). option_map_or (λ r. r.channel.parent) o id) found in
-    let apart : is_taken tree.channels (parent_of tree id) id name ≡ false = ap (λ p. is_taken tree.channels p id name) parent ∙ free in
-    passes (not (is_there tree.channels id)) NoChannel _ (ap not there)
-    ∙ passes (eqb id.0 0) RootFixed _ (ne_eqb id.0 0 lower)
-    ∙ passes (is_taken tree.channels (parent_of tree id) id name) SameName _ apart
-
--- what a renaming needs and leaves, as the code has it
-pub renaming : (tree : TreeState) (seen : List Row) (at : ℕ) (id : ChannelId) (row read : Row) (name text : List ℕ) → IsProper tree → seen ≡ tree.channels → (at < length seen) × ((other : Row) → row_of seen id ≡ Some (get_or seen at other)) → id.0 ≢ 0 → read ≡ get_or tree.channels at read → row ≡ get_or tree.channels at row → is_taken tree.channels read.channel.parent id name ≡ false → text ≡ name → (fault_of_rename tree id name ≡ None) × (set tree.channels at (record row { channel = named text row.channel }) ≡ changed id (named name) tree.channels) × IsProper (with_channel tree id (named name))
-renaming tree seen at id row read name text proper same located lower reads is free given =
+-- what a renaming leaves, as the code has it, where no cause stands against it
+pub renaming : (tree : TreeState) (seen : List Row) (at : ℕ) (id : ChannelId) (row : Row) (name text : List ℕ) → IsProper tree → seen ≡ tree.channels → (at < length seen) × ((other : Row) → row_of seen id ≡ Some (get_or seen at other)) → row ≡ get_or tree.channels at row → fault_of_rename tree id name ≡ None → text ≡ name → (set tree.channels at (record row { channel = named text row.channel }) ≡ changed id (named name) tree.channels) × IsProper (with_channel tree id (named name))
+renaming tree seen at id row name text proper same located is allowed given =
     let rows = tree.channels in
     let (within, finds) = subst (λ (rs : List Row). (at < length rs) × ((other : Row) → row_of rs id ≡ Some (get_or rs at other))) same located in
     let found : row_of rows id ≡ Some row = row_read rows at id row finds is in
-    let alike : read ≡ row = reads ∙ get_or_default rows at read row within ∙ sym is in
-    let apart : is_taken rows row.channel.parent id name ≡ false = ap (λ (r : Row). is_taken rows r.channel.parent id name) (sym alike) ∙ free in (
-      rename_allowed tree id row name found lower apart,
+    let parent : parent_of tree id ≡ row.channel.parent = ap (λ (o : Option Row). option_map_or (λ r. r.channel.parent) o id) found in
+    let (there, rest) = none_stands (not (is_there rows id)) NoChannel _ allowed in
+    let (lower, rest-2) = none_stands (eqb id.0 0) RootFixed _ rest in
+    let (free, rest-3) = none_stands (is_taken rows (parent_of tree id) id name) SameName None rest-2 in (
       ap (λ (t : List ℕ). set rows at (record row { channel = named t row.channel })) given ∙ set_row rows at id row (named name) proper.rise within found is,
-      renamed_proper tree id row name proper found lower apart,
+      renamed_proper tree id row name proper found (λ (e : id.0 ≡ 0). both_ways (eqb id.0 0) lower (eq-eqb id.0 0 e)) (sym (ap (λ p. is_taken rows p id name) parent) ∙ free),
     )
 
 pub informing : (tree : TreeState) (seen : List Row) (at : ℕ) (id : ChannelId) (row : Row) (info : ChannelInfo) → IsProper tree → seen ≡ tree.channels → (at < length seen) × ((other : Row) → row_of seen id ≡ Some (get_or seen at other)) → row ≡ get_or tree.channels at row → (fault_of_set_info tree id ≡ None) × (set tree.channels at (record row { channel = informed info row.channel }) ≡ changed id (informed info) tree.channels) × IsProper (with_channel tree id (informed info))

@@ -1,8 +1,8 @@
 -- The row of a channel, where the numbers of the rows rise.
-use Rattle.std.proofs.Common.{◌≡◌, ℕ, zero, suc, ◌<◌, ◌+◌, ◌≤◌, List, [], ◌∷◌, Some, None, length, get_or, refl, arith}
+use Rattle.std.proofs.Common.{◌≡◌, ℕ, zero, suc, ◌<◌, List, [], ◌∷◌, Some, None, length, get_or, refl, arith}
 use Rattle.std.specs.List.{AllPairs, Contains}
-use Rattle.std.proofs.Common.{ap, ⊎_elim}
-use Rattle.std.proofs.lemmas.Bool.{eq-eqb, ne_eqb, cases_order}
+use Rattle.std.proofs.Common.{ap}
+use Rattle.std.proofs.lemmas.Bool.{eq-eqb, ne_eqb}
 use Rattle.std.proofs.lemmas.List.{get_or_default}
 use Rattle.mum_base.specs.declared.number.ChannelId.{ChannelId}
 use Rattle.mum_tree.specs.declared.channel.Row.{Row}
@@ -33,19 +33,3 @@ row_of_none (row ∷ rows) id none =
 -- the number at a place, whatever stands past the end
 pub number_at : {X : Type 0} (n : X → ℕ) (xs : List X) (i : ℕ) (d other : X) → i < length xs → n (get_or xs i d) ≡ n (get_or xs i other)
 number_at n xs i d other within = ap n (get_or_default xs i d other within)
-
-pub less_up_to : {X : Type 0} (n : X → ℕ) (xs : List X) (i m : ℕ) (x : X) → AllPairs (λ one later. n one < n later) xs → i < length xs → n (get_or xs i x) < m → (k : ℕ) (d : X) → k < i + 1 → n (get_or xs k d) < m
-less_up_to n xs i m x rise within less k d below =
-    let at : n (get_or xs i d) ≡ n (get_or xs i x) = number_at n xs i d x within in
-    ⊎_elim
-    (λ (e : k ≡ i). let here : n (get_or xs k d) ≡ n (get_or xs i d) = ap (λ j. n (get_or xs j d)) e in omega arith)
-    (λ o. ⊎_elim (λ (l : k < i). let rises : n (get_or xs k d) < n (get_or xs i d) = rise k i d l within in omega arith) (λ (g : i < k). absurd (omega arith)) o)
-    (cases_order k i)
-
-pub greater_from : {X : Type 0} (n : X → ℕ) (xs : List X) (i m : ℕ) (x : X) → AllPairs (λ one later. n one < n later) xs → i < length xs → m < n (get_or xs i x) → (k : ℕ) (d : X) → i ≤ k → k < length xs → m < n (get_or xs k d)
-greater_from n xs i m x rise within greater k d above inside =
-    let at : n (get_or xs i d) ≡ n (get_or xs i x) = number_at n xs i d x within in
-    ⊎_elim
-    (λ (e : k ≡ i). let here : n (get_or xs k d) ≡ n (get_or xs i d) = ap (λ j. n (get_or xs j d)) e in omega arith)
-    (λ o. ⊎_elim (λ (l : k < i). absurd (omega arith)) (λ (g : i < k). let rises : n (get_or xs i d) < n (get_or xs k d) = rise i k d g inside in omega arith) o)
-    (cases_order k i)

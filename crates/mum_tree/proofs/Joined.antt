@@ -11,7 +11,7 @@ use Rattle.mum_base.specs.declared.number.ChannelId.{ChannelId}
 use Rattle.mum_tree.specs.declared.channel.Row.{Row}
 use Rattle.mum_tree.specs.Rows.{is_there}
 use Rattle.mum_tree.specs.Proper.{AreLinks, IsBetween, IsProper}
-use Rattle.mum_tree.specs.State.{Pair, TreeState, is_above, is_pair, starts_at, with_pair}
+use Rattle.mum_tree.specs.State.{Pair, Ordered, TreeState, is_above, is_pair, starts_at, with_pair}
 use Rattle.mum_tree.proofs.Find.{AllPairs-tail, contains_later}
 
 pub links_none : (rows : List Row) → AreLinks rows []
@@ -80,7 +80,7 @@ above_trans a b c d e f one two = grind (arith, nat_tests)
 above_other : (a b c d : ℕ) → (eqb c a && eqb d b) ≡ false → (ltb a c || (eqb c a && ltb b d)) ≡ false → (ltb c a || (eqb a c && ltb d b)) ≡ true
 above_other a b c d differ off = grind (arith, nat_tests)
 
-ordered_with : (a b : ChannelId) (links : List Pair) → All (λ pair. is_pair a b pair ≡ false) links → AllPairs (λ pair later. IsTrue (is_above pair.0 pair.1 later)) links → AllPairs (λ pair later. IsTrue (is_above pair.0 pair.1 later)) (with_pair a b links)
+ordered_with : (a b : ChannelId) (links : List Pair) → All (λ pair. is_pair a b pair ≡ false) links → Ordered links → Ordered (with_pair a b links)
 ordered_with a b [] new ordered = λ i j d below within. absurd (omega arith)
 ordered_with a b (pair ∷ links) new ordered =
     let R : Pair → Pair → Type 0 = λ one later. IsTrue (is_above one.0 one.1 later) in
@@ -106,6 +106,10 @@ none_any p [] none = All-nil (λ x. p x ≡ false)
 none_any p (x ∷ xs) none =
     let (first, rest) = or_parts (p x) (list_any p xs) none in
     All-cons (λ y. p y ≡ false) x xs first (none_any p xs rest)
+
+-- a new pair in its place
+pub ordered_more : (a b : ChannelId) (links : List Pair) → list_any (is_pair a b) links ≡ false → Ordered links → Ordered (with_pair a b links)
+ordered_more a b links new ordered = ordered_with a b links (none_any (is_pair a b) links new) ordered
 
 and_swap : (x y : Bool) → (x && y) ≡ (y && x)
 and_swap true true = refl

@@ -1,13 +1,17 @@
 pub mod Changed
+pub mod Climb
+pub mod Depths
 pub mod Edits
 pub mod Find
 pub mod Grown
 pub mod Joined
 pub mod Linking
+pub mod LinkSearch
 pub mod Marks
 pub mod Moved
 pub mod Places
 pub mod Reached
+pub mod Search
 pub mod Shrunk
 pub mod Start
 pub mod Upward

@@ -34,11 +34,16 @@ ends_take pairs i d of within own =
     ap (ends_from of) (drop_more pairs i d within)
     ∙ ap (λ (b : Bool). map (λ pair. pair.1) (cond b (get_or pairs i d ∷ filter (starts_at of) (drop (i + 1) pairs)) (filter (starts_at of) (drop (i + 1) pairs)))) own
 
--- the list after two inserts that went well
+-- the list after an insert that went well
+pub put_in : (links seen one : List Pair) (at : ℕ) (from to : ChannelId) → seen ≡ links → at ≤ length seen → ((k : ℕ) (d : Pair) → k < at → is_above from to (get_or seen k d) ≡ false) → ((d : Pair) → at < length seen → is_above from to (get_or seen at d) ≡ true) → one ≡ insert links at (from, to) → one ≡ with_pair from to links
+put_in links seen one at from to same within before here is =
+    is ∙ ap (λ (ps : List Pair). insert ps at (from, to)) (sym same) ∙ insert_is seen at from to within before here ∙ ap (with_pair from to) same
+
+-- the list after two
 pub joined : (links seen one seen-2 two : List Pair) (at at-2 : ℕ) (a b : ChannelId) → seen ≡ links → at ≤ length seen → ((k : ℕ) (d : Pair) → k < at → is_above a b (get_or seen k d) ≡ false) → ((d : Pair) → at < length seen → is_above a b (get_or seen at d) ≡ true) → one ≡ insert links at (a, b) → seen-2 ≡ one → at-2 ≤ length seen-2 → ((k : ℕ) (d : Pair) → k < at-2 → is_above b a (get_or seen-2 k d) ≡ false) → ((d : Pair) → at-2 < length seen-2 → is_above b a (get_or seen-2 at-2 d) ≡ true) → two ≡ insert one at-2 (b, a) → two ≡ with_pair b a (with_pair a b links)
 joined links seen one seen-2 two at at-2 a b same within before here first same-2 within-2 before-2 here-2 second =
-    let put : one ≡ with_pair a b links = first ∙ ap (λ (ps : List Pair). insert ps at (a, b)) (sym same) ∙ insert_is seen at a b within before here ∙ ap (with_pair a b) same in
-    second ∙ ap (λ (ps : List Pair). insert ps at-2 (b, a)) (sym same-2) ∙ insert_is seen-2 at-2 b a within-2 before-2 here-2 ∙ ap (with_pair b a) (same-2 ∙ put)
+    put_in one seen-2 two at-2 b a same-2 within-2 before-2 here-2 second
+    ∙ ap (with_pair b a) (put_in links seen one at a b same within before here first)
 
 -- what a call left that answered Ok
 pub left_by_ok : {T E X : Type 0} (answer : Result T E) (done : T) (left chosen other : X) → left ≡ cond (is_ok answer) chosen other → answer ≡ Ok done → left ≡ chosen

@@ -1,35 +1,119 @@
 -- The marks of channels.
-use Rattle.std.proofs.Common.{◌≡◌, ℕ, ◌<◌, ◌≤◌, Bool, List, length, get_or, take, map, arith, ap, sym, ◌∙◌, length-take-le}
-use Rattle.std.specs.List.{All, Contains, filter}
-use Rattle.std.proofs.lemmas.List.{get_or-take, get_or_default, length-map}
-use Rattle.std.proofs.lemmas.List.Elements.{All-filter, All-map}
-use Rattle.std.proofs.lemmas.List.Sums.{length-filter, count_by-le-length}
+use Rattle.std.proofs.Common.{◌≡◌, ℕ, zero, suc, ◌<◌, Bool, true, false, cond, List, [], ◌∷◌, length, get_or, map, refl, arith, ap, sym, ◌∙◌, subst, ⊎_elim}
+use Rattle.std.specs.Prelude.{◌↔◌}
+use Rattle.std.specs.List.{All, AllPairs, Contains, filter}
+use Rattle.std.proofs.lemmas.Bool.{cases_Bool, cases_order}
+use Rattle.std.proofs.lemmas.List.{get_or_default, get_or_read}
 use Rattle.mum_base.specs.declared.number.ChannelId.{ChannelId}
 use Rattle.mum_tree.specs.declared.channel.Row.{Row}
+use Rattle.mum_tree.specs.declared.scratch.Seat.{Seat}
 use Rattle.mum_tree.specs.Rows.{number, Rise}
+use Rattle.mum_tree.specs.Walks.{HasRow}
+use Rattle.mum_tree.proofs.Changed.{AllPairs-map}
+use Rattle.mum_tree.proofs.Find.{contains_later}
+use Rattle.mum_tree.proofs.Start.{root_row}
+use Rattle.mum_tree.proofs.Upward.{none_contained}
 
--- what stands in a part of a list is read as in the whole
-pub read_in_part : (all : List ChannelId) (count at : ℕ) (read : ChannelId) → at < count → read ≡ get_or all at read → get_or (take count all) at read ≡ read
-read_in_part all count at read within is = get_or-take count all at read within ∙ sym is
+pub map-filter_of_map : {X Y Z : Type 0} (f : Y → Z) (p : Y → Bool) (g : X → Y) (xs : List X) → map f (filter p (map g xs)) ≡ map (λ x. f (g x)) (filter (λ x. p (g x)) xs)
+map-filter_of_map f p g [] = refl
+map-filter_of_map {X} {Y} f p g (x ∷ xs) =
+    ⊎_elim
+    (λ (on : p (g x) ≡ true).
+    ap (λ (b : Bool). map f (cond b (g x ∷ filter p (map g xs)) (filter p (map g xs)))) on
+    ∙ ap (λ rest. f (g x) ∷ rest) (map-filter_of_map f p g xs)
+    ∙ sym (ap (λ (b : Bool). map (λ y. f (g y)) (cond b (x ∷ filter (λ y. p (g y)) xs) (filter (λ y. p (g y)) xs))) on))
+    (λ (off : p (g x) ≡ false).
+    ap (λ (b : Bool). map f (cond b (g x ∷ filter p (map g xs)) (filter p (map g xs)))) off
+    ∙ map-filter_of_map f p g xs
+    ∙ sym (ap (λ (b : Bool). map (λ y. f (g y)) (cond b (x ∷ filter (λ y. p (g y)) xs) (filter (λ y. p (g y)) xs))) off))
+    (cases_Bool (p (g x)))
 
-pub found_in_part : (all : List ChannelId) (count at : ℕ) (read id : ChannelId) → count ≤ length all → at < count → read ≡ get_or all at read → read.0 ≡ id.0 → Contains (take count all) id
-found_in_part all count at read id whole within is same =
-    let inside : at < length (take count all) = omega (arith, length-take-le count all whole) in
-    let here : get_or (take count all) at id ≡ id = get_or_default (take count all) at id read inside ∙ read_in_part all count at read within is ∙ ap (λ n. record { 0 = n }) same in
-    (at, inside, here)
+-- what passes a test, and what is made of it
+abbrev pub Passes : {X Y : Type 0} → (X → Bool) → (X → Y) → List X → Y → Type 0
+Passes {X} p f xs y = (k : ℕ) × (k < length xs) × ((d : X) → (p (get_or xs k d) ≡ true) × (f (get_or xs k d) ≡ y))
 
--- the marks of the rows so far are below the next, and fewer than it has before it
-pub marks_below : (rows : List Row) (test : Row → Bool) (i : ℕ) (row : Row) → Rise rows → i < length rows → row ≡ get_or rows i row → All (λ one. one.0 < number row) (map (λ one. one.channel.id) (filter test (take i rows)))
-marks_below rows test i row rise within read =
-    All-map (λ (one : ChannelId). one.0 < number row) (λ (one : Row). one.channel.id) (filter test (take i rows))
-    (All-filter test (λ (one : Row). number one < number row) (take i rows)
-    (λ k d inside.
-    let below : k < i = omega (arith, length-take-le i rows (omega arith)) in
-    let less : number (get_or rows k row) < number (get_or rows i row) = rise k i row below within in
-    let same : number row ≡ number (get_or rows i row) = ap number read in
-    let part : number (get_or (take i rows) k d) ≡ number (get_or rows k row) = ap number (get_or-take i rows k d below ∙ get_or_default rows k d row (omega arith)) in
-    omega arith))
+pub passes_from : {X Y : Type 0} (p : X → Bool) (f : X → Y) (xs : List X) (y : Y) → Contains (map f (filter p xs)) y → Passes p f xs y
+passes_from p f [] y has = absurd (none_contained y has)
+passes_from {X} {Y} p f (x ∷ xs) y has =
+    ⊎_elim
+    (λ (on : p x ≡ true). first (λ rest. passes_from p f xs y rest) on (subst (λ (ys : List Y). Contains ys y) (ap (λ (b : Bool). map f (cond b (x ∷ filter p xs) (filter p xs))) on) has))
+    (λ (off : p x ≡ false). later (passes_from p f xs y (subst (λ (ys : List Y). Contains ys y) (ap (λ (b : Bool). map f (cond b (x ∷ filter p xs) (filter p xs))) off) has)))
+    (cases_Bool (p x))
+  where
+    later : Passes p f xs y → Passes p f (x ∷ xs) y
+    later (k, within, is) = (suc k, omega arith, is)
 
-pub marks_few : (rows : List Row) (test : Row → Bool) (i : ℕ) → i < length rows → length (map (λ one. one.channel.id) (filter test (take i rows))) < length rows
-marks_few rows test i within =
-    omega (arith, length-map (filter test (take i rows)) (λ (one : Row). one.channel.id), length-filter test (take i rows), count_by-le-length test (take i rows), length-take-le i rows (omega arith))
+    first : (Contains (map f (filter p xs)) y → Passes p f xs y) → p x ≡ true → Contains (f x ∷ map f (filter p xs)) y → Passes p f (x ∷ xs) y
+    first below on (zero, within, is) = (0, omega arith, λ d. (on, is))
+    first below on (suc k, within, is) = later (below (k, omega arith, is))
+
+pub passes_to : {X Y : Type 0} (p : X → Bool) (f : X → Y) (xs : List X) (y : Y) → Passes p f xs y → Contains (map f (filter p xs)) y
+passes_to p f [] y (k, within, is) = absurd (omega arith)
+passes_to {X} {Y} p f (x ∷ xs) y (zero, within, is) =
+    subst (λ (ys : List Y). Contains ys y) (sym (ap (λ (b : Bool). map f (cond b (x ∷ filter p xs) (filter p xs))) (is x).0)) (0, omega arith, (is x).1)
+passes_to {X} {Y} p f (x ∷ xs) y (suc k, within, is) =
+    let rest = passes_to p f xs y (k, omega arith, is) in
+    ⊎_elim
+    (λ (on : p x ≡ true). subst (λ (ys : List Y). Contains ys y) (sym (ap (λ (b : Bool). map f (cond b (x ∷ filter p xs) (filter p xs))) on)) (contains_later (f x) y (map f (filter p xs)) rest))
+    (λ (off : p x ≡ false). subst (λ (ys : List Y). Contains ys y) (sym (ap (λ (b : Bool). map f (cond b (x ∷ filter p xs) (filter p xs))) off)) rest)
+    (cases_Bool (p x))
+
+-- where numbers rise, two that are equal stand at one place
+pub one_place : {X : Type 0} (n : X → ℕ) (xs : List X) (i j : ℕ) (d : X) → AllPairs (λ one later. n one < n later) xs → i < length xs → j < length xs → n (get_or xs i d) ≡ n (get_or xs j d) → i ≡ j
+one_place n xs i j d rise first second same =
+    ⊎_elim
+    (λ (e : i ≡ j). e)
+    (λ o. ⊎_elim
+    (λ (l : i < j). let less : n (get_or xs i d) < n (get_or xs j d) = rise i j d l second in absurd (omega arith))
+    (λ (g : j < i). let less : n (get_or xs j d) < n (get_or xs i d) = rise j i d g first in absurd (omega arith))
+    o)
+    (cases_order i j)
+
+abbrev pub seat_of : Row → Seat
+seat_of row = record { id = row.channel.id; place = row.place }
+
+abbrev pub is_marked : List Bool → Seat → Bool
+is_marked marks seat = get_or marks seat.place false
+
+-- the channels at seats that are marked
+abbrev pub marked_at : List Bool → List Seat → List ChannelId
+marked_at marks seats = map (λ seat. seat.id) (filter (is_marked marks) seats)
+
+abbrev pub SeatsRise : List Seat → Type 0
+SeatsRise seats = AllPairs (λ one later. one.id.0 < later.id.0) seats
+
+-- what the mark of a seat tells of its channel
+pub told_by_seat : (marks : List Bool) (seats : List Seat) (at : ℕ) (d : Seat) (id : ChannelId) (told : Bool) → SeatsRise seats → All (λ seat. seat.place < 1024) seats → length marks ≡ 1024 → at < length seats → ((e : Seat) → (get_or seats at e).id.0 ≡ id.0) → told ≡ get_or marks (get_or seats at d).place told → (told ≡ true) ↔ Contains (marked_at marks seats) id
+told_by_seat marks seats at d id told rise seated whole within here read =
+    let inside : (get_or seats at d).place < 1024 = seated at d within in
+    let is : told ≡ is_marked marks (get_or seats at d) = get_or_read marks (get_or seats at d).place told (omega arith) read false in (
+      λ on. passes_to (is_marked marks) (λ seat. seat.id) seats id (at, within, λ e. (ap (is_marked marks) (get_or_default seats at e d within) ∙ sym is ∙ on, ap (λ n. record { 0 = n }) (here e))),
+      λ has.
+          let (k, inside-2, passes) = passes_from (is_marked marks) (λ seat. seat.id) seats id has in
+          let same : k ≡ at = one_place (λ (seat : Seat). seat.id.0) seats k at d rise inside-2 within (ap (λ (x : ChannelId). x.0) (passes d).1 ∙ sym (here d)) in
+          is ∙ ap (λ j. is_marked marks (get_or seats j d)) (sym same) ∙ (passes d).0,
+    )
+
+pub none_told : (marks : List Bool) (seats : List Seat) (id : ChannelId) → ((k : ℕ) (d : Seat) → k < length seats → (get_or seats k d).id.0 ≡ id.0 → ⊥) → Contains (marked_at marks seats) id → ⊥
+none_told marks seats id none has =
+    let (k, within, passes) = passes_from (is_marked marks) (λ seat. seat.id) seats id has in
+    let d : Seat = record { id = id; place = 0 } in
+    none k d within (ap (λ (x : ChannelId). x.0) (passes d).1)
+
+-- the seats of rows
+pub seats_rise : (rows : List Row) → Rise rows → SeatsRise (map seat_of rows)
+seats_rise rows rise = AllPairs-map (λ one later. number one < number later) (λ one later. one.id.0 < later.id.0) seat_of rows (λ i j d below within less. less) rise
+
+pub marked_rows : (marks : List Bool) (rows : List Row) → marked_at marks (map seat_of rows) ≡ map (λ row. row.channel.id) (filter (λ row. get_or marks row.place false) rows)
+marked_rows marks rows = map-filter_of_map (λ seat. seat.id) (is_marked marks) seat_of rows
+
+-- the marks of rows that were found
+pub marked_found : (rows : List Row) (found : List ℕ) (marks : List Bool) → ((k : ℕ) (d : Row) → k < length rows → (get_or marks (get_or rows k d).place false ≡ true) ↔ Contains found k) → (other : ChannelId) → Contains (map (λ row. row.channel.id) (filter (λ row. get_or marks row.place false) rows)) other ↔ HasRow rows found other
+marked_found rows found marks each other = (
+  λ has.
+      let (k, within, passes) = passes_from (λ row. get_or marks row.place false) (λ row. row.channel.id) rows other has in
+      (k, (each k root_row within).0 (passes root_row).0, within, λ d. (passes d).1),
+  λ here.
+      let (k, has, within, named) = here in
+      passes_to (λ row. get_or marks row.place false) (λ row. row.channel.id) rows other (k, within, λ d. ((each k d within).1 has, named d)),
+)

@@ -1,5 +1,5 @@
 -- Which places are taken.
-use Rattle.std.proofs.Common.{◌≡◌, ◌≢◌, ℕ, zero, suc, ◌<◌, ◌+◌, ◌≤◌, Bool, true, false, cond, List, [], ◌∷◌, length, get_or, set, replicate, refl, arith, ap, sym, ◌∙◌, ⊎_elim}
+use Rattle.std.proofs.Common.{◌≡◌, ◌≢◌, ℕ, zero, suc, ◌<◌, ◌+◌, ◌≤◌, Bool, true, false, cond, List, [], ◌∷◌, length, get_or, set, replicate, refl, arith, ap, sym, subst, ◌∙◌, ⊎_elim}
 use Rattle.std.specs.List.{AllPairs, count_by}
 use Rattle.std.proofs.lemmas.Bool.{both_ways, cases_eq, false≢true}
 use Rattle.std.proofs.lemmas.List.{get_or-set_same, get_or-set_other, get_or_default}
@@ -47,15 +47,16 @@ taken_more rows taken i row within read has place held free =
     (λ (ne : place ≡ row.place → ⊥). has place (sym (get_or-set_other taken row.place place true false ne) ∙ held) free)
     (cases_eq place row.place)
 
--- one more row whose place says whether it is below
-pub below_more : (rows : List Row) (marks : List Bool) (i : ℕ) (row : Row) (answer : Row → Bool) → i < length rows → row ≡ get_or rows i row → row.place < length marks → AllPairs (λ one other. one.place ≢ other.place) rows → ((k : ℕ) (d : Row) → k < i → get_or marks (get_or rows k d).place false ≡ answer (get_or rows k d)) → (k : ℕ) (d : Row) → k < i + 1 → get_or (set marks row.place (answer row)) (get_or rows k d).place false ≡ answer (get_or rows k d)
-below_more rows marks i row answer within read seated seats done k d inside =
+-- what is written at the places of rows, one row more
+pub seat_more : {B : Type 0} (P : ℕ → Row → B → Type 0) (none : B) (rows : List Row) (marks : List B) (i : ℕ) (row : Row) (value : B) → i < length rows → row ≡ get_or rows i row → row.place < length marks → AllPairs (λ one other. one.place ≢ other.place) rows → ((k : ℕ) (d : Row) → k < i → P k (get_or rows k d) (get_or marks (get_or rows k d).place none)) → P i row value → (k : ℕ) (d : Row) → k < i + 1 → P k (get_or rows k d) (get_or (set marks row.place value) (get_or rows k d).place none)
+seat_more {B} P none rows marks i row value within read seated seats done now k d inside =
     ⊎_elim
     (λ (here : k ≡ i).
-    let same : get_or rows k d ≡ row = ap (λ j. get_or rows j d) here ∙ get_or_default rows i d row within ∙ sym read in
-    ap (λ (r : Row). get_or (set marks row.place (answer row)) r.place false) same ∙ get_or-set_same marks row.place (answer row) false seated ∙ sym (ap answer same))
+    let same : row ≡ get_or rows k d = read ∙ get_or_default rows i row d within ∙ ap (λ j. get_or rows j d) (sym here) in
+    let is : value ≡ get_or (set marks row.place value) (get_or rows k d).place none = sym (get_or-set_same marks row.place value none seated) ∙ ap (λ (r : Row). get_or (set marks row.place value) r.place none) same in
+    subst (λ (b : B). P k (get_or rows k d) b) is (subst (λ (r : Row). P k r value) same (subst (λ j. P j row value) (sym here) now)))
     (λ (off : k ≡ i → ⊥).
     let before : k < i = omega arith in
     let differs : (get_or rows k d).place ≢ row.place = λ e. seats k i d before within (e ∙ ap (λ (r : Row). r.place) (read ∙ get_or_default rows i row d within)) in
-    get_or-set_other marks row.place (get_or rows k d).place (answer row) false differs ∙ done k d before)
+    subst (λ (b : B). P k (get_or rows k d) b) (sym (get_or-set_other marks row.place (get_or rows k d).place value none differs)) (done k d before))
     (cases_eq k i)

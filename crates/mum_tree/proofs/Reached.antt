@@ -1,20 +1,19 @@
 -- Where links lead, as a list of the rows that were found.
-use Rattle.std.proofs.Common.{◌≡◌, ◌≢◌, ℕ, zero, suc, ◌<◌, ◌≤◌, ◌+◌, ◌||◌, ◌&&◌, ◌⊎◌, Bool, true, false, cond, eqb, ltb, List, [], ◌∷◌, ◌++◌, length, get_or, set, replicate, refl, arith, ap, sym, ◌∙◌, subst, ⊎_elim, append_assoc, length-append}
-use Rattle.std.specs.Bool.{IsTrue}
+use Rattle.std.proofs.Common.{◌≡◌, ◌≢◌, ℕ, zero, suc, ◌<◌, ◌≤◌, ◌+◌, ◌⊎◌, Bool, true, false, cond, List, [], ◌∷◌, ◌++◌, length, get_or, set, replicate, refl, arith, ap, sym, ◌∙◌, subst, ⊎_elim, append_assoc, length-append}
 use Rattle.std.specs.Prelude.{◌↔◌}
-use Rattle.std.specs.List.{All, AllPairs, Contains, count_by}
+use Rattle.std.specs.List.{All, Contains, count_by}
 use Rattle.std.proofs.lemmas.Bool.{cases_lt, cases_order, false≢true}
-use Rattle.std.proofs.lemmas.Bool.Decides.{nat_tests}
 use Rattle.std.proofs.lemmas.List.{get_or_default, get_or-set_same, get_or-set_other, get_or-replicate, length-set}
 use Rattle.std.proofs.Math.ListN.{get_or-append}
 use Rattle.std.proofs.lemmas.List.Elements.{All-contains, All-push, Contains-append_left, Contains-get_or, Contains-push, Contains-push_cases}
 use Rattle.std.proofs.lemmas.List.Sums.{count_by-le-length, sum_by-set}
 use Rattle.mum_base.specs.declared.number.ChannelId.{ChannelId}
 use Rattle.mum_tree.specs.declared.channel.Row.{Row}
-use Rattle.mum_tree.specs.Rows.{number, Rise}
-use Rattle.mum_tree.specs.State.{Pair, is_above, new_row}
+use Rattle.mum_tree.specs.Rows.{number}
+use Rattle.mum_tree.specs.State.{Pair, Ordered, new_row}
 use Rattle.mum_tree.specs.Walks.{HasRow, LeadTo, Walk}
 use Rattle.mum_tree.proofs.Find.{number_at}
+use Rattle.mum_tree.proofs.LinkSearch.{starts_rise}
 
 -- the marks of what was found
 pub count_marked : (marks : List Bool) (n : ℕ) → n < length marks → get_or marks n false ≡ false → count_by (λ mark. mark) (set marks n true) ≡ count_by (λ mark. mark) marks + 1
@@ -46,26 +45,7 @@ marked_more marks seen n whole within marked k below =
     (cases_order k n)
 
 -- pairs in order
-above_least : (a b c d : ℕ) → (ltb a c || (eqb c a && ltb b d)) ≡ true → a ≤ c
-above_least a b c d above = grind (arith, nat_tests)
-
-abbrev pub Ordered : List Pair → Type 0
-Ordered links = AllPairs (λ pair later. IsTrue (is_above pair.0 pair.1 later)) links
-
-starts_rise : (links : List Pair) (i j : ℕ) (d : Pair) → Ordered links → i ≤ j → j < length links → (get_or links i d).0.0 ≤ (get_or links j d).0.0
-starts_rise links i j d ordered below within =
-    ⊎_elim
-    (λ (e : i ≡ j). let same : (get_or links i d).0.0 ≡ (get_or links j d).0.0 = ap (λ k. (get_or links k d).0.0) e in omega arith)
-    (λ o. ⊎_elim (λ (l : i < j). above_least (get_or links i d).0.0 (get_or links i d).1.0 (get_or links j d).0.0 (get_or links j d).1.0 (ordered i j d l within)) (λ (g : j < i). absurd (omega arith)) o)
-    (cases_order i j)
-
-pub less_to : (links : List Pair) (at from : ℕ) (x : Pair) → Ordered links → at < length links → (get_or links at x).0.0 < from → (k : ℕ) (d : Pair) → k < at + 1 → (get_or links k d).0.0 < from
-less_to links at from x ordered within less k d below =
-    let same : (get_or links at d).0.0 ≡ (get_or links at x).0.0 = number_at (λ (p : Pair). p.0.0) links at d x within in
-    let rises : (get_or links k d).0.0 ≤ (get_or links at d).0.0 = starts_rise links k at d ordered (omega arith) within in
-    omega arith
-
-pub least_from : (links : List Pair) (at from : ℕ) (x : Pair) → Ordered links → at < length links → from ≤ (get_or links at x).0.0 → (k : ℕ) (d : Pair) → at ≤ k → k < length links → from ≤ (get_or links k d).0.0
+least_from : (links : List Pair) (at from : ℕ) (x : Pair) → Ordered links → at < length links → from ≤ (get_or links at x).0.0 → (k : ℕ) (d : Pair) → at ≤ k → k < length links → from ≤ (get_or links k d).0.0
 least_from links at from x ordered within least k d above inside =
     let same : (get_or links at d).0.0 ≡ (get_or links at x).0.0 = number_at (λ (p : Pair). p.0.0) links at d x within in
     let rises : (get_or links at d).0.0 ≤ (get_or links k d).0.0 = starts_rise links at k d ordered above inside in
@@ -186,74 +166,6 @@ closed_more rows links from old new done within named kept all closed k other to
     let e : k ≡ done = omega arith in
     all to (subst (λ (x : ChannelId). Contains links (x, to)) (ap (λ j. (get_or rows (get_or old j 0) other).channel.id) e ∙ named other) was))
     (cases_lt k done)
-
--- the marks of the rows so far
-pub record Marking (rows : List Row) (found : List ℕ) (marks : List ChannelId) (at : ℕ) : Type 0 where
-  pub few : length marks ≤ at
-  pub below : All (λ one. (k : ℕ) (other : Row) → at ≤ k → k < length rows → one.0 < number (get_or rows k other)) marks
-  pub has : (k : ℕ) (other : Row) → k < at → Contains found k → Contains marks (get_or rows k other).channel.id
-  pub only : All (HasRow rows found) marks
-
-pub marking_none : (rows : List Row) (found : List ℕ) (marks : List ChannelId) → marks ≡ [] → Marking rows found marks 0
-marking_none rows found marks none =
-    rw none
-    (record {
-      few = omega arith;
-      below = λ k d within. absurd (omega arith);
-      has = λ k other below. absurd (omega arith);
-      only = λ k d within. absurd (omega arith);
-    })
-
-has_next : (rows : List Row) (found : List ℕ) (marks new : List ChannelId) (at : ℕ) (row : Row) → at < length rows → row ≡ get_or rows at row → Marking rows found marks at → new ≡ marks ++ row.channel.id ∷ [] → (k : ℕ) (other : Row) → k < at + 1 → Contains found k → Contains new (get_or rows k other).channel.id
-has_next rows found marks new at row within read marking is k other below here =
-    subst (λ (xs : List ChannelId). Contains xs (get_or rows k other).channel.id) (sym is)
-    (⊎_elim
-    (λ (l : k < at). Contains-append_left marks (row.channel.id ∷ []) (get_or rows k other).channel.id (marking.has k other l here))
-    (λ (g : at ≤ k).
-    let e : at ≡ k = omega arith in
-    let same : row ≡ get_or rows k other = read ∙ get_or_default rows at row other within ∙ ap (λ j. get_or rows j other) e in
-    subst (λ (r : Row). Contains (marks ++ row.channel.id ∷ []) r.channel.id) same (Contains-push marks row.channel.id))
-    (cases_lt k at))
-
-below_next : (rows : List Row) (marks : List ChannelId) (at : ℕ) (row : Row) → Rise rows → at < length rows → row ≡ get_or rows at row → All (λ one. (k : ℕ) (other : Row) → at ≤ k → k < length rows → one.0 < number (get_or rows k other)) marks → All (λ one. (k : ℕ) (other : Row) → at + 1 ≤ k → k < length rows → one.0 < number (get_or rows k other)) (marks ++ row.channel.id ∷ [])
-below_next rows marks at row rise within read below =
-    All-push (λ one. (k : ℕ) (other : Row) → at + 1 ≤ k → k < length rows → one.0 < number (get_or rows k other)) marks row.channel.id
-    (λ j d inside k other above last. below j d inside k other (omega arith) last)
-    (λ k other above last.
-    let same : number row ≡ number (get_or rows at other) = ap number (read ∙ get_or_default rows at row other within) in
-    let less : number (get_or rows at other) < number (get_or rows k other) = rise at k other (omega arith) last in
-    omega arith)
-
-pub marking_next : (rows : List Row) (found : List ℕ) (marks new : List ChannelId) (at : ℕ) (row : Row) → Rise rows → at < length rows → row ≡ get_or rows at row → Contains found at → Marking rows found marks at → new ≡ marks ++ row.channel.id ∷ [] → Marking rows found new (at + 1)
-marking_next rows found marks new at row rise within read here marking is = record {
-  few = omega (arith, ap length is, length-append marks (row.channel.id ∷ []), marking.few);
-  below = subst (λ (xs : List ChannelId). All (λ one. (k : ℕ) (other : Row) → at + 1 ≤ k → k < length rows → one.0 < number (get_or rows k other)) xs) (sym is) (below_next rows marks at row rise within read marking.below);
-  has = has_next rows found marks new at row within read marking is;
-  only = subst (λ (xs : List ChannelId). All (HasRow rows found) xs) (sym is)
-      (All-push (HasRow rows found) marks row.channel.id marking.only (at, here, within, λ other. ap (λ (r : Row). r.channel.id) (sym (read ∙ get_or_default rows at row other within))));
-}
-
-pub marking_skip : (rows : List Row) (found : List ℕ) (marks new : List ChannelId) (at : ℕ) → (Contains found at → ⊥) → Marking rows found marks at → new ≡ marks → Marking rows found new (at + 1)
-marking_skip rows found marks new at off marking is =
-    rw is
-    (record {
-      few = omega (arith, marking.few);
-      below = λ j d inside k other above last. marking.below j d inside k other (omega arith) last;
-      has = λ k other below here.
-          ⊎_elim (λ (l : k < at). marking.has k other l here)
-          (λ (g : at ≤ k). let e : k ≡ at = omega arith in absurd (off (subst (λ j. Contains found j) e here)))
-          (cases_lt k at);
-      only = marking.only;
-    })
-
-pub marked_exactly : (rows : List Row) (found : List ℕ) (marks : List ChannelId) (at : ℕ) → length rows ≤ at → Marking rows found marks at → (other : ChannelId) → Contains marks other ↔ HasRow rows found other
-marked_exactly rows found marks at done marking other = (
-  λ has. All-contains (HasRow rows found) marks other marking.only has,
-  λ here.
-      let (k, has, within, named) = here in
-      let row = new_row 0 other other [] false in
-      subst (λ (x : ChannelId). Contains marks x) (named row) (marking.has k row (omega arith) has),
-)
 
 -- the channel of a row that was read at a place
 pub read_named : (rows : List Row) (place j : ℕ) (row : Row) → place < length rows → row ≡ get_or rows place row → place ≡ j → (other : Row) → (get_or rows j other).channel.id ≡ row.channel.id

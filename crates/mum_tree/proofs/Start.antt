@@ -14,7 +14,7 @@ use Rattle.mum_tree.specs.Proper.{IsProper, LeadUp, IsUnderLasting}
 use Rattle.mum_tree.proofs.Joined.{links_none}
 use Rattle.mum_tree.proofs.Upward.{the_root, upward_root}
 
-abbrev root_row : Row
+abbrev pub root_row : Row
 root_row = new_row 0 the_root the_root (codes "Root") false
 
 there_is_root : (id : ChannelId) → IsTrue (is_there root_alone.channels id) → 0 ≡ id.0

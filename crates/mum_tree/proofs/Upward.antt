@@ -1,10 +1,10 @@
 -- The way up from a channel.
-use Rattle.std.proofs.Common.{◌≡◌, ℕ, zero, suc, ◌<◌, ◌+◌, ◌-◌, ◌≤◌, true, false, eqb, cond, List, [], ◌∷◌, ◌++◌, Option, Some, None, length, drop, set, reverse, refl, arith, ap, sym, subst, ◌∙◌, append_assoc, ◌⊎◌, inl, inr, ⊎_elim}
+use Rattle.std.proofs.Common.{◌≡◌, ℕ, zero, suc, ◌<◌, ◌-◌, ◌≤◌, true, false, eqb, cond, List, [], ◌∷◌, ◌++◌, Option, Some, None, length, reverse, refl, arith, ap, sym, subst, ◌∙◌, append_assoc, ◌⊎◌, inl, inr, ⊎_elim}
 use Rattle.std.specs.Bool.{IsTrue}
 use Rattle.std.specs.List.{Contains}
 use Rattle.std.specs.Option.{is_some}
 use Rattle.std.proofs.lemmas.Bool.{eq-eqb, false_from_ne_true, both_ways, cases_Bool}
-use Rattle.std.proofs.lemmas.List.{drop-set, length-append, length-reverse, reverse-append, reverse-reverse}
+use Rattle.std.proofs.lemmas.List.{length-append, reverse-append}
 use Rattle.std.proofs.lemmas.Map.Made.{Contains-tail}
 use Rattle.mum_base.specs.declared.number.ChannelId.{ChannelId}
 use Rattle.mum_tree.specs.declared.channel.Row.{Row}
@@ -32,27 +32,21 @@ none_contained x (k, within, is) = absurd (omega arith)
 abbrev pub the_root : ChannelId
 the_root = record { 0 = 0 }
 
--- the way up, so far and from here on, as a loop keeps it that writes from the end of an array
-pub step_up : (rows : List Row) (whole : List ChannelId) (channels : List ChannelId) (start : ℕ) (at : ChannelId) (row : Row) → 0 < start → start ≤ length channels → row_of rows at ≡ Some row → (eqb at.0 0 ≡ true → ⊥) → reverse (drop start channels) ++ upward rows start at ≡ whole → reverse (drop (start - 1) (set channels (start - 1) at)) ++ upward rows (start - 1) row.channel.parent ≡ whole
-step_up rows whole channels zero at row positive within found lower front = absurd (omega arith)
-step_up rows whole channels (suc start) at row positive within found lower front =
-    let here : suc start - 1 ≡ start = omega arith in
-    let cut : drop start (set channels start at) ≡ at ∷ drop (start + 1) channels = drop-set channels start at (omega arith) in
-    let next : start + 1 ≡ suc start = omega arith in
+-- the way up, so far and from here on
+pub step_up : (rows : List Row) (whole way : List ChannelId) (left : ℕ) (at : ChannelId) (row : Row) → 0 < left → row_of rows at ≡ Some row → (eqb at.0 0 ≡ true → ⊥) → way ++ upward rows left at ≡ whole → (way ++ at ∷ []) ++ upward rows (left - 1) row.channel.parent ≡ whole
+step_up rows whole way zero at row positive found lower front = absurd (omega arith)
+step_up rows whole way (suc left) at row positive found lower front =
+    let here : suc left - 1 ≡ left = omega arith in
     let off : eqb at.0 0 ≡ false = false_from_ne_true (eqb at.0 0) lower in
-    let up : upward rows (suc start) at ≡ at ∷ upward rows start row.channel.parent = upward_at rows start at row found ∙ ap (λ b. at ∷ cond b [] (upward rows start row.channel.parent)) off in
-    rw (here, cut, next, reverse-cons at (drop (suc start) channels), append_assoc (reverse (drop (suc start) channels)) (at ∷ []) (upward rows start row.channel.parent)) (sym (ap (λ us. reverse (drop (suc start) channels) ++ us) up) ∙ front)
+    let up : upward rows (suc left) at ≡ at ∷ upward rows left row.channel.parent = upward_at rows left at row found ∙ ap (λ b. at ∷ cond b [] (upward rows left row.channel.parent)) off in
+    rw (here, append_assoc way (at ∷ []) (upward rows left row.channel.parent)) (sym (ap (λ us. way ++ us) up) ∙ front)
 
 -- at the root the way up ends
-pub step_end : (rows : List Row) (whole : List ChannelId) (channels : List ChannelId) (start : ℕ) (at : ChannelId) (row : Row) → 0 < start → start ≤ length channels → row_of rows at ≡ Some row → eqb at.0 0 ≡ true → reverse (drop start channels) ++ upward rows start at ≡ whole → drop (start - 1) (set channels (start - 1) at) ≡ reverse whole
-step_end rows whole channels zero at row positive within found root front = absurd (omega arith)
-step_end rows whole channels (suc start) at row positive within found root front =
-    let here : suc start - 1 ≡ start = omega arith in
-    let cut : drop start (set channels start at) ≡ at ∷ drop (start + 1) channels = drop-set channels start at (omega arith) in
-    let next : start + 1 ≡ suc start = omega arith in
-    let up : upward rows (suc start) at ≡ at ∷ [] = upward_at rows start at row found ∙ ap (λ b. at ∷ cond b [] (upward rows start row.channel.parent)) root in
-    let all : reverse (drop (suc start) channels) ++ at ∷ [] ≡ whole = sym (ap (λ us. reverse (drop (suc start) channels) ++ us) up) ∙ front in
-    rw (here, cut, next, ← all, reverse-append (reverse (drop (suc start) channels)) (at ∷ []), reverse-reverse (drop (suc start) channels)) refl
+pub step_end : (rows : List Row) (whole way : List ChannelId) (left : ℕ) (at : ChannelId) (row : Row) → 0 < left → row_of rows at ≡ Some row → eqb at.0 0 ≡ true → way ++ upward rows left at ≡ whole → way ++ at ∷ [] ≡ whole
+step_end rows whole way zero at row positive found root front = absurd (omega arith)
+step_end rows whole way (suc left) at row positive found root front =
+    let up : upward rows (suc left) at ≡ at ∷ [] = upward_at rows left at row found ∙ ap (λ b. at ∷ cond b [] (upward rows left row.channel.parent)) root in
+    sym (ap (λ us. way ++ us) up) ∙ front
 
 -- where the way up from a row that is not the root's leads to the root, so does its parent's
 pub step_lead : (rows : List Row) (start : ℕ) (at : ChannelId) (row : Row) → 0 < start → row_of rows at ≡ Some row → (eqb at.0 0 ≡ true → ⊥) → Contains (upward rows start at) the_root → Contains (upward rows (start - 1) row.channel.parent) the_root
@@ -73,17 +67,25 @@ lead_none rows start at id lead none =
     none_from (row_of rows id) (λ there. none_contained the_root (subst (λ (us : List ChannelId). Contains us the_root) none (lead there)))
 
 -- a way up of 33 steps is not left over
-pub way_ends : (rows : List Row) (channels : List ChannelId) (start : ℕ) (at id : ChannelId) → start ≡ 0 → length channels ≡ 33 → reverse (drop start channels) ++ upward rows start at ≡ upward rows 33 id → (IsTrue (is_there rows id) → Contains (upward rows start at) the_root) → ⊥
-way_ends rows channels zero at id done whole front lead =
+pub way_ends : (rows : List Row) (way : List ChannelId) (left : ℕ) (at id : ChannelId) → left ≡ 0 → length way ≡ 33 → way ++ upward rows left at ≡ upward rows 33 id → (IsTrue (is_there rows id) → Contains (upward rows left at) the_root) → ⊥
+way_ends rows way zero at id done whole front lead =
     let none : row_of rows id ≡ None = lead_none rows 0 at id lead (upward_zero rows at) in
     let empty : length (upward rows 33 id) ≡ 0 = ap length (upward_missing rows 33 id none) in
-    let long : length (reverse channels ++ upward rows 0 at) ≡ length (upward rows 33 id) = ap length front in
-    absurd (omega (arith, length-append (reverse channels) (upward rows 0 at), length-reverse channels))
-way_ends rows channels (suc start) at id done whole front lead = absurd (omega arith)
+    let long : length (way ++ upward rows 0 at) ≡ length (upward rows 33 id) = ap length front in
+    absurd (omega (arith, length-append way (upward rows 0 at)))
+way_ends rows way (suc left) at id done whole front lead = absurd (omega arith)
 
 pub option_cases : {X : Type 0} (found : Option X) → (found ≡ None) ⊎ ((x : X) × (found ≡ Some x))
 option_cases None = inl refl
 option_cases (Some x) = inr (x, refl)
+
+-- what has a way up is there
+pub there_from_way : (rows : List Row) (id : ChannelId) (way : List ChannelId) (last : ChannelId) → way ++ last ∷ [] ≡ upward rows 33 id → is_there rows id ≡ true
+there_from_way rows id way last whole =
+    ⊎_elim
+    (λ (none : row_of rows id ≡ None). absurd (omega (arith, ap length whole, ap length (upward_missing rows 33 id none), length-append way (last ∷ []))))
+    (λ found. ap is_some found.1)
+    (option_cases (row_of rows id))
 
 -- what leads to the root is there
 pub there_from_lead : (rows : List Row) (steps : ℕ) (id : ChannelId) → Contains (upward rows steps id) the_root → (row : Row) × (row_of rows id ≡ Some row)

@@ -4,7 +4,7 @@ use Rattle.std.specs.List.{count_by, All, AllPairs, Contains}
 use Rattle.mum_base.specs.declared.number.ChannelId.{ChannelId}
 use Rattle.mum_tree.specs.declared.channel.Row.{Row}
 use Rattle.mum_tree.specs.Rows.{number, row_of, is_there, is_temporary, upward, Rise}
-use Rattle.mum_tree.specs.State.{Pair, TreeState, is_above, starts_at}
+use Rattle.mum_tree.specs.State.{Ordered, Pair, TreeState, starts_at}
 
 abbrev pub IsRoot : Row → Type 0
 IsRoot row =
@@ -35,7 +35,7 @@ IsBetween rows pair = IsTrue (is_there rows pair.0) × IsTrue (is_there rows pai
 pub record AreLinks (rows : List Row) (links : List Pair) : Type 0 where
   pub between : All (IsBetween rows) links
   pub both : All (λ pair. Contains links (pair.1, pair.0)) links
-  pub ordered : AllPairs (λ pair later. IsTrue (is_above pair.0 pair.1 later)) links
+  pub ordered : Ordered links
   pub few_each : (id : ChannelId) → count_by (starts_at id) links ≤ 64
 
 pub record IsProper (tree : TreeState) : Type 0 where

@@ -1,6 +1,6 @@
 -- The rows of a tree: its channels in order of number, each with the place that it keeps.
-use Rattle.std.specs.Prelude.{◌≢◌, ℕ, zero, suc, ◌+◌, ◌<◌, ◌==◌, ◌&&◌, Bool, false, not, nat_lt, List, [], ◌∷◌, reverse, length, Option, is_some, if◌then◌else◌}
-use Rattle.std.specs.List.{find, list_any, All, AllPairs}
+use Rattle.std.specs.Prelude.{◌≡◌, ◌≢◌, ℕ, zero, suc, ◌+◌, ◌<◌, ◌==◌, ◌&&◌, Bool, false, not, nat_lt, List, [], ◌∷◌, reverse, length, Option, None, is_some, slice_index_or, IfSome, if◌then◌else◌}
+use Rattle.std.specs.List.{find, list_any, position, All, AllPairs}
 use Rattle.std.specs.Option.{option_map_or}
 use Rattle.std.specs.Str.{bytes_eq}
 use Rattle.mum_base.specs.declared.number.ChannelId.{ChannelId}
@@ -32,6 +32,14 @@ path rows id = reverse (upward rows 33 id)
 -- the channel is the top, or below it
 abbrev pub is_below : List Row → ChannelId → ChannelId → Bool
 is_below rows top id = list_any (λ channel. channel.0 == top.0) (path rows id)
+
+-- how many steps a channel is under the top, if it is the top or below it
+abbrev pub level : List Row → ChannelId → ChannelId → Option ℕ
+level rows top id = position (λ channel. channel.0 == top.0) (upward rows 33 id)
+
+-- what is kept at the places of these rows is right
+abbrev pub AreLevels : List Row → ChannelId → List (Option (Option ℕ)) → Type 0
+AreLevels rows top known = All (λ row. IfSome (slice_index_or known row.place None) (λ steps. steps ≡ level rows top row.channel.id)) rows
 
 -- the row is the moved channel's or below it, and under the parent it would be more than 32 under the root
 abbrev pub nests : List Row → ChannelId → ChannelId → Row → Bool

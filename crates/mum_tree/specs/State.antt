@@ -1,6 +1,6 @@
 -- A tree as plain data, and what each change of it leaves.
-use Rattle.std.specs.Prelude.{ℕ, ◌+◌, ◌-◌, ◌^◌, nat_lt, Option, Some, None, ◌==◌, ◌&&◌, ◌||◌, not, Bool, false, List, [], ◌∷◌, ◌++◌, map, pos, codes, if◌then◌else◌}
-use Rattle.std.specs.List.{filter, list_any}
+use Rattle.std.specs.Prelude.{ℕ, ◌+◌, ◌-◌, ◌^◌, nat_lt, Option, Some, None, ◌==◌, ◌&&◌, ◌||◌, not, Bool, false, List, [], ◌∷◌, ◌++◌, map, pos, codes, if◌then◌else◌, IsTrue}
+use Rattle.std.specs.List.{filter, list_any, AllPairs}
 use Rattle.mum_base.specs.declared.number.ChannelId.{ChannelId}
 use Rattle.mum_tree.specs.declared.channel.Channel.{Channel}
 use Rattle.mum_tree.specs.declared.channel.ChannelInfo.{ChannelInfo}
@@ -69,6 +69,10 @@ partners tree id = ends_from id tree.links
 
 abbrev pub is_above : ChannelId → ChannelId → Pair → Bool
 is_above from to pair = nat_lt from.0 pair.0.0 || ((pair.0.0 == from.0) && nat_lt to.0 pair.1.0)
+
+-- each pair is below those after it
+abbrev pub Ordered : List Pair → Type 0
+Ordered links = AllPairs (λ pair later. IsTrue (is_above pair.0 pair.1 later)) links
 
 -- a pair in its place among others
 abbrev pub with_pair : ChannelId → ChannelId → List Pair → List Pair

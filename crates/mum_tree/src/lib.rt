@@ -6,8 +6,8 @@
 pub mod channel;
 pub mod fault;
 mod found;
+mod levels;
 pub mod links;
-pub mod path;
 mod reach;
 pub mod rows;
 pub mod scratch;
@@ -16,7 +16,6 @@ pub mod tree;
 pub use channel::{CHANNEL_LIMIT, Channel, ChannelInfo, PATH_LIMIT, ROOT, Row};
 pub use fault::TreeFault;
 pub use links::LINK_LIMIT;
-pub use path::Path;
 pub use scratch::Scratch;
 pub use tree::Tree;
 

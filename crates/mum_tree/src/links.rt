@@ -1,10 +1,10 @@
 //! Links between channels. A link stands in the list twice, once from each of its two channels,
 //! in order of the numbers.
 
-ghost use Rattle.std.specs.Prelude.{◌≡◌, ◌&&◌, ◌||◌, ℕ, ◌<◌, ◌≤◌, true, false, length, nat_le, IsTrue, slice_get, slice_index_or};
-ghost use Rattle.std.specs.List.{count_by, filter, list_any, AllPairs};
+ghost use Rattle.std.specs.Prelude.{◌≡◌, ◌&&◌, ◌||◌, ℕ, ◌<◌, ◌≤◌, true, false, length, nat_le, slice_get, slice_index_or};
+ghost use Rattle.std.specs.List.{filter, list_any};
 ghost use Rattle.mum_tree.specs.Rows.{is_there, Rise};
-ghost use Rattle.mum_tree.specs.State.{Pair, ends_from, is_pair, is_above, starts_at};
+ghost use Rattle.mum_tree.specs.State.{Pair, Ordered, ends_from, is_pair, is_above, starts_at};
 
 use crate::channel::Row;
 use crate::rows::both_there;
@@ -15,11 +15,10 @@ pub const LINK_LIMIT: usize = 64;
 
 /// Whether two channels are linked.
 pub(crate) fn has_link(links: &[(ChannelId, ChannelId)], from: ChannelId, to: ChannelId) -> bool
+    requires { Ordered links.now }
     ensures { result ≡ list_any (is_pair from to) links.now }
 {
-    links
-        .iter()
-        .any(|link| link.0.0 == from.0 && link.1.0 == to.0)
+    links.binary_search(&(from, to)).is_ok()
 }
 
 /// Whether a link is between these two channels.
@@ -31,36 +30,29 @@ pub(crate) fn joins(link: &(ChannelId, ChannelId), a: ChannelId, b: ChannelId) -
 
 /// Where the pairs of a channel begin.
 pub(crate) fn first_link(links: &[(ChannelId, ChannelId)], from: ChannelId) -> usize
-    requires { AllPairs (λ pair later. IsTrue (is_above pair.0 pair.1 later)) links.now }
+    requires { Ordered links.now }
     ensures within { result ≤ length links.now }
     ensures before { (k : ℕ) (other : Pair) → k < result → (slice_index_or links.now k other).0.0 < from.0 }
     ensures after { (k : ℕ) (other : Pair) → result ≤ k → k < length links.now → from.0 ≤ (slice_index_or links.now k other).0.0 }
 {
-    let mut low = 0;
-    let mut high = links.len();
-    while low < high {
-        let middle = low + (high - low) / 2;
-        if links[middle].0.0 < from.0 {
-            low = middle + 1;
-        } else {
-            high = middle;
-        }
-    }
-    low
+    links.partition_point(|link| link.0.0 < from.0)
 }
 
-/// How many links a channel has.
-fn count_links(links: &[(ChannelId, ChannelId)], of: ChannelId) -> usize
-    ensures { result ≡ count_by (starts_at of) links.now }
+/// The pairs of a channel.
+fn links_of(links: &[(ChannelId, ChannelId)], of: ChannelId) -> &[(ChannelId, ChannelId)]
+    requires { Ordered links.now }
+    ensures { result.now ≡ filter (starts_at of) links.now }
 {
-    links.iter().filter(|link| link.0.0 == of.0).count()
+    let rest = &links[first_link(links, of)..];
+    &rest[..rest.partition_point(|link| link.0.0 == of.0)]
 }
 
 /// Whether a channel has as many links as it may have.
 pub(crate) fn is_crowded(links: &[(ChannelId, ChannelId)], of: ChannelId) -> bool
+    requires { Ordered links.now }
     ensures { result ≡ nat_le 64 (length (ends_from of links.now)) }
 {
-    count_links(links, of) >= LINK_LIMIT
+    links_of(links, of).len() >= LINK_LIMIT
 }
 
 /// The channel linked to one that so many others precede.
@@ -69,32 +61,20 @@ pub(crate) fn nth_end(
     of: ChannelId,
     i: usize,
 ) -> Option<ChannelId>
+    requires { Ordered links.now }
     ensures { result ≡ slice_get (ends_from of links.now) i }
 {
-    let mut left = i;
-    for link in links {
-        if link.0.0 == of.0 {
-            if left == 0 {
-                return Some(link.1);
-            }
-            left -= 1;
-        }
-    }
-    None
+    links_of(links, of).get(i).map(|link| link.1)
 }
 
 /// Where a new link belongs: before the first that is above it.
 pub(crate) fn place_for(links: &[(ChannelId, ChannelId)], from: ChannelId, to: ChannelId) -> usize
+    requires { Ordered links.now }
     ensures within { result ≤ length links.now }
     ensures before { (k : ℕ) (other : Pair) → k < result → is_above from to (slice_index_or links.now k other) ≡ false }
     ensures here { (other : Pair) → result < length links.now → is_above from to (slice_index_or links.now result other) ≡ true }
 {
-    for (at, link) in links.iter().enumerate() {
-        if link.0.0 > from.0 || (link.0.0 == from.0 && link.1.0 > to.0) {
-            return at;
-        }
-    }
-    links.len()
+    links.partition_point(|link| *link <= (from, to))
 }
 
 /// Takes away the links of channels that are not there.

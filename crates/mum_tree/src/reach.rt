@@ -1,14 +1,14 @@
 //! Where links lead.
 
-ghost use Rattle.std.specs.Prelude.{◌≡◌, ◌<◌, ◌≤◌, ◌↔◌, ◌⊎◌, ◌++◌, ℕ, List, IsTrue, length, slice_index_or};
-ghost use Rattle.std.specs.List.{All, Contains};
+ghost use Rattle.std.specs.Prelude.{◌≡◌, ◌≢◌, ◌<◌, ◌≤◌, ◌↔◌, ◌⊎◌, ◌++◌, ℕ, List, IsTrue, false, length, slice_index_or};
+ghost use Rattle.std.specs.List.{All, AllPairs, Contains};
 ghost use Rattle.mum_base.specs.declared.number.ChannelId.{ChannelId};
 ghost use Rattle.mum_tree.specs.declared.channel.Row.{Row};
 ghost use Rattle.mum_tree.specs.Proper.{AreLinks};
 ghost use Rattle.mum_tree.specs.Rows.{is_there, Rise};
 ghost use Rattle.mum_tree.specs.Walks.{HasRow, LeadTo};
 
-use crate::channel::Row;
+use crate::channel::{CHANNEL_LIMIT, Row};
 use crate::found::Found;
 use crate::links::first_link;
 use crate::rows::place_in_rows;
@@ -52,16 +52,29 @@ pub(crate) fn find_linked(rows: &[Row], links: &[(ChannelId, ChannelId)], id: Ch
     found
 }
 
+/// Which places have a channel whose row was found.
+fn places_found(rows: &[Row], found: &Found) -> [bool; CHANNEL_LIMIT]
+    requires few { length rows.now ≤ 1024 }
+    requires seated { All (λ row. row.place < 1024) rows.now }
+    requires seats { AllPairs (λ row other. row.place ≢ other.place) rows.now }
+    ensures length { length result ≡ 1024 }
+    ensures value { (k : ℕ) (other : Row) → k < length rows.now → IsTrue (slice_index_or result (slice_index_or rows.now k other).place false) ↔ Contains found.now k }
+{
+    let mut places = [false; CHANNEL_LIMIT];
+    for (at, row) in rows.iter().enumerate() {
+        places[row.place as usize] = found.has(at);
+    }
+    places
+}
+
 /// Marks the channels whose rows were found.
 pub(crate) fn mark_found(rows: &[Row], found: &Found, scratch: &mut Scratch)
     requires rise { Rise rows.now }
     requires few { length rows.now ≤ 1024 }
+    requires seated { All (λ row. row.place < 1024) rows.now }
+    requires seats { AllPairs (λ row other. row.place ≢ other.place) rows.now }
     ensures { (other : ChannelId) → Contains scratch.new other ↔ HasRow rows.now found.now other }
 {
-    scratch.clear();
-    for at in 0..rows.len() {
-        if found.has(at) {
-            scratch.mark(rows[at].channel.id);
-        }
-    }
+    let places = places_found(rows, found);
+    scratch.fill(rows, &places);
 }

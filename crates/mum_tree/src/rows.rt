@@ -1,14 +1,14 @@
 //! Look-ups in the rows of a tree, which stand in order of number.
 
-ghost use Rattle.std.specs.Prelude.{◌≡◌, ◌≢◌, ◌&&◌, ℕ, ◌≤◌, true, false, slice_index_or, ◌<◌, None, Some, length, MatchOption, IfOk, IsTrue};
+ghost use Rattle.std.specs.Prelude.{◌≡◌, ◌≢◌, ◌&&◌, ℕ, ◌≤◌, true, false, slice_index_or, ◌<◌, None, Some, length, MatchOption, IfOk, IfSome, IsTrue, is_some};
 ghost use Rattle.std.specs.Option.{option_copied};
 ghost use Rattle.std.specs.List.{All, AllPairs, count_by, list_any};
-ghost use Rattle.mum_tree.specs.Rows.{row_of, is_there, path, is_below, is_taken, nests, IsFree, IsLeastFree, Rise};
+ghost use Rattle.mum_tree.specs.Rows.{row_of, is_there, path, level, is_below, is_taken, nests, IsFree, IsLeastFree, Rise};
 ghost use Rattle.mum_tree.specs.Proper.{LeadUp};
 ghost use Rattle.mum_tree.specs.declared.channel.Row.{Row};
 
 use crate::channel::{CHANNEL_LIMIT, Channel, ChannelInfo, PATH_LIMIT, ROOT, Row};
-use crate::path::Path;
+use arrayvec::ArrayVec;
 use mum_base::{ChannelId, OutOfMemory, Text};
 use std::alloc::Global;
 
@@ -18,21 +18,8 @@ pub(crate) fn locate(rows: &[Row], id: ChannelId) -> Option<usize>
     ensures { MatchOption result (row_of rows.now id ≡ None)
         (λ at. (at < length rows.now) × ((other : Row) → row_of rows.now id ≡ Some (slice_index_or rows.now at other))) }
 {
-    let mut low = 0;
-    let mut high = rows.len();
-    while low < high {
-        let middle = low + (high - low) / 2;
-        let number = rows[middle].channel.id.0;
-        if number == id.0 {
-            return Some(middle);
-        }
-        if number < id.0 {
-            low = middle + 1;
-        } else {
-            high = middle;
-        }
-    }
-    None
+    rows.binary_search_by_key(&id.0, |row| row.channel.id.0)
+        .ok()
 }
 
 /// Where the row of a channel that is there stands.
@@ -51,7 +38,8 @@ pub(crate) fn place_in_rows(rows: &[Row], id: ChannelId) -> usize
 /// The row of a channel.
 pub(crate) fn find_row(rows: &[Row], id: ChannelId) -> Option<&Row>
     requires { Rise rows.now }
-    ensures { option_copied result ≡ row_of rows.now id }
+    ensures value { option_copied result ≡ row_of rows.now id }
+    ensures named { IfSome result (λ row. row.now.channel.id ≡ id) }
 {
     match locate(rows, id) {
         Some(at) => Some(&rows[at]),
@@ -76,26 +64,48 @@ pub(crate) fn both_there(rows: &[Row], a: ChannelId, b: ChannelId) -> bool
 }
 
 /// The channels from the root down to one.
-pub(crate) fn find_path(rows: &[Row], id: ChannelId) -> Option<Path>
+pub(crate) fn find_path(rows: &[Row], id: ChannelId) -> Option<ArrayVec<ChannelId, PATH_LIMIT>>
     requires rise { Rise rows.now }
     requires lead { LeadUp rows.now }
-    ensures { MatchOption result (row_of rows.now id ≡ None) (λ found. found ≡ path rows.now id) }
+    ensures value { MatchOption result (row_of rows.now id ≡ None) (λ found. found.items ≡ path rows.now id) }
+    ensures there { is_some result ≡ is_there rows.now id }
 {
-    let mut channels = [ROOT; PATH_LIMIT];
-    let mut start = PATH_LIMIT;
+    let mut channels = ArrayVec::new();
     let mut at = id;
-    while start > 0 {
+    while !channels.is_full() {
         let Some(row) = find_row(rows, at) else {
             return None;
         };
-        start -= 1;
-        channels[start] = at;
+        channels.push(at);
         if at.0 == ROOT.0 {
-            return Some(Path { channels, start });
+            channels.reverse();
+            return Some(channels);
         }
         at = row.channel.parent;
     }
     unreachable!()
+}
+
+/// How many steps a channel is under the top, if it is the top or below it.
+pub(crate) fn steps_under(rows: &[Row], top: ChannelId, id: ChannelId) -> Option<usize>
+    requires { Rise rows.now }
+    ensures value { result ≡ level rows.now top id }
+    ensures within { IfSome result (λ steps. steps < 33) }
+{
+    let mut at = id;
+    for steps in 0..PATH_LIMIT {
+        let Some(row) = find_row(rows, at) else {
+            return None;
+        };
+        if at.0 == top.0 {
+            return Some(steps);
+        }
+        if at.0 == ROOT.0 {
+            return None;
+        }
+        at = row.channel.parent;
+    }
+    None
 }
 
 /// How many channels there are from the root down to one, with both.
@@ -105,41 +115,18 @@ pub(crate) fn path_length(rows: &[Row], id: ChannelId) -> usize
     ensures value { result ≡ length (path rows.now id) }
     ensures within { result ≤ 33 }
 {
-    match find_path(rows, id) {
-        Some(path) => path.as_slice().len(),
+    match steps_under(rows, ROOT, id) {
+        Some(steps) => steps + 1,
         None => 0,
     }
 }
 
 /// Whether a channel is the top, or below it.
 pub(crate) fn stands_below(rows: &[Row], top: ChannelId, id: ChannelId) -> bool
-    requires rise { Rise rows.now }
-    requires lead { LeadUp rows.now }
+    requires { Rise rows.now }
     ensures { result ≡ is_below rows.now top id }
 {
-    match find_path(rows, id) {
-        Some(path) => path.as_slice().iter().any(|channel| channel.0 == top.0),
-        None => false,
-    }
-}
-
-/// Whether a channel under this one would be too deep once this one is under the parent.
-pub(crate) fn nests_too_deep(rows: &[Row], id: ChannelId, parent: ChannelId) -> bool
-    requires rise { Rise rows.now }
-    requires lead { LeadUp rows.now }
-    ensures { result ≡ list_any (nests rows.now id parent) rows.now }
-{
-    let above = path_length(rows, parent);
-    let own = path_length(rows, id);
-    for row in rows {
-        let number = row.channel.id;
-        if stands_below(rows, id, number)
-            && PATH_LIMIT + own < above + 1 + path_length(rows, number)
-        {
-            return true;
-        }
-    }
-    false
+    steps_under(rows, top, id).is_some()
 }
 
 /// Whether another child of the parent has the name.
@@ -168,21 +155,6 @@ fn taken_places(rows: &[Row]) -> [bool; CHANNEL_LIMIT]
         taken[row.place as usize] = true;
     }
     taken
-}
-
-/// Which places have a channel that is the top, or below it.
-pub(crate) fn places_below(rows: &[Row], top: ChannelId) -> [bool; CHANNEL_LIMIT]
-    requires rise { Rise rows.now }
-    requires lead { LeadUp rows.now }
-    requires seated { All (λ row. row.place < 1024) rows.now }
-    requires seats { AllPairs (λ row other. row.place ≢ other.place) rows.now }
-    ensures { All (λ row. slice_index_or result row.place false ≡ is_below rows.now top row.channel.id) rows.now }
-{
-    let mut below = [false; CHANNEL_LIMIT];
-    for row in rows {
-        below[row.place as usize] = stands_below(rows, top, row.channel.id);
-    }
-    below
 }
 
 /// Whether a place is marked.

@@ -1,35 +1,62 @@
 //! Room to mark channels in.
 
-ghost use Rattle.std.specs.Prelude.{◌≡◌, ◌<◌, ◌↔◌, [], ◌∷◌, ◌++◌, IfOk, IsTrue, length};
+ghost use Rattle.std.specs.Prelude.{◌≡◌, ◌<◌, ◌≤◌, ◌↔◌, [], IfOk, IsTrue, false, filter, length, map, slice_index_or, take};
 ghost use Rattle.std.specs.List.{All, Contains};
+ghost use Rattle.mum_tree.specs.Rows.{Rise};
 
-use crate::channel::{CHANNEL_LIMIT, ROOT};
+use crate::channel::{CHANNEL_LIMIT, ROOT, Row};
 use mum_base::{ChannelId, OutOfMemory};
 use std::alloc::Global;
 use std::marker::Model;
+
+/// A channel and the place that it has.
+#[derive(Clone, Copy, Debug)]
+struct Seat {
+    id: ChannelId,
+    place: u16,
+}
 
 /// Room to mark channels in, taken once and used again. A contract sees the channels that were
 /// marked last, in order of number.
 #[derive(Debug, Drop)]
 pub struct Scratch {
-    channels: Vec<ChannelId>,
+    /// The channels of the tree that was marked last, in order of number.
+    seats: Vec<Seat>,
     count: usize,
+    /// Whether the channel at each place is marked.
+    marks: Vec<bool>,
 }
 
 impl Model for Scratch {
-    ghost use Rattle.std.specs.Prelude.{◌≡◌, ◌<◌, ◌≤◌, List, length, take};
-    ghost use Rattle.std.specs.List.{AllPairs};
+    ghost use Rattle.std.specs.Prelude.{◌≡◌, ◌<◌, ◌≤◌, List, false, filter, length, map, slice_index_or, take};
+    ghost use Rattle.std.specs.List.{All, AllPairs};
     ghost use Rattle.mum_base.specs.declared.number.ChannelId.{ChannelId};
 
     ghost Value = { List ChannelId };
 
-    ghost view = { λ s. take s.count s.channels.items };
+    ghost view = { λ s. map (λ seat. seat.id) (filter (λ seat. slice_index_or s.marks.items seat.place false) (take s.count s.seats.items)) };
 
     ghost invariant = { λ s. record {
-      whole : length s.channels.items ≡ 1024;
+      whole : length s.seats.items ≡ 1024;
+      marked : length s.marks.items ≡ 1024;
       within : s.count ≤ 1024;
-      rise : AllPairs (λ one later. one.0 < later.0) (take s.count s.channels.items);
+      seated : All (λ seat. seat.place < 1024) (take s.count s.seats.items);
+      rise : AllPairs (λ one later. one.id.0 < later.id.0) (take s.count s.seats.items);
     } };
+}
+
+/// Writes the channels of the rows and their places over the first seats.
+fn seat_rows(rows: &[Row], seats: &mut Vec<Seat>)
+    requires { length rows.now ≤ length seats.old.items }
+    ensures length { length seats.new.items ≡ length seats.old.items }
+    ensures front { take (length rows.now) seats.new.items ≡ map (λ row. record { id = row.channel.id; place = row.place }) rows.now }
+{
+    for (at, row) in rows.iter().enumerate() {
+        seats[at] = Seat {
+            id: row.channel.id,
+            place: row.place,
+        };
+    }
 }
 
 impl Scratch {
@@ -37,9 +64,11 @@ impl Scratch {
     pub fn new(alloc: Global) -> Result<Scratch, OutOfMemory>
         ensures { IfOk result (λ scratch. scratch ≡ []) }
     {
+        let seat = Seat { id: ROOT, place: 0 };
         Ok(Scratch {
-            channels: vec![in alloc; ROOT; CHANNEL_LIMIT]?,
+            seats: vec![in alloc; seat; CHANNEL_LIMIT]?,
             count: 0,
+            marks: vec![in alloc; false; CHANNEL_LIMIT]?,
         })
     }
 
@@ -47,36 +76,23 @@ impl Scratch {
     pub fn marked(&self, id: ChannelId) -> bool
         ensures { IsTrue result ↔ Contains self.now id }
     {
-        let mut low = 0;
-        let mut high = self.count;
-        while low < high {
-            let middle = low + (high - low) / 2;
-            let number = self.channels[middle].0;
-            if number == id.0 {
-                return true;
-            }
-            if number < id.0 {
-                low = middle + 1;
-            } else {
-                high = middle;
-            }
+        let seats = &self.seats[..self.count];
+        match seats.binary_search_by_key(&id.0, |seat| seat.id.0) {
+            Ok(at) => self.marks[seats[at].place as usize],
+            Err(_) => false,
         }
-        false
     }
 
-    pub(crate) fn clear(&mut self)
-        ensures { self.new ≡ [] }
+    /// Marks the channels of these rows whose places are marked, and no other.
+    pub(crate) fn fill(&mut self, rows: &[Row], marks: &[bool])
+        requires rise { Rise rows.now }
+        requires few { length rows.now ≤ 1024 }
+        requires seated { All (λ row. row.place < 1024) rows.now }
+        requires whole { length marks.now ≡ 1024 }
+        ensures { self.new ≡ map (λ row. row.channel.id) (filter (λ row. slice_index_or marks.now row.place false) rows.now) }
     {
-        self.count = 0;
-    }
-
-    /// Marks a channel above all that are marked.
-    pub(crate) fn mark(&mut self, id: ChannelId)
-        requires room { length self.old < 1024 }
-        requires above { All (λ one. one.0 < id.0) self.old }
-        ensures { self.new ≡ self.old ++ id ∷ [] }
-    {
-        self.channels[self.count] = id;
-        self.count += 1;
+        seat_rows(rows, &mut self.seats);
+        self.marks.copy_from_slice(marks);
+        self.count = rows.len();
     }
 }

@@ -1,6 +1,6 @@
 //! The tree of channels, and what is read from it.
 
-ghost use Rattle.std.specs.Prelude.{◌≡◌, ◌<◌, ◌↔◌, ◌&&◌, IfOk, IsTrue, MatchOption, None, slice_get};
+ghost use Rattle.std.specs.Prelude.{◌≡◌, ◌<◌, ◌↔◌, ◌&&◌, IfOk, IsTrue, MatchOption, None, is_some, slice_get};
 ghost use Rattle.std.specs.List.{Contains};
 ghost use Rattle.std.specs.Option.{option_copied, option_map};
 ghost use Rattle.mum_base.specs.declared.number.ChannelId.{ChannelId};
@@ -8,18 +8,19 @@ ghost use Rattle.mum_tree.specs.Proper.{IsProper};
 ghost use Rattle.mum_tree.specs.Rows.{row_of, is_there, path};
 ghost use Rattle.mum_tree.specs.State.{root_alone, next_number, plain_info, partners, below};
 ghost use Rattle.mum_tree.specs.Walks.{LeadTo};
-ghost use Rattle.mum_tree.specs.Calls.{is_full, fault_of_add, fault_of_link, fault_of_move, Adds, JoinsTwo, Moves, PartsTwo, Removes, Renames, SetsInfo};
+ghost use Rattle.mum_tree.specs.Calls.{is_full, fault_of_add, fault_of_link, fault_of_move, fault_of_rename, Adds, JoinsTwo, Moves, PartsTwo, Removes, Renames, SetsInfo};
 
 use crate::channel::{CHANNEL_LIMIT, Channel, ChannelInfo, PATH_LIMIT, ROOT, Row};
 use crate::fault::TreeFault;
+use crate::levels::{nests_too_deep, places_below};
 use crate::links::{has_link, is_crowded, joins, keep_ends, nth_end, place_for};
-use crate::path::Path;
 use crate::reach::{find_linked, mark_found};
 use crate::rows::{
     both_there, copy_rows, find_path, find_row, has_mark, has_name, least_free_place, locate,
-    nests_too_deep, path_length, places_below, stands, stands_below,
+    path_length, stands, stands_below,
 };
 use crate::scratch::Scratch;
+use arrayvec::ArrayVec;
 use mum_base::{ChannelId, OutOfMemory, Text};
 use std::alloc::Global;
 use std::marker::Model;
@@ -128,9 +129,10 @@ impl Tree {
         }
     }
 
-    /// The channels from the root down to one.
-    pub fn path(&self, id: ChannelId) -> Option<Path>
-        ensures { MatchOption result (row_of self.now.channels id ≡ None) (λ found. found ≡ path self.now.channels id) }
+    /// The channels from the root down to one, with both. It takes no memory.
+    pub fn path(&self, id: ChannelId) -> Option<ArrayVec<ChannelId, PATH_LIMIT>>
+        ensures value { MatchOption result (row_of self.now.channels id ≡ None) (λ found. found.items ≡ path self.now.channels id) }
+        ensures there { is_some result ≡ is_there self.now.channels id }
     {
         find_path(&self.rows, id)
     }
@@ -198,6 +200,23 @@ impl Tree {
         Ok(())
     }
 
+    /// The first cause for which another name is refused.
+    fn cause_against_renaming(&self, id: ChannelId, name: &str) -> Option<TreeFault>
+        ensures { result ≡ fault_of_rename self.now id name.now }
+    {
+        let rows = self.rows.as_slice();
+        let Some(renamed) = find_row(rows, id) else {
+            return Some(TreeFault::NoChannel);
+        };
+        if renamed.channel.id.0 == ROOT.0 {
+            return Some(TreeFault::RootFixed);
+        }
+        if has_name(rows, renamed.channel.parent, id, name) {
+            return Some(TreeFault::SameName);
+        }
+        None
+    }
+
     /// Gives a channel another name. Refused, in this order: NoChannel, RootFixed, SameName.
     pub fn rename(&mut self, id: ChannelId, name: &str) -> Result<(), TreeFault>
         ensures { Renames self.old id name.now result self.new }
@@ -205,12 +224,8 @@ impl Tree {
         let Some(at) = locate(&self.rows, id) else {
             return Err(TreeFault::NoChannel);
         };
-        if id.0 == ROOT.0 {
-            return Err(TreeFault::RootFixed);
-        }
-        let parent = self.rows[at].channel.parent;
-        if has_name(&self.rows, parent, id, name) {
-            return Err(TreeFault::SameName);
+        if let Some(cause) = self.cause_against_renaming(id, name) {
+            return Err(cause);
         }
         let name = Text::of(self.alloc, name)?;
         let row = &mut self.rows[at];
@@ -296,7 +311,7 @@ impl Tree {
         let Some(above) = find_row(rows, parent) else {
             return Some(TreeFault::NoChannel);
         };
-        if id.0 == ROOT.0 {
+        if moved.channel.id.0 == ROOT.0 {
             return Some(TreeFault::RootFixed);
         }
         if has_name(rows, parent, id, moved.channel.name.as_str()) {
@@ -365,13 +380,8 @@ impl Tree {
         ensures { scratch.new ≡ below self.now id }
     {
         let rows = self.rows.as_slice();
-        scratch.clear();
-        for row in rows {
-            let number = row.channel.id;
-            if stands_below(rows, id, number) {
-                scratch.mark(number);
-            }
-        }
+        let below = places_below(rows, id);
+        scratch.fill(rows, &below);
     }
 
     /// Marks a channel and all that links lead to from it. It takes no memory.

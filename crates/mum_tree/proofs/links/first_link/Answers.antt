@@ -1,25 +1,17 @@
-use Rattle.std.proofs.Common.{◌<◌, ◌+◌, ◌-◌, ◌/◌, length, arith}
-use Rattle.mum_tree.proofs.Reached.{less_to, least_from}
+use Rattle.std.proofs.Common.{ltb, arith, rules}
+use Rattle.std.proofs.lemmas.Bool.{ltb-false, ltb-true}
+use Rattle.std.proofs.lemmas.List.Sorted.{IsPartitionPoint-from_clause}
+use Rattle.mum_tree.specs.State.{Pair}
+use Rattle.mum_tree.proofs.LinkSearch.{starts_parted}
 use Rattle.mum_tree.proofs.links.first_link.Goals as goal
 
-pub loop-low-preserved-then-links-middle : goal.loop-low-preserved-then-links-middle
-loop-low-preserved-then-links-middle c =
-    let at = c.loop-low.low + (c.loop-low.high - c.loop-low.low) / 2 in
-    let within : at < length c.args.links.now = omega arith in
+pub returns : goal.returns
+returns c =
+    let links = c.args.links.now in
+    let from = c.args.from in
+    let parted = IsPartitionPoint-from_clause (λ (link : Pair). ltb link.0.0 from.0) links c.partition_point.result c.partition_point.ensures.partitioned (starts_parted links from c.requires) (λ a r f called. search rules) in
     record {
-      ordered = omega arith;
-      within = omega arith;
-      less = less_to c.args.links.now at c.args.from.0 _ c.requires within c.if-links-middle.true;
-      rest = c.loop-low.invariant.rest;
-    }
-
-pub loop-low-preserved : goal.loop-low-preserved
-loop-low-preserved c =
-    let at = c.loop-low.low + (c.loop-low.high - c.loop-low.low) / 2 in
-    let within : at < length c.args.links.now = omega arith in
-    record {
-      ordered = omega arith;
-      within = omega arith;
-      less = c.loop-low.invariant.less;
-      rest = least_from c.args.links.now at c.args.from.0 _ c.requires within c.if-links-middle.false;
+      within = c.partition_point.ensures.bound;
+      before = λ k d below. ltb-true _ _ (parted.0 k d (omega arith) below);
+      after = λ k d above within. ltb-false _ _ (parted.1 k d above within);
     }

@@ -1,16 +1,15 @@
-use Rattle.std.proofs.Common.{◌≡◌, ◌≤◌, ◌++◌, drop, length, reverse}
+use Rattle.std.proofs.Common.{◌≡◌, ◌≤◌, ◌-◌, ◌++◌, length}
 use Rattle.std.specs.Bool.{IsTrue}
 use Rattle.std.specs.List.{Contains}
 use Rattle.mum_tree.specs.Rows.{is_there, upward}
 use Rattle.mum_tree.proofs.rows.find_path.Given as goal
 
-abbrev pub invariant-loop-start : goal.invariant-loop-start
-invariant-loop-start l = record {
-  whole : length l.channels ≡ 33;
-  within : l.start ≤ 33;
-  front : reverse (drop l.start l.channels) ++ upward l.rows l.start l.at ≡ upward l.rows 33 l.fn.id;
-  lead : IsTrue (is_there l.rows l.fn.id) → Contains (upward l.rows l.start l.at) (record { 0 = 0 });
+abbrev pub invariant-loop-channels : goal.invariant-loop-channels
+invariant-loop-channels l = record {
+  within : length l.channels.items ≤ 33;
+  front : l.channels.items ++ upward l.rows (33 - length l.channels.items) l.at ≡ upward l.rows 33 l.fn.id;
+  lead : IsTrue (is_there l.rows l.fn.id) → Contains (upward l.rows (33 - length l.channels.items) l.at) (record { 0 = 0 });
 }
 
-abbrev pub decreases-loop-start : goal.decreases-loop-start
-decreases-loop-start l = l.start
+abbrev pub decreases-loop-channels : goal.decreases-loop-channels
+decreases-loop-channels l = 33 - length l.channels.items

@@ -1,10 +1,21 @@
 use Rattle.std.proofs.Common.{◌≡◌, ◌∙◌, List, ap, sym, subst, None}
 use Rattle.std.specs.List.{insert, list_any}
 use Rattle.mum_tree.specs.Calls.{fault_of_link}
-use Rattle.mum_tree.specs.State.{Pair, TreeState, is_pair, with_link, with_pair}
-use Rattle.mum_tree.proofs.Linking.{joined, left_by_ok, link_made, links_grown}
-use Rattle.mum_tree.proofs.Joined.{relinked}
+use Rattle.mum_tree.specs.State.{Pair, Ordered, TreeState, is_pair, with_link, with_pair}
+use Rattle.mum_tree.proofs.Linking.{joined, left_by_ok, link_made, links_grown, put_in}
+use Rattle.mum_tree.proofs.Joined.{ordered_more, relinked}
 use Rattle.mum_tree.proofs.tree.Tree.link.Goals as goal
+
+pub place_for-at-requires-2 : goal.place_for-at-requires-2
+place_for-at-requires-2 c =
+    let a = c.args.a in
+    let b = c.args.b in
+    let links = c.self.inside.links.items in
+    let one = left_by_ok c.insert.result c.unwrap.result c.insert.new.self.items _ _ c.insert.ensures.items c.unwrap.ensures ∙ ap (λ (ps : List Pair). insert ps c.place_for-at.result (a, b)) c.reserve.ensures.items in
+    let seen = c.place_for-at.ensures in
+    let put = put_in links c.deref-2.result.now c.insert.new.self.items c.place_for-at.result a b (c.deref-2.ensures.value ∙ c.reserve.ensures.items) seen.within seen.before seen.here one in
+    let unlinked = ap (λ (ps : List Pair). list_any (is_pair a b) ps) (sym c.deref.ensures.value) ∙ sym c.has_link.ensures ∙ c.if-has_link.false in
+    subst Ordered (sym (c.deref-3.ensures.value ∙ put)) (ordered_more a b links unlinked c.self.invariant.joined.ordered)
 
 pub invariant_of-self-2 : goal.invariant_of-self-2
 invariant_of-self-2 c =

@@ -22,7 +22,7 @@ invariant_of-self c =
     let tree : TreeState = record { channels = rows; links = c.self.inside.links.items; greatest = c.self.inside.greatest } in
     let keeps : Row → Bool = λ row. not (get_or c.places_below-gone.result row.place false) in
     let kept = filter_same _ keeps _ (λ x b f k. search rules) rows c.retain.new.self.items c.retain.ensures.filtered in
-    let marks = subst (λ (seen : List Row). All (λ row. get_or c.places_below-gone.result row.place false ≡ is_below seen c.args.id row.channel.id) seen) c.deref-2.ensures.value c.places_below-gone.ensures in
+    let marks = subst (λ (seen : List Row). All (λ row. get_or c.places_below-gone.result row.place false ≡ is_below seen c.args.id row.channel.id) seen) c.deref-2.ensures.value c.places_below-gone.ensures.value in
     let same = filter_agree_at keeps (stays rows c.args.id) rows (λ k d within. ap not (marks k d within)) in
     let left = subst (λ (seen : List Row). c.keep_ends.new.links.items ≡ filter (λ (pair : Pair). is_there seen pair.0 && is_there seen pair.1) tree.links) (c.deref-3.ensures.value ∙ kept ∙ same) c.keep_ends.ensures in
     rw (kept ∙ same) (shrunk_proper tree c.args.id c.keep_ends.new.links.items c.self.invariant c.if-id.false left)
@@ -33,7 +33,7 @@ returns c =
     let tree : TreeState = record { channels = rows; links = c.self.inside.links.items; greatest = c.self.inside.greatest } in
     let keeps : Row → Bool = λ row. not (get_or c.places_below-gone.result row.place false) in
     let kept = filter_same _ keeps _ (λ x b f k. search rules) rows c.retain.new.self.items c.retain.ensures.filtered in
-    let marks = subst (λ (seen : List Row). All (λ row. get_or c.places_below-gone.result row.place false ≡ is_below seen c.args.id row.channel.id) seen) c.deref-2.ensures.value c.places_below-gone.ensures in
+    let marks = subst (λ (seen : List Row). All (λ row. get_or c.places_below-gone.result row.place false ≡ is_below seen c.args.id row.channel.id) seen) c.deref-2.ensures.value c.places_below-gone.ensures.value in
     let same = filter_agree_at keeps (stays rows c.args.id) rows (λ k d within. ap not (marks k d within)) in
     let left : TreeState = record { channels = c.retain.new.self.items; links = c.keep_ends.new.links.items; greatest = tree.greatest } in
     let links = subst (λ (seen : List Row). c.keep_ends.new.links.items ≡ filter (λ (pair : Pair). is_there seen pair.0 && is_there seen pair.1) tree.links) c.deref-3.ensures.value c.keep_ends.ensures in

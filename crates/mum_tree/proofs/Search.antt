@@ -1,0 +1,45 @@
+-- A search by halving in a list whose numbers rise.
+use Rattle.std.proofs.Common.{◌≡◌, ℕ, ◌<◌, ◌≤◌, List, length, get_or, Option, Some, None, Result, Ok, Err, MatchOption, MatchResult, arith, ap, sym, subst, inl, inr, ⊎_elim}
+use Rattle.std.specs.List.{AllPairs}
+use Rattle.std.specs.List.Sorted.{IsSearchInRange, IsBinarySearchResult, IsNonDecreasingBy}
+use Rattle.std.specs.Ordering.{nat_cmp, ordering_index}
+use Rattle.std.specs.Result.{result_ok}
+use Rattle.std.proofs.lemmas.Bool.{cases_eq, cases_lt}
+use Rattle.std.proofs.lemmas.Bool.Decides.{nat_tests}
+use Rattle.std.proofs.lemmas.Cmp.{ranked}
+use Rattle.mum_base.specs.declared.number.ChannelId.{ChannelId}
+use Rattle.mum_tree.specs.declared.channel.Row.{Row}
+use Rattle.mum_tree.specs.Rows.{number, row_of, Rise}
+use Rattle.mum_tree.proofs.Find.{row_of_at, row_of_none}
+
+module _ {X : Type 0} (n : X → ℕ) (xs : List X) (rise : AllPairs (λ one later. n one < n later) xs) (m : ℕ) where
+  -- the numbers rise or stay
+  stays_or_rises : (i j : ℕ) (d : X) → i ≤ j → j < length xs → n (get_or xs i d) ≤ n (get_or xs j d)
+  stays_or_rises i j d le within =
+      ⊎_elim
+      (λ (same : i ≡ j). let e : n (get_or xs i d) ≡ n (get_or xs j d) = ap (λ k. n (get_or xs k d)) same in omega arith)
+      (λ (differ : i ≡ j → ⊥). let less : n (get_or xs i d) < n (get_or xs j d) = rise i j d (omega arith) within in omega arith)
+      (cases_eq i j)
+
+  comparisons_rise : IsNonDecreasingBy (λ x. ordering_index (nat_cmp (n x) m)) xs
+  comparisons_rise i j d le within = let below : n (get_or xs i d) ≤ n (get_or xs j d) = stays_or_rises i j d le within in grind (arith, nat_tests)
+
+  -- where the search finds the number, and that nothing has it where it does not
+  pub found_by_halving : (r : Result ℕ ℕ) → IsSearchInRange r (length xs) → IsBinarySearchResult (λ x. nat_cmp (n x) m) xs r → MatchResult r (λ i. (i < length xs) × ((d : X) → n (get_or xs i d) ≡ m)) (λ i. (k : ℕ) (d : X) → k < length xs → n (get_or xs k d) ≡ m → ⊥)
+  found_by_halving (Ok i) within equal = (within, λ d. ranked _ m _ (sym (equal d)))
+  found_by_halving (Err i) within parted = λ k d inside same. elim (cases_lt k i) [
+    | inl below ↦ omega (arith, same, ranked _ m _ (sym ((parted comparisons_rise).0 k d (omega arith) below)))
+    | inr above ↦ omega (arith, same, ranked _ m _ (sym ((parted comparisons_rise).1 k d above inside)))
+  ]
+
+-- what the search tells of a channel
+abbrev pub Located : List Row → ChannelId → Option ℕ → Type 0
+Located rows id found = MatchOption found (row_of rows id ≡ None) (λ at. (at < length rows) × ((other : Row) → row_of rows id ≡ Some (get_or rows at other)))
+
+located_at : (rows : List Row) (id : ChannelId) → Rise rows → (r : Result ℕ ℕ) → MatchResult r (λ i. (i < length rows) × ((d : Row) → number (get_or rows i d) ≡ id.0)) (λ i. (k : ℕ) (d : Row) → k < length rows → number (get_or rows k d) ≡ id.0 → ⊥) → Located rows id (result_ok r)
+located_at rows id rise (Ok i) found = (found.0, λ other. row_of_at rows i other id rise found.0 (found.1 other))
+located_at rows id rise (Err i) none = row_of_none rows id none
+
+pub located : (rows : List Row) (id : ChannelId) → Rise rows → (r : Result ℕ ℕ) (found : Option ℕ) → IsSearchInRange r (length rows) → IsBinarySearchResult (λ row. nat_cmp (number row) id.0) rows r → found ≡ result_ok r → Located rows id found
+located rows id rise r found bound position is =
+    subst (Located rows id) (sym is) (located_at rows id rise r (found_by_halving number rows rise id.0 r bound position))

@@ -1,0 +1,124 @@
+//! How far channels are under one of them.
+
+ghost use Rattle.std.specs.Prelude.{◌≡◌, ◌≢◌, ◌+◌, ◌<◌, ℕ, None, length, nat_lt, false, slice_index_or, IfSome};
+ghost use Rattle.std.specs.List.{All, AllPairs, list_any};
+ghost use Rattle.std.specs.Option.{option_map, option_map_or};
+ghost use Rattle.mum_tree.specs.Proper.{LeadUp};
+ghost use Rattle.mum_tree.specs.Rows.{is_below, level, nests, path, AreLevels, Rise};
+ghost use Rattle.mum_tree.specs.declared.channel.Row.{Row};
+
+use crate::channel::{CHANNEL_LIMIT, PATH_LIMIT, ROOT, Row};
+use crate::rows::{path_length, place_in_rows};
+use mum_base::ChannelId;
+
+/// One step more.
+fn one_further(level: Option<u8>) -> Option<u8>
+    requires { IfSome level (λ steps. steps < 33) }
+    ensures { result ≡ option_map (λ steps. steps + 1) level }
+{
+    match level {
+        Some(steps) => Some(steps + 1),
+        None => None,
+    }
+}
+
+/// How many steps the channel of a row is under the top, if it is the top or below it. What is
+/// found on the way up is kept, by place, and what is kept is not looked for again.
+fn find_level(
+    rows: &[Row],
+    top: ChannelId,
+    at: usize,
+    known: &mut [Option<Option<u8>>],
+) -> Option<u8>
+    requires rise { Rise rows.now }
+    requires lead { LeadUp rows.now }
+    requires seated { All (λ row. row.place < 1024) rows.now }
+    requires seats { AllPairs (λ row other. row.place ≢ other.place) rows.now }
+    requires there { at < length rows.now }
+    requires room { length known.old ≡ 1024 }
+    requires right { AreLevels rows.now top known.old }
+    ensures value { (other : Row) → result ≡ level rows.now top (slice_index_or rows.now at other).channel.id }
+    ensures kept { AreLevels rows.now top known.new }
+{
+    let row = &rows[at];
+    if row.channel.id.0 == top.0 {
+        return Some(0);
+    }
+    if row.channel.id.0 == ROOT.0 {
+        return None;
+    }
+    let place = row.place as usize;
+    if let Some(level) = known[place] {
+        return level;
+    }
+    let above = place_in_rows(rows, row.channel.parent);
+    let level = one_further(find_level(rows, top, above, known));
+    known[place] = Some(level);
+    level
+}
+
+/// How many steps the channel at each place is under the top, if it is the top or below it. The
+/// parent of each channel is looked up at most once.
+fn find_levels(rows: &[Row], top: ChannelId) -> [Option<u8>; CHANNEL_LIMIT]
+    requires rise { Rise rows.now }
+    requires lead { LeadUp rows.now }
+    requires seated { All (λ row. row.place < 1024) rows.now }
+    requires seats { AllPairs (λ row other. row.place ≢ other.place) rows.now }
+    ensures length { length result ≡ 1024 }
+    ensures value { All (λ row. slice_index_or result row.place None ≡ level rows.now top row.channel.id) rows.now }
+{
+    let mut known = [None; CHANNEL_LIMIT];
+    let mut levels = [None; CHANNEL_LIMIT];
+    for (at, row) in rows.iter().enumerate() {
+        levels[row.place as usize] = find_level(rows, top, at, &mut known);
+    }
+    levels
+}
+
+/// Which places have a channel that is the top, or below it.
+pub(crate) fn places_below(rows: &[Row], top: ChannelId) -> [bool; CHANNEL_LIMIT]
+    requires rise { Rise rows.now }
+    requires lead { LeadUp rows.now }
+    requires seated { All (λ row. row.place < 1024) rows.now }
+    requires seats { AllPairs (λ row other. row.place ≢ other.place) rows.now }
+    ensures length { length result ≡ 1024 }
+    ensures value { All (λ row. slice_index_or result row.place false ≡ is_below rows.now top row.channel.id) rows.now }
+{
+    let levels = find_levels(rows, top);
+    let mut below = [false; CHANNEL_LIMIT];
+    for row in rows {
+        let place = row.place as usize;
+        below[place] = levels[place].is_some();
+    }
+    below
+}
+
+/// Whether a channel so many steps under another is too deep once that one is under a channel
+/// which has so many channels on its path.
+fn is_too_deep(level: Option<u8>, above: usize) -> bool
+    requires { above < 34 }
+    ensures { result ≡ option_map_or (λ steps. nat_lt 33 (above + 1 + steps)) level false }
+{
+    match level {
+        Some(steps) => PATH_LIMIT < above + 1 + steps as usize,
+        None => false,
+    }
+}
+
+/// Whether a channel under this one would be too deep once this one is under the parent.
+pub(crate) fn nests_too_deep(rows: &[Row], id: ChannelId, parent: ChannelId) -> bool
+    requires rise { Rise rows.now }
+    requires lead { LeadUp rows.now }
+    requires seated { All (λ row. row.place < 1024) rows.now }
+    requires seats { AllPairs (λ row other. row.place ≢ other.place) rows.now }
+    ensures { result ≡ list_any (nests rows.now id parent) rows.now }
+{
+    let above = path_length(rows, parent);
+    let levels = find_levels(rows, id);
+    for row in rows {
+        if is_too_deep(levels[row.place as usize], above) {
+            return true;
+        }
+    }
+    false
+}

@@ -1,4 +1,5 @@
 pub mod Frames
+pub mod Echoes
 pub mod Logins
 pub mod Looks
 pub mod LineFeeds

@@ -2,6 +2,7 @@ pub mod State
 pub mod Worker
 pub mod Core
 pub mod Illegal
+pub mod Reads
 pub mod Steps
 pub mod Transcript
 pub mod Built

@@ -1,7 +1,11 @@
 -- What each step changes, by cases on the step. A step is looked at here only where it is allowed.
-use Rattle.std.specs.Prelude.{ℕ, ◌+◌, ◌-◌, ◌==◌, ◌^◌, max, min, Bool, true, List, [], ◌∷◌, ◌++◌, length, map, take, drop, Option, Some, None, Result, Ok, Err, nat_lt, slice_get, slice_set, slice_index_or, if◌then◌else◌}
+use Rattle.std.specs.Prelude.{ℕ, ◌+◌, ◌-◌, ◌==◌, ◌^◌, max, min, Bool, true, List, [], ◌∷◌, ◌++◌, length, map, take, drop, Option, Some, None, Result, Ok, Err, nat_lt, unwrap_or, slice_get, slice_set, slice_index_or, if◌then◌else◌}
 use Rattle.byteorder.specs.Endian.{big_number}
+use Rattle.mum_fields.specs.Message.{or_else}
 use Rattle.mum_frame.specs.declared.frame.TheConstants.{HEADER_LENGTH}
+use Rattle.mum_frame.specs.declared.kind.TheConstants.{UDP_TUNNEL, VERSION, AUTHENTICATE}
+use Rattle.mum_msg_state.specs.Messages.{version, authenticate}
+use Rattle.mum_fields.specs.Table.{decoded}
 use Rattle.mum_base.specs.declared.number.SessionId.{SessionId}
 use Rattle.mum_voice.specs.declared.fault.BadVoice.{BadVoice}
 use Rattle.mum_voice.specs.Packet.{Parts, packet, copy}
@@ -22,6 +26,7 @@ use Rattle.mum_core.specs.declared.worker.Held.{Held}
 use Rattle.mum_core.specs.declared.worker.Outgoing.{Outgoing}
 use Rattle.mum_core.specs.Core.{CoreState}
 use Rattle.mum_core.specs.Illegal.{connection_at, worker_at, seat_of}
+use Rattle.mum_core.specs.Reads.{Decoded}
 use Rattle.mum_core.specs.State.{State, after, next_session, free_slot, route}
 use Rattle.mum_core.specs.Worker.{WorkerState}
 
@@ -37,13 +42,6 @@ kind_of bytes = big_number 2 bytes
 unfoldable pub payload_of : List ℕ → List ℕ
 payload_of bytes = drop HEADER_LENGTH bytes
 
--- the types of a raw voice packet and of a login
-abbrev pub VOICE : ℕ
-VOICE = 1
-
-abbrev pub LOGIN : ℕ
-LOGIN = 2
-
 -- the state after the first so many accepted edits
 abbrev pub state_at : CoreState → ℕ → State
 state_at core revision = after (take revision core.accepted)
@@ -57,13 +55,26 @@ set_worker core w worker = record core { workers = slice_set core.workers w work
 -- ---- open
 
 abbrev pub opened : CoreState → ℕ → CoreState
-opened core w = record core { connections = core.connections ++ record { worker = w; seat = None; asked = None; waiting = None; decided = None } ∷ [] }
+opened core w = record core { connections = core.connections ++ record { worker = w; version = None; seat = None; asked = None; waiting = None; decided = None } ∷ [] }
 
 -- ---- frame: what the worker of a connection makes of a frame
 
--- the name that a login asks for: the payload is one field, number 1, a text below 128 bytes
+-- the last Version that has a number counts; one that is malformed changes nothing
+abbrev pub versioned : CoreState → ℕ → Connection → Decoded version → CoreState
+versioned core c connection (Ok values) = set_connection core c (record connection { version = or_else values.0 connection.version })
+versioned core c connection (Err fault) = core
+
+abbrev pub versions : CoreState → ℕ → Option Connection → Decoded version → CoreState
+versions core c None read = core
+versions core c (Some connection) read = versioned core c connection read
+
+-- the name that a login asks for: the username, or an empty one where there is none
+abbrev pub name_in : Decoded authenticate → List ℕ
+name_in (Ok values) = unwrap_or values.0 []
+name_in (Err fault) = []
+
 abbrev pub name_of : List ℕ → List ℕ
-name_of payload = drop 2 payload
+name_of payload = name_in (decoded authenticate payload)
 
 abbrev pub asked_by : CoreState → ℕ → Connection → List ℕ → CoreState
 asked_by core c connection name = set_connection core c (record connection { asked = Some name; waiting = Some (Login name) })
@@ -88,11 +99,14 @@ abbrev pub asks : CoreState → ℕ → Option Connection → List ℕ → CoreS
 asks core c None name = core
 asks core c (Some connection) name = asked_by core c connection name
 
-abbrev pub framed : CoreState → ℕ → Option Connection → List ℕ → CoreState
-framed core c None bytes = core
-framed core c (Some connection) bytes =
-    if kind_of bytes == VOICE then voiced core connection.worker connection.seat (payload_of bytes)
-    else asked_by core c connection (name_of (payload_of bytes))
+-- each type that is taken, with what it changes: a voice packet, a Version, a login; every other changes nothing
+abbrev pub framed : CoreState → ℕ → Option Connection → ℕ → List ℕ → CoreState
+framed core c None kind payload = core
+framed core c (Some connection) kind payload =
+    if kind == UDP_TUNNEL then voiced core connection.worker connection.seat payload
+    else if kind == VERSION then versioned core c connection (decoded version payload)
+    else if kind == AUTHENTICATE then asked_by core c connection (name_of payload)
+    else core
 
 -- ---- edit: the control owner decides a waiting command at the state after all accepted edits
 
@@ -233,7 +247,7 @@ drained core (Some seat) = taken core seat (slice_get (outbox_at core seat.slot.
 -- the core after a step
 abbrev pub stepped : CoreState → Step → CoreState
 stepped core (Open c w) = opened core w
-stepped core (Frame c bytes) = framed core c (connection_at core c) bytes
+stepped core (Frame c bytes) = framed core c (connection_at core c) (kind_of bytes) (payload_of bytes)
 stepped core (Edit c) = edited core c (connection_at core c)
 stepped core Publish = record core { published = length core.accepted }
 stepped core (Tell c revision) = tells core c (connection_at core c) revision

@@ -4,7 +4,11 @@ use Rattle.std.specs.List.{flat_map}
 use Rattle.hex.specs.Hex.{encode_lower}
 use Rattle.mum_voice.specs.declared.fault.BadVoice.{BadVoice}
 use Rattle.mum_voice.specs.Packet.{Parts, packet}
+use Rattle.mum_fields.specs.Written.{written}
+use Rattle.mum_frame.specs.declared.kind.TheConstants.{UDP_TUNNEL, VERSION, PING, AUTHENTICATE}
 use Rattle.mum_frame.specs.Frame.{spelling_of}
+use Rattle.mum_msg_state.specs.Messages.{version, ping}
+use Rattle.mum_fields.specs.Table.{decoded, items, layout}
 use Rattle.mum_record.specs.declared.step.Step.{Step}
 use Rattle.mum_record.specs.declared.step.Step.TheVariants.{Open, Frame, Edit, Publish, Tell, Look, Offer, Post, Drain, Collect, Close, End}
 use Rattle.mum_core.specs.declared.connection.Connection.{Connection}
@@ -15,7 +19,8 @@ use Rattle.mum_core.specs.declared.route.Member.{Member}
 use Rattle.mum_core.specs.declared.worker.Outgoing.{Outgoing}
 use Rattle.mum_core.specs.Core.{CoreState}
 use Rattle.mum_core.specs.Illegal.{connection_at, worker_at, seat_of}
-use Rattle.mum_core.specs.Steps.{VOICE, kind_of, payload_of, audience, has_room, is_for, outbox_at}
+use Rattle.mum_core.specs.Reads.{Decoded}
+use Rattle.mum_core.specs.Steps.{kind_of, payload_of, audience, has_room, is_for, outbox_at}
 use Rattle.mum_core.specs.Worker.{WorkerState}
 
 -- a word, and a number behind a space
@@ -37,9 +42,24 @@ bad_line c code = word_and (word_and (codes "bad") c) code
 abbrev pub ignored_line : ℕ → ℕ → List ℕ
 ignored_line c why = word_and (word_and (codes "ignored") c) why
 
+-- why: the type is not read
+abbrev pub NOT_READ : ℕ
+NOT_READ = 1
+
+-- the payload is malformed
+abbrev pub MALFORMED : ℕ
+MALFORMED = 2
+
 -- a command or a packet of a connection that is not logged in
 abbrev pub NOT_LOGGED_IN : ℕ
 NOT_LOGGED_IN = 3
+
+abbrev pub kept_line : ℕ → List ℕ
+kept_line c = word_and (codes "kept") c
+
+-- the frame that answers a Ping
+abbrev pub echo_line : ℕ → List ℕ → List ℕ
+echo_line c frame = word_and (codes "echo") c ++ 32 ∷ encode_lower frame
 
 abbrev pub accepted_line : ℕ → ℕ → List ℕ
 accepted_line c revision = word_and (word_and (codes "accepted") c) revision
@@ -82,9 +102,22 @@ voice_line c None parsed = ignored_line c NOT_LOGGED_IN
 voice_line c (Some seat) (Ok parts) = heard_line c
 voice_line c (Some seat) (Err fault) = bad_line c fault.code
 
-abbrev pub frame_line : ℕ → Option Connection → List ℕ → List ℕ
-frame_line c connection bytes =
-    if kind_of bytes == VOICE then voice_line c (seat_of connection) (packet (payload_of bytes)) else asked_line c
+abbrev pub version_line : ℕ → Decoded version → List ℕ
+version_line c (Ok values) = kept_line c
+version_line c (Err fault) = ignored_line c MALFORMED
+
+-- a Ping is answered by a Ping of its timestamp alone
+abbrev pub ping_line : ℕ → Decoded ping → List ℕ
+ping_line c (Ok values) = echo_line c (spelling_of PING (written (items (layout ping) values)))
+ping_line c (Err fault) = ignored_line c MALFORMED
+
+abbrev pub frame_line : ℕ → Option Connection → ℕ → List ℕ → List ℕ
+frame_line c connection kind payload =
+    if kind == UDP_TUNNEL then voice_line c (seat_of connection) (packet payload)
+    else if kind == VERSION then version_line c (decoded version payload)
+    else if kind == PING then ping_line c (decoded ping payload)
+    else if kind == AUTHENTICATE then asked_line c
+    else ignored_line c NOT_READ
 
 abbrev pub look_line : CoreState → ℕ → ℕ → Option WorkerState → List ℕ
 look_line core w revision None = route_line w revision []
@@ -102,7 +135,7 @@ offer_line core w (Some worker) = next_line core w (slice_get worker.copies 0)
 abbrev pub front_line : ℕ → Seat → Option Parcel → List ℕ
 front_line c seat None = empty_line c
 front_line c seat (Some front) =
-    if is_for front seat then wire_line c (spelling_of VOICE front.bytes) else stale_line c
+    if is_for front seat then wire_line c (spelling_of UDP_TUNNEL front.bytes) else stale_line c
 
 abbrev pub drain_line : CoreState → ℕ → Option Seat → List ℕ
 drain_line core c None = []
@@ -111,7 +144,7 @@ drain_line core c (Some seat) = front_line c seat (slice_get (outbox_at core sea
 -- the lines of a step that is taken at this core
 abbrev pub told : CoreState → Step → List (List ℕ)
 told core (Open c w) = opened_line c w ∷ []
-told core (Frame c bytes) = frame_line c (connection_at core c) bytes ∷ []
+told core (Frame c bytes) = frame_line c (connection_at core c) (kind_of bytes) (payload_of bytes) ∷ []
 told core (Edit c) = accepted_line c (length core.accepted + 1) ∷ []
 told core Publish = published_line (length core.accepted) ∷ []
 told core (Tell c revision) = told_line c revision ∷ []

@@ -1,12 +1,16 @@
 //! What the core keeps of a connection.
 
 ghost use Rattle.std.specs.Prelude.{◌≡◌, None, Some};
-ghost use Rattle.mum_core.specs.Built.{asked_for};
+ghost use Rattle.mum_fields.specs.Message.{or_else};
+ghost use Rattle.mum_core.specs.Built.{asked_for, is_old};
 ghost use Rattle.mum_core.specs.Illegal.{untold_of};
 ghost use Rattle.mum_core.specs.declared.connection.Command.TheVariants.{Login};
 
 use crate::slot::ValidSlot;
 use mum_base::{SessionId, Text};
+
+/// The oldest version of the protocol, 1.2.0, of which a login is built.
+pub const OLDEST_VERSION: u32 = 0x0001_0200;
 
 /// A session and the slot that it holds.
 #[derive(Clone, Copy, Debug, PartialEq, Eq)]
@@ -34,6 +38,8 @@ pub enum Verdict {
 pub struct Connection {
     /// The number of the worker that serves it.
     pub worker: u32,
+    /// The number of its last Version that has one.
+    pub version: Option<u32>,
     /// The session that its told login gave it.
     pub seat: Option<Seat>,
     /// The name with which it asked to enter.
@@ -47,15 +53,30 @@ pub struct Connection {
 impl Connection {
     /// A connection that has asked for nothing yet, at this worker.
     pub fn at(worker: u32) -> Connection
-        ensures { result ≡ record { worker = worker; seat = None; asked = None; waiting = None; decided = None } }
+        ensures { result ≡ record { worker = worker; version = None; seat = None; asked = None; waiting = None; decided = None } }
     {
         Connection {
             worker,
+            version: None,
             seat: None,
             asked: None,
             waiting: None,
             decided: None,
         }
+    }
+
+    /// Whether it told a version below the oldest.
+    pub fn is_old(&self) -> bool
+        ensures { result ≡ is_old (Some self.now) }
+    {
+        self.version.is_some_and(|number| number < OLDEST_VERSION)
+    }
+
+    /// It tells its version, maybe without a number.
+    pub fn tell_version(&mut self, number: Option<u32>)
+        ensures { self.new ≡ record self.old { version = or_else number self.old.version } }
+    {
+        self.version = number.or(self.version);
     }
 
     /// How many of its commands were not decided yet, or not told.

@@ -4,9 +4,11 @@
 
 pub mod connection;
 pub mod edit;
+mod ignored;
 mod lines;
 pub mod machine;
 pub mod outbox;
+mod payload;
 pub mod program;
 pub mod replay;
 pub mod route;

@@ -2,7 +2,7 @@
 
 ghost use Rattle.std.specs.Prelude.{◌≡◌, [], ◌∷◌, ◌++◌, List, IfOk, string_bytes};
 ghost use Rattle.std.specs.List.{flat_map};
-ghost use Rattle.mum_core.specs.Transcript.{opened_line, asked_line, heard_line, bad_line, ignored_line, accepted_line, published_line, told_line, member_words, route_line, sent_line, full_line, wire_line, stale_line, empty_line, totals_line};
+ghost use Rattle.mum_core.specs.Transcript.{opened_line, asked_line, heard_line, bad_line, ignored_line, kept_line, echo_line, accepted_line, published_line, told_line, member_words, route_line, sent_line, full_line, wire_line, stale_line, empty_line, totals_line};
 
 use crate::machine::{Effects, Totals};
 use crate::route::Member;
@@ -45,6 +45,19 @@ pub(crate) fn ignored(alloc: Global, connection: u32, why: u8) -> Result<Effects
     ensures { IfOk result (λ effects. effects ≡ ignored_line connection why ∷ []) }
 {
     only(alloc, format!(in alloc; "ignored {connection} {why}")?)
+}
+
+pub(crate) fn kept(alloc: Global, connection: u32) -> Result<Effects, OutOfMemory>
+    ensures { IfOk result (λ effects. effects ≡ kept_line connection ∷ []) }
+{
+    only(alloc, format!(in alloc; "kept {connection}")?)
+}
+
+pub(crate) fn echo(alloc: Global, connection: u32, frame: &[u8]) -> Result<Effects, OutOfMemory>
+    ensures { IfOk result (λ effects. effects ≡ echo_line connection frame.now ∷ []) }
+{
+    let digits = hex::encode(alloc, frame)?;
+    only(alloc, format!(in alloc; "echo {connection} {digits}")?)
 }
 
 pub(crate) fn accepted(

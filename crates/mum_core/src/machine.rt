@@ -21,6 +21,8 @@ use thiserror::Error;
 
 mod frames;
 mod logins;
+mod pings;
+mod versions;
 mod voice;
 
 /// The lines that a step adds to the transcript, without their line feeds.
@@ -144,17 +146,19 @@ impl Core {
         })
     }
 
-    /// Whether the core knows the step: an `open` of a connection above 128, a frame that is neither plain
-    /// talk nor a first login under a new name, `post`, `collect` and `close` are not built yet.
-    pub fn is_built(&self, step: &Step) -> bool
+    /// Whether the core knows the step. Not built yet are an `open` of a connection above 128, `post`,
+    /// `collect` and `close`, and of frames a command after the login, voice that is no plain talk, and a
+    /// login that is not plain, not the first of its connection, not the first under its name, or of a
+    /// version below 1.2.0.
+    pub fn is_built(&self, step: &Step) -> Result<bool, OutOfMemory>
         requires recordable { IsRecordable step.now }
-        ensures { result ≡ is_built self.now step.now }
+        ensures { IfOk result (λ built. built ≡ is_built self.now step.now) }
     {
         match step {
-            Step::Open { connection, .. } => *connection as usize <= SLOTS,
+            Step::Open { connection, .. } => Ok(*connection as usize <= SLOTS),
             Step::Frame { connection, bytes } => self.is_built_frame(*connection, bytes.as_slice()),
-            Step::Post | Step::Collect { .. } | Step::Close { .. } => false,
-            _ => true,
+            Step::Post | Step::Collect { .. } | Step::Close { .. } => Ok(false),
+            _ => Ok(true),
         }
     }
 

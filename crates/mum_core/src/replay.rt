@@ -149,7 +149,7 @@ impl Phase {
             }
             Phase::Running(core) => {
                 let step = read(alloc, line)?;
-                if !core.is_built(&step) {
+                if !core.is_built(&step)? {
                     return Err(Stop::Fault(LineFault::NotBuilt));
                 }
                 let lines = take(core, &step)?;

@@ -6,7 +6,7 @@ use std::test::Fail;
 // The reply to the step of a line: what it tells, or the two numbers of its refusal.
 fn reply(alloc: Global, core: &mut Core, line: &str) -> Result<String, Fail> {
     let step = read_step(alloc, line.as_bytes())?;
-    if !core.is_built(&step) {
+    if !core.is_built(&step)? {
         return Ok(String::from_str(alloc, "not built")?);
     }
     match core.step(&step) {

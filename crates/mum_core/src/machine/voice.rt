@@ -9,19 +9,15 @@ ghost use Rattle.mum_core.specs.Transcript.{voice_line};
 
 use super::{Core, Effects, StepFault, illegal};
 use crate::connection::Seat;
+use crate::ignored::NOT_LOGGED_IN;
 use crate::lines;
 use crate::outbox::Parcel;
 use crate::route::{Addressed, address};
 use crate::worker::{Held, hold_at};
 use mum_base::{Octets, OutOfMemory};
+use mum_frame::kind::UDP_TUNNEL;
 use mum_frame::put_frame;
 use mum_voice::Packet;
-
-/// The type of a frame that carries a raw voice packet.
-pub const VOICE: u16 = 1;
-
-/// Why a packet or a command is ignored: its connection is not logged in.
-const NOT_LOGGED_IN: u8 = 3;
 
 impl Core {
     /// The worker of a connection takes a voice packet.
@@ -139,7 +135,7 @@ impl Core {
             self.totals.stale = self.totals.stale.saturating_add(1);
             return Ok(effects);
         }
-        let frame = put_frame(self.alloc, VOICE, front.bytes.as_slice())?;
+        let frame = put_frame(self.alloc, UDP_TUNNEL, front.bytes.as_slice())?;
         let effects = lines::wire(self.alloc, connection, frame.as_slice())?;
         let _ = self.outboxes[slot].take();
         Ok(effects)

@@ -4,6 +4,8 @@ use mum_io::{MemSink, MemSource};
 use std::alloc::{AllocError, Global};
 use std::test::Fail;
 
+mod frames;
+
 /// Two users of the root channel log in.
 const LOGINS: &str = "recording 1
 workers 1
@@ -173,6 +175,36 @@ fn what_follows_the_logins_is_answered(rt: HostRuntime) -> Result<(), Fail> {
             11,
             "",
             "murmur: 11 NotBuilt line 14\n",
+        ),
+        (
+            "open 3 0\nframe 3 0002000000050a03636174\nframe 3 000600000000\n",
+            11,
+            "opened 3 0\nasked 3\n",
+            "murmur: 11 NotBuilt line 16\n",
+        ),
+        (
+            "open 3 0\nframe 3 0002000000050a03636174\nframe 3 000000000000\n",
+            7,
+            "opened 3 0\nasked 3\n",
+            "murmur: 7 IllegalStep line 16 given 3 against 1\n",
+        ),
+        (
+            "open 3 0\nframe 3 0002000000050a03636174\nframe 3 000a00000000\n",
+            7,
+            "opened 3 0\nasked 3\n",
+            "murmur: 7 IllegalStep line 16 given 3 against 1\n",
+        ),
+        (
+            "frame 1 000100000006800103aabbcc\nframe 2 000300000000\n",
+            7,
+            "heard 1\n",
+            "murmur: 7 IllegalStep line 15 given 0 against 1\n",
+        ),
+        (
+            "frame 3 000400000000\n",
+            7,
+            "",
+            "murmur: 7 IllegalStep line 14 given 3 against 2\n",
         ),
         (
             "open 4 0\n",

@@ -1,6 +1,7 @@
 //! Lists that contracts see as lists, whatever holds them.
 
-ghost use Rattle.std.specs.Prelude.{◌≡◌, IfOk, string_bytes};
+ghost use Rattle.std.specs.Prelude.{◌≡◌, ◌++◌, [], ◌∷◌, IfOk, OnOk, OnErr, string_bytes};
+ghost use Rattle.std.specs.Str.{IsUtf8};
 
 use std::alloc::{AllocError, Global};
 use std::marker::Model;
@@ -44,6 +45,13 @@ impl Octets {
     {
         self.bytes.as_slice()
     }
+
+    /// Bytes of its own that are equal.
+    pub fn copy(&self, alloc: Global) -> Result<Octets, OutOfMemory>
+        ensures { IfOk result (λ copy. copy ≡ self.now) }
+    {
+        Octets::of(alloc, self.as_slice())
+    }
 }
 
 /// A text: a list of bytes that are UTF-8.
@@ -85,9 +93,17 @@ impl Text {
     }
 
     pub fn as_str(&self) -> &str
-        ensures { result.now ≡ self.now }
+        ensures value { result.now ≡ self.now }
+        ensures utf8 { IsUtf8 self.now }
     {
         self.text.as_str()
+    }
+
+    /// A text of its own that is equal.
+    pub fn copy(&self, alloc: Global) -> Result<Text, OutOfMemory>
+        ensures { IfOk result (λ copy. copy ≡ self.now) }
+    {
+        Text::of(alloc, self.as_str())
     }
 }
 
@@ -106,6 +122,15 @@ impl<T> Model for Items<T> {
 }
 
 impl<T> Items<T> {
+    /// No value yet.
+    pub fn new(alloc: Global) -> Items<T>
+        ensures { result ≡ [] }
+    {
+        Items {
+            items: Vec::new(alloc),
+        }
+    }
+
     /// These values, without a copy.
     pub fn from_vec(items: Vec<T>) -> Items<T>
         ensures { result ≡ items.items }
@@ -117,5 +142,16 @@ impl<T> Items<T> {
         ensures { result.now ≡ self.now }
     {
         self.items.as_slice()
+    }
+
+    /// One value more, at the end.
+    pub fn push(&mut self, value: T) -> Result<(), OutOfMemory>
+    where
+        T: Drop,
+        ensures ok { OnOk result (self.new ≡ self.old ++ value ∷ []) }
+        ensures err { OnErr result (self.new ≡ self.old) }
+    {
+        self.items.push(value)?;
+        Ok(())
     }
 }

@@ -6,12 +6,14 @@ pub mod items;
 pub mod name;
 pub mod number;
 pub mod perm;
+pub mod reply;
 pub mod steps;
 
 pub use items::{Items, Octets, OutOfMemory, Text};
 pub use name::{NameFault, check_name, check_text};
 pub use number::{AccountId, Cause, ChannelId, SessionId, Slot};
 pub use perm::Perm;
+pub use reply::{Mark, ReplyEnd};
 pub use steps::Steps;
 
 #[cfg(test)]

@@ -12,6 +12,12 @@ pub const NAME_LIMIT: usize = 128;
 /// The most bytes of a text, a comment or a description.
 pub const TEXT_LIMIT: usize = 20_000;
 
+/// The limits of names and texts, in bytes. This does nothing: its contract is what they are.
+pub fn limits()
+    ensures name { NAME_LIMIT ≡ 128 }
+    ensures text { TEXT_LIMIT ≡ 20000 }
+{}
+
 /// Why a name or a text is refused.
 #[derive(Clone, Copy, Debug, PartialEq, Eq, Error)]
 pub enum NameFault {

@@ -9,9 +9,19 @@ pub struct SessionId(pub u32);
 #[derive(Clone, Copy, Debug, Default, PartialEq, Eq, PartialOrd, Ord, Hash)]
 pub struct ChannelId(pub u32);
 
+impl ChannelId {
+    /// The root, in which sessions begin.
+    pub const ROOT: ChannelId = ChannelId(0);
+}
+
 /// The number of an account. Account 0 is SuperUser.
 #[derive(Clone, Copy, Debug, Default, PartialEq, Eq, PartialOrd, Ord, Hash)]
 pub struct AccountId(pub u32);
+
+impl AccountId {
+    /// Who may do everything but speak and whisper, whatever the access control lists say.
+    pub const SUPER_USER: AccountId = AccountId(0);
+}
 
 /// The place that a session holds while it is connected, below 128. It is given again once it is free.
 #[derive(Clone, Copy, Debug, Default, PartialEq, Eq, PartialOrd, Ord, Hash)]

@@ -1,6 +1,7 @@
 //! Permission bits, as the Murmur manual and the `ACL` message number them.
 
-ghost use Rattle.std.specs.Prelude.{◌≡◌, ◌↔◌, IsTrue, bit_or};
+ghost use Rattle.std.specs.Prelude.{◌≡◌, ◌↔◌, ◌-◌, ◌<◌, ℕ, IsTrue, bit_or, max, min};
+ghost use Rattle.std.specs.Int.{bit_at};
 ghost use Rattle.mum_base.specs.Perm.{Holds, without_bits};
 
 /// A set of permissions, a bit for each.
@@ -55,7 +56,7 @@ impl Perm {
     /// TextMessage and Listen.
     pub const START: Perm = Perm(0xB0E);
 
-    /// What Write brings along in its channel: all but Speak and the bits of the root.
+    /// What Write brings along in its channel: all but Speak, Whisper and the bits of the root.
     pub const BY_WRITE: Perm = Perm(0xEF7);
 
     /// Whether every permission of `p` is held.
@@ -74,8 +75,9 @@ impl Perm {
 
     /// These permissions but for those of `p`.
     pub fn without(self, p: Perm) -> Perm
-        ensures { result.0 ≡ without_bits self.0 p.0 }
+        ensures value { result.0 ≡ without_bits self.0 p.0 }
+        ensures bits { (i : ℕ) → i < 32 → bit_at result.0 i ≡ min (bit_at self.0 i) (1 - bit_at p.0 i) }
     {
-        Perm(self.0 ^ (self.0 & p.0))
+        Perm(self.0 & !p.0)
     }
 }

@@ -18,6 +18,3 @@ pub use fault::TreeFault;
 pub use links::LINK_LIMIT;
 pub use scratch::Scratch;
 pub use tree::Tree;
-
-#[cfg(test)]
-mod tests;

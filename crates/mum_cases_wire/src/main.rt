@@ -3,12 +3,19 @@
 #![tactic(auto)]
 
 mod client;
+mod faults;
+mod fields;
 mod frames;
 mod list;
+mod messages;
 mod name;
 mod packet;
+mod payload;
 mod perm;
+mod shown;
 mod stream;
+mod told_rule;
+mod told_state;
 mod varint;
 mod words;
 
@@ -25,5 +32,7 @@ fn main(rt: HostRuntime) -> Result<()> {
     tally.compare::<varint::Varints, HostRuntime>(&rt)?;
     tally.compare::<packet::Packets, HostRuntime>(&rt)?;
     tally.compare_files::<client::Clients, HostRuntime>(&rt)?;
+    tally.compare::<fields::Fields, HostRuntime>(&rt)?;
+    tally.compare::<messages::Messages, HostRuntime>(&rt)?;
     tally.finish(&rt)
 }

@@ -32,6 +32,3 @@ pub use reader::Reader;
 pub use slot::{add_numbers, add_text, set_block, set_text, set_varint};
 pub use text::read_text;
 pub use writer::Writer;
-
-#[cfg(test)]
-mod tests;

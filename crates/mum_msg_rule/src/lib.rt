@@ -20,6 +20,3 @@ pub use permission_query::PermissionQuery;
 pub use target_block::TargetBlock;
 pub use text_message::TextMessage;
 pub use voice_target::VoiceTarget;
-
-#[cfg(test)]
-mod tests;

@@ -24,6 +24,3 @@ pub use server_sync::ServerSync;
 pub use user_remove::UserRemove;
 pub use user_state::UserState;
 pub use version::Version;
-
-#[cfg(test)]
-mod tests;

@@ -172,7 +172,7 @@ links_made rows links a b here there differ new room room-2 are =
           (are.few_each id));
     }
 
-pub relinked : (tree : TreeState) (links : List Pair) → AreLinks tree.channels links → IsProper tree → IsProper (record { channels = tree.channels; links = links; greatest = tree.greatest })
+pub relinked : {limit : ℕ} → (tree : TreeState) (links : List Pair) → AreLinks tree.channels links → IsProper limit tree → IsProper limit (record { channels = tree.channels; links = links; greatest = tree.greatest })
 relinked tree links are proper = record {
   rise = proper.rise;
   root = proper.root;

@@ -12,7 +12,7 @@ use Rattle.mum_tree.specs.Rows.{number, row_of, is_there, is_temporary, is_taken
 use Rattle.mum_tree.specs.Proper.{AreApart, IsProper, IsUnderLasting, LeadUp}
 use Rattle.mum_tree.specs.declared.fault.TreeFault.TheVariants.{NoChannel, SameName, UnderItself, Nesting, RootFixed, TemporaryParent}
 use Rattle.std.proofs.lemmas.Bool.{and_parts, not-false}
-use Rattle.mum_tree.specs.Calls.{fault_of_move, name_of}
+use Rattle.mum_tree.specs.Refusals.{fault_of_move, name_of}
 use Rattle.mum_tree.specs.State.{TreeState, changed, with_channel}
 use Rattle.mum_tree.proofs.Find.{contains_later}
 use Rattle.mum_tree.proofs.Joined.{links_kept}
@@ -209,8 +209,8 @@ moved_lasting rows id parent lasting lasts =
     (cases_Bool (eqb (number row) id.0)))
     rows lasting)
 
-pub moved_proper : (tree : TreeState) (id parent : ChannelId) (row : Row) → IsProper tree → row_of tree.channels id ≡ Some row → id.0 ≢ 0 → is_there tree.channels parent ≡ true → is_taken tree.channels parent id row.channel.name ≡ false → is_below tree.channels id parent ≡ false → is_temporary tree.channels parent ≡ false → list_any (nests tree.channels id parent) tree.channels ≡ false → IsProper (with_channel tree id (placed parent))
-moved_proper tree id parent row proper found lower stands free off lasts shallow =
+pub moved_proper : {limit : ℕ} → (tree : TreeState) (id parent : ChannelId) (row : Row) → IsProper limit tree → row_of tree.channels id ≡ Some row → id.0 ≢ 0 → is_there tree.channels parent ≡ true → is_taken tree.channels parent id row.channel.name ≡ false → is_below tree.channels id parent ≡ false → is_temporary tree.channels parent ≡ false → list_any (nests tree.channels id parent) tree.channels ≡ false → IsProper limit (with_channel tree id (placed parent))
+moved_proper {limit} tree id parent row proper found lower stands free off lasts shallow =
     let rows = tree.channels in
     let f : Row → Row = moved_row id parent in
     let (root, here, is) = proper.root in
@@ -221,7 +221,7 @@ moved_proper tree id parent row proper found lower stands free off lasts shallow
       lead = moved_lead rows id parent proper.rise proper.lead lower stands off shallow;
       apart = moved_apart rows id parent row proper.rise proper.apart found free;
       lasting = moved_lasting rows id parent proper.lasting lasts;
-      seated = All-map (λ one. one.place < 1024) f rows (All-weaker (λ one. one.place < 1024) (λ one. (f one).place < 1024) (λ one seated. rw (same_place id parent one) seated) rows proper.seated);
+      seated = All-map (λ one. one.place < limit) f rows (All-weaker (λ one. one.place < limit) (λ one. (f one).place < limit) (λ one seated. rw (same_place id parent one) seated) rows proper.seated);
       seats = AllPairs-map (λ one other. one.place ≢ other.place) (λ one other. one.place ≢ other.place) f rows (λ i j d below within differ same. differ (sym (same_place id parent (get_or rows i d)) ∙ same ∙ same_place id parent (get_or rows j d))) proper.seats;
       few = rw (length-map rows f) proper.few;
       known = All-map (λ one. number one ≤ tree.greatest) f rows (All-weaker (λ one. number one ≤ tree.greatest) (λ one. number (f one) ≤ tree.greatest) (λ one known. rw (same_number id parent one) known) rows proper.known);
@@ -229,8 +229,8 @@ moved_proper tree id parent row proper found lower stands free off lasts shallow
     }
 
 -- what a move leaves, as the code has it, where no cause stands against it
-pub moving : (tree : TreeState) (seen : List Row) (at : ℕ) (id parent : ChannelId) (row : Row) → IsProper tree → seen ≡ tree.channels → (at < length seen) × ((other : Row) → row_of seen id ≡ Some (get_or seen at other)) → row ≡ get_or tree.channels at row → fault_of_move tree id parent ≡ None → (set tree.channels at (record row { channel = placed parent row.channel }) ≡ changed id (placed parent) tree.channels) × IsProper (with_channel tree id (placed parent))
-moving tree seen at id parent row proper same located is allowed =
+pub moving : {limit : ℕ} → (tree : TreeState) (seen : List Row) (at : ℕ) (id parent : ChannelId) (row : Row) → IsProper limit tree → seen ≡ tree.channels → (at < length seen) × ((other : Row) → row_of seen id ≡ Some (get_or seen at other)) → row ≡ get_or tree.channels at row → fault_of_move tree id parent ≡ None → (set tree.channels at (record row { channel = placed parent row.channel }) ≡ changed id (placed parent) tree.channels) × IsProper limit (with_channel tree id (placed parent))
+moving {limit} tree seen at id parent row proper same located is allowed =
     let rows = tree.channels in
     let (within, finds) = subst (λ (rs : List Row). (at < length rs) × ((other : Row) → row_of rs id ≡ Some (get_or rs at other))) same located in
     let found : row_of rows id ≡ Some row = row_read rows at id row finds is in

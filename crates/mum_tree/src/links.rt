@@ -50,7 +50,7 @@ fn links_of(links: &[(ChannelId, ChannelId)], of: ChannelId) -> &[(ChannelId, Ch
 /// Whether a channel has as many links as it may have.
 pub(crate) fn is_crowded(links: &[(ChannelId, ChannelId)], of: ChannelId) -> bool
     requires { Ordered links.now }
-    ensures { result ≡ nat_le 64 (length (ends_from of links.now)) }
+    ensures { result ≡ nat_le LINK_LIMIT (length (ends_from of links.now)) }
 {
     links_of(links, of).len() >= LINK_LIMIT
 }

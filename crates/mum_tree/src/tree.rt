@@ -6,11 +6,13 @@ ghost use Rattle.std.specs.Option.{option_copied, option_map};
 ghost use Rattle.mum_base.specs.declared.number.ChannelId.{ChannelId};
 ghost use Rattle.mum_tree.specs.Proper.{IsProper};
 ghost use Rattle.mum_tree.specs.Rows.{row_of, is_there, path};
-ghost use Rattle.mum_tree.specs.State.{root_alone, next_number, plain_info, partners, below};
+ghost use Rattle.mum_tree.specs.State.{root_alone, next_number, plain_info, partners, below, with_info, with_link, with_name, with_new, with_parent, without_link, without_subtree};
 ghost use Rattle.mum_tree.specs.Walks.{LeadTo};
-ghost use Rattle.mum_tree.specs.Calls.{is_full, fault_of_add, fault_of_link, fault_of_move, fault_of_rename, Adds, JoinsTwo, Moves, PartsTwo, Removes, Renames, SetsInfo};
+ghost use Rattle.mum_tree.specs.Refusals.{is_full, fault_of_add, fault_of_link, fault_of_move, fault_of_remove, fault_of_rename, fault_of_set_info, fault_of_unlink};
+ghost use Rattle.mum_tree.specs.Fault.{named_cause};
+ghost use Rattle.mum_base.specs.Refusal.{Settles, SettlesInPlace};
 
-use crate::channel::{CHANNEL_LIMIT, Channel, ChannelInfo, PATH_LIMIT, ROOT, Row};
+use crate::channel::{CHANNEL_LIMIT, Channel, ChannelInfo, PATH_LIMIT, Row};
 use crate::fault::TreeFault;
 use crate::levels::{nests_too_deep, places_below};
 use crate::links::{has_link, is_crowded, joins, keep_ends, nth_end, place_for};
@@ -36,6 +38,7 @@ pub struct Tree {
 }
 
 impl Model for Tree {
+    ghost use Rattle.mum_tree.specs.declared.channel.TheConstants.{CHANNEL_LIMIT};
     ghost use Rattle.mum_tree.specs.Proper.{IsProper};
     ghost use Rattle.mum_tree.specs.State.{TreeState};
 
@@ -43,7 +46,7 @@ impl Model for Tree {
 
     ghost view = { λ t. record { channels = t.rows.items; links = t.links.items; greatest = t.greatest } };
 
-    ghost invariant = { λ t. IsProper (record { channels = t.rows.items; links = t.links.items; greatest = t.greatest }) };
+    ghost invariant = { λ t. IsProper CHANNEL_LIMIT (record { channels = t.rows.items; links = t.links.items; greatest = t.greatest }) };
 }
 
 /// No description, no place among its siblings, no limit of users.
@@ -60,14 +63,15 @@ fn plain_channel_info(alloc: Global) -> Result<ChannelInfo, OutOfMemory>
 impl Tree {
     /// The root alone.
     pub fn new(alloc: Global) -> Result<Tree, OutOfMemory>
-        ensures { IfOk result (λ tree. tree ≡ root_alone) }
+        ensures made { IfOk result (λ tree. tree ≡ root_alone) }
+        ensures proper { IfOk result (λ tree. IsProper CHANNEL_LIMIT tree) }
     {
         let mut rows = Vec::new(alloc);
         rows.push(Row {
             place: 0,
             channel: Channel {
-                id: ROOT,
-                parent: ROOT,
+                id: ChannelId::ROOT,
+                parent: ChannelId::ROOT,
                 name: Text::of(alloc, "Root")?,
                 temporary: false,
                 info: plain_channel_info(alloc)?,
@@ -79,13 +83,6 @@ impl Tree {
             links: Vec::new(alloc),
             greatest: 0,
         })
-    }
-
-    /// What every tree keeps. This does nothing: its contract is the theorem.
-    pub fn is_proper(&self)
-        ensures { IsProper self.now }
-    {
-        let _rows = &self.rows;
     }
 
     /// The number for a new channel: one above the greatest that a channel ever had.
@@ -139,7 +136,7 @@ impl Tree {
 
     /// Whether there are as many channels as there can be.
     pub fn full(&self) -> bool
-        ensures { result ≡ is_full self.now }
+        ensures { result ≡ is_full CHANNEL_LIMIT self.now }
     {
         self.rows.len() >= CHANNEL_LIMIT
     }
@@ -151,7 +148,7 @@ impl Tree {
         parent: ChannelId,
         name: &str,
     ) -> Option<TreeFault>
-        ensures { result ≡ fault_of_add self.now id parent name.now }
+        ensures { result ≡ fault_of_add CHANNEL_LIMIT self.now id parent name.now }
     {
         let rows = self.rows.as_slice();
         let Some(above) = find_row(rows, parent) else {
@@ -182,7 +179,9 @@ impl Tree {
         temporary: bool,
     ) -> Result<(), TreeFault>
         requires { self.old.greatest < id.0 }
-        ensures { Adds self.old id parent name.now temporary result self.new }
+        ensures made { Settles named_cause (fault_of_add CHANNEL_LIMIT self.old id parent name.now)
+            (with_new self.old id parent name.now temporary) self.old result self.new }
+        ensures proper { IsProper CHANNEL_LIMIT self.new }
     {
         if let Some(cause) = self.cause_against_adding(id, parent, name) {
             return Err(cause);
@@ -208,7 +207,7 @@ impl Tree {
         let Some(renamed) = find_row(rows, id) else {
             return Some(TreeFault::NoChannel);
         };
-        if renamed.channel.id.0 == ROOT.0 {
+        if renamed.channel.id.0 == ChannelId::ROOT.0 {
             return Some(TreeFault::RootFixed);
         }
         if has_name(rows, renamed.channel.parent, id, name) {
@@ -219,7 +218,9 @@ impl Tree {
 
     /// Gives a channel another name. Refused, in this order: NoChannel, RootFixed, SameName.
     pub fn rename(&mut self, id: ChannelId, name: &str) -> Result<(), TreeFault>
-        ensures { Renames self.old id name.now result self.new }
+        ensures made { Settles named_cause (fault_of_rename self.old id name.now)
+            (with_name self.old id name.now) self.old result self.new }
+        ensures proper { IsProper CHANNEL_LIMIT self.new }
     {
         let Some(at) = locate(&self.rows, id) else {
             return Err(TreeFault::NoChannel);
@@ -236,7 +237,9 @@ impl Tree {
     /// Gives a channel another description, position and limit of users. Refused: NoChannel.
     /// It takes no memory.
     pub fn set_info(&mut self, id: ChannelId, info: ChannelInfo) -> Result<(), TreeFault>
-        ensures { SetsInfo self.old id info result self.new }
+        ensures made { SettlesInPlace (fault_of_set_info self.old id)
+            (with_info self.old id info) self.old result self.new }
+        ensures proper { IsProper CHANNEL_LIMIT self.new }
     {
         let Some(at) = locate(&self.rows, id) else {
             return Err(TreeFault::NoChannel);
@@ -256,7 +259,9 @@ impl Tree {
     /// Takes the link between two channels away, if there is one. Refused: NoChannel.
     /// It takes no memory.
     pub fn unlink(&mut self, a: ChannelId, b: ChannelId) -> Result<(), TreeFault>
-        ensures { PartsTwo self.old a b result self.new }
+        ensures made { SettlesInPlace (fault_of_unlink self.old a b)
+            (without_link self.old a b) self.old result self.new }
+        ensures proper { IsProper CHANNEL_LIMIT self.new }
     {
         if !both_there(&self.rows, a, b) {
             return Err(TreeFault::NoChannel);
@@ -284,7 +289,9 @@ impl Tree {
     /// Links two channels. A link of a channel to itself, or one that is there, changes nothing.
     /// Refused, in this order: NoChannel, LinkCount.
     pub fn link(&mut self, a: ChannelId, b: ChannelId) -> Result<(), TreeFault>
-        ensures { JoinsTwo self.old a b result self.new }
+        ensures made { Settles named_cause (fault_of_link self.old a b)
+            (with_link self.old a b) self.old result self.new }
+        ensures proper { IsProper CHANNEL_LIMIT self.new }
     {
         if let Some(cause) = self.cause_against_linking(a, b) {
             return Err(cause);
@@ -311,7 +318,7 @@ impl Tree {
         let Some(above) = find_row(rows, parent) else {
             return Some(TreeFault::NoChannel);
         };
-        if moved.channel.id.0 == ROOT.0 {
+        if moved.channel.id.0 == ChannelId::ROOT.0 {
             return Some(TreeFault::RootFixed);
         }
         if has_name(rows, parent, id, moved.channel.name.as_str()) {
@@ -332,7 +339,9 @@ impl Tree {
     /// Puts a channel, with all below it, under another. Refused, in this order: NoChannel,
     /// RootFixed, SameName, UnderItself, TemporaryParent, Nesting. It takes no memory.
     pub fn move_under(&mut self, id: ChannelId, parent: ChannelId) -> Result<(), TreeFault>
-        ensures { Moves self.old id parent result self.new }
+        ensures made { SettlesInPlace (fault_of_move self.old id parent)
+            (with_parent self.old id parent) self.old result self.new }
+        ensures proper { IsProper CHANNEL_LIMIT self.new }
     {
         let Some(at) = locate(&self.rows, id) else {
             return Err(TreeFault::NoChannel);
@@ -348,12 +357,14 @@ impl Tree {
     /// Takes away a channel, all below it, and their links. Refused, in this order: NoChannel,
     /// RootFixed. It takes no memory.
     pub fn remove_subtree(&mut self, id: ChannelId) -> Result<(), TreeFault>
-        ensures { Removes self.old id result self.new }
+        ensures made { SettlesInPlace (fault_of_remove self.old id)
+            (without_subtree self.old id) self.old result self.new }
+        ensures proper { IsProper CHANNEL_LIMIT self.new }
     {
         if !stands(&self.rows, id) {
             return Err(TreeFault::NoChannel);
         }
-        if id.0 == ROOT.0 {
+        if id.0 == ChannelId::ROOT.0 {
             return Err(TreeFault::RootFixed);
         }
         let gone = places_below(&self.rows, id);
@@ -364,7 +375,8 @@ impl Tree {
 
     /// An equal tree.
     pub fn copy(&self, alloc: Global) -> Result<Tree, OutOfMemory>
-        ensures { IfOk result (λ tree. tree ≡ self.now) }
+        ensures made { IfOk result (λ tree. tree ≡ self.now) }
+        ensures proper { IfOk result (λ tree. IsProper CHANNEL_LIMIT tree) }
     {
         Ok(Tree {
             alloc,

@@ -9,7 +9,7 @@ use Rattle.mum_fields.proofs.put.put_each_text.Goals as goal
 pub loop-text-preserved : goal.loop-text-preserved
 loop-text-preserved c =
     let text = c.text-item.result in
-    let utf8 : IsUtf8 text = rw c.as_str.ensures at c.as_str.utf8 in
+    let utf8 : IsUtf8 text = c.as_str.ensures.utf8 in
     let short : length text < 2 ^ 64 = grind (arith, common_steps) in
     record {
       ok = grind (arith, common_steps);

@@ -8,4 +8,4 @@ pub mod Message
 pub mod Written
 pub mod Cursor
 pub mod Table
-pub mod Held
+pub mod Typed

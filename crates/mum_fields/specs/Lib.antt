@@ -3,6 +3,7 @@ pub mod Varint
 pub mod Content
 pub mod Number
 pub mod Field
+pub mod NoField
 pub mod Payload
 pub mod Message
 pub mod Written

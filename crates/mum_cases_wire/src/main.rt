@@ -29,10 +29,10 @@ fn main(rt: HostRuntime) -> Result<()> {
     tally.compare::<list::Lists, HostRuntime>(&rt)?;
     tally.compare::<stream::Streams, HostRuntime>(&rt)?;
     tally.compare::<frames::Frames, HostRuntime>(&rt)?;
+    tally.compare::<fields::Fields, HostRuntime>(&rt)?;
+    tally.compare::<messages::Messages, HostRuntime>(&rt)?;
     tally.compare::<varint::Varints, HostRuntime>(&rt)?;
     tally.compare::<packet::Packets, HostRuntime>(&rt)?;
     tally.compare_files::<client::Clients, HostRuntime>(&rt)?;
-    tally.compare::<fields::Fields, HostRuntime>(&rt)?;
-    tally.compare::<messages::Messages, HostRuntime>(&rt)?;
     tally.finish(&rt)
 }

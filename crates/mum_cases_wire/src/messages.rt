@@ -29,7 +29,7 @@ const VALUES: [(u64, &str, &[u8]); 4] = [
 ];
 
 fn told<M: Told>(alloc: Global, payload: &[u8]) -> Result<String> {
-    match M::decoded(alloc, payload) {
+    match M::decode(alloc, payload) {
         Ok(message) => {
             let mut shown = Shown::new(alloc);
             message.tell(&mut shown)?;
@@ -40,8 +40,8 @@ fn told<M: Told>(alloc: Global, payload: &[u8]) -> Result<String> {
 }
 
 fn again<M: Told>(alloc: Global, payload: &[u8]) -> Result<Octets> {
-    let message = M::decoded(alloc, payload)?;
-    Ok(message.encoded(alloc)?)
+    let message = M::decode(alloc, payload)?;
+    Ok(message.encode(alloc)?)
 }
 
 /// What a payload decodes to.

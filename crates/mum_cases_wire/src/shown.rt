@@ -1,18 +1,14 @@
 //! What a message has, in the words of Mumble.proto.
 
 use anyhow::Result;
-use mum_base::{Items, Octets, OutOfMemory, Text};
+use mum_base::{Items, Octets, Text};
 use mum_cases::hex_of;
-use mum_fields::MessageFault;
+use mum_fields::Message;
 use std::alloc::Global;
 use std::fmt::Display;
 
 /// A message that the tables tell of.
-pub trait Told: Drop {
-    fn decoded(alloc: Global, payload: &[u8]) -> Result<Self, MessageFault>;
-
-    fn encoded(&self, alloc: Global) -> Result<Octets, OutOfMemory>;
-
+pub trait Told: Message {
     /// Tells of each field that is set.
     fn tell(&self, shown: &mut Shown) -> Result<()>;
 }

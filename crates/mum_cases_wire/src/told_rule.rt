@@ -2,23 +2,12 @@
 
 use crate::shown::{Shown, Told};
 use anyhow::Result;
-use mum_base::{Octets, OutOfMemory};
-use mum_fields::MessageFault;
 use mum_msg_rule::{
     Acl, AclGroup, AclLine, PermissionDenied, PermissionQuery, TargetBlock, TextMessage,
     VoiceTarget,
 };
-use std::alloc::Global;
 
 impl Told for TextMessage {
-    fn decoded(alloc: Global, payload: &[u8]) -> Result<TextMessage, MessageFault> {
-        TextMessage::decode(alloc, payload)
-    }
-
-    fn encoded(&self, alloc: Global) -> Result<Octets, OutOfMemory> {
-        self.encode(alloc)
-    }
-
     fn tell(&self, shown: &mut Shown) -> Result<()> {
         shown.one("actor", &self.actor)?;
         shown.each("session", &self.session)?;
@@ -29,14 +18,6 @@ impl Told for TextMessage {
 }
 
 impl Told for PermissionDenied {
-    fn decoded(alloc: Global, payload: &[u8]) -> Result<PermissionDenied, MessageFault> {
-        PermissionDenied::decode(alloc, payload)
-    }
-
-    fn encoded(&self, alloc: Global) -> Result<Octets, OutOfMemory> {
-        self.encode(alloc)
-    }
-
     fn tell(&self, shown: &mut Shown) -> Result<()> {
         shown.one("permission", &self.permission)?;
         shown.one("channel_id", &self.channel_id)?;
@@ -48,14 +29,6 @@ impl Told for PermissionDenied {
 }
 
 impl Told for Acl {
-    fn decoded(alloc: Global, payload: &[u8]) -> Result<Acl, MessageFault> {
-        Acl::decode(alloc, payload)
-    }
-
-    fn encoded(&self, alloc: Global) -> Result<Octets, OutOfMemory> {
-        self.encode(alloc)
-    }
-
     fn tell(&self, shown: &mut Shown) -> Result<()> {
         shown.one("channel_id", &self.channel_id)?;
         shown.one("inherit_acls", &self.inherit_acls)?;
@@ -66,14 +39,6 @@ impl Told for Acl {
 }
 
 impl Told for AclGroup {
-    fn decoded(alloc: Global, payload: &[u8]) -> Result<AclGroup, MessageFault> {
-        AclGroup::decode(alloc, payload)
-    }
-
-    fn encoded(&self, alloc: Global) -> Result<Octets, OutOfMemory> {
-        self.encode(alloc)
-    }
-
     fn tell(&self, shown: &mut Shown) -> Result<()> {
         shown.text("name", &self.name)?;
         shown.one("inherited", &self.inherited)?;
@@ -86,14 +51,6 @@ impl Told for AclGroup {
 }
 
 impl Told for AclLine {
-    fn decoded(alloc: Global, payload: &[u8]) -> Result<AclLine, MessageFault> {
-        AclLine::decode(alloc, payload)
-    }
-
-    fn encoded(&self, alloc: Global) -> Result<Octets, OutOfMemory> {
-        self.encode(alloc)
-    }
-
     fn tell(&self, shown: &mut Shown) -> Result<()> {
         shown.one("apply_here", &self.apply_here)?;
         shown.one("apply_subs", &self.apply_subs)?;
@@ -106,14 +63,6 @@ impl Told for AclLine {
 }
 
 impl Told for VoiceTarget {
-    fn decoded(alloc: Global, payload: &[u8]) -> Result<VoiceTarget, MessageFault> {
-        VoiceTarget::decode(alloc, payload)
-    }
-
-    fn encoded(&self, alloc: Global) -> Result<Octets, OutOfMemory> {
-        self.encode(alloc)
-    }
-
     fn tell(&self, shown: &mut Shown) -> Result<()> {
         shown.one("id", &self.id)?;
         shown.blocks("targets", &self.targets)
@@ -121,14 +70,6 @@ impl Told for VoiceTarget {
 }
 
 impl Told for TargetBlock {
-    fn decoded(alloc: Global, payload: &[u8]) -> Result<TargetBlock, MessageFault> {
-        TargetBlock::decode(alloc, payload)
-    }
-
-    fn encoded(&self, alloc: Global) -> Result<Octets, OutOfMemory> {
-        self.encode(alloc)
-    }
-
     fn tell(&self, shown: &mut Shown) -> Result<()> {
         shown.each("session", &self.session)?;
         shown.one("channel_id", &self.channel_id)?;
@@ -139,14 +80,6 @@ impl Told for TargetBlock {
 }
 
 impl Told for PermissionQuery {
-    fn decoded(alloc: Global, payload: &[u8]) -> Result<PermissionQuery, MessageFault> {
-        PermissionQuery::decode(alloc, payload)
-    }
-
-    fn encoded(&self, alloc: Global) -> Result<Octets, OutOfMemory> {
-        self.encode(alloc)
-    }
-
     fn tell(&self, shown: &mut Shown) -> Result<()> {
         shown.one("channel_id", &self.channel_id)?;
         shown.one("permissions", &self.permissions)?;

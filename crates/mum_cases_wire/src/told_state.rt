@@ -2,23 +2,12 @@
 
 use crate::shown::{Shown, Told};
 use anyhow::Result;
-use mum_base::{Octets, OutOfMemory};
-use mum_fields::MessageFault;
 use mum_msg_state::{
     Authenticate, ChannelRemove, ChannelState, CodecVersion, Ping, Reject, ServerSync, UserRemove,
     UserState, Version,
 };
-use std::alloc::Global;
 
 impl Told for Version {
-    fn decoded(alloc: Global, payload: &[u8]) -> Result<Version, MessageFault> {
-        Version::decode(alloc, payload)
-    }
-
-    fn encoded(&self, alloc: Global) -> Result<Octets, OutOfMemory> {
-        self.encode(alloc)
-    }
-
     fn tell(&self, shown: &mut Shown) -> Result<()> {
         shown.one("version", &self.version)?;
         shown.text("release", &self.release)?;
@@ -28,14 +17,6 @@ impl Told for Version {
 }
 
 impl Told for Authenticate {
-    fn decoded(alloc: Global, payload: &[u8]) -> Result<Authenticate, MessageFault> {
-        Authenticate::decode(alloc, payload)
-    }
-
-    fn encoded(&self, alloc: Global) -> Result<Octets, OutOfMemory> {
-        self.encode(alloc)
-    }
-
     fn tell(&self, shown: &mut Shown) -> Result<()> {
         shown.text("username", &self.username)?;
         shown.text("password", &self.password)?;
@@ -46,28 +27,12 @@ impl Told for Authenticate {
 }
 
 impl Told for Ping {
-    fn decoded(alloc: Global, payload: &[u8]) -> Result<Ping, MessageFault> {
-        Ping::decode(alloc, payload)
-    }
-
-    fn encoded(&self, alloc: Global) -> Result<Octets, OutOfMemory> {
-        self.encode(alloc)
-    }
-
     fn tell(&self, shown: &mut Shown) -> Result<()> {
         shown.one("timestamp", &self.timestamp)
     }
 }
 
 impl Told for Reject {
-    fn decoded(alloc: Global, payload: &[u8]) -> Result<Reject, MessageFault> {
-        Reject::decode(alloc, payload)
-    }
-
-    fn encoded(&self, alloc: Global) -> Result<Octets, OutOfMemory> {
-        self.encode(alloc)
-    }
-
     fn tell(&self, shown: &mut Shown) -> Result<()> {
         shown.one("type", &self.kind)?;
         shown.text("reason", &self.reason)
@@ -75,14 +40,6 @@ impl Told for Reject {
 }
 
 impl Told for ServerSync {
-    fn decoded(alloc: Global, payload: &[u8]) -> Result<ServerSync, MessageFault> {
-        ServerSync::decode(alloc, payload)
-    }
-
-    fn encoded(&self, alloc: Global) -> Result<Octets, OutOfMemory> {
-        self.encode(alloc)
-    }
-
     fn tell(&self, shown: &mut Shown) -> Result<()> {
         shown.one("session", &self.session)?;
         shown.one("max_bandwidth", &self.max_bandwidth)?;
@@ -92,28 +49,12 @@ impl Told for ServerSync {
 }
 
 impl Told for ChannelRemove {
-    fn decoded(alloc: Global, payload: &[u8]) -> Result<ChannelRemove, MessageFault> {
-        ChannelRemove::decode(alloc, payload)
-    }
-
-    fn encoded(&self, alloc: Global) -> Result<Octets, OutOfMemory> {
-        self.encode(alloc)
-    }
-
     fn tell(&self, shown: &mut Shown) -> Result<()> {
         shown.one("channel_id", &self.channel_id)
     }
 }
 
 impl Told for ChannelState {
-    fn decoded(alloc: Global, payload: &[u8]) -> Result<ChannelState, MessageFault> {
-        ChannelState::decode(alloc, payload)
-    }
-
-    fn encoded(&self, alloc: Global) -> Result<Octets, OutOfMemory> {
-        self.encode(alloc)
-    }
-
     fn tell(&self, shown: &mut Shown) -> Result<()> {
         shown.one("channel_id", &self.channel_id)?;
         shown.one("parent", &self.parent)?;
@@ -129,14 +70,6 @@ impl Told for ChannelState {
 }
 
 impl Told for UserRemove {
-    fn decoded(alloc: Global, payload: &[u8]) -> Result<UserRemove, MessageFault> {
-        UserRemove::decode(alloc, payload)
-    }
-
-    fn encoded(&self, alloc: Global) -> Result<Octets, OutOfMemory> {
-        self.encode(alloc)
-    }
-
     fn tell(&self, shown: &mut Shown) -> Result<()> {
         shown.one("session", &self.session)?;
         shown.one("actor", &self.actor)?;
@@ -146,14 +79,6 @@ impl Told for UserRemove {
 }
 
 impl Told for CodecVersion {
-    fn decoded(alloc: Global, payload: &[u8]) -> Result<CodecVersion, MessageFault> {
-        CodecVersion::decode(alloc, payload)
-    }
-
-    fn encoded(&self, alloc: Global) -> Result<Octets, OutOfMemory> {
-        self.encode(alloc)
-    }
-
     fn tell(&self, shown: &mut Shown) -> Result<()> {
         shown.one("alpha", &self.alpha)?;
         shown.one("beta", &self.beta)?;
@@ -177,14 +102,6 @@ fn tell_flags(user: &UserState, shown: &mut Shown) -> Result<()> {
 }
 
 impl Told for UserState {
-    fn decoded(alloc: Global, payload: &[u8]) -> Result<UserState, MessageFault> {
-        UserState::decode(alloc, payload)
-    }
-
-    fn encoded(&self, alloc: Global) -> Result<Octets, OutOfMemory> {
-        self.encode(alloc)
-    }
-
     fn tell(&self, shown: &mut Shown) -> Result<()> {
         tell_flags(self, shown)?;
         shown.bytes("plugin_context", &self.plugin_context)?;

@@ -1,5 +1,6 @@
 pub mod Changed
 pub mod Climb
+pub mod Closure
 pub mod Depths
 pub mod Edits
 pub mod Find

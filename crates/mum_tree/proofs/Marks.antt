@@ -106,14 +106,3 @@ seats_rise rows rise = AllPairs-map (λ one later. number one < number later) (�
 
 pub marked_rows : (marks : List Bool) (rows : List Row) → marked_at marks (map seat_of rows) ≡ map (λ row. row.channel.id) (filter (λ row. get_or marks row.place false) rows)
 marked_rows marks rows = map-filter_of_map (λ seat. seat.id) (is_marked marks) seat_of rows
-
--- the marks of rows that were found
-pub marked_found : (rows : List Row) (found : List ℕ) (marks : List Bool) → ((k : ℕ) (d : Row) → k < length rows → (get_or marks (get_or rows k d).place false ≡ true) ↔ Contains found k) → (other : ChannelId) → Contains (map (λ row. row.channel.id) (filter (λ row. get_or marks row.place false) rows)) other ↔ HasRow rows found other
-marked_found rows found marks each other = (
-  λ has.
-      let (k, within, passes) = passes_from (λ row. get_or marks row.place false) (λ row. row.channel.id) rows other has in
-      (k, (each k root_row within).0 (passes root_row).0, within, λ d. (passes d).1),
-  λ here.
-      let (k, has, within, named) = here in
-      passes_to (λ row. get_or marks row.place false) (λ row. row.channel.id) rows other (k, within, λ d. ((each k d within).1 has, named d)),
-)

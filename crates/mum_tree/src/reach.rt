@@ -12,7 +12,6 @@ use crate::channel::{CHANNEL_LIMIT, Row};
 use crate::found::Found;
 use crate::links::first_link;
 use crate::rows::place_in_rows;
-use crate::scratch::Scratch;
 use mum_base::ChannelId;
 
 /// Finds the rows of the channels that a link joins to this one.
@@ -53,7 +52,7 @@ pub(crate) fn find_linked(rows: &[Row], links: &[(ChannelId, ChannelId)], id: Ch
 }
 
 /// Which places have a channel whose row was found.
-fn places_found(rows: &[Row], found: &Found) -> [bool; CHANNEL_LIMIT]
+pub(crate) fn places_found(rows: &[Row], found: &Found) -> [bool; CHANNEL_LIMIT]
     requires few { length rows.now ≤ CHANNEL_LIMIT }
     requires seated { All (λ row. row.place < CHANNEL_LIMIT) rows.now }
     requires seats { AllPairs (λ row other. row.place ≢ other.place) rows.now }
@@ -65,16 +64,4 @@ fn places_found(rows: &[Row], found: &Found) -> [bool; CHANNEL_LIMIT]
         places[row.place as usize] = found.has(at);
     }
     places
-}
-
-/// Marks the channels whose rows were found.
-pub(crate) fn mark_found(rows: &[Row], found: &Found, scratch: &mut Scratch)
-    requires rise { Rise rows.now }
-    requires few { length rows.now ≤ CHANNEL_LIMIT }
-    requires seated { All (λ row. row.place < CHANNEL_LIMIT) rows.now }
-    requires seats { AllPairs (λ row other. row.place ≢ other.place) rows.now }
-    ensures { (other : ChannelId) → Contains scratch.new other ↔ HasRow rows.now found.now other }
-{
-    let places = places_found(rows, found);
-    scratch.fill(rows, &places);
 }

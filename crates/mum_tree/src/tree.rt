@@ -1,13 +1,13 @@
 //! The tree of channels, and what is read from it.
 
-ghost use Rattle.std.specs.Prelude.{◌≡◌, ◌<◌, ◌↔◌, ◌&&◌, IfOk, IsTrue, MatchOption, None, is_some, slice_get};
+ghost use Rattle.std.specs.Prelude.{◌≡◌, ◌<◌, ◌↔◌, ◌&&◌, IfOk, IfSome, IsTrue, MatchOption, None, is_some, slice_get};
 ghost use Rattle.std.specs.List.{Contains};
 ghost use Rattle.std.specs.Option.{option_copied, option_map};
 ghost use Rattle.mum_base.specs.declared.number.ChannelId.{ChannelId};
 ghost use Rattle.mum_tree.specs.Proper.{IsProper};
-ghost use Rattle.mum_tree.specs.Rows.{row_of, is_there, path};
+ghost use Rattle.mum_tree.specs.Rows.{row_of, is_there, path, IsWay};
 ghost use Rattle.mum_tree.specs.State.{root_alone, next_number, plain_info, partners, below, with_info, with_link, with_name, with_new, with_parent, without_link, without_subtree};
-ghost use Rattle.mum_tree.specs.Walks.{LeadTo};
+ghost use Rattle.mum_tree.specs.Walks.{linked, LeadTo};
 ghost use Rattle.mum_tree.specs.Refusals.{is_full, fault_of_add, fault_of_link, fault_of_move, fault_of_remove, fault_of_rename, fault_of_set_info, fault_of_unlink};
 ghost use Rattle.mum_tree.specs.Fault.{named_cause};
 ghost use Rattle.mum_base.specs.Refusal.{Settles, SettlesInPlace};
@@ -16,7 +16,7 @@ use crate::channel::{CHANNEL_LIMIT, Channel, ChannelInfo, PATH_LIMIT, Row};
 use crate::fault::TreeFault;
 use crate::levels::{nests_too_deep, places_below};
 use crate::links::{has_link, is_crowded, joins, keep_ends, nth_end, place_for};
-use crate::reach::{find_linked, mark_found};
+use crate::reach::{find_linked, places_found};
 use crate::rows::{
     both_there, copy_rows, find_path, find_row, has_mark, has_name, least_free_place, locate,
     path_length, stands, stands_below,
@@ -130,6 +130,7 @@ impl Tree {
     pub fn path(&self, id: ChannelId) -> Option<ArrayVec<ChannelId, PATH_LIMIT>>
         ensures value { MatchOption result (row_of self.now.channels id ≡ None) (λ found. found.items ≡ path self.now.channels id) }
         ensures there { is_some result ≡ is_there self.now.channels id }
+        ensures way { IfSome result (λ found. IsWay self.now.channels id found.items) }
     {
         find_path(&self.rows, id)
     }
@@ -399,9 +400,11 @@ impl Tree {
     /// Marks a channel and all that links lead to from it. It takes no memory.
     pub fn linked(&self, id: ChannelId, scratch: &mut Scratch)
         requires { IsTrue (is_there self.now.channels id) }
-        ensures { (other : ChannelId) → Contains scratch.new other ↔ LeadTo self.now.links id other }
+        ensures marks { scratch.new ≡ linked self.now id }
+        ensures leads { (other : ChannelId) → Contains (linked self.now id) other ↔ LeadTo self.now.links id other }
     {
         let found = find_linked(&self.rows, &self.links, id);
-        mark_found(&self.rows, &found, scratch);
+        let places = places_found(&self.rows, &found);
+        scratch.fill(&self.rows, &places);
     }
 }

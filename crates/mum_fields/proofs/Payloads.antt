@@ -58,32 +58,33 @@ fields_none c zero len r is h = nil_from_length c.rest len
 fields_none c (suc n) len (Err fault) is h = absurd (stopped_not_whole fault [] (sym (walk-fault field_at c fault (omega arith) is) ∙ h))
 fields_none c (suc n) len (Ok x) is h = absurd (more_not_ended x.0 (fields x.1) (sym (walk-item field_at field_at-shortens c x.1 x.0 is) ∙ h))
 
-record First (c : Cursor) (e : Entry) (es : List Entry) : Type 0 where
-  after : Cursor
-  step : field_at c ≡ Ok (e, after)
-  others : fields after ≡ record { items = es; fault = None }
+-- the first of the fields, and what is left behind it
+pub record First (c : Cursor) (e : Entry) (es : List Entry) (end : Option FieldFault) : Type 0 where
+  pub after : Cursor
+  pub step : field_at c ≡ Ok (e, after)
+  pub others : fields after ≡ record { items = es; fault = end }
 
-walk_is : (w : Walk Entry) (es : List Entry) → w.items ≡ es → w.fault ≡ None → w ≡ record { items = es; fault = None }
-walk_is w es p q = ap (λ (i : List Entry). record { items = i; fault = w.fault }) p ∙ ap (λ (f : Option FieldFault). record { items = es; fault = f }) q
+walk_is : (w : Walk Entry) (es : List Entry) (end : Option FieldFault) → w.items ≡ es → w.fault ≡ end → w ≡ record { items = es; fault = end }
+walk_is w es end p q = ap (λ (i : List Entry). record { items = i; fault = w.fault }) p ∙ ap (λ (f : Option FieldFault). record { items = es; fault = f }) q
 
-ended_not_more : (e : Entry) (es : List Entry) → ended ≡ record { items = e ∷ es; fault = None } → ⊥
-ended_not_more e es h = let k = items_same ended (record { items = e ∷ es; fault = None }) h in cc
+none_not_more : (w : Walk Entry) (e : Entry) (es : List Entry) (end : Option FieldFault) → w.items ≡ [] → w ≡ record { items = e ∷ es; fault = end } → ⊥
+none_not_more w e es end none h = let k = sym none ∙ items_same w (record { items = e ∷ es; fault = end }) h in cc
 
-fields_first : (c : Cursor) (e : Entry) (es : List Entry) (n : ℕ) → length c.rest ≡ n → (r : Result (Entry × Cursor) FieldFault) → field_at c ≡ r → fields c ≡ record { items = e ∷ es; fault = None } → First c e es
-fields_first c e es zero len r is h = absurd (ended_not_more e es (sym (walk-end field_at c (nil_from_length c.rest len)) ∙ h))
-fields_first c e es (suc n) len (Err fault) is h = absurd (stopped_not_whole fault (e ∷ es) (sym (walk-fault field_at c fault (omega arith) is) ∙ h))
-fields_first c e es (suc n) len (Ok x) is h =
+pub fields_first : (c : Cursor) (e : Entry) (es : List Entry) (end : Option FieldFault) (n : ℕ) → length c.rest ≡ n → (r : Result (Entry × Cursor) FieldFault) → field_at c ≡ r → fields c ≡ record { items = e ∷ es; fault = end } → First c e es end
+fields_first c e es end zero len r is h = absurd (none_not_more ended e es end refl (sym (walk-end field_at c (nil_from_length c.rest len)) ∙ h))
+fields_first c e es end (suc n) len (Err fault) is h = absurd (none_not_more (stopped fault) e es end refl (sym (walk-fault field_at c fault (omega arith) is) ∙ h))
+fields_first c e es end (suc n) len (Ok x) is h =
     let same = sym (walk-item field_at field_at-shortens c x.1 x.0 is) ∙ h in
     let lists = ap (λ (u : Walk Entry). u.items) same in
-    let faults : (fields x.1).fault ≡ None = ap (λ (u : Walk Entry). u.fault) same in
+    let faults : (fields x.1).fault ≡ end = ap (λ (u : Walk Entry). u.fault) same in
     let head = head_same x.0 e (fields x.1).items es lists in
     let tail = tail_same x.0 e (fields x.1).items es lists in
-    record { after = x.1; step = rw head at is; others = walk_is (fields x.1) es tail faults }
+    record { after = x.1; step = rw head at is; others = walk_is (fields x.1) es end tail faults }
 
 pub fields-are : (c : Cursor) (es : List Entry) → fields c ≡ record { items = es; fault = None } → AreFields c es
 fields-are c [] h = fields_none c (length c.rest) refl (field_at c) refl h
 fields-are c (e ∷ es) h =
-    let f = fields_first c e es (length c.rest) refl (field_at c) refl h in
+    let f = fields_first c e es None (length c.rest) refl (field_at c) refl h in
     let t = field_at-found c (e, f.after) f.step in
     let after : f.after ≡ record { place = c.place + length t.bytes; rest = f.after.rest } = ap (λ (p : ℕ). record { place = p; rest = f.after.rest }) t.took.place in
     (t.bytes, f.after.rest, t.took.parts, t.is, subst (λ (d : Cursor). AreFields d es) after (fields-are f.after es f.others))

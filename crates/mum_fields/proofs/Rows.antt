@@ -10,7 +10,7 @@ use Rattle.mum_fields.specs.Message.{Rule, text, any_block, fault_in, every, num
 use Rattle.mum_fields.proofs.Texts.{text-read}
 use Rattle.mum_fields.proofs.Encoding.{last-append, every-append, AreOthers, last-others, every-others, every-take, last-block_items, every-each_block}
 use Rattle.mum_fields.specs.Table.{Scalar, Scalar_of, Kind, One, Number, Utf8, Raw, Label, Optional, Required, RequiredOr, Repeated, Value, value_of, number_of, one_in, all_in, unset, value_after, rule_of, one_item, row_items, each_message}
-use Rattle.mum_fields.specs.Held.{IsOne, IsText, IsBlock, IsValue}
+use Rattle.mum_fields.specs.Typed.{IsOne, IsText, IsBytes, IsTyped}
 
 pub record IsItem (number : ℕ) (rule : Rule) (item : Item) : Type 0 where
   pub is : item.number ≡ number
@@ -42,7 +42,7 @@ raw-items : (number : ℕ) (xs : List (List ℕ)) → All (IsOne Raw) xs → All
 raw-items number [] h = tt
 raw-items number (x ∷ xs) h = (record { is = refl; fits = All-head (IsOne Raw) x xs h; clean = λ place. refl }, raw-items number xs (All-tail (IsOne Raw) x xs h))
 
-pub row-items : (label : Label) (kind : Kind) (number : ℕ) (value : Value label kind) → IsValue label kind value → AllByRecursion (IsItem number (rule_of label kind)) (row_items label kind number value)
+pub row-items : (label : Label) (kind : Kind) (number : ℕ) (value : Value label kind) → IsTyped label kind value → AllByRecursion (IsItem number (rule_of label kind)) (row_items label kind number value)
 row-items Optional kind number o h = one-items kind number o h
 row-items Required (Number scalar) number o h = one-items (Number scalar) number o h
 row-items Required Utf8 number o h = one-items Utf8 number o h
@@ -56,10 +56,10 @@ row-items Repeated Raw number xs h = raw-items number xs h
 
 -- messages in blocks
 pub message-items : {X : Type 0} (inside : X → List Item) (P : X → Type 0) (rule : Rule) → ((x : X) (place : ℕ) → P x → rule place (written (inside x)) ≡ None)
-    → (number : ℕ) (xs : List X) → All (λ x. P x × IsBlock (written (inside x))) xs → AllByRecursion (IsItem number rule) (each_message inside number xs)
+    → (number : ℕ) (xs : List X) → All (λ x. P x × IsBytes (written (inside x))) xs → AllByRecursion (IsItem number rule) (each_message inside number xs)
 message-items inside P rule clean number [] h = tt
 message-items {X} inside P rule clean number (x ∷ xs) h =
-    let P_block = λ (y : X). P y × IsBlock (written (inside y)) in
+    let P_block = λ (y : X). P y × IsBytes (written (inside y)) in
     let head = All-head P_block x xs h in
     (record { is = refl; fits = head.1; clean = λ place. clean x place head.0 }, message-items inside P rule clean number xs (All-tail P_block x xs h))
 
@@ -83,7 +83,7 @@ numbers-back scalar number (x ∷ xs) before place h =
     let taken : before ++ value (number_of scalar x) ∷ [] ≡ before ++ x ∷ [] = rw ((All-head (IsOne (Number scalar)) x xs h).0) refl in
     every-take (numbers_of value) number before (placed_at place item) left refl ∙ ap (λ b. every (numbers_of value) number b left) taken ∙ others ∙ append_assoc before (x ∷ []) xs
 
-pub row-back : (label : Label) (kind : Kind) (number : ℕ) (value : Value label kind) (place : ℕ) → IsValue label kind value
+pub row-back : (label : Label) (kind : Kind) (number : ℕ) (value : Value label kind) (place : ℕ) → IsTyped label kind value
     → value_after label kind number (unset label kind) (placed_from place (row_items label kind number value)) ≡ value
 row-back Optional kind number o place h = one-back kind number o place h
 row-back Required kind number o place h = one-back kind number o place h
@@ -94,11 +94,11 @@ row-back Repeated Raw number xs place h = every-each_block number xs [] place
 
 pub messages-back : {X : Type 0} (make : List Entry → X) (inside : X → List Item) (P : X → Type 0)
     → ((x : X) (place : ℕ) → P x → make (fields (record { place = place; rest = written (inside x) })).items ≡ x)
-    → (number : ℕ) (xs before : List X) (place : ℕ) → All (λ x. P x × IsBlock (written (inside x))) xs
+    → (number : ℕ) (xs before : List X) (place : ℕ) → All (λ x. P x × IsBytes (written (inside x))) xs
     → every (messages_of make) number before (placed_from place (each_message inside number xs)) ≡ before ++ xs
 messages-back make inside P back number [] before place h = sym (append-nil before)
 messages-back {X} make inside P back number (x ∷ xs) before place h =
-    let P_block = λ (y : X). P y × IsBlock (written (inside y)) in
+    let P_block = λ (y : X). P y × IsBytes (written (inside y)) in
     let item = block_item number (written (inside x)) in
     let entry = placed_at place item in
     let after = place + length (spelling item) in

@@ -2,14 +2,14 @@
 -- number as Mumble.proto gives them, and the part of the message that it is. A field whose type is a message
 -- has the layout of that message: its labels, types and numbers. What a payload decodes to and how a message
 -- is spelled follow from the layout.
-use Rattle.std.specs.Prelude.{ℕ, ℤ, Bool, true, false, List, [], ◌∷◌, ◌++◌, map, min, ◌==◌, nat_lt, ◌&&◌, Option, Some, None, Result, Ok, Err, if◌then◌else◌}
+use Rattle.std.specs.Prelude.{◌≡◌, ℕ, ℤ, Bool, true, false, List, [], ◌∷◌, ◌++◌, map, min, ◌==◌, nat_lt, ◌&&◌, Option, Some, None, Result, Ok, Err, if◌then◌else◌}
 use Rattle.mum_fields.specs.declared.message.MessageFault.{MessageFault}
-use Rattle.mum_fields.specs.declared.message.MessageFault.TheVariants.{MissingField}
+use Rattle.mum_fields.specs.declared.message.MessageFault.TheVariants.{MissingField, OutOfMemory}
 use Rattle.mum_fields.specs.Number.{low_32, signed_32, truth, extended, truth_number}
 use Rattle.mum_fields.specs.Field.{Entry}
 use Rattle.mum_fields.specs.Payload.{Walk, start, fields}
 use Rattle.mum_fields.specs.Written.{Item, written, block_item, number_items, block_items, each_number, each_block}
-use Rattle.mum_fields.specs.Message.{Rule, any_block, text, packed_numbers, message, varint_of, block_of, blocks_of, messages_of, numbers_of, last, every, outcome}
+use Rattle.mum_fields.specs.Message.{Answers, Rule, any_block, text, packed_numbers, message, varint_of, block_of, blocks_of, messages_of, numbers_of, last, every, outcome}
 
 -- ---- types and labels
 
@@ -278,3 +278,12 @@ items (Blocks inside number others) values = each_message (items inside) number 
 -- the spelling of a message: each field that is set, in the order of the numbers
 abbrev pub spelled : {M : Type 0} → (rows : Table M) → M → List ℕ
 spelled rows m = written (items (layout rows) (parts rows m))
+
+-- this message, or want of memory
+abbrev pub IsItOrNoMemory : {M : Type 0} → M → Result M MessageFault → Type 0
+IsItOrNoMemory m (Ok read) = read ≡ m
+IsItOrNoMemory m (Err e) = e ≡ OutOfMemory
+
+-- whatever `decode` may answer for the payload is this message, or want of memory
+abbrev pub ReadsAs : {M : Type 0} → Table M → List ℕ → M → Type 0
+ReadsAs {M} rows payload m = (read : Result M MessageFault) → Answers (parts rows) read (decoded rows payload) → IsItOrNoMemory m read

@@ -10,6 +10,7 @@ use crate::fault::FieldFault;
 use crate::field::{Placed, Value};
 use crate::message::MessageFault;
 use crate::number::VarintType;
+use mum_base::Items;
 use std::marker::Model;
 
 /// A cursor over the numbers of a packed block. It copies nothing and takes no memory.
@@ -60,13 +61,13 @@ impl<'a> Packed<'a> {
 }
 
 fn push_packed<N: VarintType>(
-    numbers: &mut Vec<N>,
+    numbers: &mut Items<N>,
     mut packed: Packed<'_>,
 ) -> Result<(), MessageFault>
-    ensures ok { OnOk result (numbers.new.items ≡ numbers.old.items ++ map N.value_of (packed_left packed.entry).items) }
+    ensures ok { OnOk result (numbers.new ≡ numbers.old ++ map N.value_of (packed_left packed.entry).items) }
     ensures whole { OnOk result ((packed_left packed.entry).fault ≡ None) }
     ensures fault { IfErr result (λ e. IsFaultOf e (packed_left packed.entry).fault) }
-    ensures err { OnErr result ((part : List N) × (numbers.new.items ≡ numbers.old.items ++ part)) }
+    ensures err { OnErr result ((part : List N) × (numbers.new ≡ numbers.old ++ part)) }
 {
     while let Some(number) = packed.next_number()? {
         numbers.push(N::from_varint(number))?;
@@ -77,13 +78,13 @@ fn push_packed<N: VarintType>(
 /// Adds the numbers of one field of a repeated number: a varint by itself, or those packed in its
 /// block. A field of another wire type has none. After a fault the numbers before it are there.
 pub fn push_numbers<N: VarintType>(
-    numbers: &mut Vec<N>,
+    numbers: &mut Items<N>,
     placed: &Placed<'_>,
 ) -> Result<(), MessageFault>
-    ensures ok { OnOk result (numbers.new.items ≡ numbers.old.items ++ numbers_of N.value_of (entry_of placed.now)) }
+    ensures ok { OnOk result (numbers.new ≡ numbers.old ++ numbers_of N.value_of (entry_of placed.now)) }
     ensures whole { OnOk result (value_fault packed_numbers (entry_of placed.now) ≡ None) }
     ensures fault { IfErr result (λ e. IsFaultOf e (value_fault packed_numbers (entry_of placed.now))) }
-    ensures err { OnErr result ((part : List N) × (numbers.new.items ≡ numbers.old.items ++ part)) }
+    ensures err { OnErr result ((part : List N) × (numbers.new ≡ numbers.old ++ part)) }
 {
     match placed.field.value {
         Value::Varint(number) => {

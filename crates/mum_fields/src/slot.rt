@@ -12,7 +12,7 @@ use crate::message::MessageFault;
 use crate::number::VarintType;
 use crate::packed::push_numbers;
 use crate::text::read_text;
-use mum_base::{Octets, OutOfMemory, Text};
+use mum_base::{Items, Octets, OutOfMemory, Text};
 use std::alloc::Global;
 
 /// A number that goes as a varint.
@@ -78,14 +78,14 @@ pub fn set_text(
 /// One more text of a list. Each has to be UTF-8.
 pub fn add_text(
     alloc: Global,
-    list: &mut Vec<Text>,
+    list: &mut Items<Text>,
     number: u32,
     placed: &Placed<'_>,
 ) -> Result<(), MessageFault>
-    ensures ok { OnOk result (list.new.items ≡ longer blocks_of number list.old.items (entry_of placed.now)) }
+    ensures ok { OnOk result (list.new ≡ longer blocks_of number list.old (entry_of placed.now)) }
     ensures clean { OnOk result (value_fault (only number text placed.now.field.number) (entry_of placed.now) ≡ None) }
     ensures fault { IfErr result (λ e. IsFaultOf e (value_fault (only number text placed.now.field.number) (entry_of placed.now))) }
-    ensures err { OnErr result (list.new.items ≡ list.old.items) }
+    ensures err { OnErr result (list.new ≡ list.old) }
 {
     if placed.field.number == number {
         if let Value::Block(block) = placed.field.value {
@@ -98,14 +98,14 @@ pub fn add_text(
 /// More numbers of a list: a varint by itself, or those packed in a block. After a fault the
 /// numbers before it are there.
 pub fn add_numbers<N: VarintType>(
-    list: &mut Vec<N>,
+    list: &mut Items<N>,
     number: u32,
     placed: &Placed<'_>,
 ) -> Result<(), MessageFault>
-    ensures ok { OnOk result (list.new.items ≡ longer (numbers_of N.value_of) number list.old.items (entry_of placed.now)) }
+    ensures ok { OnOk result (list.new ≡ longer (numbers_of N.value_of) number list.old (entry_of placed.now)) }
     ensures clean { OnOk result (value_fault (only number packed_numbers placed.now.field.number) (entry_of placed.now) ≡ None) }
     ensures fault { IfErr result (λ e. IsFaultOf e (value_fault (only number packed_numbers placed.now.field.number) (entry_of placed.now))) }
-    ensures err { OnErr result ((part : List N) × (list.new.items ≡ list.old.items ++ part)) }
+    ensures err { OnErr result ((part : List N) × (list.new ≡ list.old ++ part)) }
 {
     if placed.field.number == number {
         return push_numbers(list, placed);

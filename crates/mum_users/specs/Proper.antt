@@ -3,7 +3,6 @@ use Rattle.std.specs.Prelude.{◌≡◌, ℕ, ◌+◌, ◌^◌, ◌<◌, ◌≤�
 use Rattle.mum_base.specs.declared.number.SessionId.{SessionId}
 use Rattle.mum_base.specs.declared.number.ChannelId.{ChannelId}
 use Rattle.mum_users.specs.declared.user.User.{User}
-use Rattle.mum_users.specs.declared.user.TheConstants.{SESSIONS}
 use Rattle.mum_users.specs.declared.listening.TheConstants.{CHANNEL_LISTENERS, LISTENED_CHANNELS}
 use Rattle.mum_users.specs.declared.target.TheConstants.{LAST_TARGET}
 use Rattle.mum_users.specs.declared.target.TargetRow.{TargetRow}
@@ -11,10 +10,10 @@ use Rattle.mum_users.specs.Listeners.{pair_below}
 use Rattle.mum_users.specs.Targets.{is_oversize, target_below}
 use Rattle.mum_users.specs.State.{RosterState, has_name, has_number, is_of, is_of_channel, is_of_session}
 
--- the slots are at least this one, rise, and are below the limit
-abbrev pub SlotsRise : ℕ → List User → Type 0
-SlotsRise low [] = low ≤ SESSIONS
-SlotsRise low (user ∷ users) = (low ≤ user.slot.0) × SlotsRise (user.slot.0 + 1) users
+-- the slots are at least the low one, rise, and are below the limit
+abbrev pub SlotsRise : ℕ → ℕ → List User → Type 0
+SlotsRise limit low [] = low ≤ limit
+SlotsRise limit low (user ∷ users) = (low ≤ user.slot.0) × SlotsRise limit (user.slot.0 + 1) users
 
 abbrev pub IsBelowAll : {X : Type 0} → (X → X → Bool) → X → List X → Type 0
 IsBelowAll below first [] = ⊤
@@ -32,9 +31,10 @@ row_below row other = target_below other.session other.id row
 abbrev pub is_sound : TargetRow → Bool
 is_sound row = not ((row.id == 0) || nat_lt LAST_TARGET row.id || (length row.target.items == 0) || is_oversize row.target)
 
-pub record IsProper (state : RosterState) : Type 0 where
+-- a roster in which so many sessions may be
+pub record IsProper (limit : ℕ) (state : RosterState) : Type 0 where
   -- no two sessions have one slot, number or name
-  pub slots : SlotsRise 0 state.sessions
+  pub slots : SlotsRise limit 0 state.sessions
   pub numbers : (session : SessionId) → count_by (has_number session) state.sessions ≤ 1
   pub names : (name : List ℕ) → count_by (has_name name) state.sessions ≤ 1
   -- no number is above the last that was given

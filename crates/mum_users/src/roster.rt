@@ -2,7 +2,8 @@
 
 ghost use Rattle.std.specs.Prelude.{◌≡◌, IfOk, IfSome};
 ghost use Rattle.std.specs.Option.{option_copied};
-ghost use Rattle.mum_users.specs.Fault.{Settles, SettlesInPlace};
+ghost use Rattle.mum_base.specs.Refusal.{Gives, Settles, SettlesInPlace};
+ghost use Rattle.mum_users.specs.Fault.{named_cause};
 
 use crate::fault::UserFault;
 use crate::flags::FlagChange;
@@ -41,6 +42,7 @@ pub struct Roster {
 impl Model for Roster {
     ghost use Rattle.mum_users.specs.State.{RosterState};
     ghost use Rattle.mum_users.specs.Proper.{IsProper};
+    ghost use Rattle.mum_users.specs.declared.user.TheConstants.{SESSIONS};
 
     ghost Value = { RosterState };
 
@@ -51,7 +53,7 @@ impl Model for Roster {
       last = r.last;
     } };
 
-    ghost invariant = { λ r. IsProper (record {
+    ghost invariant = { λ r. IsProper SESSIONS (record {
       sessions = r.users.items;
       listeners = r.listeners.items;
       targets = r.targets.items;
@@ -82,7 +84,7 @@ impl Roster {
     /// The row of a session, in one pass.
     pub fn session(&self, session: SessionId) -> Option<&User>
         ensures row { option_copied result ≡ session_of self.now session }
-        ensures proper { IsProper self.now }
+        ensures proper { IsProper SESSIONS self.now }
     {
         row_of(self.users.as_slice(), session)
     }
@@ -91,7 +93,7 @@ impl Roster {
     /// number of sessions.
     pub fn at(&self, slot: Slot) -> Option<&User>
         ensures row { option_copied result ≡ session_at self.now slot }
-        ensures proper { IsProper self.now }
+        ensures proper { IsProper SESSIONS self.now }
     {
         row_at(self.users.as_slice(), slot)
     }
@@ -99,9 +101,9 @@ impl Roster {
     /// The number and the slot that the next join takes; `None` where 128 sessions are here or the
     /// number 4,294,967,295 was given.
     pub fn next_join(&self) -> Option<(SessionId, Slot)>
-        ensures next { result ≡ next_join self.now }
+        ensures next { result ≡ next_join SESSIONS self.now }
         ensures least { IfSome result (λ next. IsLeastFree self.now.sessions next.1.0) }
-        ensures proper { IsProper self.now }
+        ensures proper { IsProper SESSIONS self.now }
     {
         if self.users.len() >= SESSIONS || self.last == u32::MAX {
             return None;
@@ -120,7 +122,7 @@ impl Roster {
         account: Option<AccountId>,
         tokens: &[Text],
     ) -> Result<SessionId, UserFault>
-        ensures { Settles (join_fault self.old name.now) (next_number self.old)
+        ensures { Gives named_cause (join_fault SESSIONS self.old name.now) (next_number self.old)
             (joined self.old name.now account tokens.now) self.old result self.new }
     {
         if name_in_use(self.users.as_slice(), name) {
@@ -186,7 +188,7 @@ impl Roster {
 
     /// Sets the tokens of a session anew. Refused as `NoSession` where it is not here.
     pub fn set_tokens(&mut self, session: SessionId, tokens: &[Text]) -> Result<(), UserFault>
-        ensures { Settles (absent_fault self.old session) tt
+        ensures { Settles named_cause (absent_fault self.old session)
             (with_tokens self.old session tokens.now) self.old result self.new }
     {
         match index_of(self.users.as_slice(), session) {
@@ -208,7 +210,7 @@ impl Roster {
         comment: Option<&str>,
         context: Option<&[u8]>,
     ) -> Result<(), UserFault>
-        ensures { Settles (absent_fault self.old session) tt
+        ensures { Settles named_cause (absent_fault self.old session)
             (with_texts self.old session (option_copied comment.entry) (option_copied context.entry))
             self.old result self.new }
     {
@@ -236,7 +238,7 @@ impl Roster {
     /// `ListenerLimit` where 64 sessions listen to the channel, and `UserListenerLimit` where the
     /// session listens to 32 channels.
     pub fn listen(&mut self, session: SessionId, channel: ChannelId) -> Result<(), UserFault>
-        ensures { Settles (listen_fault self.old session channel) tt
+        ensures { Settles named_cause (listen_fault self.old session channel)
             (listening self.old session channel) self.old result self.new }
     {
         if !is_here(self.users.as_slice(), session) {
@@ -290,7 +292,7 @@ impl Roster {
         id: u8,
         target: &Target,
     ) -> Result<(), UserFault>
-        ensures { Settles (target_fault self.old session id target.now) tt
+        ensures { Settles named_cause (target_fault self.old session id target.now)
             (targeted self.old session id target.now) self.old result self.new }
     {
         if !is_here(self.users.as_slice(), session) {
@@ -331,6 +333,3 @@ impl Roster {
         })
     }
 }
-
-#[cfg(test)]
-mod tests;

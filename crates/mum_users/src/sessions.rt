@@ -55,7 +55,7 @@ pub(crate) fn copy_of_users(alloc: Global, users: &[User]) -> Result<Vec<User>, 
 
 /// The row in a slot, found by halving.
 pub(crate) fn row_at(users: &[User], slot: Slot) -> Option<&User>
-    requires { SlotsRise 0 users.now }
+    requires { SlotsRise SESSIONS 0 users.now }
     ensures { option_copied result ≡ find (has_slot slot) users.now }
 {
     match users.binary_search_by_key(&slot.0, |user| user.slot.0) {

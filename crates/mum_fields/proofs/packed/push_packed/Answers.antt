@@ -25,16 +25,16 @@ loop-number-preserved g c =
     let takes : packed c.loop-number.packed ≡ first c.in-Some.number (packed c.next_number.new.self) = rw c.in-Some.is at c.in_ok-number.ensures.takes in
     let part = c.loop-number.invariant.part in
     let value = g.N.VarintType.value_of in
-    rw c.in_ok-push.ensures.items (record {
-      items = rw (append_assoc, c.from_varint.ensures) (sym (ap (λ w. c.loop-number.numbers.items ++ map value w.items) takes) ∙ c.loop-number.invariant.items);
+    rw c.in_ok-push.ensures.ok (record {
+      items = rw (append_assoc, c.from_varint.ensures) (sym (ap (λ w. c.loop-number.numbers ++ map value w.items) takes) ∙ c.loop-number.invariant.items);
       fault = sym (ap (λ w. w.fault) takes) ∙ c.loop-number.invariant.fault;
-      part = (part.0 ++ c.from_varint.result ∷ [], ap (λ x. x ++ c.from_varint.result ∷ []) part.1 ∙ append_assoc c.args.numbers.now.items part.0 (c.from_varint.result ∷ []));
+      part = (part.0 ++ c.from_varint.result ∷ [], ap (λ x. x ++ c.from_varint.result ∷ []) part.1 ∙ append_assoc c.args.numbers.now part.0 (c.from_varint.result ∷ []));
     })
 
 pub returns-in_err-push-clause-err : goal.returns-in_err-push-clause-err
 returns-in_err-push-clause-err g c =
     let p = err_from_is_err_and c.from_residual-in_err-push.result c.from_residual-in_err-push.ensures.1 in
-    rw (p.1, c.in_err-push.ensures.items) c.loop-number.invariant.part
+    rw (p.1, c.in_err-push.ensures.err) c.loop-number.invariant.part
 
 pub returns-clause-ok : goal.returns-clause-ok
 returns-clause-ok g c =

@@ -22,7 +22,7 @@ returns-in_ok-context-in-Some c =
     found _ _ c.args.session
     (λ user. record user { comment = unwrap_or (option_copied c.args.comment) user.comment; context = unwrap_or (option_copied c.args.context) user.context })
     _ _ c.index_mut.result.now c.self.view_is c.self.invariant c.as_slice.ensures.value c.in-Some.ensures c.index_mut.ensures.value in
-    rw (c.change_texts.ensures, c.in_ok-comment-in-Some.ensures, c.in_ok-context-in-Some.ensures) (changed.0, refl, changed.1)
+    rw (c.change_texts.ensures, c.in_ok-comment-in-Some.ensures, c.in_ok-context-in-Some.ensures) changed
 
 pub returns-in_err-comment-in-Some : goal.returns-in_err-comment-in-Some
 returns-in_err-comment-in-Some c =

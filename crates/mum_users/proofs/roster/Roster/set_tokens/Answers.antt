@@ -18,7 +18,7 @@ returns-in_ok-tokens-in-Some c =
     let changed =
     found _ _ c.args.session (λ user. record user { tokens = c.args.tokens.now }) _ _ c.index_mut-user.result.now
     c.self.view_is c.self.invariant c.as_slice.ensures.value c.in-Some.ensures c.index_mut-user.ensures.value in
-    rw c.in_ok-tokens-in-Some.ensures (changed.0, refl, changed.1)
+    rw c.in_ok-tokens-in-Some.ensures changed
 
 pub returns-in_err-tokens-in-Some : goal.returns-in_err-tokens-in-Some
 returns-in_err-tokens-in-Some c =

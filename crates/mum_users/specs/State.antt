@@ -29,6 +29,9 @@ has_slot slot user = user.slot.0 == slot.0
 abbrev pub has_name : List ℕ → User → Bool
 has_name name user = bytes_eq user.name name
 
+abbrev pub is_in : ChannelId → User → Bool
+is_in channel user = user.channel.0 == channel.0
+
 abbrev pub is_pair : SessionId → ChannelId → ListenerPair → Bool
 is_pair session channel pair = (pair.session.0 == session.0) && (pair.channel.0 == channel.0)
 

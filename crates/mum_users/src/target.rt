@@ -4,7 +4,8 @@ ghost use Rattle.std.specs.Prelude.{◌≡◌, ◌<◌, ◌≤◌, nat_lt, not, 
 ghost use Rattle.mum_users.specs.declared.target.TargetRow.{TargetRow};
 ghost use Rattle.std.specs.List.{list_any, position_or_len};
 ghost use Rattle.std.specs.Option.{option_copied};
-ghost use Rattle.mum_users.specs.Proper.{row_below, Rises};
+ghost use Rattle.mum_users.specs.Order.{Rises};
+ghost use Rattle.mum_users.specs.Proper.{row_below};
 ghost use Rattle.mum_users.specs.State.{is_of, is_target};
 ghost use Rattle.mum_users.specs.Targets.{is_oversize, target_below, with_target};
 

@@ -15,8 +15,8 @@ use crate::sessions::{
     copy_of_users, free_slot, has_member, index_of, is_here, name_in_use, row_at, row_of, take_user,
 };
 use crate::target::{
-    LAST_TARGET, Target, TargetRow, copy_of_target, copy_of_targets, is_oversize, put_target,
-    row_of_target, take_target, take_targets,
+    LAST_TARGET, Target, TargetRow, copy_of_targets, put_target, row_of_target, take_target,
+    take_targets,
 };
 use crate::user::{
     SESSIONS, User, change_flags, change_texts, copy_of_octets, copy_of_text, copy_of_texts,
@@ -70,7 +70,8 @@ impl Roster {
 
     /// No session is here, and none was.
     pub fn new(alloc: Global) -> Result<Roster, OutOfMemory>
-        ensures { IfOk result (λ roster. roster ≡ empty_roster) }
+        ensures empty { IfOk result (λ roster. roster ≡ empty_roster) }
+        ensures proper { IfOk result (λ roster. IsProper SESSIONS roster) }
     {
         Ok(Roster {
             alloc,
@@ -136,8 +137,9 @@ impl Roster {
         account: Option<AccountId>,
         tokens: &[Text],
     ) -> Result<SessionId, UserFault>
-        ensures { Gives named_cause (join_fault SESSIONS self.old name.now) (next_number self.old)
+        ensures outcome { Gives named_cause (join_fault SESSIONS self.old name.now) (next_number self.old)
             (joined self.old name.now account tokens.now) self.old result self.new }
+        ensures proper { IsProper SESSIONS self.new }
     {
         if name_in_use(self.users.as_slice(), name) {
             return Err(UserFault::NameInUse);
@@ -159,8 +161,9 @@ impl Roster {
     /// Takes a session out, with its listening and its targets. Refused as `NoSession` where it is not
     /// here.
     pub fn leave(&mut self, session: SessionId) -> Result<(), UserFault>
-        ensures { SettlesInPlace (absent_fault self.old session) (left self.old session)
+        ensures outcome { SettlesInPlace (absent_fault self.old session) (left self.old session)
             self.old result self.new }
+        ensures proper { IsProper SESSIONS self.new }
     {
         if !is_here(self.users.as_slice(), session) {
             return Err(UserFault::NoSession);
@@ -173,8 +176,9 @@ impl Roster {
 
     /// Puts a session into a channel. Refused as `NoSession` where it is not here.
     pub fn place(&mut self, session: SessionId, channel: ChannelId) -> Result<(), UserFault>
-        ensures { SettlesInPlace (absent_fault self.old session) (placed self.old session channel)
+        ensures outcome { SettlesInPlace (absent_fault self.old session) (placed self.old session channel)
             self.old result self.new }
+        ensures proper { IsProper SESSIONS self.new }
     {
         match index_of(self.users.as_slice(), session) {
             None => Err(UserFault::NoSession),
@@ -188,8 +192,9 @@ impl Roster {
 
     /// Whether a session may not speak where it is. Refused as `NoSession` where it is not here.
     pub fn suppress(&mut self, session: SessionId, on: bool) -> Result<(), UserFault>
-        ensures { SettlesInPlace (absent_fault self.old session) (suppressed self.old session on)
+        ensures outcome { SettlesInPlace (absent_fault self.old session) (suppressed self.old session on)
             self.old result self.new }
+        ensures proper { IsProper SESSIONS self.new }
     {
         match index_of(self.users.as_slice(), session) {
             None => Err(UserFault::NoSession),
@@ -203,8 +208,9 @@ impl Roster {
 
     /// Changes the flags of a session. Refused as `NoSession` where it is not here.
     pub fn set_flags(&mut self, session: SessionId, change: FlagChange) -> Result<(), UserFault>
-        ensures { SettlesInPlace (absent_fault self.old session) (with_flags self.old session change)
+        ensures outcome { SettlesInPlace (absent_fault self.old session) (with_flags self.old session change)
             self.old result self.new }
+        ensures proper { IsProper SESSIONS self.new }
     {
         match index_of(self.users.as_slice(), session) {
             None => Err(UserFault::NoSession),
@@ -217,8 +223,9 @@ impl Roster {
 
     /// Sets the tokens of a session anew. Refused as `NoSession` where it is not here.
     pub fn set_tokens(&mut self, session: SessionId, tokens: &[Text]) -> Result<(), UserFault>
-        ensures { Settles named_cause (absent_fault self.old session)
+        ensures outcome { Settles named_cause (absent_fault self.old session)
             (with_tokens self.old session tokens.now) self.old result self.new }
+        ensures proper { IsProper SESSIONS self.new }
     {
         match index_of(self.users.as_slice(), session) {
             None => Err(UserFault::NoSession),
@@ -239,9 +246,10 @@ impl Roster {
         comment: Option<&str>,
         context: Option<&[u8]>,
     ) -> Result<(), UserFault>
-        ensures { Settles named_cause (absent_fault self.old session)
+        ensures outcome { Settles named_cause (absent_fault self.old session)
             (with_texts self.old session (option_copied comment.entry) (option_copied context.entry))
             self.old result self.new }
+        ensures proper { IsProper SESSIONS self.new }
     {
         match index_of(self.users.as_slice(), session) {
             None => Err(UserFault::NoSession),
@@ -267,8 +275,9 @@ impl Roster {
     /// `ListenerLimit` where 64 sessions listen to the channel, and `UserListenerLimit` where the
     /// session listens to 32 channels.
     pub fn listen(&mut self, session: SessionId, channel: ChannelId) -> Result<(), UserFault>
-        ensures { Settles named_cause (listen_fault self.old session channel)
+        ensures outcome { Settles named_cause (listen_fault self.old session channel)
             (listening self.old session channel) self.old result self.new }
+        ensures proper { IsProper SESSIONS self.new }
     {
         if !is_here(self.users.as_slice(), session) {
             return Err(UserFault::NoSession);
@@ -289,8 +298,9 @@ impl Roster {
     /// Ends a session's listening to a channel, if it listens. Refused as `NoSession` where it is not
     /// here.
     pub fn unlisten(&mut self, session: SessionId, channel: ChannelId) -> Result<(), UserFault>
-        ensures { SettlesInPlace (absent_fault self.old session)
+        ensures outcome { SettlesInPlace (absent_fault self.old session)
             (not_listening self.old session channel) self.old result self.new }
+        ensures proper { IsProper SESSIONS self.new }
     {
         if !is_here(self.users.as_slice(), session) {
             return Err(UserFault::NoSession);
@@ -322,8 +332,9 @@ impl Roster {
     /// to more than 32. The limits are those of the roster after the change, so a session that listens
     /// to 32 channels may leave one for another.
     pub fn edit(&mut self, session: SessionId, change: &UserChange) -> Result<(), UserFault>
-        ensures { Settles named_cause (edit_fault self.old session (change_of change.now))
+        ensures outcome { Settles named_cause (edit_fault self.old session (change_of change.now))
             (edited self.old session (change_of change.now)) self.old result self.new }
+        ensures proper { IsProper SESSIONS self.new }
     {
         let Some(index) = index_of(self.users.as_slice(), session) else {
             return Err(UserFault::NoSession);
@@ -364,8 +375,9 @@ impl Roster {
         id: u8,
         target: &Target,
     ) -> Result<(), UserFault>
-        ensures { Settles named_cause (target_fault self.old session id target.now)
+        ensures outcome { Settles named_cause (target_fault self.old session id target.now)
             (targeted self.old session id target.now) self.old result self.new }
+        ensures proper { IsProper SESSIONS self.new }
     {
         if !is_here(self.users.as_slice(), session) {
             return Err(UserFault::NoSession);
@@ -373,14 +385,14 @@ impl Roster {
         if id == 0 || id > LAST_TARGET {
             return Err(UserFault::TargetId);
         }
-        if is_oversize(target) {
+        if target.is_oversize() {
             return Err(UserFault::TargetSize);
         }
         if target.items.as_slice().is_empty() {
             take_target(&mut self.targets, session, id);
             return Ok(());
         }
-        let target = copy_of_target(self.alloc, target)?;
+        let target = target.copy(self.alloc)?;
         put_target(
             &mut self.targets,
             TargetRow {
@@ -394,7 +406,8 @@ impl Roster {
 
     /// An equal roster, with its slots and the last session number that was given.
     pub fn copy(&self, alloc: Global) -> Result<Roster, OutOfMemory>
-        ensures { IfOk result (λ copy. copy ≡ self.now) }
+        ensures equal { IfOk result (λ copy. copy ≡ self.now) }
+        ensures proper { IfOk result (λ copy. IsProper SESSIONS copy) }
     {
         Ok(Roster {
             alloc,

@@ -7,7 +7,7 @@ ghost use Rattle.mum_users.specs.Sessions.{free_slot_from};
 ghost use Rattle.mum_users.specs.State.{has_name, has_number, has_slot, is_in};
 ghost use Rattle.mum_users.specs.Proper.{SlotsRise};
 
-use crate::user::{SESSIONS, User, copy_of_user};
+use crate::user::{SESSIONS, User};
 use mum_base::{ChannelId, OutOfMemory, SessionId, Slot};
 use std::alloc::Global;
 
@@ -55,7 +55,7 @@ pub(crate) fn copy_of_users(alloc: Global, users: &[User]) -> Result<Vec<User>, 
 {
     let mut copies = Vec::with_capacity(alloc, SESSIONS.max(users.len()))?;
     for user in users {
-        copies.push(copy_of_user(alloc, user)?)?;
+        copies.push(user.copy(alloc)?)?;
     }
     Ok(copies)
 }

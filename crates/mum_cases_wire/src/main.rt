@@ -3,6 +3,7 @@
 #![tactic(auto)]
 
 mod client;
+mod client_messages;
 mod faults;
 mod fields;
 mod frames;
@@ -34,5 +35,6 @@ fn main(rt: HostRuntime) -> Result<()> {
     tally.compare::<varint::Varints, HostRuntime>(&rt)?;
     tally.compare::<packet::Packets, HostRuntime>(&rt)?;
     tally.compare_files::<client::Clients, HostRuntime>(&rt)?;
+    tally.compare::<client_messages::ClientMessages, HostRuntime>(&rt)?;
     tally.finish(&rt)
 }

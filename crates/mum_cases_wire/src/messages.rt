@@ -45,7 +45,7 @@ fn again<M: Told>(alloc: Global, payload: &[u8]) -> Result<Octets> {
 }
 
 /// What a payload decodes to.
-fn decoded(alloc: Global, name: &str, payload: &[u8]) -> Result<String> {
+pub fn decoded(alloc: Global, name: &str, payload: &[u8]) -> Result<String> {
     match name {
         "Version" => told::<Version>(alloc, payload),
         "Authenticate" => told::<Authenticate>(alloc, payload),
@@ -70,7 +70,7 @@ fn decoded(alloc: Global, name: &str, payload: &[u8]) -> Result<String> {
 }
 
 /// The payload that the message of a payload is written as.
-fn written(alloc: Global, name: &str, payload: &[u8]) -> Result<Octets> {
+pub fn written(alloc: Global, name: &str, payload: &[u8]) -> Result<Octets> {
     match name {
         "Version" => again::<Version>(alloc, payload),
         "Authenticate" => again::<Authenticate>(alloc, payload),

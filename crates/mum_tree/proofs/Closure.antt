@@ -35,7 +35,7 @@ any_from p (x ∷ xs) on =
     (λ (later : list_any p xs ≡ true). let (y, has, is) = any_from p xs later in (y, contains_later x y xs has, is))
     (or_cases (p x) (list_any p xs) on)
 
-same_number : (a b : ChannelId) → eqb a.0 b.0 ≡ true → a ≡ b
+pub same_number : (a b : ChannelId) → eqb a.0 b.0 ≡ true → a ≡ b
 same_number a b e = ap (λ n. record { 0 = n }) (eqb-true a.0 b.0 e)
 
 reached_self : (links : List Pair) (rounds : ℕ) (id : ChannelId) → is_reached links rounds id id ≡ true
@@ -79,7 +79,7 @@ led_by links (suc rounds) from to on =
 
 led_there : (rows : List Row) (links : List Pair) (id to : ChannelId) → AreLinks rows links → is_there rows id ≡ true → LeadTo links id to → is_there rows to ≡ true
 led_there rows links id to are there (zero, walk) = subst (λ (x : ChannelId). is_there rows x ≡ true) walk there
-led_there rows links id to are there (suc steps, (last, walk, edge)) = (All-contains (IsBetween rows) links (last, to) are.between edge).1
+led_there rows links id to are there (suc steps, (last, walk, edge)) = (All-contains (IsBetween rows) links (last, to) are.pairs.between edge).1
 
 -- a further round finds no more
 Closed : List Pair → ℕ → ChannelId → Type 0
@@ -98,22 +98,25 @@ unfolding Closed
 closed_all links rounds id closed zero to walk = subst (λ (x : ChannelId). is_reached links rounds id x ≡ true) walk (reached_self links rounds id)
 closed_all links rounds id closed (suc steps) to (last, walk, edge) = closed to (reached_on links rounds id last to (closed_all links rounds id closed steps last walk) edge)
 
-abbrev worth : Bool → ℕ
+abbrev pub worth : Bool → ℕ
 worth b = cond b 1 0
 
 -- a test that passes more
-count_le : {X : Type 0} (p q : X → Bool) (xs : List X) → ((x : X) → p x ≡ true → q x ≡ true) → count_by p xs ≤ count_by q xs
-count_le p q [] more = omega arith
-count_le {X} p q (x ∷ xs) more =
-    let rest = count_le p q xs more in
+pub count_le_at : {X : Type 0} (p q : X → Bool) (xs : List X) → All (λ x. p x ≡ true → q x ≡ true) xs → count_by p xs ≤ count_by q xs
+count_le_at p q [] more = omega arith
+count_le_at {X} p q (x ∷ xs) more =
+    let rest = count_le_at p q xs (λ k d within. more (suc k) d (omega arith)) in
     let f : X → ℕ = λ y. worth (p y) in
     let g : X → ℕ = λ y. worth (q y) in
     ⊎_elim
-    (λ (on : p x ≡ true). omega (arith, sum_by-cons f x xs, sum_by-cons g x xs, ap worth on, ap worth (more x on)))
+    (λ (on : p x ≡ true). omega (arith, sum_by-cons f x xs, sum_by-cons g x xs, ap worth on, ap worth (more 0 x (omega arith) on)))
     (λ (off : p x ≡ false). omega (arith, sum_by-cons f x xs, sum_by-cons g x xs, ap worth off))
     (cases_Bool (p x))
 
-count_less : {X : Type 0} (p q : X → Bool) (xs : List X) → ((x : X) → p x ≡ true → q x ≡ true) → list_any (λ x. q x && not (p x)) xs ≡ true → count_by p xs < count_by q xs
+count_le : {X : Type 0} (p q : X → Bool) (xs : List X) → ((x : X) → p x ≡ true → q x ≡ true) → count_by p xs ≤ count_by q xs
+count_le p q xs more = count_le_at p q xs (λ k d within. more (get_or xs k d))
+
+pub count_less : {X : Type 0} (p q : X → Bool) (xs : List X) → ((x : X) → p x ≡ true → q x ≡ true) → list_any (λ x. q x && not (p x)) xs ≡ true → count_by p xs < count_by q xs
 count_less p q [] more some = absurd (false≢true some)
 count_less {X} p q (x ∷ xs) more some =
     let f : X → ℕ = λ y. worth (p y) in
@@ -210,7 +213,7 @@ linked_leads tree id other are there =
           passes_to p (λ row. row.channel.id) rows other (k, within, λ d. (ap p (is d) ∙ ap (is_reached tree.links (length rows) id) same ∙ on, ap (λ (r : Row). r.channel.id) (is d) ∙ same)),
     )
 
-both_same : (a b : Bool) → (a ≡ true → b ≡ true) → (b ≡ true → a ≡ true) → a ≡ b
+pub both_same : (a b : Bool) → (a ≡ true → b ≡ true) → (b ≡ true → a ≡ true) → a ≡ b
 both_same true true one two = refl
 both_same true false one two = sym (one refl)
 both_same false true one two = two refl

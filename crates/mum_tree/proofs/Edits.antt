@@ -22,7 +22,7 @@ use Rattle.mum_tree.proofs.Changed.{AllPairs-map, change_keeps, change_row, map_
 use Rattle.mum_tree.proofs.Grown.{grown_proper}
 use Rattle.mum_tree.proofs.Places.{least_free, least_within}
 
-some_is_none : (fault : TreeFault) → Some fault ≡ None → ⊥
+pub some_is_none : (fault : TreeFault) → Some fault ≡ None → ⊥
 some_is_none fault e = cc
 
 -- where a list of causes names none, the first does not stand

@@ -2,6 +2,7 @@ pub mod Changed
 pub mod Climb
 pub mod Closure
 pub mod Depths
+pub mod Edited
 pub mod Edits
 pub mod Find
 pub mod Grown
@@ -10,6 +11,7 @@ pub mod Linking
 pub mod LinkSearch
 pub mod Marks
 pub mod Moved
+pub mod Partners
 pub mod Places
 pub mod Reached
 pub mod Search

@@ -19,7 +19,7 @@ use Rattle.mum_tree.proofs.Upward.{the_root, reverse-cons, option_cases, upward_
 use Rattle.mum_tree.proofs.Changed.{number_found}
 use Rattle.mum_tree.proofs.Joined.{links_filtered}
 
-or_swap : (a b c : Bool) → (a || (b || c)) ≡ (b || (a || c))
+pub or_swap : (a b c : Bool) → (a || (b || c)) ≡ (b || (a || c))
 or_swap true true c = refl
 or_swap true false c = refl
 or_swap false true c = refl

@@ -1,3 +1,4 @@
+pub mod Change
 pub mod Fault
 pub mod Places
 pub mod Proper

@@ -34,11 +34,19 @@ IsUnderLasting rows row = number row ≢ ROOT.0 → is_temporary rows row.channe
 abbrev pub IsBetween : List Row → Pair → Type 0
 IsBetween rows pair = IsTrue (is_there rows pair.0) × IsTrue (is_there rows pair.1) × (pair.0.0 ≢ pair.1.0)
 
--- links between these channels: each stands once in each direction, in order, and no channel has too many
-pub record AreLinks (rows : List Row) (links : List Pair) : Type 0 where
+-- each pair stands in the other direction too
+abbrev pub AreBothWays : List Pair → Type 0
+AreBothWays links = All (λ pair. Contains links (pair.1, pair.0)) links
+
+-- pairs of these channels: each stands once in each direction, in order
+pub record ArePairs (rows : List Row) (links : List Pair) : Type 0 where
   pub between : All (IsBetween rows) links
-  pub both : All (λ pair. Contains links (pair.1, pair.0)) links
+  pub both : AreBothWays links
   pub ordered : Ordered links
+
+-- links between these channels, of which no channel has too many
+pub record AreLinks (rows : List Row) (links : List Pair) : Type 0 where
+  pub pairs : ArePairs rows links
   pub few_each : (id : ChannelId) → count_by (starts_at id) links ≤ LINK_LIMIT
 
 -- a tree of at most so many channels

@@ -39,15 +39,20 @@ fault_of_rename tree id name =
 abbrev pub fault_of_set_info : TreeState → ChannelId → Option TreeFault
 fault_of_set_info tree id = if not (is_there tree.channels id) then Some NoChannel else None
 
-abbrev pub fault_of_move : TreeState → ChannelId → ChannelId → Option TreeFault
-fault_of_move tree id parent =
-    if not (is_there tree.channels id && is_there tree.channels parent) then Some NoChannel
-    else if is_root id then Some RootFixed
-    else if is_taken tree.channels parent id (name_of tree id) then Some SameName
+-- what is said against another name or another parent of a channel, as both shall be
+abbrev pub fault_of_seat : TreeState → ChannelId → List ℕ → ChannelId → Option TreeFault
+fault_of_seat tree id name parent =
+    if is_root id then Some RootFixed
+    else if is_taken tree.channels parent id name then Some SameName
     else if is_below tree.channels id parent then Some UnderItself
     else if is_temporary tree.channels parent then Some TemporaryParent
     else if list_any (nests tree.channels id parent) tree.channels then Some Nesting
     else None
+
+abbrev pub fault_of_move : TreeState → ChannelId → ChannelId → Option TreeFault
+fault_of_move tree id parent =
+    if not (is_there tree.channels id && is_there tree.channels parent) then Some NoChannel
+    else fault_of_seat tree id (name_of tree id) parent
 
 abbrev pub fault_of_remove : TreeState → ChannelId → Option TreeFault
 fault_of_remove tree id =

@@ -94,14 +94,19 @@ abbrev pub with_pair : ChannelId → ChannelId → List Pair → List Pair
 with_pair from to [] = (from, to) ∷ []
 with_pair from to (pair ∷ pairs) = if is_above from to pair then (from, to) ∷ pair ∷ pairs else pair ∷ with_pair from to pairs
 
--- a link of a channel to itself, or one that is there, changes nothing
+-- a link more, in both directions; one of a channel to itself, or that is there, changes nothing
+abbrev pub pairs_with : ChannelId → ChannelId → List Pair → List Pair
+pairs_with a b pairs = if (a.0 == b.0) || list_any (is_pair a b) pairs then pairs else with_pair b a (with_pair a b pairs)
+
+-- a link less
+abbrev pub pairs_without : ChannelId → ChannelId → List Pair → List Pair
+pairs_without a b pairs = filter (λ pair. not (is_pair a b pair || is_pair b a pair)) pairs
+
 abbrev pub with_link : TreeState → ChannelId → ChannelId → TreeState
-with_link tree a b =
-    if (a.0 == b.0) || are_linked tree a b then tree
-    else record tree { links = with_pair b a (with_pair a b tree.links) }
+with_link tree a b = record tree { links = pairs_with a b tree.links }
 
 abbrev pub without_link : TreeState → ChannelId → ChannelId → TreeState
-without_link tree a b = record tree { links = filter (λ pair. not (is_pair a b pair || is_pair b a pair)) tree.links }
+without_link tree a b = record tree { links = pairs_without a b tree.links }
 
 -- a channel and all below it: those whose path holds it
 abbrev pub below : TreeState → ChannelId → List ChannelId

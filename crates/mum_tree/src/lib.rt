@@ -3,6 +3,7 @@
 //! what links lead to.
 #![tactic(auto)]
 
+mod change;
 mod channel;
 mod fault;
 mod found;
@@ -14,6 +15,7 @@ mod rows;
 mod scratch;
 mod tree;
 
+pub use change::ChannelChange;
 pub use channel::{CHANNEL_LIMIT, Channel, ChannelInfo, PATH_LIMIT, Row};
 pub use fault::TreeFault;
 pub use links::LINK_LIMIT;

@@ -2,9 +2,10 @@
 
 ghost use Rattle.std.specs.Prelude.{◌≡◌, ◌≢◌, ◌&&◌, ℕ, ◌≤◌, true, false, slice_index_or, ◌<◌, None, Some, length, MatchOption, IfOk, IfSome, IsTrue, is_some};
 ghost use Rattle.std.specs.Option.{option_copied};
-ghost use Rattle.std.specs.List.{All, AllPairs, count_by, list_any};
+ghost use Rattle.std.specs.List.{All, AllPairs, count_by, list_all, list_any};
+ghost use Rattle.mum_tree.specs.Change.{is_among};
 ghost use Rattle.mum_tree.specs.Places.{least_place, IsFree};
-ghost use Rattle.mum_tree.specs.Rows.{row_of, is_there, path, level, is_below, is_taken, nests, Rise};
+ghost use Rattle.mum_tree.specs.Rows.{row_of, is_temporary, is_there, path, level, is_below, is_taken, nests, Rise};
 ghost use Rattle.mum_tree.specs.Proper.{LeadUp};
 ghost use Rattle.mum_tree.specs.declared.channel.Row.{Row};
 
@@ -62,6 +63,25 @@ pub(crate) fn both_there(rows: &[Row], a: ChannelId, b: ChannelId) -> bool
     ensures { result ≡ (is_there rows.now a && is_there rows.now b) }
 {
     stands(rows, a) && stands(rows, b)
+}
+
+/// Whether all these channels are there.
+pub(crate) fn all_stand(rows: &[Row], ids: &[ChannelId]) -> bool
+    requires { Rise rows.now }
+    ensures { result ≡ list_all (is_there rows.now) ids.now }
+{
+    ids.iter().all(|id| stands(rows, *id))
+}
+
+/// Whether a channel is there and is temporary.
+pub(crate) fn is_temporary_there(rows: &[Row], id: ChannelId) -> bool
+    requires { Rise rows.now }
+    ensures { result ≡ is_temporary rows.now id }
+{
+    match find_row(rows, id) {
+        Some(row) => row.channel.temporary,
+        None => false,
+    }
 }
 
 /// The channels from the root down to one.
@@ -156,6 +176,23 @@ fn taken_places(rows: &[Row]) -> [bool; CHANNEL_LIMIT]
         taken[row.place as usize] = true;
     }
     taken
+}
+
+/// Which places have one of these channels.
+pub(crate) fn places_of(rows: &[Row], ids: &[ChannelId]) -> [bool; CHANNEL_LIMIT]
+    requires rise { Rise rows.now }
+    requires seated { All (λ row. row.place < CHANNEL_LIMIT) rows.now }
+    requires seats { AllPairs (λ row other. row.place ≢ other.place) rows.now }
+    requires there { IsTrue (list_all (is_there rows.now) ids.now) }
+    ensures length { length result ≡ CHANNEL_LIMIT }
+    ensures value { All (λ row. slice_index_or result row.place false ≡ is_among ids.now row.channel.id) rows.now }
+{
+    let mut marks = [false; CHANNEL_LIMIT];
+    for id in ids {
+        let row = &rows[place_in_rows(rows, *id)];
+        marks[row.place as usize] = true;
+    }
+    marks
 }
 
 /// Whether a place is marked.

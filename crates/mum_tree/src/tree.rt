@@ -1,25 +1,30 @@
 //! The tree of channels, and what is read from it.
 
-ghost use Rattle.std.specs.Prelude.{◌≡◌, ◌<◌, ◌↔◌, ◌&&◌, IfOk, IfSome, IsTrue, MatchOption, None, is_some, slice_get};
-ghost use Rattle.std.specs.List.{Contains};
+ghost use Rattle.std.specs.Prelude.{◌≡◌, if◌then◌else◌, ◌<◌, ◌↔◌, ◌&&◌, IfOk, IfSome, IsTrue, MatchOption, None, is_some, slice_get};
+ghost use Rattle.std.specs.List.{list_all, Contains};
 ghost use Rattle.std.specs.Option.{option_copied, option_map};
 ghost use Rattle.mum_base.specs.declared.number.ChannelId.{ChannelId};
 ghost use Rattle.mum_tree.specs.Proper.{IsProper};
 ghost use Rattle.mum_tree.specs.Rows.{row_of, is_there, path, IsWay};
 ghost use Rattle.mum_tree.specs.State.{root_alone, next_number, plain_info, partners, below, with_info, with_link, with_name, with_new, with_parent, without_link, without_subtree};
 ghost use Rattle.mum_tree.specs.Walks.{linked, LeadTo};
-ghost use Rattle.mum_tree.specs.Refusals.{is_full, fault_of_add, fault_of_link, fault_of_move, fault_of_remove, fault_of_rename, fault_of_set_info, fault_of_unlink};
+ghost use Rattle.mum_tree.specs.Refusals.{is_full, fault_of_add, fault_of_link, fault_of_move, fault_of_remove, fault_of_rename, fault_of_seat, fault_of_set_info, fault_of_unlink};
 ghost use Rattle.mum_tree.specs.Fault.{named_cause};
+ghost use Rattle.mum_tree.specs.Change.{change_of, fault_of_edit, overlinks, with_change};
 ghost use Rattle.mum_base.specs.Refusal.{Settles, SettlesInPlace};
 
+use crate::change::{ChannelChange, copied, give};
 use crate::channel::{CHANNEL_LIMIT, Channel, ChannelInfo, PATH_LIMIT, Row};
 use crate::fault::TreeFault;
 use crate::levels::{nests_too_deep, places_below};
-use crate::links::{has_link, is_crowded, joins, keep_ends, nth_end, place_for};
+use crate::links::{
+    LINK_LIMIT, has_link, is_crowded, keep_ends, nth_end, put_link, put_links, take_link,
+    take_links,
+};
 use crate::reach::{find_linked, places_found};
 use crate::rows::{
-    both_there, copy_rows, find_path, find_row, has_mark, has_name, least_free_place, locate,
-    path_length, stands, stands_below,
+    all_stand, both_there, copy_rows, find_path, find_row, has_mark, has_name, is_temporary_there,
+    least_free_place, locate, path_length, places_of, stands, stands_below,
 };
 use crate::scratch::Scratch;
 use arrayvec::ArrayVec;
@@ -58,6 +63,13 @@ fn plain_channel_info(alloc: Global) -> Result<ChannelInfo, OutOfMemory>
         position: 0,
         max_users: 0,
     })
+}
+
+/// One if it holds, else nothing.
+fn one_if(holds: bool) -> usize
+    ensures { result ≡ (if holds then 1 else 0) }
+{
+    if holds { 1 } else { 0 }
 }
 
 impl Tree {
@@ -267,7 +279,7 @@ impl Tree {
         if !both_there(&self.rows, a, b) {
             return Err(TreeFault::NoChannel);
         }
-        self.links.retain(|link| !joins(link, a, b));
+        take_link(&mut self.links, a, b);
         Ok(())
     }
 
@@ -301,11 +313,31 @@ impl Tree {
             return Ok(());
         }
         self.links.reserve(2)?;
-        let at = place_for(&self.links, a, b);
-        self.links.insert(at, (a, b)).unwrap();
-        let at = place_for(&self.links, b, a);
-        self.links.insert(at, (b, a)).unwrap();
+        put_link(&mut self.links, a, b);
         Ok(())
+    }
+
+    /// What is said against another name or another parent of a channel, as both shall be.
+    fn cause_against_seat(&self, id: ChannelId, name: &str, parent: ChannelId) -> Option<TreeFault>
+        ensures { result ≡ fault_of_seat self.now id name.now parent }
+    {
+        let rows = self.rows.as_slice();
+        if id.0 == ChannelId::ROOT.0 {
+            return Some(TreeFault::RootFixed);
+        }
+        if has_name(rows, parent, id, name) {
+            return Some(TreeFault::SameName);
+        }
+        if stands_below(rows, id, parent) {
+            return Some(TreeFault::UnderItself);
+        }
+        if is_temporary_there(rows, parent) {
+            return Some(TreeFault::TemporaryParent);
+        }
+        if nests_too_deep(rows, id, parent) {
+            return Some(TreeFault::Nesting);
+        }
+        None
     }
 
     /// The first cause for which a move is refused.
@@ -316,25 +348,10 @@ impl Tree {
         let Some(moved) = find_row(rows, id) else {
             return Some(TreeFault::NoChannel);
         };
-        let Some(above) = find_row(rows, parent) else {
+        if !stands(rows, parent) {
             return Some(TreeFault::NoChannel);
-        };
-        if moved.channel.id.0 == ChannelId::ROOT.0 {
-            return Some(TreeFault::RootFixed);
         }
-        if has_name(rows, parent, id, moved.channel.name.as_str()) {
-            return Some(TreeFault::SameName);
-        }
-        if stands_below(rows, id, parent) {
-            return Some(TreeFault::UnderItself);
-        }
-        if above.channel.temporary {
-            return Some(TreeFault::TemporaryParent);
-        }
-        if nests_too_deep(rows, id, parent) {
-            return Some(TreeFault::Nesting);
-        }
-        None
+        self.cause_against_seat(id, moved.channel.name.as_str(), parent)
     }
 
     /// Puts a channel, with all below it, under another. Refused, in this order: NoChannel,
@@ -352,6 +369,87 @@ impl Tree {
         }
         let row = &mut self.rows[at];
         row.channel.parent = parent;
+        Ok(())
+    }
+
+    /// Whether after a change of its links a channel has too many, or a new partner of it has.
+    fn overlinks(&self, id: ChannelId, change: &ChannelChange<'_>) -> bool
+        requires added { IsTrue (list_all (is_there self.now.channels) change.now.links_add.now) }
+        requires removed { IsTrue (list_all (is_there self.now.channels) change.now.links_remove.now) }
+        ensures { result ≡ overlinks self.now id (change_of change.now) }
+    {
+        let rows = self.rows.as_slice();
+        let added = places_of(rows, change.links_add);
+        let removed = places_of(rows, change.links_remove);
+        let mut partners = 0;
+        for row in rows {
+            let other = row.channel.id;
+            let before = has_link(&self.links, id, other);
+            let added = has_mark(&added, row.place) && other.0 != id.0;
+            let after = (before || added) && !has_mark(&removed, row.place);
+            if after && !before && is_crowded(&self.links, other) {
+                return true;
+            }
+            partners += one_if(after);
+        }
+        partners > LINK_LIMIT
+    }
+
+    /// The first cause for which a change of a channel is refused.
+    fn cause_against_editing(&self, id: ChannelId, change: &ChannelChange<'_>) -> Option<TreeFault>
+        ensures { result ≡ fault_of_edit self.now id (change_of change.now) }
+    {
+        let rows = self.rows.as_slice();
+        let Some(row) = find_row(rows, id) else {
+            return Some(TreeFault::NoChannel);
+        };
+        let before = row.channel.name.as_str();
+        let name = change.name.unwrap_or(before);
+        let parent = change.parent.unwrap_or(row.channel.parent);
+        if !stands(rows, parent)
+            || !all_stand(rows, change.links_add)
+            || !all_stand(rows, change.links_remove)
+        {
+            return Some(TreeFault::NoChannel);
+        }
+        if name != before || parent.0 != row.channel.parent.0 {
+            if let Some(cause) = self.cause_against_seat(id, name, parent) {
+                return Some(cause);
+            }
+        }
+        if self.overlinks(id, change) {
+            return Some(TreeFault::LinkCount);
+        }
+        None
+    }
+
+    /// Changes a channel in several parts at once: what is given of its name, its parent and what
+    /// describes it, then the links that come, then those that go. Refused, in this order: NoChannel
+    /// for any that the change names; where the name or the parent becomes another, RootFixed,
+    /// SameName under the parent that it then has, UnderItself, TemporaryParent, Nesting; LinkCount,
+    /// of the links that are left.
+    pub fn edit(&mut self, id: ChannelId, change: &ChannelChange<'_>) -> Result<(), TreeFault>
+        ensures made { Settles named_cause (fault_of_edit self.old id (change_of change.now))
+            (with_change self.old id (change_of change.now)) self.old result self.new }
+        ensures proper { IsProper CHANNEL_LIMIT self.new }
+    {
+        let Some(at) = locate(&self.rows, id) else {
+            return Err(TreeFault::NoChannel);
+        };
+        if let Some(cause) = self.cause_against_editing(id, change) {
+            return Err(cause);
+        }
+        let name = copied(self.alloc, change.name)?;
+        let description = copied(self.alloc, change.description)?;
+        self.links.reserve(2 * change.links_add.len())?;
+        put_links(&mut self.links, id, change.links_add);
+        take_links(&mut self.links, id, change.links_remove);
+        let channel = &mut self.rows[at].channel;
+        give(&mut channel.name, name);
+        give(&mut channel.parent, change.parent);
+        give(&mut channel.info.description, description);
+        give(&mut channel.info.position, change.position);
+        give(&mut channel.info.max_users, change.max_users);
         Ok(())
     }
 

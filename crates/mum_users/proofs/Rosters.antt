@@ -12,18 +12,21 @@ use Rattle.mum_base.specs.declared.number.AccountId.{AccountId}
 use Rattle.mum_users.specs.declared.user.User.{User}
 use Rattle.mum_users.specs.declared.listening.TheConstants.{CHANNEL_LISTENERS, LISTENED_CHANNELS}
 use Rattle.mum_users.specs.declared.listening.ListenerPair.{ListenerPair}
+use Rattle.mum_users.specs.declared.listening.PairOrder.TheVariants.{BySession}
 use Rattle.mum_users.specs.declared.target.TargetRow.{TargetRow}
 use Rattle.mum_users.specs.State.{RosterState, has_name, has_number, is_of, is_of_channel, is_of_session, is_target, joining}
 use Rattle.mum_users.specs.declared.fault.UserFault.TheVariants.{NoSession}
 use Rattle.mum_users.specs.Sessions.{absent_fault, changed, free_slot, joined, left, next_number, next_slot}
-use Rattle.mum_users.specs.Listeners.{listens, pair_below, with_pair}
+use Rattle.mum_users.specs.Listeners.{listen_fault, listening, listens, pair_below, with_pair}
 use Rattle.mum_users.specs.declared.target.TheConstants.{LAST_TARGET}
 use Rattle.mum_users.specs.Targets.{is_oversize, target_below, with_target}
 use Rattle.mum_users.specs.Proper.{IsProper, is_sound, row_below}
 use Rattle.mum_users.proofs.Counts.{count_by-cons, count_by-insert, count_by-filter-le, count_by-filter_others, count_by-filter_none, count_by-map, none_from, some_from}
-use Rattle.mum_users.proofs.Places.{absent_from, present_from, set-position, with_pair-insert}
+use Rattle.mum_users.proofs.Places.{absent_from, present_from, set-position}
 use Rattle.mum_users.proofs.Slots.{SlotsRise-filter, SlotsRise-map, SlotsRise-seated, free_slot_from-le}
-use Rattle.mum_users.proofs.Orders.{Rises-filter, Rises-with_pair, Rises-with_target}
+use Rattle.mum_users.proofs.Orders.{Rises-filter, Rises-with_target}
+use Rattle.mum_users.proofs.Pairs.{Rises-put}
+use Rattle.mum_users.proofs.PairCounts.{count-put_new, listed-stays}
 
 -- a change of a row that leaves what the row is found by
 pub record KeepsIdentity (change : User → User) : Type 0 where
@@ -142,19 +145,16 @@ module _ (limit : ℕ) (state : RosterState) (name : List ℕ) (account : Option
   }
 
 -- a session that is here is none of those that are not
-apart_from : (users : List User) (session other : SessionId) → list_any (has_number session) users ≡ true → count_by (has_number other) users ≡ 0 → eqb session.0 other.0 ≡ false
+pub apart_from : (users : List User) (session other : SessionId) → list_any (has_number session) users ≡ true → count_by (has_number other) users ≡ 0 → eqb session.0 other.0 ≡ false
 apart_from users session other here none = elim (cases_Bool (eqb session.0 other.0)) [
   | inl same ↦ absurd (omega (arith, some_from (has_number session) users here, ap (λ (k : ℕ). count_by (λ (user : User). eqb user.session.0 k) users) (eqb-true _ _ same)))
   | inr apart ↦ apart
 ]
 
-count_by-with_pair : (p : ListenerPair → Bool) (new : ListenerPair) (pairs : List ListenerPair) → count_by p (with_pair new pairs) ≡ count_by p pairs + cond (p new) 1 0
-count_by-with_pair p new pairs = ap (λ xs. count_by p xs) (with_pair-insert new pairs) ∙ count_by-insert p pairs _ new
-
-pub IsProper-listening : {limit : ℕ} (state : RosterState) (session : SessionId) (channel : ChannelId) → IsProper limit state → list_any (has_number session) state.sessions ≡ true → listens state session channel ≡ false → count_by (is_of_channel channel) state.listeners < CHANNEL_LISTENERS → count_by (is_of_session session) state.listeners < LISTENED_CHANNELS → IsProper limit (record state { listeners = with_pair (record { session = session; channel = channel }) state.listeners })
+pub IsProper-listening : {limit : ℕ} (state : RosterState) (session : SessionId) (channel : ChannelId) → IsProper limit state → list_any (has_number session) state.sessions ≡ true → listens state session channel ≡ false → count_by (is_of_channel channel) state.listeners < CHANNEL_LISTENERS → count_by (is_of_session session) state.listeners < LISTENED_CHANNELS → IsProper limit (record state { listeners = with_pair pair_below (record { session = session; channel = channel }) state.listeners })
 IsProper-listening state session channel proper here absent room own_room =
-    let counted : (p : ListenerPair → Bool) → count_by p (with_pair (record { session = session; channel = channel }) state.listeners) ≡ count_by p state.listeners + cond (p (record { session = session; channel = channel })) 1 0 =
-    λ p. count_by-with_pair p (record { session = session; channel = channel }) state.listeners in
+    let counted : (p : ListenerPair → Bool) → count_by p (with_pair pair_below (record { session = session; channel = channel }) state.listeners) ≡ count_by p state.listeners + cond (p (record { session = session; channel = channel })) 1 0 =
+    λ p. count-put_new p (record { session = session; channel = channel }) state.listeners proper.listeners_rise absent in
     record {
       slots = proper.slots;
       numbers = proper.numbers;
@@ -170,11 +170,18 @@ IsProper-listening state session channel proper here absent room own_room =
         | inl same ↦ omega (arith, counted (is_of_session other), ap (λ (b : Bool). cond {A = ℕ} b 1 0) same, ap (λ (k : ℕ). count_by (λ (pair : ListenerPair). eqb pair.session.0 k) state.listeners) (eqb-true _ _ same))
         | inr apart ↦ omega (arith, counted (is_of_session other), ap (λ (b : Bool). cond {A = ℕ} b 1 0) apart, proper.few_channels other)
       ];
-      listeners_rise = Rises-with_pair (record { session = session; channel = channel }) state.listeners absent proper.listeners_rise;
+      listeners_rise = Rises-put BySession (record { session = session; channel = channel }) state.listeners proper.listeners_rise;
       targets_here = proper.targets_here;
       targets_sound = proper.targets_sound;
       targets_rise = proper.targets_rise;
     }
+
+-- a session that listens already is allowed to, and nothing changes
+pub listed_already : {limit : ℕ} (state now : RosterState) (session : SessionId) (channel : ChannelId) → state ≡ now → IsProper limit state → list_any (has_number session) state.sessions ≡ true → listens state session channel ≡ true → (listen_fault now session channel ≡ None) × (now ≡ listening now session channel)
+listed_already state now session channel same proper here there =
+    let allowed : listen_fault state session channel ≡ None = rw (here, there) refl in
+    let stays = listed-stays (record { session = session; channel = channel }) state.listeners proper.listeners_rise there in
+    rw (← same) (allowed, ap (λ (pairs : List ListenerPair). record state { listeners = pairs }) (sym stays))
 
 pub IsProper-fewer_listeners : {limit : ℕ} (state : RosterState) (q : ListenerPair → Bool) → IsProper limit state → IsProper limit (record state { listeners = filter q state.listeners })
 IsProper-fewer_listeners state q proper = record {

@@ -1,5 +1,5 @@
 -- What holds of every roster.
-use Rattle.std.specs.Prelude.{◌≡◌, ℕ, ◌+◌, ◌^◌, ◌<◌, ◌≤◌, ◌==◌, ◌||◌, not, nat_lt, Bool, List, [], ◌∷◌, length, count_by, IsTrue, ⊤}
+use Rattle.std.specs.Prelude.{◌≡◌, ℕ, ◌+◌, ◌^◌, ◌<◌, ◌≤◌, ◌==◌, ◌||◌, not, nat_lt, Bool, List, [], ◌∷◌, length, count_by}
 use Rattle.mum_base.specs.declared.number.SessionId.{SessionId}
 use Rattle.mum_base.specs.declared.number.ChannelId.{ChannelId}
 use Rattle.mum_users.specs.declared.user.User.{User}
@@ -7,6 +7,7 @@ use Rattle.mum_users.specs.declared.listening.TheConstants.{CHANNEL_LISTENERS, L
 use Rattle.mum_users.specs.declared.target.TheConstants.{LAST_TARGET}
 use Rattle.mum_users.specs.declared.target.TargetRow.{TargetRow}
 use Rattle.mum_users.specs.Listeners.{pair_below}
+use Rattle.mum_users.specs.Order.{Rises}
 use Rattle.mum_users.specs.Targets.{is_oversize, target_below}
 use Rattle.mum_users.specs.State.{RosterState, has_name, has_number, is_of, is_of_channel, is_of_session}
 
@@ -15,15 +16,7 @@ abbrev pub SlotsRise : ℕ → ℕ → List User → Type 0
 SlotsRise limit low [] = low ≤ limit
 SlotsRise limit low (user ∷ users) = (low ≤ user.slot.0) × SlotsRise limit (user.slot.0 + 1) users
 
-abbrev pub IsBelowAll : {X : Type 0} → (X → X → Bool) → X → List X → Type 0
-IsBelowAll below first [] = ⊤
-IsBelowAll below first (x ∷ xs) = IsTrue (below first x) × IsBelowAll below first xs
-
--- each is below all that come after it, so a set of them stands in one order alone
-abbrev pub Rises : {X : Type 0} → (X → X → Bool) → List X → Type 0
-Rises below [] = ⊤
-Rises below (x ∷ xs) = IsBelowAll below x xs × Rises below xs
-
+-- by their sessions, those of one session by their numbers
 abbrev pub row_below : TargetRow → TargetRow → Bool
 row_below row other = target_below other.session other.id row
 

@@ -128,13 +128,14 @@ fn copies(alloc: Global, text: &str, session: SessionId, spelling: &[u8]) -> Res
 }
 
 /// Counts of voice packets: all, those to a target, and those that end a transmission.
-struct Spoken {
+#[derive(Default, Drop)]
+struct VoiceCounts {
     packets: u64,
     targeted: u64,
     last: u64,
 }
 
-impl Spoken {
+impl VoiceCounts {
     /// Counts a packet, which must be Opus without a position. Bit 13 of its number ends a transmission.
     fn count(&mut self, bytes: &[u8]) -> Result<()> {
         let packet = match Packet::parse(bytes) {
@@ -160,22 +161,16 @@ impl Spoken {
 
 /// What the voice packets of a conversation are.
 fn spoken(alloc: Global, text: &str) -> Result<String> {
-    let mut spoken = Spoken {
-        packets: 0,
-        targeted: 0,
-        last: 0,
-    };
+    let mut spoken = VoiceCounts::default();
     for frame in &sent(alloc, text)? {
         if frame.kind == UDP_TUNNEL {
             spoken.count(frame.payload.as_slice())?;
         }
     }
-    let Spoken {
-        packets,
-        targeted,
-        last,
-    } = spoken;
-    Ok(format!(in alloc; "{packets} packets of Opus, {targeted} to a target, {last} end a transmission")?)
+    let (all, to_target, last) = (spoken.packets, spoken.targeted, spoken.last);
+    Ok(format!(in alloc;
+        "{all} packets of Opus, {to_target} to a target, {last} end a transmission"
+    )?)
 }
 
 impl FileTable for Clients {

@@ -8,8 +8,8 @@ use Rattle.mum_fields.specs.declared.fault.FieldFault.{FieldFault}
 use Rattle.mum_fields.specs.Fault.{fault}
 use Rattle.mum_fields.specs.Varint.{above, varint_with, varint}
 use Rattle.mum_fields.specs.Content.{Varint, Fixed8, Block, Fixed4}
-use Rattle.mum_fields.specs.Field.{Entry, Cursor, IsNumber, skip, ◌>>=◌, number_from, varint_at, bytes_at, fixed8_at, fixed4_at, placed, value_at, field_at}
-use Rattle.mum_fields.specs.NoField.{HasNoVarint, cut, above_64_bits, BeginsWithVarint, BeginsWithKey, IsNoWireType, group_begins, group_ends, six, seven, HasFault, no_key, no_number, no_wire_type, no_varint, cut_fixed8, no_length, long_block, cut_fixed4}
+use Rattle.mum_fields.specs.Field.{Entry, Cursor, IsNumber, skip, ◌>>=◌, number_from, varint_in_front, bytes_at, fixed8_at, fixed4_at, placed, value_at, field_at}
+use Rattle.mum_fields.specs.NoField.{HasNoVarint, cut, above_64_bits, BeginsWithVarint, BeginsWithKey, IsNoWireType, group_begins, group_ends, six, seven, HasFieldFault, no_key, no_number, no_wire_type, no_varint, cut_fixed8, no_length, long_block, cut_fixed4}
 use Rattle.mum_fields.proofs.VarintFaults.{varint-truncated, truncated-varint, varint-bad, bad-varint}
 use Rattle.mum_fields.proofs.Fields.{varint_at-found, varint_at-spelled}
 
@@ -58,8 +58,8 @@ pub no_varint-is : (bytes : List ℕ) (kind : FaultKind) → HasNoVarint bytes k
 no_varint-is _ _ (cut bytes tops few) = truncated-varint bytes (tops, few)
 no_varint-is _ _ (above_64_bits bytes passes) = bad-varint bytes passes
 
-varint_at-none : (c : Cursor) (kind : FaultKind) → HasNoVarint c.rest kind → varint_at c ≡ failed (fault kind c.place)
-unfolding varint_at
+varint_at-none : (c : Cursor) (kind : FaultKind) → HasNoVarint c.rest kind → varint_in_front c ≡ failed (fault kind c.place)
+unfolding varint_in_front
 varint_at-none c kind h = ap (number_from c) (no_varint-is c.rest kind h)
 
 record IsNoVarintAt (c : Cursor) (e : FieldFault) : Type 0 where
@@ -74,17 +74,17 @@ from_number : (c : Cursor) (e : FieldFault) (r : Result (ℕ × ℕ) FaultKind) 
 from_number c e (Ok found) is h = absurd cc
 from_number c e (Err kind) is h = record { kind = kind; none = is_no_varint c.rest kind is; is = same_fault (fault kind c.place) e h }
 
-varint_at-failed : (c : Cursor) (e : FieldFault) → varint_at c ≡ failed e → IsNoVarintAt c e
-unfolding varint_at
+varint_at-failed : (c : Cursor) (e : FieldFault) → varint_in_front c ≡ failed e → IsNoVarintAt c e
+unfolding varint_in_front
 varint_at-failed c e h = from_number c e (varint c.rest) refl h
 
-varint_at-begins : (c after : Cursor) (n : ℕ) → BeginsWithVarint c n after → varint_at c ≡ Ok (n, after)
+varint_at-begins : (c after : Cursor) (n : ℕ) → BeginsWithVarint c n after → varint_in_front c ≡ Ok (n, after)
 varint_at-begins c after n h =
-    ap (λ (r : List ℕ). varint_at (record { place = c.place; rest = r })) h.whole
+    ap (λ (r : List ℕ). varint_in_front (record { place = c.place; rest = r })) h.whole
     ∙ varint_at-spelled c.place h.bytes after.rest n h.is
     ∙ ap (λ (p : ℕ). Ok (n, record { place = p; rest = after.rest })) (sym h.behind)
 
-begins-varint_at : (c : Cursor) (x : ℕ × Cursor) → varint_at c ≡ Ok x → BeginsWithVarint c x.0 x.1
+begins-varint_at : (c : Cursor) (x : ℕ × Cursor) → varint_in_front c ≡ Ok x → BeginsWithVarint c x.0 x.1
 begins-varint_at c x e = let t = varint_at-found c x e in record { bytes = t.bytes; is = t.is; whole = t.took.parts; behind = t.took.place }
 
 -- ---- from the relation
@@ -124,7 +124,7 @@ bytes_at-few : (missing : FaultKind) (n : ℕ) (c : Cursor) → length c.rest < 
 unfolding bytes_at
 bytes_at-few missing n c few = rw (lt-ltb (length c.rest) n few) refl
 
-pub fault-there : (c : Cursor) (e : FieldFault) → HasFault c e → field_at c ≡ failed e
+pub fault-there : (c : Cursor) (e : FieldFault) → HasFieldFault c e → field_at c ≡ failed e
 unfolding field_at value_at fixed8_at fixed4_at
 fault-there _ _ (no_key c kind some h) = rw (varint_at-none c kind h) refl
 fault-there _ _ (no_number c after key h none) =
@@ -165,14 +165,14 @@ bytes_at-failed missing n c e h = by_test (ltb (length c.rest) n) refl h
 
 -- what value a key of this number begins, where it has a fault
 abbrev Faulty : Cursor → Cursor → ℕ → ℕ → FieldFault → Type 0
-Faulty c after number wire e = BeginsWithKey c number wire after → HasFault c e
+Faulty c after number wire e = BeginsWithKey c number wire after → HasFieldFault c e
 
 no_value_of : {A : Type 0} (x : A) (e : FieldFault) → Ok x ≡ failed {A = A} e → ⊥
 no_value_of x e h = cc
 
-varint-faulty : (c after : Cursor) (number : ℕ) (e : FieldFault) → (varint_at after >>= λ found. Ok (placed number after.place (Varint found.0, found.1))) ≡ failed e → Faulty c after number 0 e
-varint-faulty c after number e h key = elim (bind_failed (varint_at after) (λ found. Ok (placed number after.place (Varint found.0, found.1))) e h) [
-  | inl none ↦ let v = varint_at-failed after e none in subst (λ d. HasFault c d) v.is (no_varint c after number v.kind key v.none)
+varint-faulty : (c after : Cursor) (number : ℕ) (e : FieldFault) → (varint_in_front after >>= λ found. Ok (placed number after.place (Varint found.0, found.1))) ≡ failed e → Faulty c after number 0 e
+varint-faulty c after number e h key = elim (bind_failed (varint_in_front after) (λ found. Ok (placed number after.place (Varint found.0, found.1))) e h) [
+  | inl none ↦ let v = varint_at-failed after e none in subst (λ d. HasFieldFault c d) v.is (no_varint c after number v.kind key v.none)
   | inr found ↦ absurd (no_value_of _ e found.2)
 ]
 
@@ -180,7 +180,7 @@ fixed8-faulty : (c after : Cursor) (number : ℕ) (e : FieldFault) → (fixed8_a
 unfolding fixed8_at
 fixed8-faulty c after number e h key = elim (bind_failed (fixed8_at after) (λ found. Ok (placed number after.place (Fixed8 found.0, found.1))) e h) [
   | inl none ↦ elim (bind_failed (bytes_at Truncated 8 after) (λ found. Ok (from_le_bytes w64 found.0, found.1)) e none) [
-    | inl few ↦ let v = bytes_at-failed Truncated 8 after e few in subst (λ d. HasFault c d) v.1 (cut_fixed8 c after number key v.0)
+    | inl few ↦ let v = bytes_at-failed Truncated 8 after e few in subst (λ d. HasFieldFault c d) v.1 (cut_fixed8 c after number key v.0)
     | inr found ↦ absurd (no_value_of _ e found.2)
   ]
   | inr found ↦ absurd (no_value_of _ e found.2)
@@ -190,17 +190,17 @@ fixed4-faulty : (c after : Cursor) (number : ℕ) (e : FieldFault) → (fixed4_a
 unfolding fixed4_at
 fixed4-faulty c after number e h key = elim (bind_failed (fixed4_at after) (λ found. Ok (placed number after.place (Fixed4 found.0, found.1))) e h) [
   | inl none ↦ elim (bind_failed (bytes_at Truncated 4 after) (λ found. Ok (from_le_bytes w32 found.0, found.1)) e none) [
-    | inl few ↦ let v = bytes_at-failed Truncated 4 after e few in subst (λ d. HasFault c d) v.1 (cut_fixed4 c after number key v.0)
+    | inl few ↦ let v = bytes_at-failed Truncated 4 after e few in subst (λ d. HasFieldFault c d) v.1 (cut_fixed4 c after number key v.0)
     | inr found ↦ absurd (no_value_of _ e found.2)
   ]
   | inr found ↦ absurd (no_value_of _ e found.2)
 ]
 
-block-faulty : (c after : Cursor) (number : ℕ) (e : FieldFault) → (varint_at after >>= λ size. bytes_at BadLength size.0 size.1 >>= λ found. Ok (placed number size.1.place (Block found.0, found.1))) ≡ failed e → Faulty c after number 2 e
-block-faulty c after number e h key = elim (bind_failed (varint_at after) (λ size. bytes_at BadLength size.0 size.1 >>= λ found. Ok (placed number size.1.place (Block found.0, found.1))) e h) [
-  | inl none ↦ let v = varint_at-failed after e none in subst (λ d. HasFault c d) v.is (no_length c after number v.kind key v.none)
+block-faulty : (c after : Cursor) (number : ℕ) (e : FieldFault) → (varint_in_front after >>= λ size. bytes_at BadLength size.0 size.1 >>= λ found. Ok (placed number size.1.place (Block found.0, found.1))) ≡ failed e → Faulty c after number 2 e
+block-faulty c after number e h key = elim (bind_failed (varint_in_front after) (λ size. bytes_at BadLength size.0 size.1 >>= λ found. Ok (placed number size.1.place (Block found.0, found.1))) e h) [
+  | inl none ↦ let v = varint_at-failed after e none in subst (λ d. HasFieldFault c d) v.is (no_length c after number v.kind key v.none)
   | inr size ↦ elim (bind_failed (bytes_at BadLength size.0.0 size.0.1) (λ found. Ok (placed number size.0.1.place (Block found.0, found.1))) e size.2) [
-    | inl few ↦ let v = bytes_at-failed BadLength size.0.0 size.0.1 e few in subst (λ d. HasFault c d) v.1 (long_block c after size.0.1 number size.0.0 key (begins-varint_at after size.0 size.1) v.0)
+    | inl few ↦ let v = bytes_at-failed BadLength size.0.0 size.0.1 e few in subst (λ d. HasFieldFault c d) v.1 (long_block c after size.0.1 number size.0.0 key (begins-varint_at after size.0 size.1) v.0)
     | inr found ↦ absurd (no_value_of _ e found.2)
   ]
 ]
@@ -244,7 +244,7 @@ value-faulty c after number wire e low h =
           | inl p ↦ at_wire c after number wire 2 e (eqb-true wire 2 p.0) (block-faulty c after number e p.1)
           | inr j ↦ elim (tested (eqb wire 5) _ _ _ j.1) [
             | inl p ↦ at_wire c after number wire 5 e (eqb-true wire 5 p.0) (fixed4-faulty c after number e p.1)
-            | inr k ↦ λ key. subst (λ d. HasFault c d) (same_fault {A = Entry × Cursor} (fault BadWireType c.place) e k.1)
+            | inr k ↦ λ key. subst (λ d. HasFieldFault c d) (same_fault {A = Entry × Cursor} (fault BadWireType c.place) e k.1)
                 (no_wire_type c after number wire key (wire_type-none wire low (eqb-false wire 0 g.0) (eqb-false wire 1 i.0) (eqb-false wire 2 j.0) (eqb-false wire 5 k.0)))
           ]
         ]
@@ -264,16 +264,16 @@ a_number n false false p q h =
     let few = ltb-false 536870911 n q in
     (omega arith, omega arith)
 
-pub there-fault : (c : Cursor) (e : FieldFault) → 0 < length c.rest → field_at c ≡ failed e → HasFault c e
+pub there-fault : (c : Cursor) (e : FieldFault) → 0 < length c.rest → field_at c ≡ failed e → HasFieldFault c e
 unfolding field_at
 there-fault c e some h =
-    elim (bind_failed (varint_at c) (λ key. cond (eqb (key.0 / 8) 0 || ltb 536870911 (key.0 / 8)) (Err (fault BadWireType c.place)) (value_at c.place (key.0 / 8) (key.0 % 8) key.1)) e h) [
-      | inl none ↦ let v = varint_at-failed c e none in subst (λ d. HasFault c d) v.is (no_key c v.kind some v.none)
+    elim (bind_failed (varint_in_front c) (λ key. cond (eqb (key.0 / 8) 0 || ltb 536870911 (key.0 / 8)) (Err (fault BadWireType c.place)) (value_at c.place (key.0 / 8) (key.0 % 8) key.1)) e h) [
+      | inl none ↦ let v = varint_at-failed c e none in subst (λ d. HasFieldFault c d) v.is (no_key c v.kind some v.none)
       | inr key ↦
           let n = key.0.0 / 8 in
           let begins = begins-varint_at c key.0 key.1 in
           elim (tested (eqb n 0 || ltb 536870911 n) _ _ _ key.2) [
-            | inl p ↦ subst (λ d. HasFault c d) (same_fault {A = Entry × Cursor} (fault BadWireType c.place) e p.1)
+            | inl p ↦ subst (λ d. HasFieldFault c d) (same_fault {A = Entry × Cursor} (fault BadWireType c.place) e p.1)
                 (no_number c key.0.1 key.0.0 begins (not_a_number n (eqb n 0) (ltb 536870911 n) refl refl p.0))
             | inr p ↦
                 let number = a_number n (eqb n 0) (ltb 536870911 n) refl refl p.0 in

@@ -7,14 +7,14 @@ use Rattle.std.proofs.lemmas.Nat.{from_le_bytes-to_le_bytes_4, from_le_bytes-to_
 use Rattle.mum_fields.specs.declared.fault.FieldFault.{FieldFault}
 use Rattle.mum_fields.specs.Varint.{shortest}
 use Rattle.mum_fields.specs.Content.{Content, Varint, Fixed8, Block, Fixed4}
-use Rattle.mum_fields.specs.Field.{Entry, Cursor, wire_type, IsValue, IsField, varint_at, field_at}
-use Rattle.mum_fields.specs.Payload.{AreFields, Walk, ended, stopped, first, fields}
+use Rattle.mum_fields.specs.Field.{Entry, Cursor, wire_type, IsValue, IsField, varint_in_front, field_at}
+use Rattle.mum_fields.specs.Payload.{AreFields, Walk, ended, stopped_by, first, fields}
 use Rattle.mum_fields.specs.Written.{Item, value_bytes, spelling, written, FitsContent, Fits, skipped, placed_at, placed_from}
 use Rattle.mum_fields.proofs.Spellings.{shortest-is_varint}
 use Rattle.mum_fields.proofs.Fields.{varint_at-found, field_at-found, field_at-there}
 use Rattle.mum_fields.proofs.Walks.{Shortens, walk-end, walk-item, walk-fault}
 
-pub varint_at-shortens : Shortens varint_at
+pub varint_at-shortens : Shortens varint_in_front
 varint_at-shortens c after n e =
     let t = varint_at-found c (n, after) e in
     omega (arith, ap length t.took.parts, length-append t.bytes after.rest, t.some)
@@ -47,7 +47,7 @@ are-fields c (e ∷ es) h =
     let step : field_at c ≡ Ok (e, after) = rw h.2 (field_at-there c.place e front rest h.3) in
     walk-item field_at field_at-shortens c after e step ∙ ap (first e) (are-fields after es h.4)
 
-stopped_not_whole : (fault : FieldFault) (es : List Entry) → stopped fault ≡ record { items = es; fault = None } → ⊥
+stopped_not_whole : (fault : FieldFault) (es : List Entry) → stopped_by fault ≡ record { items = es; fault = None } → ⊥
 stopped_not_whole fault es e = let h = ap (λ (u : Walk Entry). u.fault) e in cc
 
 more_not_ended : (x : Entry) (w : Walk Entry) → first x w ≡ record { items = []; fault = None } → ⊥
@@ -72,7 +72,7 @@ none_not_more w e es end none h = let k = sym none ∙ items_same w (record { it
 
 pub fields_first : (c : Cursor) (e : Entry) (es : List Entry) (end : Option FieldFault) (n : ℕ) → length c.rest ≡ n → (r : Result (Entry × Cursor) FieldFault) → field_at c ≡ r → fields c ≡ record { items = e ∷ es; fault = end } → First c e es end
 fields_first c e es end zero len r is h = absurd (none_not_more ended e es end refl (sym (walk-end field_at c (nil_from_length c.rest len)) ∙ h))
-fields_first c e es end (suc n) len (Err fault) is h = absurd (none_not_more (stopped fault) e es end refl (sym (walk-fault field_at c fault (omega arith) is) ∙ h))
+fields_first c e es end (suc n) len (Err fault) is h = absurd (none_not_more (stopped_by fault) e es end refl (sym (walk-fault field_at c fault (omega arith) is) ∙ h))
 fields_first c e es end (suc n) len (Ok x) is h =
     let same = sym (walk-item field_at field_at-shortens c x.1 x.0 is) ∙ h in
     let lists = ap (λ (u : Walk Entry). u.items) same in

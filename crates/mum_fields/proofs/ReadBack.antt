@@ -1,14 +1,14 @@
 -- What is written of a message is read back as the message.
-use Rattle.std.proofs.Common.{◌≡◌, ℕ, ◌+◌, ◌<◌, ◌≤◌, ◌^◌, ◌&&◌, eq-eqb, ltb, Bool, true, false, List, [], ◌∷◌, ◌++◌, length, if◌then◌else◌, ◌==◌, None, Result, Ok, Err, refl, sym, ap, ◌∙◌, arith}
+use Rattle.std.proofs.Common.{◌≡◌, ℕ, ◌+◌, ◌<◌, ◌≤◌, ◌&&◌, eq-eqb, ltb, leb, Bool, true, false, List, [], ◌∷◌, ◌++◌, length, if◌then◌else◌, ◌==◌, None, Result, Ok, Err, refl, sym, ap, ◌∙◌, arith}
 use Rattle.std.specs.List.{AllByRecursion}
-use Rattle.std.proofs.lemmas.Bool.{ne_eqb, ltb-true}
+use Rattle.std.proofs.lemmas.Bool.{ne_eqb, ltb-true, leb-true}
 use Rattle.mum_fields.specs.declared.message.MessageFault.{MessageFault}
 use Rattle.mum_fields.specs.declared.message.MessageFault.TheVariants as faults
-use Rattle.mum_fields.specs.Field.{Entry}
+use Rattle.mum_fields.specs.Field.{Entry, IsNumber, last_number}
 use Rattle.mum_fields.specs.Payload.{Walk, fields}
 use Rattle.mum_fields.specs.Written.{Item, spelling, written, FitsContent, Fits, placed_at, placed_from}
 use Rattle.mum_fields.specs.Message.{Rule, fault_in, any_block, first_fault, every, messages_of, message}
-use Rattle.mum_fields.specs.Table.{Label, Kind, Value, Layout, Nothing, Field, Blocks, Values, Table, layout, parts, rising, unset, value_after, empty, after, rule_of, rules, missing, whole, gathered, decoded, ReadsAs, row_items, each_message, items, spelled}
+use Rattle.mum_fields.specs.Table.{Label, Kind, Value, Layout, Nothing, Field, Blocks, Values, Table, layout, parts, rising, unset, value_after, no_values, values_after, rule_of, rules, missing, whole, gathered, decoded, ReadsAs, row_items, each_message, items, spelled}
 use Rattle.mum_fields.specs.Typed.{IsTyped, AreTyped, AreTypedBlocks}
 use Rattle.mum_fields.proofs.Payloads.{fields-written}
 use Rattle.mum_fields.proofs.Encoding.{placed_from-append, every-append, AreOthers, every-others}
@@ -28,8 +28,8 @@ all-weaker P Q (x ∷ xs) weaker h = (weaker x h.0, all-weaker P Q xs weaker h.1
 
 abbrev Rises : ℕ → Layout → Type 0
 Rises low Nothing = Unit {0}
-Rises low (Field label kind number others) = (low < number) × (number < 536870912) × Rises number others
-Rises low (Blocks inside number others) = (low < number) × (number < 536870912) × Rises number others × Rises 0 inside
+Rises low (Field label kind number others) = (low < number) × (number ≤ last_number) × Rises number others
+Rises low (Blocks inside number others) = (low < number) × (number ≤ last_number) × Rises number others × Rises 0 inside
 
 first_true : (a b : Bool) → (a && b) ≡ true → a ≡ true
 first_true true b h = refl
@@ -42,19 +42,19 @@ second_true false b h = absurd (cc)
 rises : (low : ℕ) (form : Layout) → rising low form ≡ true → Rises low form
 rises low Nothing h = tt
 rises low (Field label kind number others) h =
-    let most = ltb number 536870912 in
+    let most = leb number last_number in
     let behind = second_true (ltb low number) (most && rising number others) h in (
       ltb-true low number (first_true (ltb low number) (most && rising number others) h),
-      ltb-true number 536870912 (first_true most (rising number others) behind),
+      leb-true number last_number (first_true most (rising number others) behind),
       rises number others (second_true most (rising number others) behind),
     )
 rises low (Blocks inside number others) h =
-    let most = ltb number 536870912 in
+    let most = leb number last_number in
     let both = rising 0 inside && rising number others in
     let behind = second_true (ltb low number) (most && both) h in
     let rest = second_true most both behind in (
       ltb-true low number (first_true (ltb low number) (most && both) h),
-      ltb-true number 536870912 (first_true most both behind),
+      leb-true number last_number (first_true most both behind),
       rises number others (second_true (rising 0 inside) (rising number others) rest),
       rises 0 inside (first_true (rising 0 inside) (rising number others) rest),
     )
@@ -83,11 +83,11 @@ agrees low (Blocks inside number others) up =
 -- ---- items without a fault
 
 record IsClean (ruling : ℕ → Rule) (item : Item) : Type 0 where
-  number : (1 ≤ item.number) × (item.number < 2 ^ 29)
+  number : IsNumber item.number
   fits : FitsContent item.content
   clean : (place : ℕ) → fault_in (ruling item.number) place item.content ≡ None
 
-clean-item : (ruling : ℕ → Rule) (number : ℕ) (rule : Rule) (item : Item) → 1 ≤ number → number < 536870912 → ruling number ≡ rule → IsItem number rule item → IsClean ruling item
+clean-item : (ruling : ℕ → Rule) (number : ℕ) (rule : Rule) (item : Item) → 1 ≤ number → number ≤ last_number → ruling number ≡ rule → IsItem number rule item → IsClean ruling item
 clean-item ruling number rule item some few ruled is = record {
   number = (omega (arith, is.is, some), omega (arith, is.is, few));
   fits = is.fits;
@@ -106,7 +106,7 @@ clean-message : (ruling : ℕ → Rule) (xs : List Item) (place : ℕ) → AllBy
 clean-message ruling xs place h = ap (λ (w : Walk Entry). first_fault ruling w.items w.fault) (clean-read ruling xs place h) ∙ no-fault ruling xs place h
 
 -- the items of one field, and then the others
-clean-more : (ruling : ℕ → Rule) (number : ℕ) (rule : Rule) (own others : List Item) → 1 ≤ number → number < 536870912 → ruling number ≡ rule
+clean-more : (ruling : ℕ → Rule) (number : ℕ) (rule : Rule) (own others : List Item) → 1 ≤ number → number ≤ last_number → ruling number ≡ rule
     → AllByRecursion (IsItem number rule) own → AllByRecursion (IsClean ruling) others → AllByRecursion (IsClean ruling) (own ++ others)
 clean-more ruling number rule own others some few ruled is h =
     all-append (IsClean ruling) own others (all-weaker (IsItem number rule) (IsClean ruling) own (λ item one. clean-item ruling number rule item some few ruled one) is) h
@@ -158,7 +158,7 @@ of-others low number [] less h = tt
 of-others low number (x ∷ xs) less h = ((λ e. omega (arith, h.0)), of-others low number xs less h.1)
 
 after-others : (number low : ℕ) (form : Layout) (values : Values form) (xs : List Item) (place : ℕ) → number ≤ low → Rises low form → AllByRecursion (λ item. item.number ≡ number) xs
-    → after form values (placed_from place xs) ≡ values
+    → values_after form values (placed_from place xs) ≡ values
 after-others number low Nothing values xs place at_most up h = refl
 after-others number low (Field label kind own others) values xs place at_most up h =
     rw (
@@ -167,24 +167,24 @@ after-others number low (Field label kind own others) values xs place at_most up
     ) refl
 after-others number low (Blocks inside own others) values xs place at_most up h =
     rw (
-      every-others (messages_of (after inside (empty inside))) own values.0 xs place (of-others number own xs (omega (arith, up.0, at_most)) h),
+      every-others (messages_of (values_after inside (no_values inside))) own values.0 xs place (of-others number own xs (omega (arith, up.0, at_most)) h),
       after-others number own others values.1 xs place (omega (arith, up.0, at_most)) up.2 h,
     ) refl
 
 -- ---- all fields
 
-after-append : (form : Layout) (values : Values form) (es fs : List Entry) → after form values (es ++ fs) ≡ after form (after form values es) fs
+after-append : (form : Layout) (values : Values form) (es fs : List Entry) → values_after form values (es ++ fs) ≡ values_after form (values_after form values es) fs
 after-append Nothing values es fs = refl
 after-append (Field label kind number others) values es fs = rw (value_after-append label kind number values.0 es fs, after-append others values.1 es fs) refl
-after-append (Blocks inside number others) values es fs = rw (every-append (messages_of (after inside (empty inside))) number values.0 es fs, after-append others values.1 es fs) refl
+after-append (Blocks inside number others) values es fs = rw (every-append (messages_of (values_after inside (no_values inside))) number values.0 es fs, after-append others values.1 es fs) refl
 
 -- the items of one field change nothing in the later fields
 later-back : (number : ℕ) (others : Layout) (values : Values others) (own : List Item) (place behind : ℕ) → Rises number others → AllByRecursion (λ item. item.number ≡ number) own
-    → after others (empty others) (placed_from behind (items others values)) ≡ values → after others (empty others) (placed_from place own ++ placed_from behind (items others values)) ≡ values
+    → values_after others (no_values others) (placed_from behind (items others values)) ≡ values → values_after others (no_values others) (placed_from place own ++ placed_from behind (items others values)) ≡ values
 later-back number others values own place behind up is back =
     let es = placed_from behind (items others values) in
-    after-append others (empty others) (placed_from place own) es
-    ∙ ap (λ v. after others v es) (after-others number number others (empty others) own place (omega arith) up is)
+    after-append others (no_values others) (placed_from place own) es
+    ∙ ap (λ v. values_after others v es) (after-others number number others (no_values others) own place (omega arith) up is)
     ∙ back
 
 -- later fields change nothing in the values of one
@@ -196,17 +196,17 @@ value-back label kind number value later place behind held h =
     ∙ value_after-others label kind number value later behind h
 
 abbrev BlocksBack : Layout → Type 0
-BlocksBack inside = (x : Values inside) (place : ℕ) → AreTyped inside x → after inside (empty inside) (fields (record { place = place; rest = written (items inside x) })).items ≡ x
+BlocksBack inside = (x : Values inside) (place : ℕ) → AreTyped inside x → values_after inside (no_values inside) (fields (record { place = place; rest = written (items inside x) })).items ≡ x
 
 blocks-back : (inside : Layout) (number : ℕ) (xs : List (Values inside)) (later : List Item) (place behind : ℕ) → BlocksBack inside → AreTypedBlocks inside xs → AreOthers number later
-    → every (messages_of (after inside (empty inside))) number [] (placed_from place (each_message (items inside) number xs) ++ placed_from behind later) ≡ xs
+    → every (messages_of (values_after inside (no_values inside))) number [] (placed_from place (each_message (items inside) number xs) ++ placed_from behind later) ≡ xs
 blocks-back inside number xs later place behind back held h =
-    let taken = messages_of (after inside (empty inside)) in
+    let taken = messages_of (values_after inside (no_values inside)) in
     every-append taken number [] (placed_from place (each_message (items inside) number xs)) (placed_from behind later)
-    ∙ ap (λ v. every taken number v (placed_from behind later)) (messages-back (after inside (empty inside)) (items inside) (AreTyped inside) back number xs [] place held)
+    ∙ ap (λ v. every taken number v (placed_from behind later)) (messages-back (values_after inside (no_values inside)) (items inside) (AreTyped inside) back number xs [] place held)
     ∙ every-others taken number xs later behind h
 
-items-back : (low : ℕ) (form : Layout) (values : Values form) (place : ℕ) → Rises low form → AreTyped form values → after form (empty form) (placed_from place (items form values)) ≡ values
+items-back : (low : ℕ) (form : Layout) (values : Values form) (place : ℕ) → Rises low form → AreTyped form values → values_after form (no_values form) (placed_from place (items form values)) ≡ values
 items-back low Nothing values place up h = refl
 items-back low (Field label kind number others) values place up h =
     let own = row_items label kind number values.0 in
@@ -224,7 +224,7 @@ items-back low (Blocks inside number others) values place up h =
     let behind = place + length (written own) in
     let is = message-number inside number values.0 h.0 in
     let back : BlocksBack inside = λ x at held.
-    ap (λ (w : Walk Entry). after inside (empty inside) w.items) (clean-read (rules inside) (items inside x) at (items-clean (rules inside) 0 inside x up.3 (agrees 0 inside up.3) held))
+    ap (λ (w : Walk Entry). values_after inside (no_values inside) w.items) (clean-read (rules inside) (items inside x) at (items-clean (rules inside) 0 inside x up.3 (agrees 0 inside up.3) held))
     ∙ items-back 0 inside x at up.3 held in
     rw (
       placed_from-append own later place,

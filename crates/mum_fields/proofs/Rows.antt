@@ -9,7 +9,7 @@ use Rattle.mum_fields.specs.Written.{Item, varint_item, block_item, spelling, wr
 use Rattle.mum_fields.specs.Message.{Rule, text, any_block, fault_in, every, numbers_of, messages_of}
 use Rattle.mum_fields.proofs.Texts.{text-read}
 use Rattle.mum_fields.proofs.Encoding.{last-append, every-append, AreOthers, last-others, every-others, every-take, last-block_items, every-each_block}
-use Rattle.mum_fields.specs.Table.{Scalar, Scalar_of, Kind, One, Number, Utf8, Raw, Label, Optional, Required, RequiredOr, Repeated, Value, value_of, number_of, one_in, all_in, unset, value_after, rule_of, one_item, row_items, each_message}
+use Rattle.mum_fields.specs.Table.{Scalar, Scalar_of, Kind, One, Number, Utf8, Raw, Label, Optional, Required, RequiredOr, Repeated, Value, value_of, scalar_number, one_in, all_in, unset, value_after, rule_of, one_item, row_items, each_message}
 use Rattle.mum_fields.specs.Typed.{IsOne, IsText, IsBytes, IsTyped}
 
 pub record IsItem (number : ℕ) (rule : Rule) (item : Item) : Type 0 where
@@ -30,7 +30,7 @@ one-items Utf8 number (Some x) h = (text-item number x h, tt)
 one-items Raw number None h = tt
 one-items Raw number (Some x) h = (record { is = refl; fits = h; clean = λ place. refl }, tt)
 
-number-items : (scalar : Scalar) (rule : Rule) (number : ℕ) (xs : List (Scalar_of scalar)) → All (IsOne (Number scalar)) xs → AllByRecursion (IsItem number rule) (each_number (number_of scalar) number xs)
+number-items : (scalar : Scalar) (rule : Rule) (number : ℕ) (xs : List (Scalar_of scalar)) → All (IsOne (Number scalar)) xs → AllByRecursion (IsItem number rule) (each_number (scalar_number scalar) number xs)
 number-items scalar rule number [] h = tt
 number-items scalar rule number (x ∷ xs) h = (record { is = refl; fits = (All-head (IsOne (Number scalar)) x xs h).1; clean = λ place. refl }, number-items scalar rule number xs (All-tail (IsOne (Number scalar)) x xs h))
 
@@ -72,15 +72,15 @@ one-back Utf8 number o place h = last-block_items number o place
 one-back Raw number o place h = last-block_items number o place
 
 numbers-back : (scalar : Scalar) (number : ℕ) (xs before : List (Scalar_of scalar)) (place : ℕ) → All (IsOne (Number scalar)) xs
-    → every (numbers_of (value_of scalar)) number before (placed_from place (each_number (number_of scalar) number xs)) ≡ before ++ xs
+    → every (numbers_of (value_of scalar)) number before (placed_from place (each_number (scalar_number scalar) number xs)) ≡ before ++ xs
 numbers-back scalar number [] before place h = sym (append-nil before)
 numbers-back scalar number (x ∷ xs) before place h =
     let value = value_of scalar in
-    let item = varint_item number (number_of scalar x) in
+    let item = varint_item number (scalar_number scalar x) in
     let after = place + length (spelling item) in
-    let left = placed_from after (each_number (number_of scalar) number xs) in
+    let left = placed_from after (each_number (scalar_number scalar) number xs) in
     let others = numbers-back scalar number xs (before ++ x ∷ []) after (All-tail (IsOne (Number scalar)) x xs h) in
-    let taken : before ++ value (number_of scalar x) ∷ [] ≡ before ++ x ∷ [] = rw ((All-head (IsOne (Number scalar)) x xs h).0) refl in
+    let taken : before ++ value (scalar_number scalar x) ∷ [] ≡ before ++ x ∷ [] = rw ((All-head (IsOne (Number scalar)) x xs h).0) refl in
     every-take (numbers_of value) number before (placed_at place item) left refl ∙ ap (λ b. every (numbers_of value) number b left) taken ∙ others ∙ append_assoc before (x ∷ []) xs
 
 pub row-back : (label : Label) (kind : Kind) (number : ℕ) (value : Value label kind) (place : ℕ) → IsTyped label kind value

@@ -31,21 +31,21 @@ pub data IsNoWireType : ℕ → Type 0 where
   seven : IsNoWireType 7
 
 -- the first field of what is left has this fault
-pub data HasFault : Cursor → FieldFault → Type 0 where
-  no_key : (c : Cursor) (kind : FaultKind) → 0 < length c.rest → HasNoVarint c.rest kind → HasFault c (fault kind c.place)
-  no_number : (c after : Cursor) (key : ℕ) → BeginsWithVarint c key after → (IsNumber (key / 8) → ⊥) → HasFault c (fault BadWireType c.place)
-  no_wire_type : (c after : Cursor) (number wire : ℕ) → BeginsWithKey c number wire after → IsNoWireType wire → HasFault c (fault BadWireType c.place)
+pub data HasFieldFault : Cursor → FieldFault → Type 0 where
+  no_key : (c : Cursor) (kind : FaultKind) → 0 < length c.rest → HasNoVarint c.rest kind → HasFieldFault c (fault kind c.place)
+  no_number : (c after : Cursor) (key : ℕ) → BeginsWithVarint c key after → (IsNumber (key / 8) → ⊥) → HasFieldFault c (fault BadWireType c.place)
+  no_wire_type : (c after : Cursor) (number wire : ℕ) → BeginsWithKey c number wire after → IsNoWireType wire → HasFieldFault c (fault BadWireType c.place)
   no_varint : (c after : Cursor) (number : ℕ) (kind : FaultKind) → BeginsWithKey c number 0 after → HasNoVarint after.rest kind
-      → HasFault c (fault kind after.place)
-  cut_fixed8 : (c after : Cursor) (number : ℕ) → BeginsWithKey c number 1 after → length after.rest < 8 → HasFault c (fault Truncated after.place)
+      → HasFieldFault c (fault kind after.place)
+  cut_fixed8 : (c after : Cursor) (number : ℕ) → BeginsWithKey c number 1 after → length after.rest < 8 → HasFieldFault c (fault Truncated after.place)
   no_length : (c after : Cursor) (number : ℕ) (kind : FaultKind) → BeginsWithKey c number 2 after → HasNoVarint after.rest kind
-      → HasFault c (fault kind after.place)
+      → HasFieldFault c (fault kind after.place)
   long_block : (c after behind : Cursor) (number size : ℕ) → BeginsWithKey c number 2 after → BeginsWithVarint after size behind
-      → length behind.rest < size → HasFault c (fault BadLength behind.place)
-  cut_fixed4 : (c after : Cursor) (number : ℕ) → BeginsWithKey c number 5 after → length after.rest < 4 → HasFault c (fault Truncated after.place)
+      → length behind.rest < size → HasFieldFault c (fault BadLength behind.place)
+  cut_fixed4 : (c after : Cursor) (number : ℕ) → BeginsWithKey c number 5 after → length after.rest < 4 → HasFieldFault c (fault Truncated after.place)
 
 -- what is left is these fields, and then stands the first fault
 abbrev pub StopsAt : Cursor → List Entry → FieldFault → Type 0
-StopsAt c [] found = HasFault c found
+StopsAt c [] found = HasFieldFault c found
 StopsAt c (e ∷ es) found = (front : List ℕ) × (rest : List ℕ) × (c.rest ≡ front ++ rest) × IsField c.place e front
     × StopsAt (record { place = c.place + length front; rest = rest }) es found

@@ -4,7 +4,7 @@ use Rattle.std.specs.Prelude.{◌≡◌, ℕ, ◌<◌, ◌^◌, List, length, If
 use Rattle.std.specs.List.{All}
 use Rattle.std.specs.Str.{IsUtf8}
 use Rattle.mum_fields.specs.Written.{written}
-use Rattle.mum_fields.specs.Table.{Kind, Number, Utf8, Raw, Label, Optional, Required, RequiredOr, Repeated, One, Value, Layout, Nothing, Field, Blocks, Values, value_of, number_of, items}
+use Rattle.mum_fields.specs.Table.{Kind, Number, Utf8, Raw, Label, Optional, Required, RequiredOr, Repeated, One, Value, Layout, Nothing, Field, Blocks, Values, value_of, scalar_number, items}
 
 abbrev pub IsScalar : {X : Type 0} → (ℕ → X) → (X → ℕ) → X → Type 0
 IsScalar value number x = (value (number x) ≡ x) × (number x < 2 ^ 64)
@@ -17,7 +17,7 @@ IsText text = IsUtf8 text × (length text < 2 ^ 64)
 
 -- one value of a type
 abbrev pub IsOne : (kind : Kind) → One kind → Type 0
-IsOne (Number scalar) x = IsScalar (value_of scalar) (number_of scalar) x
+IsOne (Number scalar) x = IsScalar (value_of scalar) (scalar_number scalar) x
 IsOne Utf8 text = IsText text
 IsOne Raw bytes = IsBytes bytes
 

@@ -3,7 +3,7 @@
 ghost use Rattle.std.specs.Prelude.{◌≡◌, ◌↔◌, ◌<◌, ◌≤◌, ◌^◌, ℕ, List, Some, None, Err, length};
 ghost use Rattle.std.specs.List.{AllByRecursion};
 ghost use Rattle.mum_fields.specs.declared.fault.FaultKind.{FaultKind};
-ghost use Rattle.mum_fields.specs.Varint.{IsVarint, AreBytes, varint, shortest};
+ghost use Rattle.mum_fields.specs.Varint.{IsVarint, AreOctets, varint, shortest};
 ghost use Rattle.mum_fields.specs.Field.{Entry, Cursor};
 ghost use Rattle.mum_fields.specs.Payload.{AreFields, fields};
 ghost use Rattle.mum_fields.specs.NoField.{HasNoVarint, StopsAt};
@@ -28,7 +28,7 @@ pub fn written_is_read()
 /// What is written for a number is a varint of it, and none has fewer bytes.
 pub fn shortest_is_least()
     ensures varint { (n : ℕ) → n < 2 ^ 64 → IsVarint (shortest n) n }
-    ensures least { (n : ℕ) (bytes : List ℕ) → AreBytes bytes → IsVarint bytes n → length (shortest n) ≤ length bytes }
+    ensures least { (n : ℕ) (bytes : List ℕ) → AreOctets bytes → IsVarint bytes n → length (shortest n) ≤ length bytes }
 {}
 
 /// There is no varint at the front exactly where the bytes end inside it, before a tenth, or where

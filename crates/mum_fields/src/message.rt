@@ -4,9 +4,9 @@
 ghost use Rattle.std.specs.Prelude.{◌≡◌, ◌∷◌, [], ◌++◌, map, OnOk, OnErr, IfOk, IfErr, None, Some, true, is_some, if◌then◌else◌};
 ghost use Rattle.mum_fields.specs.Field.{entry_of};
 ghost use Rattle.mum_fields.specs.Payload.{fields};
-ghost use Rattle.mum_fields.specs.Message.{Answers, longer, message, messages_of, only, value_fault, IsFaultOf};
+ghost use Rattle.mum_fields.specs.Message.{Decodes, longer, message, messages_of, only, value_fault, IsFaultOf};
 ghost use Rattle.mum_fields.specs.Written.{written};
-ghost use Rattle.mum_fields.specs.Table.{Table, ReadsAs, layout, parts, items, rising, rules, empty, after, gathered, lesser, least, missing, decoded, spelled};
+ghost use Rattle.mum_fields.specs.Table.{Table, ReadsAs, layout, parts, items, rising, rules, no_values, values_after, gathered, lesser, least, missing, decoded, spelled};
 ghost use Rattle.mum_fields.specs.Typed.{AreTyped};
 ghost use Rattle.mum_fields.specs.declared.message.MessageFault.TheVariants.{Field, OutOfMemory};
 
@@ -70,13 +70,13 @@ pub trait Message: Drop {
 
     /// Nothing is set.
     fn new(alloc: Global) -> Self
-        ensures { parts rows result ≡ empty (layout rows) };
+        ensures { parts rows result ≡ no_values (layout rows) };
 
     /// Hands one field of a payload to each field of the message. After a refusal those before the
     /// one that refused may have taken it.
     fn take(&mut self, alloc: Global, placed: &Placed<'_>) -> Result<(), MessageFault>
         ensures ok { OnOk result (parts rows self.new
-            ≡ after (layout rows) (parts rows self.old) (entry_of placed.now ∷ [])) }
+            ≡ values_after (layout rows) (parts rows self.old) (entry_of placed.now ∷ [])) }
         ensures clean { OnOk result (value_fault (rules (layout rows) placed.now.field.number) (entry_of placed.now) ≡ None) }
         ensures fault { IfErr result (λ e. IsFaultOf e (value_fault (rules (layout rows) placed.now.field.number) (entry_of placed.now))) };
 
@@ -99,7 +99,7 @@ pub trait Message: Drop {
     /// want of memory; where each field is whole, it is the least required number that is missing,
     /// in the message or in a block of it.
     final fn decode(alloc: Global, payload: &[u8]) -> Result<Self, MessageFault>
-        ensures { Answers (parts rows) result (decoded rows payload.now) }
+        ensures { Decodes (parts rows) result (decoded rows payload.now) }
     {
         let message = gather::<Self>(alloc, Reader::new(payload))?;
         match message.missing() {
@@ -122,7 +122,7 @@ pub trait Message: Drop {
 
 /// Gathers the fields that are left into a message, in one pass; each text is copied once.
 fn gather<M: Message>(alloc: Global, mut reader: Reader<'_>) -> Result<M, MessageFault>
-    ensures { Answers (parts M.rows) result (gathered (layout M.rows) (fields reader.entry)) }
+    ensures { Decodes (parts M.rows) result (gathered (layout M.rows) (fields reader.entry)) }
 {
     let mut message = M::new(alloc);
     while let Some(placed) = reader.next_placed()? {
@@ -140,7 +140,7 @@ pub fn add_message<M: Message>(
     placed: &Placed<'_>,
 ) -> Result<(), MessageFault>
     ensures ok { OnOk result (map (parts M.rows) list.new
-        ≡ longer (messages_of (after (layout M.rows) (empty (layout M.rows)))) number (map (parts M.rows) list.old) (entry_of placed.now)) }
+        ≡ longer (messages_of (values_after (layout M.rows) (no_values (layout M.rows)))) number (map (parts M.rows) list.old) (entry_of placed.now)) }
     ensures clean { OnOk result (value_fault (only number (message (rules (layout M.rows))) placed.now.field.number) (entry_of placed.now) ≡ None) }
     ensures fault { IfErr result (λ e. IsFaultOf e (value_fault (only number (message (rules (layout M.rows))) placed.now.field.number) (entry_of placed.now))) }
     ensures err { OnErr result (list.new ≡ list.old) }

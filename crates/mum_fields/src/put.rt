@@ -3,6 +3,7 @@
 
 ghost use Rattle.std.specs.Prelude.{◌≡◌, ℕ, ◌++◌, ◌<◌, ◌≤◌, ◌^◌, map, take, OnOk, OnErr, IfSome};
 ghost use Rattle.std.specs.List.{All};
+ghost use Rattle.mum_fields.specs.Field.{last_number};
 ghost use Rattle.mum_fields.specs.Written.{number_items, block_items, each_number, each_block, written};
 ghost use Rattle.mum_fields.specs.Typed.{IsScalar, IsText, IsBytes, AreTypedBlocks};
 ghost use Rattle.mum_fields.specs.Table.{layout, parts, items, each_message};
@@ -22,7 +23,7 @@ impl Writer {
         slot: &Option<N>,
     ) -> Result<(), OutOfMemory>
         requires some { 1 ≤ number }
-        requires few { number < 2 ^ 29 }
+        requires few { number ≤ last_number }
         ensures ok { OnOk result (self.new ≡ self.old ++ written (number_items N.number_of number slot.now)) }
         ensures typed { OnOk result (IfSome slot.now (IsScalar N.value_of N.number_of)) }
         ensures err { OnErr result (self.new ≡ self.old) }
@@ -36,7 +37,7 @@ impl Writer {
     /// A text that is set.
     pub fn put_text(&mut self, number: u32, slot: &Option<Text>) -> Result<(), OutOfMemory>
         requires some { 1 ≤ number }
-        requires few { number < 2 ^ 29 }
+        requires few { number ≤ last_number }
         ensures ok { OnOk result (self.new ≡ self.old ++ written (block_items number slot.now)) }
         ensures typed { OnOk result (IfSome slot.now IsText) }
         ensures err { OnErr result (self.new ≡ self.old) }
@@ -50,7 +51,7 @@ impl Writer {
     /// Bytes that are set.
     pub fn put_octets(&mut self, number: u32, slot: &Option<Octets>) -> Result<(), OutOfMemory>
         requires some { 1 ≤ number }
-        requires few { number < 2 ^ 29 }
+        requires few { number ≤ last_number }
         ensures ok { OnOk result (self.new ≡ self.old ++ written (block_items number slot.now)) }
         ensures typed { OnOk result (IfSome slot.now IsBytes) }
         ensures err { OnErr result (self.new ≡ self.old) }
@@ -68,7 +69,7 @@ impl Writer {
         list: &Items<N>,
     ) -> Result<(), OutOfMemory>
         requires some { 1 ≤ number }
-        requires few { number < 2 ^ 29 }
+        requires few { number ≤ last_number }
         ensures ok { OnOk result (self.new ≡ self.old ++ written (each_number N.number_of number list.now)) }
         ensures typed { OnOk result (All (IsScalar N.value_of N.number_of) list.now) }
         ensures err { OnErr result ((count : ℕ)
@@ -83,7 +84,7 @@ impl Writer {
     /// Each text of a list, as a field of its own.
     pub fn put_each_text(&mut self, number: u32, list: &Items<Text>) -> Result<(), OutOfMemory>
         requires some { 1 ≤ number }
-        requires few { number < 2 ^ 29 }
+        requires few { number ≤ last_number }
         ensures ok { OnOk result (self.new ≡ self.old ++ written (each_block number list.now)) }
         ensures typed { OnOk result (All IsText list.now) }
         ensures err { OnErr result ((count : ℕ)
@@ -102,7 +103,7 @@ impl Writer {
         list: &Items<M>,
     ) -> Result<(), OutOfMemory>
         requires some { 1 ≤ number }
-        requires few { number < 2 ^ 29 }
+        requires few { number ≤ last_number }
         ensures ok { OnOk result (self.new ≡ self.old
             ++ written (each_message (items (layout M.rows)) number (map (parts M.rows) list.now))) }
         ensures typed { OnOk result (AreTypedBlocks (layout M.rows) (map (parts M.rows) list.now)) }

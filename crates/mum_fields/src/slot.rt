@@ -3,9 +3,9 @@
 //! value, a repeated one all of them (Protocol Buffers, "Encoding", "Last One Wins" and "Packed
 //! Repeated Fields"); a field of another number or wire type leaves the slot as it is.
 
-ghost use Rattle.std.specs.Prelude.{◌≡◌, OnOk, OnErr, IfOk, IfErr, List, ◌++◌, None};
+ghost use Rattle.std.specs.Prelude.{◌≡◌, OnOk, OnErr, IfOk, IfErr, None};
 ghost use Rattle.mum_fields.specs.Field.{entry_of};
-ghost use Rattle.mum_fields.specs.Message.{newer, longer, varint_of, block_of, blocks_of, numbers_of, only, text, packed_numbers, value_fault, IsFaultOf};
+ghost use Rattle.mum_fields.specs.Message.{newer, longer, varint_of, block_of, blocks_of, numbers_of, only, text, packed_numbers, value_fault, IsFaultOf, KeepsFront};
 
 use crate::field::{Placed, Value};
 use crate::message::MessageFault;
@@ -96,7 +96,7 @@ pub fn add_text(
 }
 
 /// More numbers of a list: a varint by itself, or those packed in a block. After a fault the
-/// numbers before it are there.
+/// numbers before it are there, and where memory runs out a front of them.
 pub fn add_numbers<N: VarintType>(
     list: &mut Items<N>,
     number: u32,
@@ -105,7 +105,7 @@ pub fn add_numbers<N: VarintType>(
     ensures ok { OnOk result (list.new ≡ longer (numbers_of N.value_of) number list.old (entry_of placed.now)) }
     ensures clean { OnOk result (value_fault (only number packed_numbers placed.now.field.number) (entry_of placed.now) ≡ None) }
     ensures fault { IfErr result (λ e. IsFaultOf e (value_fault (only number packed_numbers placed.now.field.number) (entry_of placed.now))) }
-    ensures err { OnErr result ((part : List N) × (list.new ≡ list.old ++ part)) }
+    ensures err { IfErr result (λ e. KeepsFront e list.old (numbers_of N.value_of (entry_of placed.now)) list.new) }
 {
     if placed.field.number == number {
         return push_numbers(list, placed);

@@ -64,3 +64,7 @@ pub record IsIndexed (pairs by_channel : List ListenerPair) : Type 0 where
   pub rise : Rises pair_below pairs
   pub channels_rise : Rises channel_below by_channel
   pub same : (channel : ChannelId) → filter (is_of_channel channel) by_channel ≡ filter (is_of_channel channel) pairs
+
+-- nobody listens to the channels that are gone
+abbrev pub without_channels : RosterState → (ChannelId → Bool) → RosterState
+without_channels state gone = record state { listeners = filter (λ pair. not (gone pair.channel)) state.listeners }

@@ -17,6 +17,7 @@ pub mod user;
 pub use edit::UserChange;
 pub use fault::UserFault;
 pub use flags::FlagChange;
+pub use listening::{ChannelSet, ListenerPair};
 pub use roster::Roster;
 pub use target::{Target, TargetItem};
 pub use user::User;

@@ -8,8 +8,8 @@ ghost use Rattle.mum_users.specs.Listeners.{IsIndexed, pair_below, with_pair};
 ghost use Rattle.mum_users.specs.State.{is_of_channel, is_of_session, is_pair};
 
 use crate::listening::{
-    ListenerPair, PairOrder, drop_channels, drop_session, pairs_of_channel, pairs_of_session,
-    put_pair,
+    ChannelSet, ListenerPair, PairOrder, drop_channels, drop_gone, drop_session, pairs_of_channel,
+    pairs_of_session, put_pair,
 };
 use mum_base::{ChannelId, OutOfMemory, SessionId};
 use std::alloc::Global;
@@ -189,6 +189,14 @@ impl Listeners {
     {
         drop_session(&mut self.by_session, session);
         drop_session(&mut self.by_channel, session);
+    }
+
+    /// Nobody listens to these channels any more.
+    pub(crate) fn close<G: ChannelSet>(&mut self, gone: &G)
+        ensures { self.new ≡ filter (λ pair. not (G.has_channel gone.now pair.channel)) self.old }
+    {
+        drop_gone(&mut self.by_session, gone);
+        drop_gone(&mut self.by_channel, gone);
     }
 
     /// Equal pairs.

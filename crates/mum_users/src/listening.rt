@@ -165,6 +165,25 @@ pub(crate) fn drop_session(pairs: &mut Vec<ListenerPair>, session: SessionId)
     pairs.retain(|pair| pair.session != session);
 }
 
+/// A set of channels, as whoever removes them tells it.
+pub trait ChannelSet {
+    ghost use Rattle.std.specs.Prelude.{Bool};
+    ghost use Rattle.mum_base.specs.declared.number.ChannelId.{ChannelId};
+
+    /// Whether a channel is one of them.
+    ghost has_channel: { Self → ChannelId → Bool };
+
+    fn has(&self, id: ChannelId) -> bool
+        ensures { result ≡ has_channel self.now id };
+}
+
+/// Leaves out the pairs of these channels.
+pub(crate) fn drop_gone<G: ChannelSet>(pairs: &mut Vec<ListenerPair>, gone: &G)
+    ensures { pairs.new.items ≡ filter (λ pair. not (G.has_channel gone.now pair.channel)) pairs.old.items }
+{
+    pairs.retain(|pair| !gone.has(pair.channel));
+}
+
 fn is_left(pair: ListenerPair, session: SessionId, left: &[ChannelId]) -> bool
     ensures { result ≡ (is_of_session session pair && is_among left.now pair.channel) }
 {

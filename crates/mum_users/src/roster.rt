@@ -10,7 +10,7 @@ use crate::edit::{UserChange, change_row, crowds_one, listens_to_too_many};
 use crate::fault::UserFault;
 use crate::flags::FlagChange;
 use crate::listeners::Listeners;
-use crate::listening::{CHANNEL_LISTENERS, LISTENED_CHANNELS, ListenerPair};
+use crate::listening::{CHANNEL_LISTENERS, ChannelSet, LISTENED_CHANNELS, ListenerPair};
 use crate::sessions::{
     copy_of_users, free_slot, has_member, index_of, is_here, name_in_use, row_at, row_of, take_user,
 };
@@ -64,7 +64,7 @@ impl Roster {
     ghost use Rattle.mum_users.specs.State.{empty_roster, is_in};
     ghost use Rattle.mum_users.specs.Proper.{IsProper};
     ghost use Rattle.mum_users.specs.Sessions.{absent_fault, join_fault, joined, left, next_join, next_number, placed, session_at, session_of, suppressed, with_flags, with_texts, with_tokens, IsLeastFree};
-    ghost use Rattle.mum_users.specs.Listeners.{listen_fault, listeners_of, listening, listens, pairs_of};
+    ghost use Rattle.mum_users.specs.Listeners.{listen_fault, listeners_of, listening, listens, pairs_of, without_channels};
     ghost use Rattle.mum_users.specs.Edit.{edit_fault, edited, not_listening, change_of};
     ghost use Rattle.mum_users.specs.Targets.{target_fault, target_of, targeted};
 
@@ -351,6 +351,14 @@ impl Roster {
             .change(session, change.listen, change.unlisten)?;
         change_row(&mut self.users[index], change, comment, context);
         Ok(())
+    }
+
+    /// Ends all listening to channels that go.
+    pub fn close<G: ChannelSet>(&mut self, gone: &G)
+        ensures outcome { self.new ≡ without_channels self.old (G.has_channel gone.now) }
+        ensures proper { IsProper SESSIONS self.new }
+    {
+        self.listeners.close(gone);
     }
 
     /// The voice target of a session under a number, in a number of steps that grows as the logarithm

@@ -65,20 +65,20 @@ BeginsWithNone bytes = (word len : ℕ) → BeginsWith bytes word len → ⊥
 -- ---- reading, as a function: the word that begins the bytes, and how many of them spell it
 
 -- the number of these high bits and so many bytes, where they are there
-abbrev pub number_from : ℕ → ℕ → List ℕ → Option (ℕ × ℕ)
-number_from high count bytes =
+abbrev pub row_number : ℕ → ℕ → List ℕ → Option (ℕ × ℕ)
+row_number high count bytes =
     if nat_lt (length bytes) count then None
     else Some (high * 2 ^ (8 * count) + big_endian (take count bytes), count + 1)
 
 -- the positive number of this first byte and the bytes after it
 abbrev pub number_by : ℕ → List ℕ → Option (ℕ × ℕ)
 number_by first bytes =
-    if nat_lt first 0x80 then number_from first 0 bytes
-    else if nat_lt first 0xC0 then number_from (first - 0x80) 1 bytes
-    else if nat_lt first 0xE0 then number_from (first - 0xC0) 2 bytes
-    else if nat_lt first 0xF0 then number_from (first - 0xE0) 3 bytes
-    else if nat_lt first 0xF4 then number_from 0 4 bytes
-    else if nat_lt first 0xF8 then number_from 0 8 bytes
+    if nat_lt first 0x80 then row_number first 0 bytes
+    else if nat_lt first 0xC0 then row_number (first - 0x80) 1 bytes
+    else if nat_lt first 0xE0 then row_number (first - 0xC0) 2 bytes
+    else if nat_lt first 0xF0 then row_number (first - 0xE0) 3 bytes
+    else if nat_lt first 0xF4 then row_number 0 4 bytes
+    else if nat_lt first 0xF8 then row_number 0 8 bytes
     else None
 
 unfoldable pub number_at : List ℕ → Option (ℕ × ℕ)

@@ -1,5 +1,5 @@
-//! The cases of the crates that the state stands on: groups and access control lists, and the roster.
-//! It reads its tables from the folder in which it runs.
+//! The cases of the crates that the state stands on: the tree of channels, groups and access control
+//! lists, and the roster. Its tables lie in the folder `data`.
 #![tactic(auto)]
 
 mod changes;
@@ -11,6 +11,7 @@ mod perms;
 mod readers;
 mod roster;
 mod targets;
+mod tree;
 mod words;
 
 use anyhow::Result;
@@ -18,6 +19,7 @@ use mum_cases::Tally;
 
 fn main(rt: HostRuntime) -> Result<()> {
     let mut tally = Tally::new();
+    tally.compare::<tree::Trees, HostRuntime>(&rt)?;
     tally.compare::<permissions::Walks, HostRuntime>(&rt)?;
     tally.compare::<member::Names, HostRuntime>(&rt)?;
     tally.compare::<members::Definitions, HostRuntime>(&rt)?;

@@ -1,4 +1,3 @@
-pub mod Frames
 pub mod Echoes
 pub mod Logins
 pub mod Looks

@@ -13,7 +13,8 @@ use Rattle.mum_core.specs.declared.slot.TheConstants.{SLOTS}
 use Rattle.mum_core.specs.Core.{CoreState}
 use Rattle.mum_core.specs.Illegal.{connection_at}
 use Rattle.mum_core.specs.Reads.{Decoded}
-use Rattle.mum_core.specs.Steps.{kind_of, payload_of, name_in, name_of}
+use Rattle.mum_frame.specs.Frame.{kind_of, payload_of}
+use Rattle.mum_core.specs.Steps.{name_in, name_of}
 
 -- Opus talk with a sequence of one byte, and audio of one length byte and no position
 abbrev pub is_plain_talk : List ℕ → Bool

@@ -1,8 +1,7 @@
 -- What each step changes, by cases on the step. A step is looked at here only where it is allowed.
 use Rattle.std.specs.Prelude.{ℕ, ◌+◌, ◌-◌, ◌==◌, ◌^◌, max, min, Bool, true, List, [], ◌∷◌, ◌++◌, length, map, take, drop, Option, Some, None, Result, Ok, Err, nat_lt, unwrap_or, slice_get, slice_set, slice_index_or, if◌then◌else◌}
-use Rattle.byteorder.specs.Endian.{big_number}
 use Rattle.mum_fields.specs.Message.{or_else}
-use Rattle.mum_frame.specs.declared.frame.TheConstants.{HEADER_LENGTH}
+use Rattle.mum_frame.specs.Frame.{kind_of, payload_of}
 use Rattle.mum_frame.specs.declared.kind.TheConstants.{UDP_TUNNEL, VERSION, AUTHENTICATE}
 use Rattle.mum_msg_state.specs.Messages.{version, authenticate}
 use Rattle.mum_fields.specs.Table.{decoded}
@@ -33,14 +32,6 @@ use Rattle.mum_core.specs.Worker.{WorkerState}
 -- a count of 64 bits that rises, and stands still at its last value
 abbrev pub up : ℕ → ℕ
 up count = min (count + 1) (2 ^ 64 - 1)
-
--- the type of a frame: its first two bytes, the highest first
-unfoldable pub kind_of : List ℕ → ℕ
-kind_of bytes = big_number 2 bytes
-
--- the payload of a frame: what follows the header
-unfoldable pub payload_of : List ℕ → List ℕ
-payload_of bytes = drop HEADER_LENGTH bytes
 
 -- the state after the first so many accepted edits
 abbrev pub state_at : CoreState → ℕ → State

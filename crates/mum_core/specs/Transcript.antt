@@ -6,7 +6,7 @@ use Rattle.mum_voice.specs.declared.fault.BadVoice.{BadVoice}
 use Rattle.mum_voice.specs.Packet.{Parts, packet}
 use Rattle.mum_fields.specs.Written.{written}
 use Rattle.mum_frame.specs.declared.kind.TheConstants.{UDP_TUNNEL, VERSION, PING, AUTHENTICATE}
-use Rattle.mum_frame.specs.Frame.{spelling_of}
+use Rattle.mum_frame.specs.Frame.{spelling_of, kind_of, payload_of}
 use Rattle.mum_msg_state.specs.Messages.{version, ping}
 use Rattle.mum_fields.specs.Table.{decoded, items, layout}
 use Rattle.mum_record.specs.declared.step.Step.{Step}
@@ -20,7 +20,7 @@ use Rattle.mum_core.specs.declared.worker.Outgoing.{Outgoing}
 use Rattle.mum_core.specs.Core.{CoreState}
 use Rattle.mum_core.specs.Illegal.{connection_at, worker_at, seat_of}
 use Rattle.mum_core.specs.Reads.{Decoded}
-use Rattle.mum_core.specs.Steps.{kind_of, payload_of, audience, has_room, is_for, outbox_at}
+use Rattle.mum_core.specs.Steps.{audience, has_room, is_for, outbox_at}
 use Rattle.mum_core.specs.Worker.{WorkerState}
 
 -- a word, and a number behind a space

@@ -18,6 +18,3 @@ pub mod worker;
 pub use edit::{Edit, Session};
 pub use machine::{Core, Effects, StepFault};
 pub use program::murmur;
-
-#[cfg(test)]
-mod tests;

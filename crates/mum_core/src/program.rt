@@ -172,6 +172,3 @@ pub fn murmur<I: Source, O: Sink, E: Sink>(
     let end = run(alloc, input, output);
     report(alloc, end, errors)
 }
-
-#[cfg(test)]
-mod tests;

@@ -2,7 +2,7 @@
 
 ghost use Rattle.std.specs.Prelude.{◌≡◌, ◌<◌, ◌≤◌, [], Some, length, map, filter, IfOk, not};
 ghost use Rattle.std.specs.List.{list_any};
-ghost use Rattle.mum_voice.specs.Packet.{parts, IsPacket};
+ghost use Rattle.mum_voice.specs.Packet.{plain_parts, IsPacket};
 ghost use Rattle.mum_core.specs.State.{route, is_session};
 ghost use Rattle.mum_core.specs.Steps.{copy_to, copies_for, audience_in, copies_in};
 
@@ -108,8 +108,8 @@ fn copy_for(
     speaker: SessionId,
     packet: &Packet<'_>,
 ) -> Result<Outgoing, OutOfMemory>
-    requires { IsPacket (parts packet.now) }
-    ensures { IfOk result (λ copy. copy ≡ copy_to speaker (parts packet.now) member.now) }
+    requires { IsPacket (plain_parts packet.now) }
+    ensures { IfOk result (λ copy. copy ≡ copy_to speaker (plain_parts packet.now) member.now) }
 {
     let context = member.context;
     let bytes = packet.copy_for(speaker, context.number(), true);
@@ -128,8 +128,8 @@ fn copies(
     speaker: SessionId,
     packet: &Packet<'_>,
 ) -> Result<VecDeque<Outgoing>, OutOfMemory>
-    requires { IsPacket (parts packet.now) }
-    ensures { IfOk result (λ copies. copies.items ≡ copies_for members.now speaker (parts packet.now)) }
+    requires { IsPacket (plain_parts packet.now) }
+    ensures { IfOk result (λ copies. copies.items ≡ copies_for members.now speaker (plain_parts packet.now)) }
 {
     let mut copies = Vec::with_capacity(alloc, members.len())?;
     for member in members {

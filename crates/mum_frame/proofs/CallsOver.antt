@@ -10,8 +10,8 @@ use Rattle.mum_frame.specs.declared.frame.Frame.{Frame}
 use Rattle.mum_frame.specs.declared.framer.FrameFault.{FrameFault}
 use Rattle.mum_frame.specs.declared.framer.FrameFault.TheVariants.{FrameTooLong, OutOfMemory}
 use Rattle.mum_frame.specs.Calls.{Call, fed, asked, Leads, bytes_fed, frames_given}
-use Rattle.mum_frame.specs.Frame.{spelling, IsFrame, IsPartial, TooLong, named_length}
-use Rattle.mum_frame.specs.Stream.{Gives, IsFront, Splits}
+use Rattle.mum_frame.specs.Frame.{frame_spelling, IsFrame, IsPartial, TooLong, named_length}
+use Rattle.mum_frame.specs.Stream.{NextGives, IsFront, Splits}
 use Rattle.mum_frame.proofs.Replies.{none_from, none_to, too_long_from, too_long_to}
 use Rattle.mum_frame.proofs.Headers.{IsPartial-above_limit}
 use Rattle.mum_frame.proofs.Streams.{joined, joined-cons, longest-Splits}
@@ -24,8 +24,8 @@ Leads-joined old (fed piece (Ok done) ∷ calls) new (kept, (is, leads)) =
 Leads-joined old (fed piece (Err e) ∷ calls) new (kept, (is, leads)) =
     ap (λ (xs : List ℕ). xs ++ bytes_fed calls) (sym is) ∙ Leads-joined kept calls new leads
 Leads-joined old (asked (Ok (Some frame)) ∷ calls) new (kept, (is, leads)) =
-    ap (λ (xs : List ℕ). xs ++ bytes_fed calls) is.1 ∙ append_assoc (spelling frame) kept (bytes_fed calls)
-    ∙ ap (λ (xs : List ℕ). spelling frame ++ xs) (Leads-joined kept calls new leads) ∙ sym (joined-cons frame (frames_given calls) new)
+    ap (λ (xs : List ℕ). xs ++ bytes_fed calls) is.1 ∙ append_assoc (frame_spelling frame) kept (bytes_fed calls)
+    ∙ ap (λ (xs : List ℕ). frame_spelling frame ++ xs) (Leads-joined kept calls new leads) ∙ sym (joined-cons frame (frames_given calls) new)
 Leads-joined old (asked (Ok None) ∷ calls) new (kept, (is, leads)) =
     ap (λ (xs : List ℕ). xs ++ bytes_fed calls) (sym is.2) ∙ Leads-joined kept calls new leads
 Leads-joined old (asked (Err (FrameTooLong named)) ∷ calls) new (kept, (is, leads)) =
@@ -42,7 +42,7 @@ Leads-each old (asked (Ok None) ∷ calls) new (kept, (is, leads)) = Leads-each 
 Leads-each old (asked (Err fault) ∷ calls) new (kept, (is, leads)) = Leads-each kept calls new leads
 
 pub conserved : (calls : List Call) (kept : List ℕ) → Leads [] calls kept
-    → (bytes_fed calls ≡ flat_map spelling (frames_given calls) ++ kept) × All IsFrame (frames_given calls)
+    → (bytes_fed calls ≡ flat_map frame_spelling (frames_given calls) ++ kept) × All IsFrame (frames_given calls)
 conserved calls kept leads =
     (Leads-joined [] calls kept leads, All-from_recursion IsFrame (frames_given calls) (Leads-each [] calls kept leads))
 
@@ -60,7 +60,7 @@ given_all calls kept leads partial = record {
   partial = partial;
 }
 
-pub given_none : (calls : List Call) (kept new : List ℕ) (answer : Result (Option Frame) FrameFault) → Leads [] calls kept → Gives kept answer new
+pub given_none : (calls : List Call) (kept new : List ℕ) (answer : Result (Option Frame) FrameFault) → Leads [] calls kept → NextGives kept answer new
     → (answer ≡ Ok None → Splits (bytes_fed calls) (frames_given calls) kept × (TooLong kept → ⊥))
     × (Splits (bytes_fed calls) (frames_given calls) kept × (TooLong kept → ⊥) → answer ≡ Ok None)
 given_none calls kept new answer leads gives = (
@@ -68,7 +68,7 @@ given_none calls kept new answer leads gives = (
   λ all. none_to kept answer new gives (all.0.partial, all.1),
 )
 
-pub given_too_long : (calls : List Call) (kept new : List ℕ) (answer : Result (Option Frame) FrameFault) → Leads [] calls kept → Gives kept answer new
+pub given_too_long : (calls : List Call) (kept new : List ℕ) (answer : Result (Option Frame) FrameFault) → Leads [] calls kept → NextGives kept answer new
     → (answer ≡ Err (FrameTooLong (named_length kept)) → Splits (bytes_fed calls) (frames_given calls) kept × TooLong kept)
     × (Splits (bytes_fed calls) (frames_given calls) kept × TooLong kept → answer ≡ Err (FrameTooLong (named_length kept)))
 given_too_long calls kept new answer leads gives = (
@@ -94,7 +94,7 @@ TooLong-append bytes more above =
 
 -- a length that was refused is refused for good
 pub refused_for_good : (kept : List ℕ) (calls : List Call) (later new : List ℕ) (answer : Result (Option Frame) FrameFault)
-    → TooLong kept → Leads kept calls later → Gives later answer new → answer ≡ Err (FrameTooLong (named_length kept))
+    → TooLong kept → Leads kept calls later → NextGives later answer new → answer ≡ Err (FrameTooLong (named_length kept))
 refused_for_good old [] later new answer above leads gives =
     let same : TooLong later = subst TooLong (sym leads) above in
     too_long_to later answer new gives same ∙ ap (λ (bytes : List ℕ). Err (FrameTooLong (named_length bytes))) leads

@@ -1,11 +1,11 @@
--- What a header says of the bytes behind it, and that a frame is read back from its spelling.
+-- What a header says of the bytes behind it, and that a frame is read back from its frame_spelling.
 use Rattle.std.proofs.Common.{◌≡◌, ℕ, ◌+◌, ◌*◌, ◌/◌, ◌%◌, ◌^◌, ◌-◌, ◌<◌, ◌≤◌, List, [], ◌∷◌, ◌++◌, length, take, drop, get_or, refl, sym, ap, ◌∙◌, arith, length-append, length-drop}
 use Rattle.std.proofs.lemmas.List.{drop_at, take_at, take-append-drop, drop-drop, length-take-le, take_rest}
 use Rattle.byteorder.specs.Endian.{big_bytes, big_number}
 use Rattle.byteorder.specs.Numbers.{big_number-reads_back}
 use Rattle.mum_frame.specs.declared.frame.TheConstants.{HEADER_LENGTH, PAYLOAD_LIMIT}
 use Rattle.mum_frame.specs.declared.frame.Frame.{Frame}
-use Rattle.mum_frame.specs.Frame.{spelling, spelling_of, IsFrame, named_length, TooLong, IsPartial}
+use Rattle.mum_frame.specs.Frame.{frame_spelling, spelling_of, IsFrame, named_length, TooLong, IsPartial}
 
 -- the header of a frame, in front of what follows it
 pub spelling_of-parts : (kind : ℕ) (payload rest : List ℕ)
@@ -39,10 +39,10 @@ pub record HasRoom (bytes : List ℕ) : Type 0 where
   pub within_limit : named_length bytes ≤ PAYLOAD_LIMIT
   pub payload : HEADER_LENGTH + named_length bytes ≤ length bytes
 
-pub begun_has_room : (bytes : List ℕ) (frame : Frame) (rest : List ℕ) → IsFrame frame → bytes ≡ spelling frame ++ rest → HasRoom bytes
+pub begun_has_room : (bytes : List ℕ) (frame : Frame) (rest : List ℕ) → IsFrame frame → bytes ≡ frame_spelling frame ++ rest → HasRoom bytes
 begun_has_room bytes frame rest is e =
     let named : named_length bytes ≡ length frame.payload = ap named_length e ∙ length-reads_back frame.kind frame.payload rest is.within_limit in
-    let whole : length bytes ≡ HEADER_LENGTH + length frame.payload + length rest = ap length e ∙ length-append (spelling frame) rest ∙ ap (λ (n : ℕ). n + length rest) (length-spelling_of frame.kind frame.payload) in
+    let whole : length bytes ≡ HEADER_LENGTH + length frame.payload + length rest = ap length e ∙ length-append (frame_spelling frame) rest ∙ ap (λ (n : ℕ). n + length rest) (length-spelling_of frame.kind frame.payload) in
     let limit = is.within_limit in
     record { header = omega arith; within_limit = omega arith; payload = omega arith }
 
@@ -64,7 +64,7 @@ IsPartial-cut bytes short frame rest is e =
     let room = begun_has_room bytes frame rest is e in omega arith
 
 -- two frames that begin the same bytes are one, and the same follows them
-pub spelling-injective : (f g : Frame) (x y : List ℕ) → IsFrame f → IsFrame g → spelling f ++ x ≡ spelling g ++ y → (f ≡ g) × (x ≡ y)
+pub spelling-injective : (f g : Frame) (x y : List ℕ) → IsFrame f → IsFrame g → frame_spelling f ++ x ≡ frame_spelling g ++ y → (f ≡ g) × (x ≡ y)
 spelling-injective f g x y is_f is_g e =
     let kinds : f.kind ≡ g.kind = sym (kind-reads_back f.kind f.payload x is_f.kind_fits) ∙ ap (big_number 2) e ∙ kind-reads_back g.kind g.payload y is_g.kind_fits in
     let lengths : length f.payload ≡ length g.payload = sym (length-reads_back f.kind f.payload x is_f.within_limit) ∙ ap named_length e ∙ length-reads_back g.kind g.payload y is_g.within_limit in
@@ -94,7 +94,7 @@ four_bytes-is a b c d rest ha hb hc hd =
     let at_d : (a * 16777216 + (b * 65536 + (c * 256 + (d * 1 + 0)))) % 256 ≡ d = omega arith in
     cc
 
--- bytes are the spelling of what their header names, and what follows
+-- bytes are the frame_spelling of what their header names, and what follows
 pub header_is : (bytes : List ℕ) → ((k : ℕ) → get_or bytes k 0 < 256) → HEADER_LENGTH ≤ length bytes
     → bytes ≡ big_bytes 2 (big_number 2 bytes) ++ (big_bytes 4 (named_length bytes) ++ drop HEADER_LENGTH bytes)
 unfolding named_length
@@ -135,7 +135,7 @@ pub whole_is : (bytes payload : List ℕ) (kind named : ℕ) → ((k : ℕ) → 
     → kind ≡ big_number 2 bytes → kind < 2 ^ 16 → named ≡ named_length bytes → named ≤ PAYLOAD_LIMIT
     → HEADER_LENGTH + named ≤ length bytes → payload ≡ take named (take (length bytes - HEADER_LENGTH) (drop HEADER_LENGTH bytes))
     → let frame : Frame = record { kind = kind; payload = payload } in
-    IsFrame frame × (bytes ≡ spelling frame ++ drop (HEADER_LENGTH + length payload) bytes)
+    IsFrame frame × (bytes ≡ frame_spelling frame ++ drop (HEADER_LENGTH + length payload) bytes)
 whole_is bytes payload kind named small kind_is kind_fits named_is limit room payload_is =
     let shown : payload ≡ take (named_length bytes) (drop HEADER_LENGTH bytes) =
     payload_is ∙ ap (take named) (take_rest bytes HEADER_LENGTH) ∙ ap (λ (n : ℕ). take n (drop HEADER_LENGTH bytes)) named_is in

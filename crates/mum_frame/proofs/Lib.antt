@@ -2,4 +2,4 @@ pub mod Headers
 pub mod Replies
 pub mod Streams
 pub mod CallsOver
-pub mod Taken
+pub mod OneFrame

@@ -4,11 +4,11 @@ use Rattle.mum_frame.specs.declared.frame.Frame.{Frame}
 use Rattle.mum_frame.specs.declared.framer.FrameFault.{FrameFault}
 use Rattle.mum_frame.specs.declared.framer.FrameFault.TheVariants.{FrameTooLong, OutOfMemory}
 use Rattle.mum_frame.specs.Frame.{IsPartial, TooLong, named_length}
-use Rattle.mum_frame.specs.Stream.{Gives}
+use Rattle.mum_frame.specs.Stream.{NextGives}
 use Rattle.mum_frame.proofs.Headers.{IsPartial-above_limit}
 
 -- None comes of what is partial and not too long
-pub none_from : (old : List ℕ) (answer : Result (Option Frame) FrameFault) (new : List ℕ) → Gives old answer new
+pub none_from : (old : List ℕ) (answer : Result (Option Frame) FrameFault) (new : List ℕ) → NextGives old answer new
     → answer ≡ Ok None → IsPartial old × (TooLong old → ⊥)
 none_from old (Ok None) new is e = (is.0, is.1)
 none_from old (Ok (Some frame)) new is e = cc
@@ -16,7 +16,7 @@ none_from old (Err (FrameTooLong length)) new is e = cc
 none_from old (Err OutOfMemory) new is e = cc
 
 -- and what is partial and not too long gives None
-pub none_to : (old : List ℕ) (answer : Result (Option Frame) FrameFault) (new : List ℕ) → Gives old answer new
+pub none_to : (old : List ℕ) (answer : Result (Option Frame) FrameFault) (new : List ℕ) → NextGives old answer new
     → IsPartial old × (TooLong old → ⊥) → answer ≡ Ok None
 none_to old (Ok None) new is stuck = refl
 none_to old (Ok (Some frame)) new is stuck = absurd (stuck.0 frame new is.0 is.1)
@@ -24,7 +24,7 @@ none_to old (Err (FrameTooLong length)) new is stuck = absurd (stuck.1 is.0)
 none_to old (Err OutOfMemory) new is stuck = absurd (is.0 stuck.0)
 
 -- a length that is refused is above the limit
-pub too_long_from : (old : List ℕ) (answer : Result (Option Frame) FrameFault) (new : List ℕ) (length : ℕ) → Gives old answer new
+pub too_long_from : (old : List ℕ) (answer : Result (Option Frame) FrameFault) (new : List ℕ) (length : ℕ) → NextGives old answer new
     → answer ≡ Err (FrameTooLong length) → TooLong old × (length ≡ named_length old)
 too_long_from old (Ok None) new length is e = cc
 too_long_from old (Ok (Some frame)) new length is e = cc
@@ -34,7 +34,7 @@ too_long_from old (Err (FrameTooLong named)) new length is e =
 too_long_from old (Err OutOfMemory) new length is e = cc
 
 -- and a length above the limit is refused
-pub too_long_to : (old : List ℕ) (answer : Result (Option Frame) FrameFault) (new : List ℕ) → Gives old answer new
+pub too_long_to : (old : List ℕ) (answer : Result (Option Frame) FrameFault) (new : List ℕ) → NextGives old answer new
     → TooLong old → answer ≡ Err (FrameTooLong (named_length old))
 too_long_to old (Ok None) new is above = absurd (is.1 above)
 too_long_to old (Ok (Some frame)) new is above = absurd (IsPartial-above_limit old above frame new is.0 is.1)
@@ -42,5 +42,5 @@ too_long_to old (Err (FrameTooLong length)) new is above = ap (λ (n : ℕ). Err
 too_long_to old (Err OutOfMemory) new is above = absurd (is.0 (IsPartial-above_limit old above))
 
 -- want of memory where a frame begins
-pub Gives-out_of_memory : (old : List ℕ) (answer : Result (Option Frame) FrameFault) → answer ≡ Err OutOfMemory → (IsPartial old → ⊥) → Gives old answer old
-Gives-out_of_memory old answer e whole = rw e (whole, refl)
+pub NextGives-out_of_memory : (old : List ℕ) (answer : Result (Option Frame) FrameFault) → answer ≡ Err OutOfMemory → (IsPartial old → ⊥) → NextGives old answer old
+NextGives-out_of_memory old answer e whole = rw e (whole, refl)

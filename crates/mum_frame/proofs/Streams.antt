@@ -8,16 +8,16 @@ use Rattle.byteorder.specs.Endian.{big_number}
 use Rattle.byteorder.specs.Numbers.{big_from-lt}
 use Rattle.mum_frame.specs.declared.frame.TheConstants.{HEADER_LENGTH, PAYLOAD_LIMIT}
 use Rattle.mum_frame.specs.declared.frame.Frame.{Frame}
-use Rattle.mum_frame.specs.Frame.{spelling, IsFrame, IsPartial, named_length}
+use Rattle.mum_frame.specs.Frame.{frame_spelling, IsFrame, IsPartial, named_length}
 use Rattle.mum_frame.specs.Stream.{IsFront, Splits}
 use Rattle.mum_frame.proofs.Headers.{spelling-injective, IsPartial-above_limit, IsPartial-no_header, IsPartial-cut, frame_is}
 
 -- these frames, and then these bytes
 abbrev pub joined : List Frame → List ℕ → List ℕ
-joined frames rest = flat_map spelling frames ++ rest
+joined frames rest = flat_map frame_spelling frames ++ rest
 
-pub joined-cons : (frame : Frame) (frames : List Frame) (rest : List ℕ) → joined (frame ∷ frames) rest ≡ spelling frame ++ joined frames rest
-joined-cons frame frames rest = append_assoc (spelling frame) (flat_map spelling frames) rest
+pub joined-cons : (frame : Frame) (frames : List Frame) (rest : List ℕ) → joined (frame ∷ frames) rest ≡ frame_spelling frame ++ joined frames rest
+joined-cons frame frames rest = append_assoc (frame_spelling frame) (flat_map frame_spelling frames) rest
 
 -- frames that begin a stream begin the longest list of them
 longest : (front frames : List Frame) (behind rest : List ℕ) → Each IsFrame front → Each IsFrame frames → IsPartial rest
@@ -82,7 +82,7 @@ reading_of (suc fuel) bytes fuel_left small =
               let small_behind : (k : ℕ) → get_or behind k 0 < 256 = λ k. rw (get_or-drop (HEADER_LENGTH + named_length bytes) bytes k 0) (small (HEADER_LENGTH + named_length bytes + k)) in
               let next = reading_of fuel behind less small_behind in
               let whole : bytes ≡ joined (frame ∷ next.0) next.1.0 =
-              frame_is bytes small room ∙ ap (λ (xs : List ℕ). spelling frame ++ xs) next.1.1.0 ∙ sym (joined-cons frame next.0 next.1.0) in
+              frame_is bytes small room ∙ ap (λ (xs : List ℕ). frame_spelling frame ++ xs) next.1.1.0 ∙ sym (joined-cons frame next.0 next.1.0) in
               (frame ∷ next.0, (next.1.0, (whole, (is_frame, next.1.1.1), next.1.1.2)))
         ]
       ]

@@ -3,7 +3,7 @@ use Rattle.std.specs.Prelude.{◌≡◌, List, [], ◌∷◌, ◌++◌, ℕ, Opt
 use Rattle.std.specs.declared.alloc.AllocError.{AllocError}
 use Rattle.mum_frame.specs.declared.frame.Frame.{Frame}
 use Rattle.mum_frame.specs.declared.framer.FrameFault.{FrameFault}
-use Rattle.mum_frame.specs.Stream.{Feeds, Gives}
+use Rattle.mum_frame.specs.Stream.{FeedKeeps, NextGives}
 
 -- a call of `feed` with its piece, or of `next`, and the answer
 pub data Call : Type 0 where
@@ -13,8 +13,8 @@ pub data Call : Type 0 where
 -- the calls, one after another, lead from these kept bytes to those
 abbrev pub Leads : List ℕ → List Call → List ℕ → Type 0
 Leads old [] new = new ≡ old
-Leads old (fed piece answer ∷ calls) new = (kept : List ℕ) × (Feeds old piece answer kept × Leads kept calls new)
-Leads old (asked answer ∷ calls) new = (kept : List ℕ) × (Gives old answer kept × Leads kept calls new)
+Leads old (fed piece answer ∷ calls) new = (kept : List ℕ) × (FeedKeeps old piece answer kept × Leads kept calls new)
+Leads old (asked answer ∷ calls) new = (kept : List ℕ) × (NextGives old answer kept × Leads kept calls new)
 
 -- the pieces that were taken, joined
 abbrev pub bytes_fed : List Call → List ℕ

@@ -4,6 +4,6 @@ use Rattle.mum_frame.specs.declared.framer.FrameFault.{FrameFault}
 use Rattle.mum_frame.specs.declared.framer.FrameFault.TheVariants.{FrameTooLong, OutOfMemory}
 
 -- want of memory has no number
-abbrev pub fault_code : FrameFault → Option ℕ
-fault_code (FrameTooLong length) = Some 10
-fault_code OutOfMemory = None
+abbrev pub frame_fault_code : FrameFault → Option ℕ
+frame_fault_code (FrameTooLong length) = Some 10
+frame_fault_code OutOfMemory = None

@@ -1,5 +1,5 @@
 -- The frames of a stream, after the packet structure of the Mumble protocol documentation.
-use Rattle.std.specs.Prelude.{◌≢◌, ℕ, ◌^◌, ◌<◌, ◌≤◌, List, ◌++◌, length, drop}
+use Rattle.std.specs.Prelude.{◌≡◌, ◌≢◌, ℕ, ◌+◌, ◌^◌, ◌<◌, ◌≤◌, ◌==◌, ◌&&◌, Bool, nat_le, List, ◌++◌, length, drop}
 use Rattle.byteorder.specs.Endian.{big_bytes, big_number}
 use Rattle.mum_frame.specs.declared.frame.TheConstants.{HEADER_LENGTH, PAYLOAD_LIMIT}
 use Rattle.mum_frame.specs.declared.frame.Frame.{Frame}
@@ -8,8 +8,8 @@ use Rattle.mum_frame.specs.declared.frame.Frame.{Frame}
 unfoldable pub spelling_of : ℕ → List ℕ → List ℕ
 spelling_of kind payload = big_bytes 2 kind ++ big_bytes 4 (length payload) ++ payload
 
-abbrev pub spelling : Frame → List ℕ
-spelling frame = spelling_of frame.kind frame.payload
+abbrev pub frame_spelling : Frame → List ℕ
+frame_spelling frame = spelling_of frame.kind frame.payload
 
 -- the type fits its two bytes, and the payload is within the limit
 pub record IsFrame (frame : Frame) : Type 0 where
@@ -20,6 +20,22 @@ pub record IsFrame (frame : Frame) : Type 0 where
 unfoldable pub named_length : List ℕ → ℕ
 named_length bytes = big_number 4 (drop 2 bytes)
 
+-- the type that a header names: its first two bytes, big endian
+unfoldable pub kind_of : List ℕ → ℕ
+kind_of bytes = big_number 2 bytes
+
+-- what stands behind the header
+unfoldable pub payload_of : List ℕ → List ℕ
+payload_of bytes = drop HEADER_LENGTH bytes
+
+-- exactly one frame, and nothing behind it
+abbrev pub IsOneFrame : List ℕ → Type 0
+IsOneFrame bytes = (frame : Frame) × IsFrame frame × (bytes ≡ frame_spelling frame)
+
+-- the same as a test of bytes: as many stand behind the header as it names, within the limit
+abbrev pub is_one_frame : List ℕ → Bool
+is_one_frame bytes = (length bytes == HEADER_LENGTH + named_length bytes) && nat_le (named_length bytes) PAYLOAD_LIMIT
+
 -- a header stands there, and it names a payload above the limit
 pub record TooLong (bytes : List ℕ) : Type 0 where
   pub header : HEADER_LENGTH ≤ length bytes
@@ -27,4 +43,4 @@ pub record TooLong (bytes : List ℕ) : Type 0 where
 
 -- no frame within the limit begins the bytes
 abbrev pub IsPartial : List ℕ → Type 0
-IsPartial bytes = (frame : Frame) (rest : List ℕ) → IsFrame frame → bytes ≢ spelling frame ++ rest
+IsPartial bytes = (frame : Frame) (rest : List ℕ) → IsFrame frame → bytes ≢ frame_spelling frame ++ rest

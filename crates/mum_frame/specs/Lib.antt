@@ -3,4 +3,3 @@ pub mod First
 pub mod Fault
 pub mod Stream
 pub mod Calls
-pub mod Pieces

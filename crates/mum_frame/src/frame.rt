@@ -1,8 +1,7 @@
 //! One frame on the wire.
 
-ghost use Rattle.std.specs.Prelude.{◌≡◌, ◌≢◌, ◌≤◌, List, length, IfOk, IfSome, IfNone};
-ghost use Rattle.mum_frame.specs.declared.frame.Frame.{Frame};
-ghost use Rattle.mum_frame.specs.Frame.{spelling, spelling_of, IsFrame};
+ghost use Rattle.std.specs.Prelude.{◌≡◌, ◌≤◌, ◌↔◌, length, IfOk, IfSome, IsSome};
+ghost use Rattle.mum_frame.specs.Frame.{spelling_of, IsOneFrame, kind_of, payload_of};
 ghost use Rattle.mum_frame.specs.First.{viewed, IsFirst};
 
 use byteorder::{BigEndian, ByteOrder};
@@ -74,9 +73,9 @@ pub(crate) fn first_frame(bytes: &[u8]) -> FirstFrame<'_>
 
 /// The frame that these bytes are, neither more nor less. It takes no memory and copies nothing.
 pub fn whole_frame(bytes: &[u8]) -> Option<FrameView<'_>>
-    ensures some { IfSome result (λ view.
-        IsFrame (viewed view) × (bytes.now ≡ spelling (viewed view))) }
-    ensures none { IfNone result ((frame : Frame) → IsFrame frame → bytes.now ≢ spelling frame) }
+    ensures one { IsSome result ↔ IsOneFrame bytes.now }
+    ensures kind { IfSome result (λ view. view.kind ≡ kind_of bytes.now) }
+    ensures payload { IfSome result (λ view. view.payload.now ≡ payload_of bytes.now) }
 {
     match first_frame(bytes) {
         FirstFrame::Whole(view) if bytes.len() == HEADER_LENGTH + view.payload.len() => Some(view),

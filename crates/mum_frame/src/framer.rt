@@ -3,7 +3,7 @@
 ghost use Rattle.std.specs.Prelude.{◌≡◌, ◌+◌, ◌≤◌, ◌↔◌, [], drop, None};
 ghost use Rattle.std.specs.Vec.{vec_len};
 ghost use Rattle.mum_frame.specs.Frame.{IsPartial, TooLong, named_length};
-ghost use Rattle.mum_frame.specs.Stream.{Feeds, Gives};
+ghost use Rattle.mum_frame.specs.Stream.{FeedKeeps, NextGives};
 
 use crate::frame::{FirstFrame, Frame, HEADER_LENGTH, first_frame};
 use mum_base::OutOfMemory;
@@ -34,11 +34,11 @@ impl From<AllocError> for FrameFault {
 }
 
 impl FrameFault {
-    ghost use Rattle.mum_frame.specs.Fault.{fault_code};
+    ghost use Rattle.mum_frame.specs.Fault.{frame_fault_code};
 
     /// The number of the fault: 10 for a length above the limit, none for want of memory.
     pub fn code(self) -> Option<u8>
-        ensures { result ≡ fault_code self }
+        ensures { result ≡ frame_fault_code self }
     {
         match self {
             FrameFault::FrameTooLong { .. } => Some(10),
@@ -47,8 +47,12 @@ impl FrameFault {
     }
 }
 
+/// The most bytes of memory that a framer holds while it keeps none of a stream: 128 KiB.
+pub const ROOM_LIMIT: usize = 0x2_0000;
+
 /// Takes a stream in pieces of any size, and gives its frames one by one. A contract sees the bytes
-/// that are kept: those fed and not yet given. They stand in one buffer from `start` on.
+/// that are kept, those fed and not yet given, and the room that they stand in. They are in one
+/// buffer, from `start` on.
 #[derive(Drop)]
 pub struct Framer {
     alloc: Global,
@@ -57,12 +61,13 @@ pub struct Framer {
 }
 
 impl Model for Framer {
-    ghost use Rattle.std.specs.Prelude.{ℕ, ◌≤◌, List, drop};
-    ghost use Rattle.std.specs.Vec.{vec_len};
+    ghost use Rattle.std.specs.Prelude.{◌≤◌, drop};
+    ghost use Rattle.std.specs.Vec.{vec_capacity, vec_len};
+    ghost use Rattle.mum_frame.specs.Stream.{FramerState};
 
-    ghost Value = { List ℕ };
+    ghost Value = { FramerState };
 
-    ghost view = { λ f. drop f.start f.buffer.items };
+    ghost view = { λ f. record { kept = drop f.start f.buffer.items; room = vec_capacity f.buffer } };
 
     ghost invariant = { λ f. f.start ≤ vec_len f.buffer };
 }
@@ -70,7 +75,7 @@ impl Model for Framer {
 impl Framer {
     /// Nothing is kept yet, and no memory is taken.
     pub fn new(alloc: Global) -> Framer
-        ensures { result ≡ [] }
+        ensures { result ≡ record { kept = []; room = 0 } }
     {
         Framer {
             alloc,
@@ -79,15 +84,22 @@ impl Framer {
         }
     }
 
+    /// For how many bytes it holds memory.
+    pub fn room(&self) -> usize
+        ensures { result ≡ self.now.room }
+    {
+        self.buffer.capacity()
+    }
+
     fn kept(&self) -> &[u8]
-        ensures { result.now ≡ self.now }
+        ensures { result.now ≡ self.now.kept }
     {
         &self.buffer[self.start..]
     }
 
     /// Appends a piece of the stream to what is kept. Without memory nothing changes.
     pub fn feed(&mut self, piece: &[u8]) -> Result<(), OutOfMemory>
-        ensures { Feeds self.old piece.now result self.new }
+        ensures { FeedKeeps self.old.kept piece.now result self.new.kept }
     {
         // What is kept moves only over as many bytes or more that were given, so over a whole stream
         // no more bytes are moved than given.
@@ -98,14 +110,24 @@ impl Framer {
         self.buffer.extend_from_slice(piece)
     }
 
-    /// Takes the next whole frame from what is kept. Its payload is copied once, and nothing behind
-    /// it is moved. Any other answer changes nothing: after `FrameTooLong` each later call answers
-    /// the same, whatever is fed.
+    /// Takes the next whole frame from what is kept. Its payload is copied once. Any other answer
+    /// changes nothing that is kept: after `FrameTooLong` each later call answers the same, whatever
+    /// is fed. The room that a great frame took is given back.
     pub fn next(&mut self) -> Result<Option<Frame>, FrameFault>
-        ensures answer { Gives self.old result self.new }
-        ensures none { (result ≡ Ok None) ↔ (IsPartial self.old × ¬ TooLong self.old) }
-        ensures too_long { (result ≡ Err (FrameFault.FrameTooLong (named_length self.old)))
-            ↔ TooLong self.old }
+        ensures answer { NextGives self.old.kept result self.new.kept }
+        ensures none { (result ≡ Ok None) ↔ (IsPartial self.old.kept × ¬ TooLong self.old.kept) }
+        ensures too_long { (result ≡ Err (FrameFault.FrameTooLong (named_length self.old.kept)))
+            ↔ TooLong self.old.kept }
+        ensures room { self.new.kept ≡ [] → self.new.room ≤ ROOM_LIMIT }
+    {
+        let answer = self.take_first();
+        self.give_room_back();
+        answer
+    }
+
+    // The first whole frame. Nothing behind it is moved.
+    fn take_first(&mut self) -> Result<Option<Frame>, FrameFault>
+        ensures { NextGives self.old.kept result self.new.kept }
     {
         match first_frame(self.kept()) {
             FirstFrame::Partial => Ok(None),
@@ -115,6 +137,34 @@ impl Framer {
                 self.start += HEADER_LENGTH + view.payload.len();
                 Ok(Some(frame))
             }
+        }
+    }
+
+    // Gives back the room above the limit where little or nothing is kept in it. The copy of a rest
+    // is not longer than what must be fed before room is given back again.
+    fn give_room_back(&mut self)
+        ensures kept { self.new.kept ≡ self.old.kept }
+        ensures room { self.old.kept ≡ [] → self.new.room ≤ ROOM_LIMIT }
+    {
+        if self.buffer.capacity() <= ROOM_LIMIT {
+            return;
+        }
+        let rest = self.buffer.len() - self.start;
+        if rest == 0 {
+            self.buffer = Vec::new(self.alloc);
+            self.start = 0;
+        } else if rest <= ROOM_LIMIT / 2 {
+            self.move_rest();
+        }
+    }
+
+    // Moves what is kept to a buffer of its size, if there is memory for one.
+    fn move_rest(&mut self)
+        ensures kept { self.new.kept ≡ self.old.kept }
+    {
+        if let Ok(rest) = Vec::from_slice(self.alloc, self.kept()) {
+            self.buffer = rest;
+            self.start = 0;
         }
     }
 }

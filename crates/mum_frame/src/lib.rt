@@ -7,11 +7,6 @@ pub mod frame;
 pub mod framer;
 pub mod kind;
 pub mod laws;
-pub mod pieces;
 
 pub use frame::{Frame, FrameView, HEADER_LENGTH, PAYLOAD_LIMIT, put_frame, whole_frame};
-pub use framer::{FrameFault, Framer};
-pub use pieces::frames_of_pieces;
-
-#[cfg(test)]
-mod tests;
+pub use framer::{FrameFault, Framer, ROOM_LIMIT};

@@ -1,5 +1,5 @@
 -- A count that rose during a part of a call rose over the whole of it, and what several writes do together.
-use Rattle.std.proofs.Common.{ℕ, ◌+◌, ◌≤◌, List, ◌++◌, length, take, drop, inl, inr, arith, length-append, subst, sym}
+use Rattle.std.proofs.Common.{ℕ, ◌+◌, ◌≤◌, List, ◌++◌, length, take, drop, arith, length-append, subst, sym}
 use Rattle.std.proofs.Math.Seq.{take-append-add, take-add, take-length}
 use Rattle.std.proofs.lemmas.List.{take-append-le}
 use Rattle.std.specs.Prelude.{Option}
@@ -8,8 +8,7 @@ use Rattle.mum_io.specs.Outside.{Rose, Appends, AppendsFront}
 pub use Rattle.std.proofs.KnownBytes.{Appends-nil, Appends-trans, Appends-kept, Consumes-nil, Consumes-trans, Consumes-kept, Keeps-refl, Keeps-trans}
 
 pub Rose-within : (before old new after : ℕ) → before ≤ old → Rose old new → new ≤ after → Rose before after
-Rose-within before old new after first (inl rose) last = inl (omega arith)
-Rose-within before old new after first (inr stands) last = inr (omega arith)
+Rose-within before old new after first rose last = grind arith
 
 -- the rise comes last
 pub Rose-later : (before old new : ℕ) → before ≤ old → Rose old new → Rose before new

@@ -1,6 +1,6 @@
 -- What the reads of a whole read took together.
 use Rattle.std.proofs.Common.{ℕ, ◌<◌, List, ◌++◌, length, inl, inr, ap, ◌∙◌, append-nil, sym}
-use Rattle.std.specs.Prelude.{Option, None, Some, IfSome}
+use Rattle.std.specs.Prelude.{Option, None, Some, IfSome, Result, Ok, Err, OnErr}
 use Rattle.mum_io.specs.Outside.{Consumes, IsAtEnd, IsAllOrLonger}
 
 -- the source is at its end, so all was taken
@@ -16,3 +16,8 @@ pub IsAllOrLonger-past_limit : (limit : ℕ) (a b : Option (List ℕ)) (bytes : 
 IsAllOrLonger-past_limit limit None b bytes taken longer = tt
 IsAllOrLonger-past_limit limit (Some xs) None bytes taken longer = absurd taken
 IsAllOrLonger-past_limit limit (Some xs) (Some ys) bytes taken longer = inr (ys, taken, longer)
+
+-- what holds anyway holds of an error
+pub on_err : {A E P : Type 0} (answer : Result A E) → P → OnErr answer P
+on_err (Ok value) holds = tt
+on_err (Err fault) holds = holds

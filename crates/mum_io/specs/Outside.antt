@@ -1,29 +1,58 @@
 -- What comes in from the outside and what goes out to it, where it is told, and what counts of faults say.
-use Rattle.std.specs.Prelude.{ℕ, ◌≡◌, ◌-◌, ◌^◌, ◌<◌, ◌≤◌, ◌⊎◌, List, ◌++◌, length, take, Option}
+use Rattle.std.specs.Prelude.{ℕ, ◌≡◌, ◌-◌, ◌^◌, ◌<◌, ◌≤◌, ◌⊎◌, List, ◌++◌, length, take, Option, Result, Ok, Err}
 use Rattle.mum_io.specs.declared.source.ReadEnd.{ReadEnd}
 use Rattle.mum_io.specs.declared.source.ReadEnd.TheVariants.{Got, End, Failed}
 use Rattle.mum_io.specs.declared.sink.WriteEnd.{WriteEnd}
 use Rattle.mum_io.specs.declared.sink.WriteEnd.TheVariants.{Took, Failed as WriteFailed}
+use Rattle.mum_io.specs.declared.whole.ReadFault.{ReadFault}
+use Rattle.mum_io.specs.declared.whole.ReadFault.TheVariants.{Failed as ReadFailed, OutOfMemory}
+use Rattle.mum_io.specs.declared.whole.WriteFault.{WriteFault}
 pub use Rattle.std.specs.Io.KnownBytes.{Appends, Consumes, IsAtEnd, Keeps}
 
--- a count of 64 bits rose, or stands at its last value
+-- a count of 64 bits rose, or stands at its last value, as before
 abbrev pub Rose : ℕ → ℕ → Type 0
-Rose old new = (old < new) ⊎ (2 ^ 64 - 1 ≤ new)
+Rose old new = (old < new) ⊎ ((2 ^ 64 - 1 ≤ old) × (new ≡ old))
+
+-- what a read says of the count of faults: it rose where the read failed, and else stayed
+abbrev pub ReadCounts : ReadEnd → ℕ → ℕ → Type 0
+ReadCounts (Got n) old new = new ≡ old
+ReadCounts End old new = new ≡ old
+ReadCounts Failed old new = Rose old new
+
+-- the same of a write
+abbrev pub WriteCounts : WriteEnd → ℕ → ℕ → Type 0
+WriteCounts (Took n) old new = new ≡ old
+WriteCounts WriteFailed old new = Rose old new
+
+-- the same of reads until an answer: a failed read is told as one, and no other answer hides one
+abbrev pub ReadsCount : {A : Type 0} → Result A ReadFault → ℕ → ℕ → Type 0
+ReadsCount (Ok bytes) old new = new ≡ old
+ReadsCount (Err ReadFailed) old new = Rose old new
+ReadsCount (Err OutOfMemory) old new = new ≡ old
+
+-- the same of writes until all is written
+abbrev pub WritesCount : {A : Type 0} → Result A WriteFault → ℕ → ℕ → Type 0
+WritesCount (Ok done) old new = new ≡ old
+WritesCount (Err fault) old new = Rose old new
 
 -- what a read into a slice, which it leaves as buf, did to the bytes that are left
-abbrev pub Reads : ReadEnd → Option (List ℕ) → Option (List ℕ) → List ℕ → Type 0
-Reads (Got n) old new buf = (1 ≤ n) × (n ≤ length buf) × Consumes old new (take n buf)
-Reads End old new buf = IsAtEnd old × Keeps old new
-Reads Failed old new buf = Keeps old new
+abbrev pub ReadLeaves : ReadEnd → Option (List ℕ) → Option (List ℕ) → List ℕ → Type 0
+ReadLeaves (Got n) old new buf = (1 ≤ n) × (n ≤ length buf) × Consumes old new (take n buf)
+ReadLeaves End old new buf = IsAtEnd old × Keeps old new
+ReadLeaves Failed old new buf = Keeps old new
 
 -- what a write of a piece did to the bytes that were written
-abbrev pub Writes : WriteEnd → Option (List ℕ) → Option (List ℕ) → List ℕ → Type 0
-Writes (Took n) old new piece = (1 ≤ n) × (n ≤ length piece) × Appends old new (take n piece)
-Writes WriteFailed old new piece = Keeps old new
+abbrev pub WriteLeaves : WriteEnd → Option (List ℕ) → Option (List ℕ) → List ℕ → Type 0
+WriteLeaves (Took n) old new piece = (1 ≤ n) × (n ≤ length piece) × Appends old new (take n piece)
+WriteLeaves WriteFailed old new piece = Keeps old new
 
 -- some front of the bytes was written
 abbrev pub AppendsFront : Option (List ℕ) → Option (List ℕ) → List ℕ → Type 0
 AppendsFront old new bytes = (n : ℕ) × (n ≤ length bytes) × Appends old new (take n bytes)
+
+-- some front of the bytes that were left was taken
+abbrev pub ConsumesFront : Option (List ℕ) → Option (List ℕ) → Type 0
+ConsumesFront old new = (taken : List ℕ) × Consumes old new taken
 
 -- the bytes that were read of those that were left: all of them, or a front of them that is longer than the limit
 abbrev pub IsAllOrLonger : ℕ → List ℕ → List ℕ → Type 0

@@ -1,7 +1,8 @@
 //! The calls on an object in memory, some of which are to fail.
 
-ghost use Rattle.std.specs.Prelude.{◌≡◌, ◌≤◌};
+ghost use Rattle.std.specs.Prelude.{◌≡◌};
 ghost use Rattle.mum_io.specs.Calls.{after_call, before_calls, next_count, next_fails};
+ghost use Rattle.mum_io.specs.Outside.{Rose};
 
 use std::marker::Model;
 
@@ -45,7 +46,7 @@ impl Calls {
     /// Counts the fault of a call that was counted before.
     pub fn fail(&mut self)
         ensures counted { self.new ≡ record self.old { faults = next_count self.old.faults } }
-        ensures never_falls { self.old.faults ≤ self.new.faults }
+        ensures rose { Rose self.old.faults self.new.faults }
     {
         self.faults = self.faults.saturating_add(1);
     }

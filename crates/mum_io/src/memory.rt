@@ -3,7 +3,7 @@
 ghost use Rattle.std.specs.Prelude.{◌≡◌, ℕ, [], ◌<◌, ◌≤◌, ◌↔◌, IsTrue, Some, drop, length, min, take};
 ghost use Rattle.mum_io.specs.Calls.{before_calls, next_fails};
 ghost use Rattle.mum_io.specs.Memory.{after_read, after_write};
-ghost use Rattle.mum_io.specs.Outside.{Reads, Rose, Writes};
+ghost use Rattle.mum_io.specs.Outside.{ReadCounts, ReadLeaves, WriteCounts, WriteLeaves};
 
 use crate::calls::Calls;
 use crate::{ReadEnd, Sink, Source, WriteEnd};
@@ -60,9 +60,8 @@ impl Source for MemSource {
 
     fn read(&mut self, buf: &mut [u8]) -> ReadEnd
         requires { 0 < length buf.old }
-        ensures never_falls { self.old.calls.faults ≤ self.new.calls.faults }
-        ensures cause { result ≡ ReadEnd.Failed → Rose self.old.calls.faults self.new.calls.faults }
-        ensures bytes { Reads result (Some self.old.left) (Some self.new.left) buf.new }
+        ensures counts { ReadCounts result self.old.calls.faults self.new.calls.faults }
+        ensures bytes { ReadLeaves result (Some self.old.left) (Some self.new.left) buf.new }
 
         ensures fails { (result ≡ ReadEnd.Failed) ↔ IsTrue (next_fails self.old.calls) }
         ensures whole { (n : ℕ) → result ≡ ReadEnd.Got n → n ≡ min (length buf.old) (length self.old.left) }
@@ -133,9 +132,8 @@ impl Sink for MemSink {
 
     fn write(&mut self, piece: &[u8]) -> WriteEnd
         requires { 0 < length piece.now }
-        ensures never_falls { self.old.calls.faults ≤ self.new.calls.faults }
-        ensures cause { result ≡ WriteEnd.Failed → Rose self.old.calls.faults self.new.calls.faults }
-        ensures bytes { Writes result (Some self.old.written) (Some self.new.written) piece.now }
+        ensures counts { WriteCounts result self.old.calls.faults self.new.calls.faults }
+        ensures bytes { WriteLeaves result (Some self.old.written) (Some self.new.written) piece.now }
 
         ensures fails { IsTrue (next_fails self.old.calls) → result ≡ WriteEnd.Failed }
         ensures whole { (n : ℕ) → result ≡ WriteEnd.Took n → n ≡ length piece.now }

@@ -1,7 +1,7 @@
 //! Where bytes go.
 
-ghost use Rattle.std.specs.Prelude.{◌≡◌, ℕ, ◌<◌, ◌≤◌, List, Option, length};
-ghost use Rattle.mum_io.specs.Outside.{Rose, Writes};
+ghost use Rattle.std.specs.Prelude.{ℕ, ◌<◌, List, Option, length};
+ghost use Rattle.mum_io.specs.Outside.{WriteCounts, WriteLeaves};
 
 /// How a write ended.
 #[derive(Clone, Copy, Debug, PartialEq, Eq)]
@@ -23,7 +23,6 @@ pub trait Sink {
     /// Writes a front of the piece behind what was written before.
     fn write(&mut self, piece: &[u8]) -> WriteEnd
         requires { 0 < length piece.now }
-        ensures never_falls { faults self.old ≤ faults self.new }
-        ensures cause { result ≡ WriteEnd.Failed → Rose (faults self.old) (faults self.new) }
-        ensures bytes { Writes result (written self.old) (written self.new) piece.now };
+        ensures counts { WriteCounts result (faults self.old) (faults self.new) }
+        ensures bytes { WriteLeaves result (written self.old) (written self.new) piece.now };
 }

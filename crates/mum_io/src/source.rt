@@ -1,7 +1,7 @@
 //! Where bytes come from.
 
-ghost use Rattle.std.specs.Prelude.{◌≡◌, ℕ, ◌<◌, ◌≤◌, List, Option, length};
-ghost use Rattle.mum_io.specs.Outside.{Reads, Rose};
+ghost use Rattle.std.specs.Prelude.{ℕ, ◌<◌, List, Option, length};
+ghost use Rattle.mum_io.specs.Outside.{ReadCounts, ReadLeaves};
 
 /// How a read ended.
 #[derive(Clone, Copy, Debug, PartialEq, Eq)]
@@ -25,7 +25,6 @@ pub trait Source {
     /// Takes the first bytes that are left to the front of the slice.
     fn read(&mut self, buf: &mut [u8]) -> ReadEnd
         requires { 0 < length buf.old }
-        ensures never_falls { faults self.old ≤ faults self.new }
-        ensures cause { result ≡ ReadEnd.Failed → Rose (faults self.old) (faults self.new) }
-        ensures bytes { Reads result (left self.old) (left self.new) buf.new };
+        ensures counts { ReadCounts result (faults self.old) (faults self.new) }
+        ensures bytes { ReadLeaves result (left self.old) (left self.new) buf.new };
 }

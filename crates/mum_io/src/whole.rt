@@ -1,7 +1,7 @@
 //! Writing all of a slice, and reading all that a source has up to a limit.
 
-ghost use Rattle.std.specs.Prelude.{◌≡◌, ℕ, ◌+◌, ◌<◌, ◌≤◌, length, vec_len, IfOk, IfSome, OnOk, OnErr, IsErrOf};
-ghost use Rattle.mum_io.specs.Outside.{Appends, AppendsFront, Consumes, IsAllOrLonger, Rose};
+ghost use Rattle.std.specs.Prelude.{◌≡◌, ◌+◌, ◌≤◌, length, vec_len, IfOk, IfSome, OnOk, OnErr};
+ghost use Rattle.mum_io.specs.Outside.{Appends, AppendsFront, Consumes, ConsumesFront, IsAllOrLonger, ReadsCount, WritesCount};
 ghost use Rattle.mum_io.specs.declared.whole.ReadFault.TheVariants.{OutOfMemory};
 
 use crate::{ReadEnd, Sink, Source, WriteEnd};
@@ -37,8 +37,7 @@ impl From<AllocError> for ReadFault {
 pub fn write_all<O: Sink>(output: &mut O, bytes: &[u8]) -> Result<(), WriteFault>
     ensures ok { OnOk result (Appends (O.written output.old) (O.written output.new) bytes.now) }
     ensures front { OnErr result (AppendsFront (O.written output.old) (O.written output.new) bytes.now) }
-    ensures cause { OnErr result (Rose (O.faults output.old) (O.faults output.new)) }
-    ensures never_falls { O.faults output.old ≤ O.faults output.new }
+    ensures counts { WritesCount result (O.faults output.old) (O.faults output.new) }
 {
     let mut done = 0;
     while done < bytes.len() {
@@ -57,7 +56,8 @@ fn chunk_buffer(alloc: Global) -> Result<Vec<u8>, AllocError>
 }
 
 /// Reads until the source ends, or until more than `limit` bytes were read, which are then all that is given.
-/// It holds at most `CHUNK` bytes more than the limit. What was read before an error is lost.
+/// It holds at most `CHUNK` bytes more than the limit. After
+/// an error a front of what was left is taken, and lost.
 pub fn read_up_to<I: Source>(
     alloc: Global,
     input: &mut I,
@@ -66,8 +66,8 @@ pub fn read_up_to<I: Source>(
     ensures bytes { IfOk result (λ bytes. IfSome (I.left input.old) (λ left. IsAllOrLonger limit left bytes.items)) }
     ensures none_lost { IfOk result (λ bytes. Consumes (I.left input.old) (I.left input.new) bytes.items) }
     ensures bounded { IfOk result (λ bytes. vec_len bytes ≤ limit + CHUNK) }
-    ensures cause { IsErrOf result ReadFault.Failed → Rose (I.faults input.old) (I.faults input.new) }
-    ensures never_falls { I.faults input.old ≤ I.faults input.new }
+    ensures front { OnErr result (ConsumesFront (I.left input.old) (I.left input.new)) }
+    ensures counts { ReadsCount result (I.faults input.old) (I.faults input.new) }
 {
     let mut buffer = chunk_buffer(alloc)?;
     let chunk = buffer.as_mut_slice();

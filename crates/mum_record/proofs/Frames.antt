@@ -1,11 +1,10 @@
 -- The frame whose digits a word is.
-use Rattle.std.proofs.Common.{◌≡◌, ◌≢◌, ℕ, ◌+◌, ◌-◌, ◌*◌, ◌/◌, ◌%◌, ◌<◌, ◌≤◌, List, [], ◌∷◌, ◌++◌, length, take, drop, Option, Some, None, IfSome, IfNone, is_some, Result, Ok, Err, refl, sym, ap, ◌∙◌, arith, Bool, true, false, inl, inr, ◌&&◌, ◌⊎◌, length-drop, suc, slice_index}
+use Rattle.std.proofs.Common.{◌≡◌, ℕ, ◌+◌, ◌*◌, ◌/◌, ◌%◌, ◌<◌, List, [], ◌∷◌, Option, Some, None, Result, Ok, Err, refl, sym, ◌∙◌, arith, Bool, true, false, inl, inr, ◌&&◌, ◌⊎◌, suc, slice_index}
 use Rattle.std.proofs.lemmas.Option.{cond_some}
-use Rattle.std.proofs.lemmas.Bool.{cond-true, and_parts, and_from, or_parts, or_from, eqb-true, eq-eqb, leb-true, le-leb, agree_below_at}
+use Rattle.std.proofs.lemmas.Bool.{cond-true, and_parts, and_from, or_parts, or_from, eqb-true, agree_below_at}
 use Rattle.std.proofs.lemmas.Slice.Eq.{bytes_eq-Decides}
-use Rattle.std.proofs.lemmas.List.{append-nil, drop_all, take_rest, length-take-le}
 use Rattle.std.proofs.lemmas.Bool.Decides.{nat_tests}
-use Rattle.std.specs.Prelude.{nat_le, nat_lt, ◌==◌, if◌then◌else◌}
+use Rattle.std.specs.Prelude.{nat_lt, ◌==◌, if◌then◌else◌}
 use Rattle.std.specs.Char.{is_ascii_uppercase}
 use Rattle.std.specs.List.{list_any}
 use Rattle.std.specs.Str.{bytes_eq}
@@ -13,51 +12,12 @@ use Rattle.hex.specs.Hex.{encode_with, encode_lower, decode_of, decode_pairs, pa
 use Rattle.hex.specs.declared.error.FromHexError.{FromHexError}
 use Rattle.hex.specs.declared.error.FromHexError.TheVariants as faults
 use Rattle.hex.proofs.HexLemmas.{decode_of-encode_lower, decode_of-ok, decode_of-even}
-use Rattle.mum_frame.specs.declared.frame.TheConstants.{HEADER_LENGTH, PAYLOAD_LIMIT}
-use Rattle.mum_frame.specs.declared.frame.Frame as frames
-use Rattle.mum_frame.specs.declared.frame.FrameView.{FrameView}
-use Rattle.mum_frame.specs.First.{viewed}
-use Rattle.mum_frame.specs.Frame.{spelling, IsFrame, named_length}
-use Rattle.mum_frame.proofs.Headers.{length-spelling_of, length-reads_back, whole_is}
-use Rattle.mum_record.specs.Grammar.{IsOneFrame}
+use Rattle.mum_frame.specs.Frame.{IsOneFrame, is_one_frame}
+use Rattle.mum_frame.proofs.OneFrame.{one_frame-tested, one_frame-found}
+use Rattle.mum_record.specs.Words.{is_space}
 use Rattle.mum_record.specs.Answers.{Reads, fault_of}
-use Rattle.mum_record.specs.Reading.{is_space, is_one_frame, frame_of}
+use Rattle.mum_record.specs.Reading.{frame_of}
 use Rattle.mum_record.proofs.Numbers.{none_unless}
-
--- ---- exactly one frame
-
--- a frame's header names what follows it
-pub one_frame-tested : (bytes : List ℕ) → IsOneFrame bytes → is_one_frame bytes ≡ true
-one_frame-tested bytes one =
-    let frame = one.0 in
-    let limit = one.1.within_limit in
-    let long : length bytes ≡ HEADER_LENGTH + length frame.payload = ap length one.2 ∙ length-spelling_of frame.kind frame.payload in
-    let whole : bytes ≡ spelling frame ++ [] = one.2 ∙ sym (append-nil (spelling frame)) in
-    let named : named_length bytes ≡ length frame.payload = ap named_length whole ∙ length-reads_back frame.kind frame.payload [] limit in
-    and_from (length bytes == HEADER_LENGTH + named_length bytes) (nat_le (named_length bytes) PAYLOAD_LIMIT)
-    (eq-eqb (length bytes) (HEADER_LENGTH + named_length bytes) (omega arith))
-    (le-leb (named_length bytes) PAYLOAD_LIMIT (omega arith))
-
--- a frame that nothing follows
-alone : (bytes : List ℕ) (frame : frames.Frame) → IsFrame frame × (bytes ≡ spelling frame ++ drop (HEADER_LENGTH + length frame.payload) bytes)
-    → length bytes ≤ HEADER_LENGTH + length frame.payload → IsOneFrame bytes
-alone bytes frame begun short =
-    let behind : drop (HEADER_LENGTH + length frame.payload) bytes ≡ [] = drop_all (HEADER_LENGTH + length frame.payload) bytes short in
-    (frame, begun.0, begun.1 ∙ ap (λ (xs : List ℕ). spelling frame ++ xs) behind ∙ append-nil (spelling frame))
-
--- what a header names the length of is a frame
-pub one_frame-found : (bytes : List ℕ) → IsBytes bytes → is_one_frame bytes ≡ true → IsOneFrame bytes
-one_frame-found bytes small tested =
-    let parts = and_parts (length bytes == HEADER_LENGTH + named_length bytes) (nat_le (named_length bytes) PAYLOAD_LIMIT) tested in
-    let long : length bytes ≡ HEADER_LENGTH + named_length bytes = eqb-true (length bytes) (HEADER_LENGTH + named_length bytes) parts.0 in
-    let limit : named_length bytes ≤ PAYLOAD_LIMIT = leb-true (named_length bytes) PAYLOAD_LIMIT parts.1 in
-    let payload : List ℕ = take (named_length bytes) (take (length bytes - HEADER_LENGTH) (drop HEADER_LENGTH bytes)) in
-    let high = small 0 in
-    let low = small 1 in
-    let found = whole_is bytes payload _ (named_length bytes) small refl (omega arith) refl limit (omega arith) refl in
-    let size : length payload ≡ named_length bytes =
-    ap length (ap (take (named_length bytes)) (take_rest bytes HEADER_LENGTH)) ∙ length-take-le (named_length bytes) (drop HEADER_LENGTH bytes) (omega (arith, length-drop HEADER_LENGTH bytes)) in
-    alone bytes _ found (omega arith)
 
 -- ---- digits 0 to 9 and a to f
 
@@ -193,14 +153,6 @@ pub frame_of-encode_lower : (bytes : List ℕ) → IsBytes bytes → IsOneFrame 
 frame_of-encode_lower bytes small one = frame_of-read (encode_lower bytes) bytes (encode_lower-lower bytes small) (decode_of-encode_lower bytes small) one
 
 -- ---- what reading a frame answers
-
-pub IsOneFrame-some : (bytes : List ℕ) (found : Option FrameView) → IfSome found (λ view. IsFrame (viewed view) × (bytes ≡ spelling (viewed view))) → is_some found ≡ true → IsOneFrame bytes
-IsOneFrame-some bytes None is h = cc
-IsOneFrame-some bytes (Some view) is h = (viewed view, is.0, is.1)
-
-pub IsOneFrame-none : (bytes : List ℕ) (found : Option FrameView) → IfNone found ((frame : frames.Frame) → IsFrame frame → bytes ≢ spelling frame) → is_some found ≡ false → IsOneFrame bytes → ⊥
-IsOneFrame-none bytes None is h one = is one.0 one.1 one.2
-IsOneFrame-none bytes (Some view) is h one = cc
 
 -- digits that did not decode say no frame, unless memory ran out
 pub frame_of-refused : (word : List ℕ) (e : FromHexError) → (e ≡ faults.OutOfMemory) ⊎ (decode_of word ≡ Err e) → Reads {X = List ℕ} (Err (fault_of e)) (frame_of word)

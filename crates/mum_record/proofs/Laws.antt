@@ -22,9 +22,12 @@ use Rattle.mum_record.specs.declared.step.Step.{Step}
 use Rattle.mum_record.specs.declared.step.Step.TheVariants.{Open, Frame, Edit, Publish, Tell, Look, Offer, Post, Drain, Collect, Close, End}
 use Rattle.mum_record.specs.Grammar.{words_of, line_of, cause_word, revision_word, FitsTypes, IsRecordable, IsLineOf, IsRecordedCause}
 use Rattle.mum_record.specs.Answers.{Reads}
-use Rattle.mum_record.specs.Reading.{is_space, number_of, frame_of, told_of, cause_of, step_of_verb, step_naming, step_with, step_of_words, step_of}
-use Rattle.mum_record.proofs.Numbers.{own, none_unless, number_of-found, number_of-decimal}
+use Rattle.mum_record.specs.Words.{place_of, revision_of}
+use Rattle.mum_record.specs.Reading.{frame_of, told_of, cause_of, step_of_verb, step_naming, step_with, step_of_words, step_of}
+use Rattle.mum_record.proofs.Numbers.{own, none_unless, number_within-found, number_within-decimal}
 use Rattle.mum_record.proofs.Frames.{frame_of-found, frame_of-encode_lower, lower_digit-graphic}
+use Rattle.std.specs.Prelude.{◌-◌}
+use Rattle.mum_record.specs.Words.{is_space}
 use Rattle.mum_record.proofs.Splits.{IsWord, AreAllWords, slice_split-join_all, join-IsAscii}
 
 -- ---- what is read is written so
@@ -58,7 +61,9 @@ pub told_of-found : (word : List ℕ) (revision : Option ℕ) → told_of word �
 unfolding told_of
 told_of-found word revision h =
     chosen word (codes "-") _ _ revision (λ w e. let is : None ≡ revision = cc in rw (← is) (tt, w))
-    (mapped Some (number_of 64 word) revision (λ n is e. let found = number_of-found 64 word n is in rw (← e) found))
+    (mapped Some (revision_of word) revision (λ n is e. let found = number_within-found 0 (2 ^ 64 - 1) word n is in
+    let fits : n < 2 ^ 64 = omega (arith, found.1) in
+    rw (← e) (fits, found.2)))
     h
 
 step_of_verb-found : (verb : List ℕ) (step : Step) → step_of_verb verb ≡ Some step → IsRecordable step × (verb ∷ [] ≡ words_of step)
@@ -84,13 +89,13 @@ step_with-found : (verb name word : List ℕ) (n : ℕ) (step : Step) → n < 2 
 unfolding step_with words_of
 step_with-found verb name word n step small named h =
     chosen verb (codes "open") _ _ step
-    (λ w. mapped (Open n) (number_of 32 word) step (λ m is e. let found = number_of-found 32 word m is in rw (← e, w, named, found.1) (((small, found.0), tt), refl)))
+    (λ w. mapped (Open n) (place_of word) step (λ m is e. let found = number_within-found 0 (2 ^ 32 - 1) word m is in let fits : m < 2 ^ 32 = omega (arith, found.1) in rw (← e, w, named, found.2) (((small, fits), tt), refl)))
     (chosen verb (codes "frame") _ _ step
     (λ w. mapped (Frame n) (frame_of word) step (λ bytes is e. let found = frame_of-found word bytes is in rw (← e, w, named, found.2) (((small, found.0), found.1), refl)))
     (chosen verb (codes "tell") _ _ step
     (λ w. mapped (Tell n) (told_of word) step (λ revision is e. let found = told_of-found word revision is in rw (← e, w, named, found.1) (((small, found.0), tt), refl)))
     (chosen verb (codes "look") _ _ step
-    (λ w. mapped (Look n) (number_of 64 word) step (λ m is e. let found = number_of-found 64 word m is in rw (← e, w, named, found.1) (((small, found.0), tt), refl)))
+    (λ w. mapped (Look n) (revision_of word) step (λ m is e. let found = number_within-found 0 (2 ^ 64 - 1) word m is in let fits : m < 2 ^ 64 = omega (arith, found.1) in rw (← e, w, named, found.2) (((small, fits), tt), refl)))
     (chosen verb (codes "close") _ _ step
     (λ w. mapped (Close n) (cause_of word) step (λ cause is e. let found = cause_of-found word cause is in rw (← e, w, named, found.1) ((small, found.0), refl)))
     (λ e. cc)))))
@@ -101,13 +106,13 @@ unfolding step_of_words
 step_of_words-found [] step h = cc
 step_of_words-found (verb ∷ []) step h = step_of_verb-found verb step h
 step_of_words-found (verb ∷ name ∷ []) step h =
-    option_and_then_some (step_naming verb) (number_of 32 name) step h (λ n is e.
-    let found = number_of-found 32 name n is in
-    step_naming-found verb name n step found.0 found.1 e)
+    option_and_then_some (step_naming verb) (place_of name) step h (λ n is e.
+    let found = number_within-found 0 (2 ^ 32 - 1) name n is in
+    step_naming-found verb name n step (omega (arith, found.1)) found.2 e)
 step_of_words-found (verb ∷ name ∷ word ∷ []) step h =
-    option_and_then_some (λ (n : ℕ). step_with verb n word) (number_of 32 name) step h (λ n is e.
-    let found = number_of-found 32 name n is in
-    step_with-found verb name word n step found.0 found.1 e)
+    option_and_then_some (λ (n : ℕ). step_with verb n word) (place_of name) step h (λ n is e.
+    let found = number_within-found 0 (2 ^ 32 - 1) name n is in
+    step_with-found verb name word n step (omega (arith, found.1)) found.2 e)
 step_of_words-found (verb ∷ name ∷ word ∷ more ∷ others) step h = cc
 
 -- what is read is a step, and the line is its line
@@ -133,29 +138,29 @@ told_of-revision_word : (revision : Option ℕ) → IfSome revision (λ r. r < 2
 unfolding told_of
 told_of-revision_word None h = refl
 told_of-revision_word (Some r) h =
-    let read = number_of-decimal 64 r h h in
+    let read = number_within-decimal 0 (2 ^ 64 - 1) r (omega arith) (omega arith) h in
     let digit = digit_at (decimal r) 0 (digits_decimal own r h) (decimal_nonempty r h) in
     let other : bytes_eq (decimal r) (codes "-") ≡ false = false_from_ne_true (bytes_eq (decimal r) (codes "-")) (λ same.
     let dash : get_or (decimal r) 0 0 ≡ 45 = ap (λ (w : List ℕ). get_or w 0 0) ((bytes_eq-Decides (decimal r) (codes "-")).0 same) in
     omega (arith, digit.0)) in
     rw (other, read) refl
 
-place_of : (n : ℕ) → n < 2 ^ 32 → number_of 32 (decimal n) ≡ Some n
-place_of n h = number_of-decimal 32 n h (omega arith)
+place_of-decimal : (n : ℕ) → n < 2 ^ 32 → place_of (decimal n) ≡ Some n
+place_of-decimal n h = number_within-decimal 0 (2 ^ 32 - 1) n (omega arith) (omega arith) (omega arith)
 
 step_of_words-words_of : (step : Step) → IsRecordable step → step_of_words (words_of step) ≡ Some step
 unfolding step_of_words words_of step_of_verb step_naming step_with
-step_of_words-words_of (Open c w) h = rw (place_of c h.0.0, place_of w h.0.1) refl
-step_of_words-words_of (Frame c bytes) h = rw (place_of c h.0.0, frame_of-encode_lower bytes h.0.1 h.1) refl
-step_of_words-words_of (Edit c) h = rw (place_of c h.0) refl
+step_of_words-words_of (Open c w) h = rw (place_of-decimal c h.0.0, place_of-decimal w h.0.1) refl
+step_of_words-words_of (Frame c bytes) h = rw (place_of-decimal c h.0.0, frame_of-encode_lower bytes h.0.1 h.1) refl
+step_of_words-words_of (Edit c) h = rw (place_of-decimal c h.0) refl
 step_of_words-words_of Publish h = refl
-step_of_words-words_of (Tell c revision) h = rw (place_of c h.0.0, told_of-revision_word revision h.0.1) refl
-step_of_words-words_of (Look w revision) h = rw (place_of w h.0.0, number_of-decimal 64 revision h.0.1 h.0.1) refl
-step_of_words-words_of (Offer w) h = rw (place_of w h.0) refl
+step_of_words-words_of (Tell c revision) h = rw (place_of-decimal c h.0.0, told_of-revision_word revision h.0.1) refl
+step_of_words-words_of (Look w revision) h = rw (place_of-decimal w h.0.0, number_within-decimal 0 (2 ^ 64 - 1) revision (omega arith) (omega (arith, h.0.1)) h.0.1) refl
+step_of_words-words_of (Offer w) h = rw (place_of-decimal w h.0) refl
 step_of_words-words_of Post h = refl
-step_of_words-words_of (Drain c) h = rw (place_of c h.0) refl
-step_of_words-words_of (Collect c) h = rw (place_of c h.0) refl
-step_of_words-words_of (Close c cause) h = rw (place_of c h.0, cause_of-cause_word cause h.1) refl
+step_of_words-words_of (Drain c) h = rw (place_of-decimal c h.0) refl
+step_of_words-words_of (Collect c) h = rw (place_of-decimal c h.0) refl
+step_of_words-words_of (Close c cause) h = rw (place_of-decimal c h.0, cause_of-cause_word cause h.1) refl
 step_of_words-words_of End h = refl
 
 -- ---- the words of a step have no space in them
@@ -166,7 +171,7 @@ digits_IsWord (d ∷ ds) h =
     let range = digit_from_value d h.0 in
     (ne_eqb d 32 (λ e. omega (arith, range.0)), omega (arith, range.1), digits_IsWord ds h.1)
 
-decimal_IsWord : (n : ℕ) → n < 2 ^ 64 → IsWord (decimal n)
+pub decimal_IsWord : (n : ℕ) → n < 2 ^ 64 → IsWord (decimal n)
 decimal_IsWord n h = digits_IsWord (decimal n) (digits_decimal own n h)
 
 revision_IsWord : (revision : Option ℕ) → IfSome revision (λ r. r < 2 ^ 64) → IsWord (revision_word revision)
@@ -183,7 +188,7 @@ lower_IsWord (b ∷ bs) small =
     (high.0, high.1, (low.0, low.1, lower_IsWord bs (λ i. small (suc i))))
 
 -- a literal word, which computes
-literal_IsWord : (word : List ℕ) → list_all (λ b. nat_lt 32 b && nat_lt b 128) word ≡ true → IsWord word
+pub literal_IsWord : (word : List ℕ) → list_all (λ b. nat_lt 32 b && nat_lt b 128) word ≡ true → IsWord word
 literal_IsWord [] h = tt
 literal_IsWord (b ∷ bs) h =
     let parts = and_parts (nat_lt 32 b && nat_lt b 128) _ h in

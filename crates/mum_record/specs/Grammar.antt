@@ -1,13 +1,12 @@
 -- The lines of a recording, version 1: words parted by one space.
 use Rattle.std.specs.Prelude.{◌≡◌, ℕ, ◌^◌, ◌<◌, List, [], ◌∷◌, Option, Some, None, IfSome, codes}
-use Rattle.std.specs.List.{join_with_byte}
 use Rattle.std.specs.Fmt.{decimal}
 use Rattle.hex.specs.Hex.{encode_lower, IsBytes}
-use Rattle.mum_frame.specs.declared.frame.Frame as frames
-use Rattle.mum_frame.specs.Frame.{spelling, IsFrame}
+use Rattle.mum_frame.specs.Frame.{IsOneFrame}
 use Rattle.mum_base.specs.declared.number.Cause.{Cause}
 use Rattle.mum_base.specs.declared.number.Cause.TheVariants as causes
 use Rattle.mum_record.specs.declared.step.Step.{Step}
+use Rattle.mum_record.specs.Words.{line_of_words}
 use Rattle.mum_record.specs.declared.step.Step.TheVariants.{Open, Frame, Edit, Publish, Tell, Look, Offer, Post, Drain, Collect, Close, End}
 
 -- why a connection ended; no recording says the last of them
@@ -42,16 +41,12 @@ words_of End = codes "end" ∷ []
 
 -- the line of a step, without its line feed
 abbrev pub line_of : Step → List ℕ
-line_of step = join_with_byte 32 (words_of step)
+line_of step = line_of_words (words_of step)
 
 -- a cause that a recording may say
 abbrev pub IsRecordedCause : Cause → Type 0
 IsRecordedCause causes.Memory = ⊥
 IsRecordedCause _ = Unit {0}
-
--- exactly one frame, and nothing behind it
-abbrev pub IsOneFrame : List ℕ → Type 0
-IsOneFrame bytes = (frame : frames.Frame) × IsFrame frame × (bytes ≡ spelling frame)
 
 -- connections and workers fit 32 bits, revisions 64, and bytes 8
 abbrev pub FitsTypes : Step → Type 0

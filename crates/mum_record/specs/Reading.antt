@@ -1,37 +1,21 @@
 -- The step that a line says, computed from its words.
-use Rattle.std.specs.Prelude.{ℕ, ◌+◌, ◌^◌, ◌&&◌, ◌==◌, Bool, List, [], ◌∷◌, length, Option, Some, None, nat_lt, nat_le, if◌then◌else◌, option_and_then, option_map, codes}
-use Rattle.std.specs.List.{slice_split}
-use Rattle.std.specs.Fmt.{decimal}
+use Rattle.std.specs.Prelude.{ℕ, ◌&&◌, List, [], ◌∷◌, Option, Some, None, if◌then◌else◌, option_and_then, option_map, codes}
 use Rattle.std.specs.Str.{bytes_eq}
-use Rattle.std.specs.Str.Parse.{digits_value}
 use Rattle.std.specs.Result.{result_ok}
 use Rattle.hex.specs.Hex.{encode_lower, decode_of}
-use Rattle.mum_frame.specs.declared.frame.TheConstants.{HEADER_LENGTH, PAYLOAD_LIMIT}
-use Rattle.mum_frame.specs.Frame.{named_length}
+use Rattle.mum_frame.specs.Frame.{is_one_frame}
+use Rattle.mum_record.specs.Words.{words_in, place_of, revision_of}
 use Rattle.mum_base.specs.declared.number.Cause.{Cause}
 use Rattle.mum_base.specs.declared.number.Cause.TheVariants as causes
 use Rattle.mum_record.specs.declared.step.Step.{Step}
 use Rattle.mum_record.specs.declared.step.Step.TheVariants.{Open, Frame, Edit, Publish, Tell, Look, Offer, Post, Drain, Collect, Close, End}
-
-abbrev pub is_space : ℕ → Bool
-is_space byte = byte == 32
-
--- the number below 2 ^ bits whose decimal digits the word is
-unfoldable pub number_of : ℕ → List ℕ → Option ℕ
-number_of bits word =
-    let number = digits_value 10 word in
-    if nat_lt number (2 ^ bits) && bytes_eq word (decimal number) then Some number else None
-
--- whether the header names the length of what follows it, and no more than the limit
-abbrev pub is_one_frame : List ℕ → Bool
-is_one_frame bytes = (length bytes == HEADER_LENGTH + named_length bytes) && nat_le (named_length bytes) PAYLOAD_LIMIT
 
 -- the frame whose digits the word is
 unfoldable pub frame_of : List ℕ → Option (List ℕ)
 frame_of word = option_and_then (λ bytes. if bytes_eq word (encode_lower bytes) && is_one_frame bytes then Some bytes else None) (result_ok (decode_of word))
 
 unfoldable pub told_of : List ℕ → Option (Option ℕ)
-told_of word = if bytes_eq word (codes "-") then Some None else option_map Some (number_of 64 word)
+told_of word = if bytes_eq word (codes "-") then Some None else option_map Some (revision_of word)
 
 unfoldable pub cause_of : List ℕ → Option Cause
 cause_of word =
@@ -63,20 +47,20 @@ step_naming verb number =
 -- a step of those and a third word
 unfoldable pub step_with : List ℕ → ℕ → List ℕ → Option Step
 step_with verb number word =
-    if bytes_eq verb (codes "open") then option_map (Open number) (number_of 32 word)
+    if bytes_eq verb (codes "open") then option_map (Open number) (place_of word)
     else if bytes_eq verb (codes "frame") then option_map (Frame number) (frame_of word)
     else if bytes_eq verb (codes "tell") then option_map (Tell number) (told_of word)
-    else if bytes_eq verb (codes "look") then option_map (Look number) (number_of 64 word)
+    else if bytes_eq verb (codes "look") then option_map (Look number) (revision_of word)
     else if bytes_eq verb (codes "close") then option_map (Close number) (cause_of word)
     else None
 
 unfoldable pub step_of_words : List (List ℕ) → Option Step
 step_of_words [] = None
 step_of_words (verb ∷ []) = step_of_verb verb
-step_of_words (verb ∷ name ∷ []) = option_and_then (step_naming verb) (number_of 32 name)
-step_of_words (verb ∷ name ∷ word ∷ []) = option_and_then (λ number. step_with verb number word) (number_of 32 name)
+step_of_words (verb ∷ name ∷ []) = option_and_then (step_naming verb) (place_of name)
+step_of_words (verb ∷ name ∷ word ∷ []) = option_and_then (λ number. step_with verb number word) (place_of name)
 step_of_words (verb ∷ name ∷ word ∷ more ∷ others) = None
 
 -- the step that a line says, if it says one
 unfoldable pub step_of : List ℕ → Option Step
-step_of line = step_of_words (slice_split is_space line)
+step_of line = step_of_words (words_in line)

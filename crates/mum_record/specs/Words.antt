@@ -1,14 +1,53 @@
--- The words of a line, up to three of them.
-use Rattle.std.specs.Prelude.{◌≡◌, ℕ, ◌<◌, List, [], ◌∷◌, length, Option, Some, None}
-use Rattle.std.specs.List.{slice_split}
+-- Lines as words, and the numbers that words say.
+use Rattle.std.specs.Prelude.{◌≡◌, ℕ, ◌-◌, ◌^◌, ◌<◌, ◌&&◌, ◌==◌, Bool, List, [], ◌∷◌, length, Option, Some, None, nat_le, if◌then◌else◌}
+use Rattle.std.specs.List.{slice_split, join_with_byte}
+use Rattle.std.specs.Fmt.{decimal}
+use Rattle.std.specs.Str.{bytes_eq}
+use Rattle.std.specs.Str.Parse.{digits_value}
+use Rattle.hex.specs.Hex.{encode_lower}
 use Rattle.mum_record.specs.declared.words.Words.{Words}
 use Rattle.mum_record.specs.declared.words.Words.TheVariants.{One, Two, Three, More}
-use Rattle.mum_record.specs.Reading.{is_space}
+use Rattle.mum_record.specs.declared.line.Word.{Word}
+use Rattle.mum_record.specs.declared.line.Word.TheVariants.{Name, Number, Digits}
+
+abbrev pub is_space : ℕ → Bool
+is_space byte = byte == 32
+
+-- the words of a line, and the line of words: they are parted by one space
+abbrev pub words_in : List ℕ → List (List ℕ)
+words_in line = slice_split is_space line
+
+abbrev pub line_of_words : List (List ℕ) → List ℕ
+line_of_words words = join_with_byte 32 words
+
+-- the number from the least to the greatest that a word says, in decimal and without leading zeros
+unfoldable pub number_within : ℕ → ℕ → List ℕ → Option ℕ
+number_within least greatest word =
+    let number = digits_value 10 word in
+    if nat_le least number && nat_le number greatest && bytes_eq word (decimal number) then Some number else None
+
+-- connections and workers fit 32 bits, revisions 64
+abbrev pub place_of : List ℕ → Option ℕ
+place_of word = number_within 0 (2 ^ 32 - 1) word
+
+abbrev pub revision_of : List ℕ → Option ℕ
+revision_of word = number_within 0 (2 ^ 64 - 1) word
+
+-- ---- in the code
+
+-- what a word of a line is spelled
+abbrev pub spelled : Word → List ℕ
+spelled (Name name) = name.now
+spelled (Number number) = decimal number
+spelled (Digits bytes) = encode_lower bytes.now
+
+abbrev pub behind_space : Word → List ℕ
+behind_space word = 32 ∷ spelled word
 
 -- the words of what follows a space, if anything does
 abbrev pub words_after : Option (List ℕ) → List (List ℕ)
 words_after None = []
-words_after (Some rest) = slice_split is_space rest
+words_after (Some rest) = words_in rest
 
 abbrev pub AreWords : List (List ℕ) → Words → Type 0
 AreWords words (One verb) = words ≡ verb.now ∷ []

@@ -4,15 +4,14 @@
 #![tactic(auto)]
 
 pub mod head;
+pub mod line;
 pub mod read;
 pub mod step;
 mod words;
 pub mod write;
 
 pub use head::{is_empty_config, is_recording, read_workers};
+pub use line::{Word, push_line, push_word, push_words};
 pub use read::{read_step, reading_is_the_grammar};
 pub use step::{LineFault, Step};
 pub use write::write_step;
-
-#[cfg(test)]
-mod tests;

@@ -1,47 +1,22 @@
 //! Reading the line of a step.
 
-ghost use Rattle.std.specs.Prelude.{◌≡◌, ◌↔◌, IsTrue, IfOk, IsErrOf};
+ghost use Rattle.std.specs.Prelude.{◌≡◌, IfOk, IsErrOf};
 ghost use Rattle.std.specs.Char.{is_ascii_uppercase};
 ghost use Rattle.std.specs.List.{list_any};
 ghost use Rattle.mum_record.specs.declared.step.Step.{Step};
 ghost use Rattle.mum_record.specs.Grammar.{IsLineOf};
-ghost use Rattle.mum_record.specs.Reading.{number_of, frame_of, told_of, cause_of, step_of};
+ghost use Rattle.mum_record.specs.Reading.{frame_of, told_of, cause_of, step_of};
 ghost use Rattle.mum_record.specs.Reading as spec;
-ghost use Rattle.mum_record.specs.Answers.{Reads, BeginsPlainly};
+ghost use Rattle.mum_record.specs.Answers.{Reads};
 ghost use Rattle.mum_record.specs.Answers as spec_answers;
 ghost use Rattle.mum_record.specs.Laws.{ReadsTheGrammar, ReadsBack};
 
 use crate::step::{LineFault, Step};
-use crate::words::{Words, words_in};
+use crate::words::{Words, number_in, place_in, words_in};
 use hex::FromHexError;
 use mum_base::{Cause, Octets};
 use mum_frame::whole_frame;
 use std::alloc::Global;
-
-/// Whether a word begins as a number does: with a digit, and with no zero before another one.
-fn begins_plainly(word: &[u8]) -> bool
-    ensures { IsTrue result ↔ BeginsPlainly word.now }
-{
-    matches!(word, [b'0'] | [b'1'..=b'9', ..])
-}
-
-/// The number that a word says, in decimal and without leading zeros.
-fn number_in(word: &str) -> Option<u64>
-    ensures { result ≡ number_of 64 word.now }
-{
-    if !begins_plainly(word.as_bytes()) {
-        return None;
-    }
-    word.parse().ok()
-}
-
-/// The connection or worker that a word says.
-fn place_in(word: &str) -> Option<u32>
-    ensures { result ≡ number_of 32 word.now }
-{
-    let number = number_in(word)?;
-    u32::try_from(number).ok()
-}
 
 /// The revision that a word says, or that it says none.
 #[tactic(auto, unfolding(crate::specs::Reading::told_of))]

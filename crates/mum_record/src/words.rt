@@ -1,12 +1,14 @@
-//! The words of a line, parted by one space.
+//! The words of a line, parted by one space, and the numbers that words say.
 
 ghost use Rattle.std.specs.Prelude.{◌≡◌, ◌∷◌};
-ghost use Rattle.std.specs.List.{slice_split};
 ghost use Rattle.std.specs.Option.{option_copied};
-ghost use Rattle.mum_record.specs.Reading.{is_space};
-ghost use Rattle.mum_record.specs.Words.{words_after, AreWords};
+ghost use Rattle.mum_record.specs.Words.{words_in, words_after, place_of, revision_of, AreWords};
+ghost use Rattle.std.specs.Prelude.{◌↔◌, IsTrue};
+ghost use Rattle.mum_record.specs.Words as spec;
+ghost use Rattle.mum_record.specs.Answers.{BeginsPlainly};
 
 /// The words of a line. No line of a recording has more than three.
+#[derive(Clone, Copy)]
 pub(crate) enum Words<'a> {
     One(&'a str),
     Two(&'a str, &'a str),
@@ -16,7 +18,7 @@ pub(crate) enum Words<'a> {
 
 /// The word before the first space, and what follows that space.
 fn first_word(line: &str) -> (&str, Option<&str>)
-    ensures { slice_split is_space line.now ≡ result.0.now ∷ words_after (option_copied result.1) }
+    ensures { words_in line.now ≡ result.0.now ∷ words_after (option_copied result.1) }
 {
     match line.split_once(' ') {
         Some((word, rest)) => (word, Some(rest)),
@@ -26,7 +28,7 @@ fn first_word(line: &str) -> (&str, Option<&str>)
 
 /// The words of a line. It reads no further than the third space.
 pub(crate) fn words_in(line: &str) -> Words<'_>
-    ensures { AreWords (slice_split is_space line.now) result }
+    ensures { AreWords (words_in line.now) result }
 {
     let (verb, rest) = first_word(line);
     let Some(rest) = rest else {
@@ -40,4 +42,43 @@ pub(crate) fn words_in(line: &str) -> Words<'_>
         (word, None) => Words::Three(verb, name, word),
         (_, Some(_)) => Words::More,
     }
+}
+
+/// The greatest number of a connection or a worker, which fits 32 bits.
+const GREATEST_PLACE: u64 = 0xFFFF_FFFF;
+
+/// Whether a word begins as a number does: with a digit, and with no zero before another one.
+fn begins_plainly(word: &[u8]) -> bool
+    ensures { IsTrue result ↔ BeginsPlainly word.now }
+{
+    matches!(word, [b'0'] | [b'1'..=b'9', ..])
+}
+
+/// The number that a word says, in decimal and without leading zeros.
+pub(crate) fn number_in(word: &str) -> Option<u64>
+    ensures { result ≡ revision_of word.now }
+{
+    if !begins_plainly(word.as_bytes()) {
+        return None;
+    }
+    word.parse().ok()
+}
+
+/// The number of a range that a word says.
+pub(crate) fn number_within(least: u64, greatest: u64, word: &str) -> Option<u64>
+    ensures { result ≡ spec.number_within least greatest word.now }
+{
+    let number = number_in(word)?;
+    if number < least || number > greatest {
+        return None;
+    }
+    Some(number)
+}
+
+/// The connection or worker that a word says.
+pub(crate) fn place_in(word: &str) -> Option<u32>
+    ensures { result ≡ place_of word.now }
+{
+    let number = number_within(0, GREATEST_PLACE, word)?;
+    Some(number as u32)
 }

@@ -1,3 +1,6 @@
 //! Tests of what no line of a table can say: a read or a write that fails in mid-stream, an
 //! allocation that fails, the size of a type. A module for each crate.
 #![tactic(auto)]
+
+#[cfg(test)]
+mod program;

@@ -71,6 +71,3 @@ impl<W: Write> Sink for Output<W> {
         }
     }
 }
-
-#[cfg(test)]
-mod tests;

@@ -2,9 +2,8 @@
 
 ghost use Rattle.std.specs.Prelude.{◌≡◌, true, IfOk};
 ghost use Rattle.mum_record.specs.declared.step.Step.TheVariants as steps;
-ghost use Rattle.mum_record.specs.Grammar.{IsOneFrame};
+ghost use Rattle.mum_frame.specs.Frame.{IsOneFrame, kind_of, payload_of};
 ghost use Rattle.mum_core.specs.Built.{is_plain_talk, is_unbuilt, is_built_frame};
-ghost use Rattle.mum_core.specs.Steps.{kind_of, payload_of};
 ghost use Rattle.mum_core.specs.Takes.{Takes};
 
 use super::{Core, Effects, StepFault, illegal};

@@ -1,7 +1,6 @@
-use Rattle.std.proofs.Common.{arith, rules, length-take, refl}
+use Rattle.std.proofs.Common.{arith, rules, length-take, ◌∙◌, ◌++◌, take}
 use Rattle.std.proofs.KnownBytes.{Consumes-kept, Consumes-trans}
-use Rattle.mum_io.proofs.OutsideLemmas.{Rose-later}
-use Rattle.mum_io.proofs.WholeLemmas.{IsAllOrLonger-at_end, IsAllOrLonger-past_limit}
+use Rattle.mum_io.proofs.WholeLemmas.{on_err, IsAllOrLonger-at_end, IsAllOrLonger-past_limit}
 use Rattle.mum_io.proofs.whole.read_up_to.Goals as goal
 
 pub loop-chunk-preserved : goal.loop-chunk-preserved
@@ -11,8 +10,15 @@ loop-chunk-preserved g c =
       bounded = omega (arith, grown.len, c.len.ensures, c.loop-chunk.auto.chunk, c.in_ok-buffer.ensures, length-take c.in-Got.count c.read.new.buf);
       taken = rw grown.items
           (Consumes-trans _ _ _ c.loop-chunk.bytes.items _ c.loop-chunk.invariant.taken c.in-Got.ensures.bytes.2);
-      no_fall = omega (arith, c.loop-chunk.invariant.no_fall, c.in-Got.ensures.never_falls);
+      no_fault = c.in-Got.ensures.counts ∙ c.loop-chunk.invariant.no_fault;
     }
+
+pub returns-in_err-extend_from_slice-in-Got-clause-front : goal.returns-in_err-extend_from_slice-in-Got-clause-front
+returns-in_err-extend_from_slice-in-Got-clause-front g c =
+    on_err c.from_residual-in_err-extend_from_slice-in-Got.result (
+      c.loop-chunk.bytes.items ++ take c.in-Got.count c.read.new.buf,
+      Consumes-trans _ _ _ c.loop-chunk.bytes.items _ c.loop-chunk.invariant.taken c.in-Got.ensures.bytes.2,
+    )
 
 pub returns-in-End-clause-bytes : goal.returns-in-End-clause-bytes
 returns-in-End-clause-bytes g c =
@@ -20,9 +26,6 @@ returns-in-End-clause-bytes g c =
 
 pub returns-in-End-clause-none_lost : goal.returns-in-End-clause-none_lost
 returns-in-End-clause-none_lost g c = Consumes-kept _ _ _ _ c.loop-chunk.invariant.taken c.in-End.ensures.bytes.1
-
-pub returns-in-Failed-clause-cause : goal.returns-in-Failed-clause-cause
-returns-in-Failed-clause-cause g c = λ _. Rose-later _ _ _ c.loop-chunk.invariant.no_fall (c.in-Failed.ensures.cause refl)
 
 pub returns-clause-bytes : goal.returns-clause-bytes
 returns-clause-bytes g c =

@@ -1,4 +1,4 @@
-use Rattle.std.proofs.Common.{arith, length-drop}
+use Rattle.std.proofs.Common.{arith, length-drop, ◌∙◌}
 use Rattle.std.proofs.lemmas.List.{take_rest}
 use Rattle.mum_io.proofs.OutsideLemmas.{Appends-more}
 use Rattle.mum_io.proofs.whole.write_all.Goals as goal
@@ -9,5 +9,5 @@ loop-done-preserved g c =
     record {
       in_range = omega (arith, took.1, length-drop c.loop-done.done c.args.bytes.now);
       written = Appends-more _ _ _ c.loop-done.done c.in-Took.count c.args.bytes.now c.loop-done.invariant.written took.2;
-      no_fall = omega (arith, c.loop-done.invariant.no_fall, c.in-Took.ensures.never_falls);
+      no_fault = c.in-Took.ensures.counts ∙ c.loop-done.invariant.no_fault;
     }

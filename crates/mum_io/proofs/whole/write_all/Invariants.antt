@@ -1,4 +1,4 @@
-use Rattle.std.proofs.Common.{length, take, ◌-◌, ◌≤◌}
+use Rattle.std.proofs.Common.{◌≡◌, length, take, ◌-◌, ◌≤◌}
 use Rattle.mum_io.specs.Outside.{Appends}
 use Rattle.mum_io.proofs.whole.write_all.Given as goal
 
@@ -6,7 +6,7 @@ abbrev pub invariant-loop-done : goal.invariant-loop-done
 invariant-loop-done g l = record {
   in_range : l.done ≤ length l.bytes;
   written : Appends (g.O.Sink.written l.initial.output) (g.O.Sink.written l.output) (take l.done l.bytes);
-  no_fall : g.O.Sink.faults l.initial.output ≤ g.O.Sink.faults l.output;
+  no_fault : g.O.Sink.faults l.output ≡ g.O.Sink.faults l.initial.output;
 }
 
 abbrev pub decreases-loop-done : goal.decreases-loop-done

@@ -1,18 +1,19 @@
-use Rattle.std.proofs.Common.{ℕ, List, ◌++◌, None, sym, ap, ◌∙◌}
-use Rattle.std.proofs.lemmas.Bool.Decides.{Decides-eqb}
-use Rattle.std.proofs.lemmas.Slice.Eq.{strip_prefix_is}
-use Rattle.std.specs.Fmt.{decimal}
-use Rattle.mum_record.proofs.HeadLemmas.{workers_of-answer, read_workers-answer}
+use Rattle.std.proofs.Common.{◌∙◌, sym, ap}
+use Rattle.mum_record.specs.Head.{workers_of}
+use Rattle.mum_record.proofs.HeadLemmas.{workers_of-no_text, workers_of-some, workers_of-none}
 use Rattle.mum_record.proofs.head.read_workers.Goals as goal
 
-pub returns-in_err-number-clause-exact : goal.returns-in_err-number-clause-exact
-returns-in_err-number-clause-exact c =
-    let never = rw c.in_err-number.was at (strip_prefix_is Decides-eqb c.args.line.now c.as_slice.result.now c.strip_prefix.result c.strip_prefix.ensures.cases) in
-    c.from_residual.ensures
-    ∙ workers_of-answer c.args.line.now None (λ w is. never (decimal w) (is.2 ∙ ap (λ (word : List ℕ). word ++ decimal w) (sym c.as_slice.ensures)))
+pub returns-in-Ok-clause-exact : goal.returns-in-Ok-clause-exact
+returns-in-Ok-clause-exact c = c.workers_in.ensures ∙ ap workers_of c.in-Ok.ensures.cases.0
 
-pub returns-clause-exact : goal.returns-clause-exact
-returns-clause-exact c =
-    let cut = rw c.in_ok-number.was at (strip_prefix_is Decides-eqb c.args.line.now c.as_slice.result.now c.strip_prefix.result c.strip_prefix.ensures.cases) in
-    workers_of-answer c.args.line.now c.small_digit.result
-    (read_workers-answer c.args.line.now c.in_ok-number.number.now c.small_digit.result (rw c.as_slice.ensures at cut) c.small_digit.ensures)
+pub returns-in-Ok-clause-found : goal.returns-in-Ok-clause-found
+returns-in-Ok-clause-found c = workers_of-some c.args.line.now c.workers_in.result (c.workers_in.ensures ∙ ap workers_of c.in-Ok.ensures.cases.0)
+
+pub returns-in-Ok-clause-only : goal.returns-in-Ok-clause-only
+returns-in-Ok-clause-only c = workers_of-none c.args.line.now c.workers_in.result (c.workers_in.ensures ∙ ap workers_of c.in-Ok.ensures.cases.0)
+
+pub returns-in-Err-clause-exact : goal.returns-in-Err-clause-exact
+returns-in-Err-clause-exact c = sym (workers_of-no_text c.args.line.now c.in-Err.ensures.cases.0)
+
+pub returns-in-Err-clause-only : goal.returns-in-Err-clause-only
+returns-in-Err-clause-only c = workers_of-none c.args.line.now _ (sym (workers_of-no_text c.args.line.now c.in-Err.ensures.cases.0))

@@ -1,53 +1,10 @@
-use Rattle.std.proofs.Common.{◌≡◌, Err, ℕ, ◌+◌, ◌≤◌, List, ◌++◌, drop, length, ap, ◌∙◌, subst, arith}
-use Rattle.std.proofs.lemmas.Result.{err_from_is_err_and}
-use Rattle.mum_frame.specs.declared.frame.TheConstants.{HEADER_LENGTH}
-use Rattle.mum_frame.specs.declared.frame.FrameView.{FrameView}
-use Rattle.mum_frame.specs.First.{viewed}
-use Rattle.mum_frame.specs.Frame.{spelling, IsPartial}
-use Rattle.std.proofs.lemmas.List.{length-append, length-drop}
-use Rattle.mum_frame.proofs.Headers.{IsPartial-above_limit, length-spelling_of}
-use Rattle.mum_frame.proofs.Replies.{none_from, none_to, too_long_from, too_long_to, Gives-out_of_memory}
+use Rattle.mum_frame.proofs.Replies.{none_from, none_to, too_long_from, too_long_to}
 use Rattle.mum_frame.proofs.framer.Framer.next.Goals as goal
 
--- what begins with the frame of a view
-abbrev Begins : List ℕ → FrameView → Type 0
-Begins bytes view = bytes ≡ spelling (viewed view) ++ drop (HEADER_LENGTH + length view.payload.now) bytes
+pub returns-clause-none : goal.returns-clause-none
+returns-clause-none c =
+    (none_from _ _ _ c.take_first-answer.ensures, none_to _ _ _ c.take_first-answer.ensures)
 
-Begins-kept : (kept bytes : List ℕ) (view : FrameView) → kept ≡ bytes → Begins kept view → Begins bytes view
-Begins-kept kept bytes view e = subst (λ (xs : List ℕ). Begins xs view) e
-
-length-Begins : (bytes : List ℕ) (view : FrameView) → Begins bytes view → HEADER_LENGTH + length view.payload.now ≤ length bytes
-length-Begins bytes view begun =
-    omega (arith, ap length begun, length-append (spelling (viewed view)) (drop (HEADER_LENGTH + length view.payload.now) bytes), length-spelling_of view.kind view.payload.now)
-
-pub returns-in_err-frame-in-Whole-clause-answer : goal.returns-in_err-frame-in-Whole-clause-answer
-returns-in_err-frame-in-Whole-clause-answer c =
-    let p = err_from_is_err_and c.from_residual.result c.from_residual.ensures.1 in
-    let begun = Begins-kept c.kept.result.now c.args.self.now c.in-Whole.view c.kept.ensures c.in-Whole.ensures.1 in
-    let whole : IsPartial c.args.self.now → ⊥ = λ partial. partial (viewed c.in-Whole.view) _ c.in-Whole.ensures.0 begun in
-    Gives-out_of_memory c.args.self.now c.from_residual.result (p.1 ∙ ap Err p.2) whole
-
-pub returns-in_err-frame-in-Whole-clause-none : goal.returns-in_err-frame-in-Whole-clause-none
-returns-in_err-frame-in-Whole-clause-none c =
-    let is = returns-in_err-frame-in-Whole-clause-answer c in
-    (none_from _ _ _ is, none_to _ _ _ is)
-
-pub returns-in_err-frame-in-Whole-clause-too_long :
-    goal.returns-in_err-frame-in-Whole-clause-too_long
-returns-in_err-frame-in-Whole-clause-too_long c =
-    let is = returns-in_err-frame-in-Whole-clause-answer c in
-    (λ e. (too_long_from _ _ _ _ is e).0, too_long_to _ _ _ is)
-
-pub invariant_of-self : goal.invariant_of-self
-invariant_of-self c =
-    let begun = Begins-kept c.kept.result.now c.args.self.now c.in-Whole.view c.kept.ensures c.in-Whole.ensures.1 in
-    let room = length-Begins c.args.self.now c.in-Whole.view begun in
-    let behind = length-drop c.self.inside.start c.self.inside.buffer.items in
-    let same = ap length c.self.view_is in
-    omega arith
-
-pub returns-in_ok-frame-in-Whole-clause-too_long :
-    goal.returns-in_ok-frame-in-Whole-clause-too_long
-returns-in_ok-frame-in-Whole-clause-too_long c =
-    let begun = Begins-kept c.kept.result.now c.args.self.now c.in-Whole.view c.kept.ensures c.in-Whole.ensures.1 in
-    (λ e. cc, λ above. absurd (IsPartial-above_limit c.args.self.now above (viewed c.in-Whole.view) _ c.in-Whole.ensures.0 begun))
+pub returns-clause-too_long : goal.returns-clause-too_long
+returns-clause-too_long c =
+    (λ e. (too_long_from _ _ _ _ c.take_first-answer.ensures e).0, too_long_to _ _ _ c.take_first-answer.ensures)

@@ -1,0 +1,55 @@
+//! Writing a line from its words.
+
+ghost use Rattle.std.specs.Prelude.{◌≡◌, ◌++◌, ◌∷◌, IfOk, map, string_bytes};
+ghost use Rattle.std.specs.List.{flat_map};
+ghost use Rattle.mum_record.specs.Words.{spelled, behind_space, line_of_words};
+
+use itoa::Buffer;
+use mum_base::OutOfMemory;
+use std::alloc::Global;
+
+/// A word of a line.
+#[derive(Clone, Copy, Debug)]
+pub enum Word<'a> {
+    /// A word as it stands.
+    Name(&'a str),
+    /// A number in decimal.
+    Number(u64),
+    /// Bytes as digits 0 to 9 and a to f, two for each.
+    Digits(&'a [u8]),
+}
+
+/// Appends a word.
+pub fn push_word(alloc: Global, text: &mut String, word: &Word<'_>) -> Result<(), OutOfMemory>
+    ensures { IfOk result (λ _. string_bytes text.new ≡ string_bytes text.old ++ spelled word.now) }
+{
+    match *word {
+        Word::Name(name) => text.push_str(name),
+        Word::Number(number) => text.push_str(Buffer::new().format(number)),
+        Word::Digits(bytes) => text.push_str(hex::encode(alloc, bytes)?.as_str()),
+    }
+}
+
+/// Appends words, each behind a space.
+pub fn push_words(alloc: Global, text: &mut String, words: &[Word<'_>]) -> Result<(), OutOfMemory>
+    ensures { IfOk result (λ _. string_bytes text.new ≡ string_bytes text.old ++ flat_map behind_space words.now) }
+{
+    for word in words {
+        text.push_str(" ")?;
+        push_word(alloc, text, word)?;
+    }
+    Ok(())
+}
+
+/// Appends the line of a first word and others, without a line feed.
+pub fn push_line(
+    alloc: Global,
+    text: &mut String,
+    first: &str,
+    words: &[Word<'_>],
+) -> Result<(), OutOfMemory>
+    ensures { IfOk result (λ _. string_bytes text.new ≡ string_bytes text.old ++ line_of_words (first.now ∷ map spelled words.now)) }
+{
+    text.push_str(first)?;
+    push_words(alloc, text, words)
+}

@@ -1,0 +1,41 @@
+//! `mum_core`: reads and writes that fail in mid-stream.
+
+use mum_base::Octets;
+use mum_core::murmur;
+use mum_io::{MemSink, MemSource};
+use std::alloc::Global;
+use std::test::Fail;
+
+const INPUT: &str = "recording 1\nworkers 1\nconfig -\nopen 1 0\npublish\nend\n";
+
+/// The status of a run whose read and write with these numbers fail, what it wrote and what it said.
+fn ran(alloc: Global, read: u64, write: u64) -> Result<(u8, Octets, Octets), Fail> {
+    let mut words = Vec::new(alloc);
+    words.push(String::from_str(alloc, "replay")?)?;
+    let bytes = Octets::of(alloc, INPUT.as_bytes())?;
+    let mut source = MemSource::new(bytes, Vec::from_slice(alloc, &[read])?);
+    let mut output = MemSink::new(alloc, Vec::from_slice(alloc, &[write])?);
+    let mut errors = MemSink::new(alloc, Vec::new(alloc));
+    let status = murmur(alloc, &words, &mut source, &mut output, &mut errors);
+    let written = Octets::of(alloc, output.bytes())?;
+    let said = Octets::of(alloc, errors.bytes())?;
+    Ok((status, written, said))
+}
+
+#[test]
+fn failing_streams_leave_a_front(rt: HostRuntime) -> Result<(), Fail> {
+    // the read and the write that fail, the status, what is written, what is said
+    let cases = [
+        (1, 0, 3, "", "murmur: 3 ReadFault\n"),
+        (2, 0, 3, "", "murmur: 3 ReadFault\n"),
+        (0, 1, 4, "", "murmur: 4 WriteFault\n"),
+        (0, 2, 4, "opened 1 0\n", "murmur: 4 WriteFault\n"),
+    ];
+    for (read, write, status, output, errors) in cases {
+        let (ended, written, said) = ran(rt.alloc(), read, write)?;
+        assert_eq!(rt; ended, status);
+        assert_eq!(rt; written.as_slice(), output.as_bytes());
+        assert_eq!(rt; said.as_slice(), errors.as_bytes());
+    }
+    Ok(())
+}

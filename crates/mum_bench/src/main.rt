@@ -4,6 +4,7 @@
 
 mod acl;
 mod frames;
+mod messages;
 mod tree;
 mod voice;
 
@@ -26,6 +27,8 @@ fn checksum(alloc: Global, words: &[String]) -> Result<u64> {
             "frames" => frames::small(alloc, number(piece)?, number(size)?),
             "copy" => frames::copied(alloc, number(piece)?, number(size)?),
             "copy-tree" => tree::copied(alloc, number(piece)?, number(size)?),
+            "messages" => messages::work(alloc, piece.as_str(), number(size)?),
+            "copy-messages" => messages::copied(alloc, piece.as_str(), number(size)?),
             _ => bail!("no such workload"),
         },
         [word, size] => match word.as_str() {
@@ -33,6 +36,8 @@ fn checksum(alloc: Global, words: &[String]) -> Result<u64> {
             "voice" => voice::copies(false, number(size)?),
             "voice-position" => voice::copies(true, number(size)?),
             "copy-packets" => voice::copied_packets(number(size)?),
+            "hostile" => messages::hostile(alloc, number(size)?),
+            "copy-blocks" => messages::copied_blocks(alloc, number(size)?),
             _ => bail!("no such workload"),
         },
         _ => bail!("mum_bench WORKLOAD [KIND] [PIECE] SIZE"),

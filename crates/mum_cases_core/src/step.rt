@@ -3,7 +3,7 @@
 use crate::script::{beginning, line};
 use anyhow::{Result, bail};
 use mum_cases::Table;
-use mum_core::{Core, StepFault};
+use mum_core::{Core, StepFault, is_built};
 use mum_record::read_step;
 use std::alloc::Global;
 
@@ -12,7 +12,7 @@ pub struct Steps;
 /// What a core tells of the step of a line, or the two numbers of its refusal.
 fn reply(alloc: Global, core: &mut Core, line: &str) -> Result<String> {
     let step = read_step(alloc, line.as_bytes())?;
-    if !core.is_built(&step)? {
+    if !is_built(&step) {
         return Ok(String::from_str(alloc, "not built")?);
     }
     let mut told = String::new(alloc);

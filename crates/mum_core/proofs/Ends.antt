@@ -1,21 +1,12 @@
 -- How a run over a recording ends, whatever was read of it beyond its greatest length.
-use Rattle.std.proofs.Common.{◌≡◌, ℕ, List, Option, Some, None, Result, Ok, Err, sym, ap, subst, ◌∙◌, inl, inr}
-use Rattle.std.specs.Prelude.{IfOk, IfSome, OnOk, OnErr}
-use Rattle.mum_io.specs.Outside.{Appends, AppendsFront, IsAllOrLonger}
-use Rattle.mum_core.specs.declared.program.End.{End}
-use Rattle.mum_core.specs.declared.replay.Cut.{Cut}
-use Rattle.mum_core.specs.declared.replay.Cut.TheVariants.{WriteFault, OutOfMemory}
-use Rattle.mum_core.specs.declared.replay.Ending.{Ending}
+use Rattle.std.proofs.Common.{◌≡◌, ℕ, List, Option, Some, None, sym, ap, subst, ◌∙◌, inl, inr}
+use Rattle.std.specs.Prelude.{IfSome}
+use Rattle.mum_io.specs.Outside.{IsAllOrLonger}
+use Rattle.mum_core.specs.declared.end.End.{End}
 use Rattle.mum_core.specs.declared.replay.TheConstants.{INPUT_LIMIT}
-use Rattle.mum_core.specs.Program.{Ends, end_of}
+use Rattle.mum_core.specs.Program.{Ends}
 use Rattle.mum_core.specs.Replay.{Outcome, replayed}
 use Rattle.mum_core.proofs.Longer.{replayed_longer}
-
-pub ends_of : (run : Result Ending Cut) (outcome : Outcome) (old new : Option (List ℕ)) → IfOk run (λ ending. ending ≡ outcome.ending) → OnOk run (Appends old new outcome.text)
-    → OnErr run (AppendsFront old new outcome.text) → Ends outcome (end_of run) old new
-ends_of (Ok ending) outcome old new same whole front = (same, whole)
-ends_of (Err WriteFault) outcome old new same whole front = front
-ends_of (Err OutOfMemory) outcome old new same whole front = front
 
 same_replay : (left bytes : List ℕ) → IsAllOrLonger INPUT_LIMIT left bytes → replayed bytes ≡ replayed left
 same_replay left bytes (inl all) = ap replayed all

@@ -1,8 +1,9 @@
+pub mod Sessions
 pub mod Echoes
-pub mod Logins
-pub mod Looks
 pub mod LineFeeds
+pub mod Words
+pub mod Routes
+pub mod Answered
 pub mod Longer
 pub mod Underway
 pub mod Ends
-pub mod Words

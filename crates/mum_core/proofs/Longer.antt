@@ -5,10 +5,11 @@ use Rattle.std.specs.List.{slice_split, onto_first}
 use Rattle.std.proofs.lemmas.Bool.{ltb-false, lt-ltb}
 use Rattle.mum_core.specs.declared.replay.Phase.{Phase}
 use Rattle.mum_core.specs.declared.replay.Phase.TheVariants.{Head, Workers, Config, Running, Over}
-use Rattle.mum_core.specs.declared.replay.LineFault.TheVariants.{TooLong, BadRecording}
-use Rattle.mum_core.specs.declared.replay.Ending.TheVariants.{Faulty}
+use Rattle.mum_core.specs.declared.end.LineFault.TheVariants.{TooLong, BadRecording}
+use Rattle.mum_core.specs.declared.end.End.TheVariants.{Faulty}
 use Rattle.mum_core.specs.declared.replay.TheConstants.{LINE_LIMIT, INPUT_LIMIT}
-use Rattle.mum_core.specs.Replay.{Answer, Goes, Stops, Outcome, behind, text_of, goes_on, answer, line_answer, is_too_long, end_fault, ending_of, outcome_from, replayed, is_line_feed}
+use Rattle.mum_core.specs.Line.{text_of}
+use Rattle.mum_core.specs.Replay.{Answer, Goes, Stops, Outcome, behind, goes_on, answer, line_answer, is_too_long, end_fault, ending_of, outcome_from, replayed, is_line_feed}
 
 -- the last part goes on
 onto_last : List (List ℕ) → List (List ℕ) → List (List ℕ)
@@ -27,17 +28,15 @@ abbrev pub IsFilled : List (List ℕ) → Type 0
 IsFilled parts = (first : List ℕ) × (more : List (List ℕ)) × (parts ≡ first ∷ more)
 
 IsFilled-cons : (b : Bool) (x : ℕ) (parts : List (List ℕ)) → IsFilled parts → IsFilled (cond b ([] ∷ parts) (onto_first x parts))
-unfolding IsFilled
 IsFilled-cons true x parts h = ([], parts, refl)
 IsFilled-cons false x parts h = (x ∷ h.0, h.1, ap (onto_first x) h.2)
 
 pub split_filled : (xs : List ℕ) → IsFilled (slice_split is_line_feed xs)
-unfolding IsFilled
 split_filled [] = ([], [], refl)
 split_filled (x ∷ xs) = IsFilled-cons (is_line_feed x) x (slice_split is_line_feed xs) (split_filled xs)
 
 total-cons : (b : Bool) (x : ℕ) (parts : List (List ℕ)) → IsFilled parts → total (cond b ([] ∷ parts) (onto_first x parts)) ≡ total parts + 1
-unfolding total IsFilled
+unfolding total
 total-cons true x parts h = rw h.2 (omega arith)
 total-cons false x [] h = absurd cc
 total-cons false x (part ∷ []) h = omega arith
@@ -49,7 +48,7 @@ total_split [] = refl
 total_split (x ∷ xs) = total-cons (is_line_feed x) x (slice_split is_line_feed xs) (split_filled xs) ∙ omega (arith, total_split xs)
 
 onto_last-cons : (b : Bool) (x : ℕ) (parts others : List (List ℕ)) → IsFilled parts → cond b ([] ∷ onto_last parts others) (onto_first x (onto_last parts others)) ≡ onto_last (cond b ([] ∷ parts) (onto_first x parts)) others
-unfolding onto_last IsFilled
+unfolding onto_last
 onto_last-cons true x [] others h = absurd cc
 onto_last-cons true x (part ∷ parts) others h = refl
 onto_last-cons false x [] others h = absurd cc
@@ -58,7 +57,7 @@ onto_last-cons false x (part ∷ []) (other ∷ others) h = refl
 onto_last-cons false x (part ∷ next ∷ parts) others h = refl
 
 onto_last-nil : (parts : List (List ℕ)) → IsFilled parts → onto_last ([] ∷ []) parts ≡ parts
-unfolding onto_last IsFilled
+unfolding onto_last
 onto_last-nil [] h = absurd cc
 onto_last-nil (part ∷ parts) h = refl
 
@@ -85,7 +84,7 @@ ending_cut : (phase : Phase) (n left x : ℕ) (xs : List ℕ) → ending_of phas
 ending_cut Head n left x xs = refl
 ending_cut Workers n left x xs = refl
 ending_cut (Config w) n left x xs = refl
-ending_cut (Running core) n left x xs = refl
+ending_cut (Running core logins) n left x xs = refl
 ending_cut Over n left x xs = refl
 
 ending_long : (phase : Phase) (n left : ℕ) (rest : List ℕ) → left < length rest → ending_of phase n left rest ≡ Faulty n TooLong
@@ -102,12 +101,12 @@ goes_on_same n (Stops fault) f g h = refl
 
 pub outcome_cons : (phase : Phase) (n left : ℕ) (line : List ℕ) (parts : List (List ℕ)) → IsFilled parts
     → outcome_from phase n left (line ∷ parts) ≡ goes_on n (line_answer phase left line) (λ after. outcome_from after (n + 1) (left - (length line + 1)) parts)
-unfolding outcome_from IsFilled
+unfolding outcome_from
 outcome_cons phase n left line [] h = absurd cc
 outcome_cons phase n left line (next ∷ parts) h = refl
 
 filled_onto : (next : List ℕ) (parts others : List (List ℕ)) → IsFilled others → IsFilled (onto_last (next ∷ parts) others)
-unfolding onto_last IsFilled
+unfolding onto_last
 filled_onto next [] [] h = absurd cc
 filled_onto next [] (other ∷ others) h = (next ++ other, others, refl)
 filled_onto next (part ∷ parts) others h = (next, onto_last (part ∷ parts) others, refl)
@@ -123,7 +122,7 @@ same_by false phase n left line f g e h =
     goes_on_same n (line_answer phase left line) f g (h le)
 
 outcome_longer : (parts others : List (List ℕ)) (phase : Phase) (n left : ℕ) → IsFilled others → left < total parts → outcome_from phase n left (onto_last parts others) ≡ outcome_from phase n left parts
-unfolding outcome_from onto_last total IsFilled
+unfolding outcome_from onto_last total
 outcome_longer [] others phase n left filled lt = absurd (omega arith)
 outcome_longer (part ∷ []) [] phase n left filled lt = absurd cc
 outcome_longer (part ∷ []) (other ∷ []) phase n left filled lt =

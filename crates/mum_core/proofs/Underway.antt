@@ -1,25 +1,21 @@
 -- A run over a recording that is underway: what was told, and what is left of it.
-use Rattle.std.proofs.Common.{◌≡◌, ℕ, ◌+◌, ◌-◌, ◌≤◌, List, [], ◌∷◌, ◌++◌, length, Option, Result, Ok, Err, refl, sym, ap, ◌∙◌, subst, append_assoc, arith}
-use Rattle.std.specs.Prelude.{IfOk, OnOk, OnErr, IsErrOf}
+use Rattle.std.proofs.Common.{◌≡◌, ℕ, ◌+◌, ◌-◌, ◌≤◌, List, [], ◌∷◌, ◌++◌, length, Option, Err, refl, sym, ap, ◌∙◌, subst, append_assoc, arith}
 use Rattle.std.specs.List.{slice_split}
 use Rattle.std.proofs.lemmas.List.{append-nil}
 use Rattle.mum_io.specs.Outside.{Appends, AppendsFront}
 use Rattle.mum_io.proofs.OutsideLemmas.{Appends-nil, Appends-trans, AppendsFront-behind, AppendsFront-longer, AppendsFront-whole}
 use Rattle.mum_core.specs.declared.replay.Phase.{Phase}
-use Rattle.mum_core.specs.declared.replay.Phase.TheVariants.{Head}
-use Rattle.mum_core.specs.declared.replay.LineFault.{LineFault}
-use Rattle.mum_core.specs.declared.replay.Ending.{Ending}
-use Rattle.mum_core.specs.declared.replay.Ending.TheVariants.{Faulty}
+use Rattle.mum_core.specs.declared.replay.Phase.TheVariants.{Head, Workers, Config, Running, Over}
+use Rattle.mum_core.specs.declared.end.LineFault.{LineFault}
+use Rattle.mum_core.specs.declared.end.End.{End}
+use Rattle.mum_core.specs.declared.end.End.TheVariants.{Finished, Faulty, ReadFault, WriteFault, OutOfMemory}
 use Rattle.mum_core.specs.declared.replay.TheConstants.{INPUT_LIMIT}
-use Rattle.mum_core.specs.declared.replay.Cut.{Cut}
-use Rattle.mum_core.specs.declared.replay.Cut.TheVariants.{WriteFault}
 use Rattle.mum_core.specs.declared.replay.Run.{Run}
-use Rattle.mum_core.specs.declared.replay.Stop.{Stop}
-use Rattle.mum_core.specs.declared.replay.Stop.TheVariants as stop
-use Rattle.mum_core.specs.declared.replay.Stop.TheVariants.{Fault}
-use Rattle.mum_core.specs.Runs.{Advances, stopped}
+use Rattle.mum_core.specs.Program.{Ends, WritesCounted}
+use Rattle.mum_core.specs.Runs.{Advances}
 use Rattle.mum_core.proofs.Longer.{split_filled, outcome_cons}
-use Rattle.mum_core.specs.Replay.{Answer, Goes, Stops, Outcome, behind, text_of, stops_at, goes_on, line_answer, ending_of, outcome_from, replayed, is_line_feed}
+use Rattle.mum_core.specs.Line.{text_of}
+use Rattle.mum_core.specs.Replay.{Answer, Goes, Stops, Outcome, behind, stops_at, goes_on, line_answer, ending_of, outcome_from, replayed, is_line_feed}
 
 -- the outcome of the bytes that are left
 abbrev pub outcome_of : Phase → ℕ → ℕ → List ℕ → Outcome
@@ -37,7 +33,7 @@ outcome_line : (phase : Phase) (n left : ℕ) (line rest : List ℕ)
 outcome_line phase n left line rest = outcome_cons phase n left line (slice_split is_line_feed rest) (split_filled rest)
 
 -- the next line goes on
-outcome_goes : (phase : Phase) (n left : ℕ) (line rest after : List ℕ) (next : Phase) (lines : List (List ℕ)) → slice_split is_line_feed rest ≡ line ∷ slice_split is_line_feed after
+outcome_goes : (phase : Phase) (n left : ℕ) (line rest after : List ℕ) (next : Phase) (lines : List (List (List ℕ))) → slice_split is_line_feed rest ≡ line ∷ slice_split is_line_feed after
     → line_answer phase left line ≡ Goes next lines → outcome_of phase n left rest ≡ behind (text_of lines) (outcome_of next (n + 1) (left - (length line + 1)) after)
 outcome_goes phase n left line rest after next lines split goes =
     ap (outcome_from phase n left) split ∙ outcome_line phase n left line after
@@ -58,7 +54,7 @@ pub starts : (known : Option (List ℕ)) (bytes : List ℕ) → Underway known k
 unfolding replayed
 starts known bytes = record { told = []; written = Appends-nil known; same = refl; counted = omega arith }
 
-pub goes : (old mid new : Option (List ℕ)) (phase : Phase) (n left : ℕ) (line rest after bytes : List ℕ) (next : Phase) (lines : List (List ℕ)) → Underway old mid phase n left rest bytes
+pub goes : (old mid new : Option (List ℕ)) (phase : Phase) (n left : ℕ) (line rest after bytes : List ℕ) (next : Phase) (lines : List (List (List ℕ))) → Underway old mid phase n left rest bytes
     → slice_split is_line_feed rest ≡ line ∷ slice_split is_line_feed after → line_answer phase left line ≡ Goes next lines → length line + 1 + length after ≡ length rest
     → Appends mid new (text_of lines) → Underway old new next (n + 1) (left - (length line + 1)) after bytes
 goes old mid new phase n left line rest after bytes next lines u split answer len more =
@@ -72,7 +68,7 @@ goes old mid new phase n left line rest after bytes next lines u split answer le
     }
 
 -- a front of what goes on
-pub breaks : (old mid new : Option (List ℕ)) (phase : Phase) (n left : ℕ) (line rest after bytes : List ℕ) (next : Phase) (lines : List (List ℕ)) → Underway old mid phase n left rest bytes
+pub breaks : (old mid new : Option (List ℕ)) (phase : Phase) (n left : ℕ) (line rest after bytes : List ℕ) (next : Phase) (lines : List (List (List ℕ))) → Underway old mid phase n left rest bytes
     → slice_split is_line_feed rest ≡ line ∷ slice_split is_line_feed after → line_answer phase left line ≡ Goes next lines
     → AppendsFront mid new (text_of lines) → AppendsFront old new (replayed bytes).text
 breaks old mid new phase n left line rest after bytes next lines u split answer front =
@@ -89,11 +85,11 @@ pauses old new phase n left rest bytes u =
     (AppendsFront-longer old new u.told (outcome_of phase n left rest).text (AppendsFront-whole old new u.told u.written))
 
 -- the run is over with this ending, and nothing more is told
-pub record IsDone (old new : Option (List ℕ)) (ending : Ending) (bytes : List ℕ) : Type 0 where
+pub record IsDone (old new : Option (List ℕ)) (ending : End) (bytes : List ℕ) : Type 0 where
   pub ending_is : ending ≡ (replayed bytes).ending
   pub whole : Appends old new (replayed bytes).text
 
-over : (old new : Option (List ℕ)) (phase : Phase) (n left : ℕ) (rest bytes : List ℕ) (ending : Ending) → Underway old new phase n left rest bytes
+over : (old new : Option (List ℕ)) (phase : Phase) (n left : ℕ) (rest bytes : List ℕ) (ending : End) → Underway old new phase n left rest bytes
     → outcome_of phase n left rest ≡ record { text = []; ending = ending } → IsDone old new ending bytes
 over old new phase n left rest bytes ending u is =
     let same : record { text = u.told ++ []; ending = ending } ≡ replayed bytes = ap (behind u.told) (sym is) ∙ u.same in
@@ -111,21 +107,50 @@ pub ends : (old new : Option (List ℕ)) (phase : Phase) (n left : ℕ) (rest by
     → slice_split is_line_feed rest ≡ rest ∷ [] → IsDone old new (ending_of phase n left rest) bytes
 ends old new phase n left rest bytes u split = over old new phase n left rest bytes (ending_of phase n left rest) u (outcome_ends phase n left rest split)
 
--- where the run stops at its next line, the result says so
-pub record Concludes (old new : Option (List ℕ)) (result : Result Ending Cut) (bytes : List ℕ) : Type 0 where
-  pub ending : IfOk result (λ ending. ending ≡ (replayed bytes).ending)
-  pub whole : OnOk result (Appends old new (replayed bytes).text)
-  pub front : OnErr result (AppendsFront old new (replayed bytes).text)
-  pub no_fault : IsErrOf result WriteFault → ⊥
-
-pub halts : (old new : Option (List ℕ)) (run after : Run) (line rest behind bytes : List ℕ) (stop : Stop) → Underway old new run.phase run.line run.left rest bytes
-    → slice_split is_line_feed rest ≡ line ∷ slice_split is_line_feed behind → Advances run line (Err stop) after → Concludes old new (stopped after.line stop) bytes
-halts old new run after line rest behind bytes (Fault fault) u split h =
+-- where the run stops at its next line, its end says so
+pub halts : (old new : Option (List ℕ)) (run after : Run) (line rest behind bytes : List ℕ) (end : End) → Underway old new run.phase run.line run.left rest bytes
+    → slice_split is_line_feed rest ≡ line ∷ slice_split is_line_feed behind → Advances run line (Err end) after → Ends (replayed bytes) end old new
+halts old new run after line rest behind bytes (Faulty n fault) u split h =
     let done = stops old new run.phase run.line run.left line rest behind bytes fault u split h.0 in
-    record { ending = ap (λ (n : ℕ). Faulty n fault) h.1 ∙ done.ending_is; whole = done.whole; front = tt; no_fault = λ e. cc }
-halts old new run after line rest behind bytes stop.OutOfMemory u split h =
-    record { ending = tt; whole = tt; front = pauses old new run.phase run.line run.left rest bytes u; no_fault = λ e. cc }
+    (ap (λ (m : ℕ). Faulty m fault) h.1 ∙ done.ending_is, done.whole)
+halts old new run after line rest behind bytes OutOfMemory u split h = pauses old new run.phase run.line run.left rest bytes u
+halts old new run after line rest behind bytes Finished u split h = absurd h
+halts old new run after line rest behind bytes ReadFault u split h = absurd h
+halts old new run after line rest behind bytes WriteFault u split h = absurd h
 
-pub OnErr-any : {A E : Type 0} (r : Result A E) (P : Type 0) → P → OnErr r P
-OnErr-any (Ok x) P p = tt
-OnErr-any (Err e) P p = p
+-- and no write failed in it, nor a read
+pub halts_counted : (run after : Run) (line : List ℕ) (end : End) (a b : ℕ) → Advances run line (Err end) after → b ≡ a → WritesCounted end a b
+halts_counted run after line (Faulty n fault) a b h same = same
+halts_counted run after line OutOfMemory a b h same = same
+halts_counted run after line Finished a b h same = absurd h
+halts_counted run after line ReadFault a b h same = absurd h
+halts_counted run after line WriteFault a b h same = absurd h
+
+pub halts_read : (run after : Run) (line : List ℕ) (end : End) → Advances run line (Err end) after → end ≡ ReadFault → ⊥
+halts_read run after line (Faulty n fault) h is = cc
+halts_read run after line OutOfMemory h is = cc
+halts_read run after line Finished h is = absurd h
+halts_read run after line ReadFault h is = absurd h
+halts_read run after line WriteFault h is = absurd h
+
+-- how a run ends at its last line feed
+closed : (phase : Phase) (n left : ℕ) (rest : List ℕ) (P : End → Type 0) → P Finished → ((fault : LineFault) → P (Faulty n fault)) → P (ending_of phase n left rest)
+closed Over n left [] P finished faulty = finished
+closed Over n left (x ∷ xs) P finished faulty = faulty _
+closed Head n left rest P finished faulty = faulty _
+closed Workers n left rest P finished faulty = faulty _
+closed (Config w) n left rest P finished faulty = faulty _
+closed (Running core logins) n left rest P finished faulty = faulty _
+
+pub closes : (old new : Option (List ℕ)) (phase : Phase) (n left : ℕ) (rest bytes : List ℕ) → Underway old new phase n left rest bytes
+    → slice_split is_line_feed rest ≡ rest ∷ [] → Ends (replayed bytes) (ending_of phase n left rest) old new
+closes old new phase n left rest bytes u split =
+    let done = ends old new phase n left rest bytes u split in
+    closed phase n left rest (λ e. e ≡ (replayed bytes).ending → Ends (replayed bytes) e old new)
+    (λ is. (is, done.whole)) (λ fault is. (is, done.whole)) done.ending_is
+
+pub closes_counted : (phase : Phase) (n left : ℕ) (rest : List ℕ) (a b : ℕ) → b ≡ a → WritesCounted (ending_of phase n left rest) a b
+closes_counted phase n left rest a b same = closed phase n left rest (λ e. WritesCounted e a b) same (λ fault. same)
+
+pub closes_read : (phase : Phase) (n left : ℕ) (rest : List ℕ) → ending_of phase n left rest ≡ ReadFault → ⊥
+closes_read phase n left rest = closed phase n left rest (λ e. e ≡ ReadFault → ⊥) (λ is. cc) (λ fault is. cc)

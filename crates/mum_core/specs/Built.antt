@@ -1,20 +1,23 @@
--- Which steps are built so far. The test is on the step, and on the logins that came before it.
-use Rattle.std.specs.Prelude.{ℕ, ◌+◌, ◌==◌, ◌&&◌, not, Bool, true, false, List, [], ◌∷◌, length, Option, Some, None, Ok, Err, is_some, nat_lt, nat_le, if◌then◌else◌}
+-- Which words of recordings and which forms of frames are built so far, told by the line alone.
+use Rattle.std.specs.Prelude.{ℕ, ◌==◌, ◌&&◌, not, Bool, true, false, List, [], ◌∷◌, length, Option, Some, None, is_some, nat_lt, nat_le, if◌then◌else◌}
 use Rattle.std.specs.List.{list_all, list_any}
-use Rattle.std.specs.Str.{bytes_eq}
-use Rattle.mum_frame.specs.declared.kind.TheConstants.{UDP_TUNNEL, AUTHENTICATE, CHANNEL_REMOVE, CHANNEL_STATE, USER_REMOVE, USER_STATE, TEXT_MESSAGE, ACL, VOICE_TARGET, PERMISSION_QUERY}
-use Rattle.mum_msg_state.specs.Messages.{authenticate}
-use Rattle.mum_fields.specs.Table.{decoded}
-use Rattle.mum_record.specs.declared.step.Step.{Step}
-use Rattle.mum_record.specs.declared.step.Step.TheVariants.{Open, Frame, Edit, Publish, Tell, Look, Offer, Post, Drain, Collect, Close, End}
-use Rattle.mum_core.specs.declared.connection.Connection.{Connection}
-use Rattle.mum_core.specs.declared.connection.TheConstants.{OLDEST_VERSION}
-use Rattle.mum_core.specs.declared.slot.TheConstants.{SLOTS}
-use Rattle.mum_core.specs.Core.{CoreState}
-use Rattle.mum_core.specs.Illegal.{connection_at}
-use Rattle.mum_core.specs.Reads.{Decoded}
 use Rattle.mum_frame.specs.Frame.{kind_of, payload_of}
-use Rattle.mum_core.specs.Steps.{name_in, name_of}
+use Rattle.mum_frame.specs.declared.kind.TheConstants.{UDP_TUNNEL, AUTHENTICATE, CHANNEL_REMOVE, CHANNEL_STATE, USER_REMOVE, USER_STATE, TEXT_MESSAGE, ACL, VOICE_TARGET, PERMISSION_QUERY}
+use Rattle.mum_record.specs.declared.step.Step.{Step}
+use Rattle.mum_record.specs.declared.step.Step.TheVariants as words
+use Rattle.mum_core.specs.declared.slot.TheConstants.{SLOTS}
+
+-- a step that is built
+pub data BuiltStep : Type 0 where
+  Open : (c w : ℕ) → BuiltStep
+  Frame : (c kind : ℕ) (payload : List ℕ) → BuiltStep
+  Edit : (c : ℕ) → BuiltStep
+  Publish : BuiltStep
+  Tell : (c : ℕ) (note : Option ℕ) → BuiltStep
+  Look : (w revision : ℕ) → BuiltStep
+  Offer : (w : ℕ) → BuiltStep
+  Drain : (c : ℕ) → BuiltStep
+  End : BuiltStep
 
 -- Opus talk with a sequence of one byte, and audio of one length byte and no position
 abbrev pub is_plain_talk : List ℕ → Bool
@@ -24,73 +27,39 @@ is_plain_talk others = false
 abbrev pub is_visible : ℕ → Bool
 is_visible byte = nat_lt 32 byte && nat_lt byte 127
 
--- 1 to 127 visible ASCII characters, and two bytes less than the payload: so the name is its one field, with a
--- byte for the key and one for the length
-abbrev pub is_plain_name : ℕ → List ℕ → Bool
-is_plain_name size name = nat_lt 0 (length name) && nat_lt (length name) 128 && (size == length name + 2) && list_all is_visible name
-
-abbrev pub is_plain : ℕ → Decoded authenticate → Bool
-is_plain size (Ok values) = is_plain_name size (name_in (Ok values))
-is_plain size (Err fault) = false
-
--- the username and nothing else
+-- a username of 1 to 127 visible ASCII characters, and nothing else: the key of field 1, the length in one byte, the name
 abbrev pub is_plain_login : List ℕ → Bool
-is_plain_login payload = is_plain (length payload) (decoded authenticate payload)
-
-abbrev pub is_below_oldest : Option ℕ → Bool
-is_below_oldest None = false
-is_below_oldest (Some number) = nat_lt number OLDEST_VERSION
-
--- the connection told a version, and that is too old
-abbrev pub is_old : Option Connection → Bool
-is_old None = false
-is_old (Some connection) = is_below_oldest connection.version
-
-abbrev pub has_asked : Option Connection → Bool
-has_asked None = false
-has_asked (Some connection) = is_some connection.asked
-
-abbrev pub is_name : List ℕ → Option (List ℕ) → Bool
-is_name name None = false
-is_name name (Some other) = bytes_eq other name
-
-abbrev pub asked_for : List ℕ → Connection → Bool
-asked_for name connection = is_name name connection.asked
-
--- the first login of its connection, under a name that nobody asked for, and by a version that is not too old
-abbrev pub is_built_login : CoreState → ℕ → List ℕ → Bool
-is_built_login core c payload =
-    is_plain_login payload
-    && not (is_old (connection_at core c))
-    && not (has_asked (connection_at core c))
-    && not (list_any (asked_for (name_of payload)) core.connections)
-
-abbrev pub is_kind : ℕ → ℕ → Bool
-is_kind kind other = other == kind
+is_plain_login (key ∷ n ∷ name) = (key == 10) && nat_lt 0 n && nat_lt n 128 && (length name == n) && list_all is_visible name
+is_plain_login others = false
 
 -- the types that the server reads and the core does not take yet
 abbrev pub unbuilt_kinds : List ℕ
 unbuilt_kinds = CHANNEL_REMOVE ∷ CHANNEL_STATE ∷ USER_REMOVE ∷ USER_STATE ∷ TEXT_MESSAGE ∷ ACL ∷ VOICE_TARGET ∷ PERMISSION_QUERY ∷ []
 
-abbrev pub is_unbuilt : ℕ → Bool
-is_unbuilt kind = list_any (is_kind kind) unbuilt_kinds
-
-abbrev pub is_built_frame : CoreState → ℕ → ℕ → List ℕ → Bool
-is_built_frame core c kind payload =
+abbrev pub is_built_frame : ℕ → List ℕ → Bool
+is_built_frame kind payload =
     if kind == UDP_TUNNEL then is_plain_talk payload
-    else if kind == AUTHENTICATE then is_built_login core c payload
-    else not (is_unbuilt kind)
+    else if kind == AUTHENTICATE then is_plain_login payload
+    else not (list_any (λ unbuilt. unbuilt == kind) unbuilt_kinds)
 
-abbrev pub is_built : CoreState → Step → Bool
-is_built core (Open c w) = nat_le c SLOTS
-is_built core (Frame c bytes) = is_built_frame core c (kind_of bytes) (payload_of bytes)
-is_built core (Edit c) = true
-is_built core Publish = true
-is_built core (Tell c revision) = true
-is_built core (Look w revision) = true
-is_built core (Offer w) = true
-is_built core Post = false
-is_built core (Drain c) = true
-is_built core (Collect c) = false
-is_built core (Close c cause) = false
-is_built core End = true
+-- the step of a line, where its word is built
+abbrev pub taken : Step → Option BuiltStep
+taken (words.Open c w) = Some (Open c w)
+taken (words.Frame c bytes) = Some (Frame c (kind_of bytes) (payload_of bytes))
+taken (words.Edit c) = Some (Edit c)
+taken words.Publish = Some Publish
+taken (words.Tell c note) = Some (Tell c note)
+taken (words.Look w revision) = Some (Look w revision)
+taken (words.Offer w) = Some (Offer w)
+taken (words.Drain c) = Some (Drain c)
+taken words.End = Some End
+taken others = None
+
+-- the form of a step that has a form
+abbrev pub is_built_form : Step → Bool
+is_built_form (words.Open c w) = nat_le c SLOTS
+is_built_form (words.Frame c bytes) = is_built_frame (kind_of bytes) (payload_of bytes)
+is_built_form others = true
+
+abbrev pub is_built : Step → Bool
+is_built step = is_some (taken step) && is_built_form step

@@ -1,10 +1,14 @@
--- The core as plain data.
-use Rattle.std.specs.Prelude.{ℕ, List}
+-- The core as plain data, and the changes of one connection, one worker or one outbox.
+use Rattle.std.specs.Prelude.{ℕ, ◌+◌, ◌-◌, ◌^◌, ◌&&◌, min, Bool, List, [], take, length, replicate, nat_lt, slice_index_or, if◌then◌else◌}
 use Rattle.mum_core.specs.declared.connection.Connection.{Connection}
 use Rattle.mum_core.specs.declared.machine.Totals.{Totals}
 use Rattle.mum_core.specs.declared.edit.Edit.{Edit}
 use Rattle.mum_core.specs.declared.outbox.Parcel.{Parcel}
-use Rattle.mum_core.specs.Worker.{WorkerState}
+use Rattle.mum_core.specs.declared.slot.TheConstants.{SLOTS}
+use Rattle.mum_core.specs.Connection.{fresh}
+use Rattle.mum_core.specs.Lists.{changed_at}
+use Rattle.mum_core.specs.State.{State, after}
+use Rattle.mum_core.specs.Worker.{WorkerState, idle}
 
 pub record CoreState : Type 0 where
   -- the accepted edits, the first of them first
@@ -17,3 +21,51 @@ pub record CoreState : Type 0 where
   -- the voice copies that wait for the connection of each slot, the oldest first
   pub outboxes : List (List Parcel)
   pub totals : Totals
+
+-- the core of this many workers that nothing happened to
+abbrev pub start : ℕ → CoreState
+start workers =
+    record {
+      accepted = [];
+      published = 0;
+      connections = [];
+      workers = replicate workers idle;
+      outboxes = replicate SLOTS [];
+      totals = record { looks = 0; copies = 0; full = 0; stale = 0 };
+    }
+
+-- the state after the first so many accepted edits, and after all of them
+abbrev pub state_at : CoreState → ℕ → State
+state_at core revision = after (take revision core.accepted)
+
+abbrev pub current : CoreState → State
+current core = after core.accepted
+
+-- connections are numbered from 1
+abbrev pub is_opened : CoreState → ℕ → Bool
+is_opened core c = nat_lt 0 c && nat_lt (c - 1) (length core.connections)
+
+-- what is there of a number; one that did nothing yet where none is there
+abbrev pub connection_at : CoreState → ℕ → Connection
+connection_at core c = if nat_lt 0 c then slice_index_or core.connections (c - 1) (fresh 0) else fresh 0
+
+abbrev pub worker_at : CoreState → ℕ → WorkerState
+worker_at core w = slice_index_or core.workers w idle
+
+abbrev pub outbox_at : CoreState → ℕ → List Parcel
+outbox_at core slot = slice_index_or core.outboxes slot []
+
+-- what is there of a number is changed; nothing changes where none is there
+abbrev pub at_connection : ℕ → (Connection → Connection) → CoreState → CoreState
+at_connection c change core =
+    record core { connections = if nat_lt 0 c then changed_at (c - 1) change core.connections else core.connections }
+
+abbrev pub at_worker : ℕ → (WorkerState → WorkerState) → CoreState → CoreState
+at_worker w change core = record core { workers = changed_at w change core.workers }
+
+abbrev pub at_outbox : ℕ → (List Parcel → List Parcel) → CoreState → CoreState
+at_outbox slot change core = record core { outboxes = changed_at slot change core.outboxes }
+
+-- a count of 64 bits that rises, and stands still at its last value
+abbrev pub up : ℕ → ℕ
+up count = min (count + 1) (2 ^ 64 - 1)

@@ -1,6 +1,7 @@
--- What the core keeps true of its fields.
-use Rattle.std.specs.Prelude.{◌≡◌, ℕ, ◌+◌, ◌≤◌, Bool, List, length, map, count_by, is_some}
-use Rattle.mum_core.specs.declared.connection.Connection.{Connection}
+-- What the core and its parts keep true of their fields.
+use Rattle.std.specs.Prelude.{◌≡◌, ℕ, ◌≤◌, List, [], length, map, Result, Ok, Err}
+use Rattle.mum_voice.specs.declared.fault.BadVoice.{BadVoice}
+use Rattle.mum_voice.specs.Packet.{Parts}
 use Rattle.mum_core.specs.declared.edit.Edit.{Edit}
 use Rattle.mum_core.specs.declared.edit.Edit.TheVariants.{Join}
 use Rattle.mum_core.specs.declared.edit.Session.{Session}
@@ -11,16 +12,12 @@ use Rattle.mum_core.specs.declared.slot.TheConstants.{SLOTS}
 abbrev pub session_of : Edit → Session
 session_of (Join session slot name account tokens) = record { session = session; slot = slot; name = name }
 
-abbrev pub has_command : Connection → Bool
-has_command c = is_some c.waiting
-
-abbrev pub asked_once : Connection → Bool
-asked_once c = is_some c.asked
-
-pub record IsKept (accepted : List Edit) (sessions : List Session) (published : ℕ) (connections : List Connection) (outboxes : List (List Parcel)) : Type 0 where
+pub record IsKept (accepted : List Edit) (sessions : List Session) (published : ℕ) (outboxes : List (List Parcel)) : Type 0 where
   pub sessions_joined : sessions ≡ map session_of accepted
   pub published_accepted : published ≤ length accepted
-  pub few_connections : length connections ≤ SLOTS
-  -- each login that was asked for is accepted, or waits: so there is a slot for each
-  pub logins_counted : length accepted + count_by has_command connections ≡ count_by asked_once connections
   pub an_outbox_each : length outboxes ≡ SLOTS
+
+-- the parts of bytes that are a packet
+abbrev pub parts_in : Result Parts BadVoice → Parts
+parts_in (Ok parts) = parts
+parts_in (Err fault) = record { kind = 0; target = 0; sequence = []; audio = []; position = [] }

@@ -1,12 +1,10 @@
 -- What the program answers, writes and says.
-use Rattle.std.specs.Prelude.{◌≡◌, ℕ, ◌==◌, ◌⊎◌, List, [], ◌∷◌, ◌++◌, Option, Result, Ok, Err, codes, if◌then◌else◌}
-use Rattle.mum_io.specs.Outside.{Appends, AppendsFront}
-use Rattle.mum_core.specs.declared.program.End.{End}
-use Rattle.mum_core.specs.declared.program.End.TheVariants.{Ended, ReadFault, WriteFault, OutOfMemory}
-use Rattle.mum_core.specs.declared.replay.Cut.{Cut}
-use Rattle.mum_core.specs.declared.replay.Cut.TheVariants as cuts
-use Rattle.mum_core.specs.declared.replay.Ending.{Ending}
-use Rattle.mum_core.specs.Replay.{Outcome, status_of, said_of}
+use Rattle.std.specs.Prelude.{◌≡◌, ℕ, ◌⊎◌, List, [], ◌∷◌, ◌++◌, Option, codes}
+use Rattle.mum_io.specs.Outside.{Appends, AppendsFront, Rose}
+use Rattle.mum_core.specs.declared.end.End.{End}
+use Rattle.mum_core.specs.declared.end.End.TheVariants.{Faulty, ReadFault, WriteFault, OutOfMemory}
+use Rattle.mum_core.specs.End.{status_of, said_of, memory_line}
+use Rattle.mum_core.specs.Replay.{Outcome}
 
 abbrev pub usage_line : List ℕ
 usage_line = codes "usage: murmur replay | audit | exercise SEED STEPS | serve ADDRESS SESSIONS [journal]" ++ 10 ∷ []
@@ -20,44 +18,35 @@ pub record IsWhole (outcome : Outcome) (status : ℕ) (old new : Option (List �
 abbrev pub IsCutShort : ℕ → Type 0 → Type 0 → Type 0
 IsCutShort status read_failed write_failed = ((status ≡ 3) × read_failed) ⊎ ((status ≡ 4) × write_failed) ⊎ (status ≡ 70)
 
--- what is said of a status, where the run over the whole input ends so
-abbrev pub said : ℕ → Ending → List ℕ
-said status ending =
-    if status == 3 then codes "murmur: 3 ReadFault" ++ 10 ∷ []
-    else if status == 4 then codes "murmur: 4 WriteFault" ++ 10 ∷ []
-    else if status == 70 then codes "murmur: 70 OutOfMemory" ++ 10 ∷ []
-    else said_of ending
-
 -- the line was written, or a front of it where the sink failed in this call
 abbrev pub Tells : List ℕ → Option (List ℕ) → Option (List ℕ) → Type 0 → Type 0
 Tells line old new failed = Appends old new line ⊎ (AppendsFront old new line × failed)
 
 -- ---- how a run ended, as the code has it
 
+-- the run came to its end, with the whole transcript written; or it was cut short, with a front of it
 abbrev pub Ends : Outcome → End → Option (List ℕ) → Option (List ℕ) → Type 0
-Ends outcome (Ended ending) old new = (ending ≡ outcome.ending) × Appends old new outcome.text
 Ends outcome ReadFault old new = AppendsFront old new outcome.text
 Ends outcome WriteFault old new = AppendsFront old new outcome.text
 Ends outcome OutOfMemory old new = AppendsFront old new outcome.text
+Ends outcome end old new = (end ≡ outcome.ending) × Appends old new outcome.text
 
-abbrev pub end_status : End → ℕ
-end_status (Ended ending) = status_of ending
-end_status ReadFault = 3
-end_status WriteFault = 4
-end_status OutOfMemory = 70
+-- a read that failed in the call is told as such, and no other end hides one
+abbrev pub ReadsCounted : End → ℕ → ℕ → Type 0
+ReadsCounted ReadFault old new = Rose old new
+ReadsCounted end old new = new ≡ old
 
-abbrev pub end_line : End → List ℕ
-end_line (Ended ending) = said_of ending
-end_line ReadFault = codes "murmur: 3 ReadFault" ++ 10 ∷ []
-end_line WriteFault = codes "murmur: 4 WriteFault" ++ 10 ∷ []
-end_line OutOfMemory = codes "murmur: 70 OutOfMemory" ++ 10 ∷ []
+-- the same of writes
+abbrev pub WritesCounted : End → ℕ → ℕ → Type 0
+WritesCounted WriteFault old new = Rose old new
+WritesCounted end old new = new ≡ old
 
-abbrev pub end_of : Result Ending Cut → End
-end_of (Ok ending) = Ended ending
-end_of (Err cuts.WriteFault) = WriteFault
-end_of (Err cuts.OutOfMemory) = OutOfMemory
+-- the line of a fault takes memory, the others take none
+abbrev pub TakesMemory : End → Type 0
+TakesMemory (Faulty n fault) = Unit {0}
+TakesMemory end = ⊥
 
--- the status and the line are those of how the run ended, or memory ran out while the line was made
+-- the status and the line are those of the end, or memory ran out while the line of a fault was made
 abbrev pub Reports : End → ℕ → Option (List ℕ) → Option (List ℕ) → Type 0 → Type 0
 Reports end status old new failed =
-    ((status ≡ end_status end) × Tells (end_line end) old new failed) ⊎ ((status ≡ 70) × Tells (end_line OutOfMemory) old new failed)
+    ((status ≡ status_of end) × Tells (said_of end) old new failed) ⊎ (TakesMemory end × (status ≡ 70) × Tells memory_line old new failed)

@@ -2,8 +2,8 @@
 
 ghost use Rattle.std.specs.Prelude.{◌≡◌, None, Some};
 ghost use Rattle.mum_fields.specs.Message.{or_else};
-ghost use Rattle.mum_core.specs.Built.{asked_for, is_old};
-ghost use Rattle.mum_core.specs.Illegal.{untold_of};
+ghost use Rattle.mum_core.specs.Connection.{fresh, seat_given, untold};
+ghost use Rattle.mum_core.specs.Lists.{changed_at};
 ghost use Rattle.mum_core.specs.declared.connection.Command.TheVariants.{Login};
 
 use crate::slot::ValidSlot;
@@ -29,7 +29,7 @@ pub enum Command {
 /// What the control owner decided of a command, and what the connection has not been told yet.
 #[derive(Clone, Copy, Debug, PartialEq, Eq)]
 pub enum Verdict {
-    /// The command is the edit with this number, and gave this session.
+    /// The command is the edit with this number, and gave this seat.
     Accepted { revision: u64, seat: Seat },
 }
 
@@ -40,10 +40,8 @@ pub struct Connection {
     pub worker: u32,
     /// The number of its last Version that has one.
     pub version: Option<u32>,
-    /// The session that its told login gave it.
+    /// The seat that its told login gave it.
     pub seat: Option<Seat>,
-    /// The name with which it asked to enter.
-    pub asked: Option<Text>,
     /// The command of its last frame, until it is decided.
     pub waiting: Option<Command>,
     /// The verdict that it waits to be told.
@@ -53,62 +51,62 @@ pub struct Connection {
 impl Connection {
     /// A connection that has asked for nothing yet, at this worker.
     pub fn at(worker: u32) -> Connection
-        ensures { result ≡ record { worker = worker; version = None; seat = None; asked = None; waiting = None; decided = None } }
+        ensures { result ≡ fresh worker }
     {
         Connection {
             worker,
             version: None,
             seat: None,
-            asked: None,
             waiting: None,
             decided: None,
         }
     }
 
-    /// Whether it told a version below the oldest.
-    pub fn is_old(&self) -> bool
-        ensures { result ≡ is_old (Some self.now) }
-    {
-        self.version.is_some_and(|number| number < OLDEST_VERSION)
-    }
-
-    /// It tells its version, maybe without a number.
-    pub fn tell_version(&mut self, number: Option<u32>)
-        ensures { self.new ≡ record self.old { version = or_else number self.old.version } }
-    {
-        self.version = number.or(self.version);
-    }
-
     /// How many of its commands were not decided yet, or not told.
     pub fn untold(&self) -> u64
-        ensures { result ≡ untold_of (Some self.now) }
+        ensures { result ≡ untold self.now }
     {
         u64::from(self.waiting.is_some()) + u64::from(self.decided.is_some())
     }
+}
 
-    /// Whether it asked to enter under this name.
-    pub fn asked_for(&self, name: &[u8]) -> bool
-        ensures { result ≡ asked_for name.now self.now }
-    {
-        match &self.asked {
-            Some(asked) => asked.as_slice() == name,
-            None => false,
-        }
+/// The connection at a place asks to enter under this name.
+pub fn ask_at(connections: &mut Vec<Connection>, place: usize, name: Text)
+    ensures { connections.new.items ≡ changed_at place (λ c. record c { waiting = Some (Login name) }) connections.old.items }
+{
+    if let Some(connection) = connections.get_mut(place) {
+        connection.waiting = Some(Command::Login { name });
     }
+}
 
-    /// It asks to enter under a name, of which it is given two copies.
-    pub fn ask(&mut self, name: Text, login: Text)
-        ensures { self.new ≡ record self.old { asked = Some name; waiting = Some (Login login) } }
-    {
-        self.asked = Some(name);
-        self.waiting = Some(Command::Login { name: login });
+/// The connection at a place tells its version, maybe without a number.
+pub fn keep_version_at(connections: &mut Vec<Connection>, place: usize, number: Option<u32>)
+    ensures { connections.new.items ≡ changed_at place (λ c. record c { version = or_else number c.version }) connections.old.items }
+{
+    if let Some(connection) = connections.get_mut(place) {
+        connection.version = number.or(connection.version);
     }
+}
 
-    /// Its command is decided.
-    pub fn decide(&mut self, verdict: Verdict)
-        ensures { self.new ≡ record self.old { waiting = None; decided = Some verdict } }
-    {
-        self.waiting = None;
-        self.decided = Some(verdict);
+/// The command of the connection at a place is decided.
+pub fn decide_at(connections: &mut Vec<Connection>, place: usize, verdict: Verdict)
+    ensures { connections.new.items ≡ changed_at place (λ c. record c { waiting = None; decided = Some verdict }) connections.old.items }
+{
+    if let Some(connection) = connections.get_mut(place) {
+        connection.waiting = None;
+        connection.decided = Some(verdict);
+    }
+}
+
+/// The connection at a place is told its verdict.
+pub fn tell_at(connections: &mut Vec<Connection>, place: usize)
+    ensures { connections.new.items ≡ changed_at place (λ c. record c { seat = seat_given c.decided; decided = None }) connections.old.items }
+{
+    if let Some(connection) = connections.get_mut(place) {
+        connection.seat = match connection.decided {
+            Some(Verdict::Accepted { seat, .. }) => Some(seat),
+            None => None,
+        };
+        connection.decided = None;
     }
 }

@@ -2,19 +2,21 @@
 //! what its transcript says, and the program's call over a whole recording.
 #![tactic(auto)]
 
-pub mod connection;
-pub mod edit;
-mod ignored;
-mod lines;
-pub mod machine;
-pub mod outbox;
+mod action;
+mod built;
+mod connection;
+mod edit;
+mod end;
+mod machine;
+mod outbox;
 mod payload;
-pub mod program;
-pub mod replay;
-pub mod route;
-pub mod slot;
-pub mod worker;
+mod program;
+mod replay;
+mod route;
+mod slot;
+mod worker;
 
+pub use built::is_built;
 pub use edit::{Edit, Session};
 pub use machine::{Core, Effects, StepFault};
 pub use program::murmur;

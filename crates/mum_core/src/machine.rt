@@ -1,15 +1,14 @@
-//! The machine: connections, workers, outboxes and the list of accepted edits.
+//! The machine: connections, workers, outboxes and the list of accepted edits. Each step has a file of
+//! its own.
 
-ghost use Rattle.std.specs.Prelude.{◌≡◌, ◌≤◌, ◌<◌, ◌+◌, length, true, false, None, Some, [], is_some, nat_lt, replicate, IfOk};
-ghost use Rattle.std.specs.Option.{option_copied};
-ghost use Rattle.mum_record.specs.declared.step.Step.TheVariants as steps;
+ghost use Rattle.std.specs.Prelude.{◌≡◌, ◌∷◌, [], IfOk, is_some, true, replicate};
 ghost use Rattle.mum_record.specs.Grammar.{IsRecordable};
-ghost use Rattle.mum_core.specs.Start.{idle};
 ghost use Rattle.mum_core.specs.declared.machine.StepFault.TheVariants.{Illegal};
+ghost use Rattle.mum_core.specs.declared.slot.TheConstants.{SLOTS as slots};
+ghost use Rattle.mum_core.specs.Worker.{idle};
 
-use crate::connection::Connection;
+use crate::connection::{Connection, OLDEST_VERSION};
 use crate::edit::{Edit, Session};
-use crate::lines;
 use crate::outbox::Outbox;
 use crate::slot::SLOTS;
 use crate::worker::Worker;
@@ -19,11 +18,15 @@ use std::alloc::{AllocError, Global};
 use std::marker::Model;
 use thiserror::Error;
 
-mod frames;
-mod logins;
-mod pings;
-mod versions;
-mod voice;
+mod drain;
+mod edit;
+mod end;
+mod frame;
+mod look;
+mod offer;
+mod open;
+mod publish;
+mod tell;
 
 /// The lines that a step adds to the transcript, without their line feeds.
 pub type Effects = Items<Text>;
@@ -38,16 +41,6 @@ pub enum StepFault {
     OutOfMemory,
 }
 
-/// The fault of a step that is not allowed.
-fn illegal(given: u32, against: u64) -> StepFault
-    ensures { result ≡ Illegal given against }
-{
-    StepFault::Illegal {
-        given: u64::from(given),
-        against,
-    }
-}
-
 impl From<AllocError> for StepFault {
     ghost use Rattle.std.specs.Prelude.{◌≡◌};
     ghost use Rattle.mum_core.specs.declared.machine.StepFault.TheVariants.{OutOfMemory};
@@ -57,6 +50,13 @@ impl From<AllocError> for StepFault {
     fn from(_e: AllocError) -> StepFault {
         StepFault::OutOfMemory
     }
+}
+
+/// The fault of a step that is not allowed.
+fn illegal(given: u64, against: u64) -> StepFault
+    ensures { result ≡ Illegal given against }
+{
+    StepFault::Illegal { given, against }
 }
 
 /// How much was looked for, sent, and not sent. Each count stands still at the end of its type.
@@ -90,7 +90,7 @@ impl Model for Core {
 
     ghost view = { λ c. record { accepted = c.accepted.items; published = c.published; connections = c.connections.items; workers = c.workers.items; outboxes = c.outboxes.items; totals = c.totals } };
 
-    ghost invariant = { λ c. IsKept c.accepted.items c.sessions.items c.published c.connections.items c.outboxes.items };
+    ghost invariant = { λ c. IsKept c.accepted.items c.sessions.items c.published c.outboxes.items };
 }
 
 /// Workers that have done nothing.
@@ -106,7 +106,7 @@ fn idle_workers(alloc: Global, count: u8) -> Result<Vec<Worker>, OutOfMemory>
 
 /// An outbox for each slot.
 fn empty_outboxes(alloc: Global) -> Result<Vec<Outbox>, OutOfMemory>
-    ensures { IfOk result (λ outboxes. outboxes.items ≡ replicate SLOTS []) }
+    ensures { IfOk result (λ outboxes. outboxes.items ≡ replicate slots []) }
 {
     let mut outboxes = Vec::new(alloc);
     for _slot in 0..SLOTS {
@@ -116,12 +116,17 @@ fn empty_outboxes(alloc: Global) -> Result<Vec<Outbox>, OutOfMemory>
 }
 
 impl Core {
-    ghost use Rattle.mum_core.specs.Core.{CoreState};
-    ghost use Rattle.mum_core.specs.Illegal.{connection_at, is_opened, worker_at};
+    ghost use Rattle.std.specs.Prelude.{◌≡◌, ◌++◌, ◌∷◌, [], ◌+◌, ◌<◌, IfOk, IfSome, OnOk, IsSome, is_some, true, length, map, nat_lt, string_bytes, vec_capacity, vec_len, ◌⊎◌};
+    ghost use Rattle.mum_base.specs.Refusal.{Gives, Settles};
+    ghost use Rattle.mum_record.specs.Words.{line_of_words};
+    ghost use Rattle.mum_core.specs.Built.{is_built, taken};
+    ghost use Rattle.mum_core.specs.Case.{IsStarved, named_cause};
+    ghost use Rattle.mum_core.specs.Core.{start, is_opened, connection_at, worker_at};
+    ghost use Rattle.mum_core.specs.Line.{joined};
+    ghost use Rattle.mum_core.specs.Replay.{is_below_oldest};
+    ghost use Rattle.mum_core.specs.Step.{does, illegal, lines};
+    ghost use Rattle.mum_core.specs.Worker.{in_hand};
     ghost use Rattle.mum_core.specs.declared.machine.StepFault.TheVariants as faults;
-    ghost use Rattle.mum_core.specs.Built.{is_built};
-    ghost use Rattle.mum_core.specs.Start.{start};
-    ghost use Rattle.mum_core.specs.Takes.{Takes};
 
     /// A core of so many workers that nothing happened to. It takes no edits yet.
     pub fn open(alloc: Global, workers: u8, edits: &[Edit]) -> Result<Core, OutOfMemory>
@@ -146,19 +151,33 @@ impl Core {
         })
     }
 
-    /// Whether the core knows the step. Not built yet are an `open` of a connection above 128, `post`,
-    /// `collect` and `close`, and of frames a command after the login, voice that is no plain talk, and a
-    /// login that is not plain, not the first of its connection, not the first under its name, or of a
-    /// version below 1.2.0.
-    pub fn is_built(&self, step: &Step) -> Result<bool, OutOfMemory>
+    /// Takes a step, and appends the lines that the transcript gains, parted by line feeds. A refusal
+    /// leaves the core as it was: `Illegal` has the two numbers of the first case that forbids the step.
+    /// After want of memory the text may have been added to.
+    pub fn take(&mut self, step: &Step, text: &mut String) -> Result<(), StepFault>
         requires recordable { IsRecordable step.now }
-        ensures { IfOk result (λ built. built ≡ is_built self.now step.now) }
+        requires built { is_built step.now ≡ true }
+        ensures settled { IfSome (taken step.now) (λ step.
+            Settles named_cause (illegal self.old step) (does self.old step) self.old result self.new) }
+        ensures told { IfSome (taken step.now) (λ step.
+            OnOk result (string_bytes text.new ≡ string_bytes text.old ++ joined (lines self.old step))) }
     {
         match step {
-            Step::Open { connection, .. } => Ok(*connection as usize <= SLOTS),
-            Step::Frame { connection, bytes } => self.is_built_frame(*connection, bytes.as_slice()),
-            Step::Post | Step::Collect { .. } | Step::Close { .. } => Ok(false),
-            _ => Ok(true),
+            Step::Open { connection, worker } => self.take_open(*connection, *worker, text),
+            Step::Frame { connection, bytes } => {
+                self.take_frame(*connection, bytes.as_slice(), text)
+            }
+            Step::Edit { connection } => self.take_edit(*connection, text),
+            Step::Publish => self.take_publish(text),
+            Step::Tell {
+                connection,
+                revision,
+            } => self.take_tell(*connection, *revision, text),
+            Step::Look { worker, revision } => self.take_look(*worker, *revision, text),
+            Step::Offer { worker } => self.take_offer(*worker, text),
+            Step::Drain { connection } => self.take_drain(*connection, text),
+            Step::End => self.take_end(text),
+            Step::Post | Step::Collect { .. } | Step::Close { .. } => unreachable!(),
         }
     }
 
@@ -166,29 +185,34 @@ impl Core {
     /// `Illegal` has the two numbers of the first case that forbids the step.
     pub fn step(&mut self, step: &Step) -> Result<Effects, StepFault>
         requires recordable { IsRecordable step.now }
-        requires built { is_built self.old step.now ≡ true }
-        ensures { Takes self.old step.now result self.new }
+        requires built { is_built step.now ≡ true }
+        ensures { IfSome (taken step.now) (λ step. IsStarved self.old result self.new ⊎
+            Gives named_cause (illegal self.old step) (map line_of_words (lines self.old step)) (does self.old step) self.old result self.new) }
     {
-        match step {
-            Step::Open { connection, worker } => self.begin(*connection, *worker),
-            Step::Frame { connection, bytes } => self.take_frame(*connection, bytes.as_slice()),
-            Step::Edit { connection } => self.decide(*connection),
-            Step::Publish => self.publish(),
-            Step::Tell {
-                connection,
-                revision,
-            } => self.tell(*connection, *revision),
-            Step::Look { worker, revision } => self.look(*worker, *revision),
-            Step::Offer { worker } => self.offer(*worker),
-            Step::Drain { connection } => self.drain(*connection),
-            Step::End => self.end(),
-            Step::Post | Step::Collect { .. } | Step::Close { .. } => unreachable!(),
+        match Vec::with_capacity(self.alloc, 1) {
+            Ok(room) => self.step_into(step, room),
+            Err(_) => Err(StepFault::OutOfMemory),
         }
+    }
+
+    /// The same with room for its one line.
+    fn step_into(&mut self, step: &Step, mut room: Vec<Text>) -> Result<Effects, StepFault>
+        requires recordable { IsRecordable step.now }
+        requires built { is_built step.now ≡ true }
+        requires nothing { room.items ≡ [] }
+        requires room { vec_len room < vec_capacity room }
+        ensures { IfSome (taken step.now) (λ step.
+            Gives named_cause (illegal self.old step) (map line_of_words (lines self.old step)) (does self.old step) self.old result self.new) }
+    {
+        let mut text = String::new(self.alloc);
+        self.take(step, &mut text)?;
+        room.push_reserved(Text::from_string(text));
+        Ok(Items::from_vec(room))
     }
 
     /// A connection that was opened.
     fn connection(&self, connection: u32) -> Option<&Connection>
-        ensures found { option_copied result ≡ connection_at self.now connection }
+        ensures found { IfSome result (λ found. found.now ≡ connection_at self.now connection) }
         ensures opened { is_some result ≡ is_opened self.now connection }
     {
         let place = (connection as usize).checked_sub(1)?;
@@ -199,15 +223,12 @@ impl Core {
     fn unopened(&self, connection: u32) -> StepFault
         ensures { result ≡ faults.Illegal connection (length self.now.connections) }
     {
-        StepFault::Illegal {
-            given: u64::from(connection),
-            against: self.connections.len() as u64,
-        }
+        illegal(u64::from(connection), self.connections.len() as u64)
     }
 
     /// A worker that there is.
     fn worker(&self, worker: u32) -> Option<&Worker>
-        ensures found { option_copied result ≡ worker_at self.now worker }
+        ensures found { IfSome result (λ found. found.now ≡ worker_at self.now worker) }
         ensures there { is_some result ≡ nat_lt worker (length self.now.workers) }
     {
         self.workers.get(worker as usize)
@@ -217,48 +238,26 @@ impl Core {
     fn no_worker(&self, worker: u32) -> StepFault
         ensures { result ≡ faults.Illegal worker (length self.now.workers) }
     {
-        StepFault::Illegal {
-            given: u64::from(worker),
-            against: self.workers.len() as u64,
+        illegal(u64::from(worker), self.workers.len() as u64)
+    }
+
+    /// How much a worker has in hand: nothing where there is none of that number.
+    fn in_hand(&self, worker: u32) -> u64
+        ensures { result ≡ in_hand (worker_at self.now worker) }
+    {
+        match self.worker(worker) {
+            Some(worker) => worker.in_hand(),
+            None => 0,
         }
     }
 
-    /// A connection begins.
-    fn begin(&mut self, connection: u32, worker: u32) -> Result<Effects, StepFault>
-        requires { connection ≤ SLOTS }
-        ensures { Takes self.old (steps.Open connection worker) result self.new }
+    /// Whether a connection told a version below the oldest of which a login is built.
+    pub(crate) fn is_old(&self, connection: u32) -> bool
+        ensures { result ≡ is_below_oldest (connection_at self.now connection).version }
     {
-        let next = self.connections.len() as u64 + 1;
-        if u64::from(connection) != next {
-            return Err(StepFault::Illegal {
-                given: u64::from(connection),
-                against: next,
-            });
+        match self.connection(connection) {
+            Some(found) => found.version.is_some_and(|number| number < OLDEST_VERSION),
+            None => false,
         }
-        if worker as usize >= self.workers.len() {
-            return Err(self.no_worker(worker));
-        }
-        let effects = lines::opened(self.alloc, connection, worker)?;
-        self.connections
-            .push(Connection::at(worker))
-            .map_err(AllocError::from)?;
-        Ok(effects)
-    }
-
-    /// All accepted edits are published.
-    fn publish(&mut self) -> Result<Effects, StepFault>
-        ensures { Takes self.old steps.Publish result self.new }
-    {
-        let revision = self.accepted.len() as u64;
-        let effects = lines::published(self.alloc, revision)?;
-        self.published = revision;
-        Ok(effects)
-    }
-
-    /// The recording ends.
-    fn end(&self) -> Result<Effects, StepFault>
-        ensures { Takes self.now steps.End result self.now }
-    {
-        Ok(lines::totals(self.alloc, &self.totals)?)
     }
 }

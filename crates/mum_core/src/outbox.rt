@@ -1,6 +1,7 @@
 //! The bounded queue of voice copies that a slot's connection drains.
 
-ghost use Rattle.std.specs.Prelude.{◌≡◌, ◌≤◌, ◌<◌, [], ◌∷◌, ◌++◌, length, IfOk, nat_lt, slice_get, drop};
+ghost use Rattle.std.specs.Prelude.{◌≡◌, ◌≤◌, ◌<◌, [], ◌∷◌, ◌++◌, length, IfOk, nat_lt, slice_get, slice_index_or, drop};
+ghost use Rattle.mum_core.specs.Lists.{changed_at};
 ghost use Rattle.std.specs.Option.{option_copied};
 ghost use Rattle.mum_core.specs.Outbox.{Takes};
 
@@ -122,5 +123,24 @@ impl Outbox {
         ensures others { self.new ≡ drop 1 self.old }
     {
         self.parcels.pop_front()
+    }
+}
+
+/// Puts a parcel at the back of the outbox at a place, which has room for it.
+pub fn offer_at(outboxes: &mut Vec<Outbox>, place: usize, parcel: Parcel)
+    requires { length (slice_index_or outboxes.old.items place []) < OUTBOX_CAPACITY }
+    ensures { outboxes.new.items ≡ changed_at place (λ parcels. parcels ++ parcel ∷ []) outboxes.old.items }
+{
+    if let Some(outbox) = outboxes.get_mut(place) {
+        let _ = outbox.offer(parcel);
+    }
+}
+
+/// Takes the parcel at the front of the outbox at a place.
+pub fn take_at(outboxes: &mut Vec<Outbox>, place: usize)
+    ensures { outboxes.new.items ≡ changed_at place (λ parcels. drop 1 parcels) outboxes.old.items }
+{
+    if let Some(outbox) = outboxes.get_mut(place) {
+        let _ = outbox.take();
     }
 }

@@ -1,88 +1,19 @@
 //! The program's call: its words, its streams, its status.
 
-ghost use Rattle.std.specs.Prelude.{◌≡◌, ◌↔◌, ◌⊎◌, [], ◌∷◌, ◌++◌, map, codes, string_bytes, IsTrue, IfOk, IfSome};
+ghost use Rattle.std.specs.Prelude.{◌≡◌, ◌↔◌, ◌⊎◌, ◌==◌, [], ◌∷◌, map, codes, string_bytes, IsTrue, IfOk, IfSome};
+ghost use Rattle.std.specs.List.{list_any};
 ghost use Rattle.mum_io.specs.Outside.{AppendsFront, Rose};
-ghost use Rattle.mum_core.specs.Program.{IsWhole, IsCutShort, Tells, Ends, said, usage_line, end_status, end_line, end_of, Reports};
-ghost use Rattle.mum_core.specs.Replay.{replayed, said_of, status_of_fault, illegal_step_line};
+ghost use Rattle.mum_core.specs.End.{memory_line, read_fault_line, said, said_of, statuses, write_fault_line};
+ghost use Rattle.mum_core.specs.Program.{IsWhole, IsCutShort, Tells, Ends, ReadsCounted, WritesCounted, Reports, usage_line};
+ghost use Rattle.mum_core.specs.Replay.{replayed};
 
-use crate::replay::{Cut, Ending, INPUT_LIMIT, LineFault, replay};
+use crate::end::{End, LineFault, MEMORY_LINE, READ_FAULT_LINE, WRITE_FAULT_LINE};
+use crate::replay::{INPUT_LIMIT, replay};
 use mum_io::{ReadFault, Sink, Source, read_up_to, write_all};
-use std::alloc::{AllocError, Global};
+use std::alloc::Global;
 
 const USAGE_LINE: &str =
     "usage: murmur replay | audit | exercise SEED STEPS | serve ADDRESS SESSIONS [journal]\n";
-
-const MEMORY_LINE: &str = "murmur: 70 OutOfMemory\n";
-
-/// How the program ends.
-#[derive(Clone, Copy, Debug, PartialEq, Eq)]
-enum End {
-    Ended(Ending),
-    ReadFault,
-    WriteFault,
-    OutOfMemory,
-}
-
-// What is said of a step that is not allowed.
-fn illegal_line(alloc: Global, n: u64, given: u64, against: u64) -> Result<String, AllocError>
-    ensures { IfOk result (λ line. string_bytes line ≡ illegal_step_line n given against ++ 10 ∷ []) }
-{
-    format!(in alloc; "murmur: 7 IllegalStep line {n} given {given} against {against}\n")
-}
-
-impl LineFault {
-    // The status of a run that ends at this fault.
-    fn status(self) -> u8
-        ensures { result ≡ status_of_fault self }
-    {
-        match self {
-            LineFault::TooLong => 10,
-            LineFault::BadRecording => 2,
-            LineFault::NotBuilt => 11,
-            LineFault::IllegalStep { .. } => 7,
-        }
-    }
-
-    // What is said of a run that ends at this fault of its line number `n`.
-    fn line(self, alloc: Global, n: u64) -> Result<String, AllocError>
-        ensures { IfOk result (λ line. string_bytes line ≡ said_of (Ending.Faulty n self)) }
-    {
-        match self {
-            LineFault::TooLong => format!(in alloc; "murmur: 10 TooLong line {n}\n"),
-            LineFault::BadRecording => format!(in alloc; "murmur: 2 BadRecording line {n}\n"),
-            LineFault::NotBuilt => format!(in alloc; "murmur: 11 NotBuilt line {n}\n"),
-            LineFault::IllegalStep { given, against } => illegal_line(alloc, n, given, against),
-        }
-    }
-}
-
-impl End {
-    // The exit status.
-    fn status(self) -> u8
-        ensures { result ≡ end_status self }
-    {
-        match self {
-            End::Ended(Ending::Finished) => 0,
-            End::Ended(Ending::Faulty { line: _, fault }) => fault.status(),
-            End::ReadFault => 3,
-            End::WriteFault => 4,
-            End::OutOfMemory => 70,
-        }
-    }
-
-    // What is said on the error stream, with its line feed; nothing where all went well.
-    fn line(self, alloc: Global) -> Result<String, AllocError>
-        ensures { IfOk result (λ line. string_bytes line ≡ end_line self) }
-    {
-        match self {
-            End::Ended(Ending::Finished) => Ok(String::new(alloc)),
-            End::Ended(Ending::Faulty { line, fault }) => fault.line(alloc, line),
-            End::ReadFault => String::from_str(alloc, "murmur: 3 ReadFault\n"),
-            End::WriteFault => String::from_str(alloc, "murmur: 4 WriteFault\n"),
-            End::OutOfMemory => String::from_str(alloc, MEMORY_LINE),
-        }
-    }
-}
 
 fn is_replay(words: &[String]) -> bool
     ensures { IsTrue result ↔ (map string_bytes words.now ≡ codes "replay" ∷ []) }
@@ -93,47 +24,58 @@ fn is_replay(words: &[String]) -> bool
     }
 }
 
-fn end_of_run(run: Result<Ending, Cut>) -> End
-    ensures { result ≡ end_of run }
+/// Reads the recording, and writes its transcript.
+fn run<I: Source, O: Sink>(alloc: Global, input: &mut I, output: &mut O) -> End
+    ensures ends { IfSome (I.left input.old) (λ bytes. Ends (replayed bytes) result (O.written output.old) (O.written output.new)) }
+    ensures reads { ReadsCounted result (I.faults input.old) (I.faults input.new) }
+    ensures writes { WritesCounted result (O.faults output.old) (O.faults output.new) }
 {
-    match run {
-        Ok(ending) => End::Ended(ending),
-        Err(Cut::WriteFault) => End::WriteFault,
-        Err(Cut::OutOfMemory) => End::OutOfMemory,
+    match read_up_to(alloc, input, INPUT_LIMIT) {
+        Ok(bytes) => replay(alloc, &bytes, output),
+        Err(ReadFault::Failed) => End::ReadFault,
+        Err(ReadFault::OutOfMemory) => End::OutOfMemory,
     }
 }
 
-// Reads the recording, and writes its transcript.
-fn run<I: Source, O: Sink>(alloc: Global, input: &mut I, output: &mut O) -> End
-    ensures ends { IfSome (I.left input.old) (λ bytes. Ends (replayed bytes) result (O.written output.old) (O.written output.new)) }
-    ensures read_fault { result ≡ End.ReadFault → Rose (I.faults input.old) (I.faults input.new) }
-    ensures write_fault { result ≡ End.WriteFault → Rose (O.faults output.old) (O.faults output.new) }
-{
-    let bytes = match read_up_to(alloc, input, INPUT_LIMIT) {
-        Ok(bytes) => bytes,
-        Err(ReadFault::Failed) => return End::ReadFault,
-        Err(ReadFault::OutOfMemory) => return End::OutOfMemory,
-    };
-    end_of_run(replay(alloc, &bytes, output))
-}
-
-// Writes a line to the error stream, as far as that takes it.
+/// Writes a line to the error stream, as far as that takes it.
 fn say<E: Sink>(errors: &mut E, line: &str)
     ensures { Tells line.now (E.written errors.old) (E.written errors.new) (Rose (E.faults errors.old) (E.faults errors.new)) }
 {
     let _ = write_all(errors, line.as_bytes());
 }
 
-// Says how the run ended, and gives its status.
+/// Says what is wrong with a line, and gives the status of it, or that of want of memory.
+fn report_fault<E: Sink>(alloc: Global, n: u64, fault: LineFault, errors: &mut E) -> u8
+    ensures { Reports (End.Faulty n fault) result (E.written errors.old) (E.written errors.new) (Rose (E.faults errors.old) (E.faults errors.new)) }
+{
+    let mut text = String::new(alloc);
+    if fault.push(alloc, &mut text, n).is_err() {
+        say(errors, MEMORY_LINE);
+        return 70;
+    }
+    say(errors, text.as_str());
+    fault.status()
+}
+
+/// Says how the run ended, and gives its status. Only the line of a fault takes memory.
 fn report<E: Sink>(alloc: Global, end: End, errors: &mut E) -> u8
     ensures { Reports end result (E.written errors.old) (E.written errors.new) (Rose (E.faults errors.old) (E.faults errors.new)) }
 {
-    match end.line(alloc) {
-        Ok(line) => {
-            say(errors, line.as_str());
-            end.status()
+    match end {
+        End::Finished => {
+            say(errors, "");
+            0
         }
-        Err(_) => {
+        End::Faulty { line, fault } => report_fault(alloc, line, fault, errors),
+        End::ReadFault => {
+            say(errors, READ_FAULT_LINE);
+            3
+        }
+        End::WriteFault => {
+            say(errors, WRITE_FAULT_LINE);
+            4
+        }
+        End::OutOfMemory => {
             say(errors, MEMORY_LINE);
             70
         }
@@ -164,6 +106,16 @@ pub fn murmur<I: Source, O: Sink, E: Sink>(
     // Other words are no command: nothing is read, and nothing but the usage is written.
     ensures usage { (map string_bytes words.now ≡ codes "replay" ∷ [] → ⊥) → (result ≡ 1) × (input.new ≡ input.old) × (output.new ≡ output.old)
         × Tells usage_line (E.written errors.old) (E.written errors.new) (Rose (E.faults errors.old) (E.faults errors.new)) }
+    // And the usage is for other words alone.
+    ensures usage_alone { result ≡ 1 → map string_bytes words.now ≡ codes "replay" ∷ [] → ⊥ }
+    // A read or a write that failed is told as such.
+    ensures no_other_read { (result ≡ 3 → ⊥) → I.faults input.new ≡ I.faults input.old }
+    ensures no_other_write { (result ≡ 4 → ⊥) → O.faults output.new ≡ O.faults output.old }
+    // There is no other status, and these three have one line each.
+    ensures status { IsTrue (list_any (λ status. status == result) statuses) }
+    ensures read_line { result ≡ 3 → Tells read_fault_line (E.written errors.old) (E.written errors.new) (Rose (E.faults errors.old) (E.faults errors.new)) }
+    ensures write_line { result ≡ 4 → Tells write_fault_line (E.written errors.old) (E.written errors.new) (Rose (E.faults errors.old) (E.faults errors.new)) }
+    ensures memory_line { result ≡ 70 → Tells memory_line (E.written errors.old) (E.written errors.new) (Rose (E.faults errors.old) (E.faults errors.new)) }
 {
     if !is_replay(words) {
         say(errors, USAGE_LINE);

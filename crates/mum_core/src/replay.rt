@@ -1,25 +1,88 @@
 //! A recording, line by line: its transcript, and how the run over it ends.
 
-ghost use Rattle.std.specs.Prelude.{position, ◌≡◌, ◌≤◌, ◌<◌, ◌+◌, ◌^◌, ℕ, IfSome, [], true, IfOk, OnOk, OnErr, IsErrOf, length};
+ghost use Rattle.std.specs.Prelude.{position, ◌≡◌, ◌+◌, ◌<◌, ◌^◌, [], IfOk, IfSome, OnOk, false, length, option_map, string_bytes, true};
+ghost use Rattle.std.specs.List.{list_any};
 ghost use Rattle.mum_io.specs.Outside.{Appends, AppendsFront, Rose};
-ghost use Rattle.mum_core.specs.Replay.{replayed, ending_of, text_of, is_line_feed};
-ghost use Rattle.mum_core.specs.Runs.{Answers, Says, TakesStep, Advances, IsSplit, stopped};
-ghost use Rattle.mum_core.specs.Built.{is_built};
 ghost use Rattle.mum_record.specs.Grammar.{IsRecordable};
 ghost use Rattle.mum_record.specs.Reading.{step_of};
+ghost use Rattle.mum_core.specs.Built.{taken};
+ghost use Rattle.mum_core.specs.Core.{start};
+ghost use Rattle.mum_core.specs.Program.{Ends, WritesCounted};
+ghost use Rattle.mum_core.specs.Replay.{replayed, asks_again, ending_of, is_line_feed, login_in, logins_after, repeats};
+ghost use Rattle.mum_core.specs.Runs.{Answers, Says, Advances, IsSplit, StepAnswers, is_end, viewed_login};
 ghost use Rattle.mum_core.specs.declared.replay.TheConstants.{INPUT_LIMIT};
 
-use crate::machine::{Core, Effects, StepFault};
-use mum_base::{Items, Text};
+use crate::built::{frame_of, is_built};
+use crate::connection::OLDEST_VERSION;
+use crate::end::{End, LineFault};
+use crate::machine::{Core, StepFault};
+use mum_base::{Items, Octets, OutOfMemory};
+use mum_frame::kind::AUTHENTICATE;
 use mum_io::{Sink, write_all};
 use mum_record::{Step, is_empty_config, is_recording, read_step, read_workers};
-use std::alloc::{AllocError, AllocFailed, Global};
+use std::alloc::Global;
 
 /// The most bytes of a line, its line feed not counted.
 pub const LINE_LIMIT: usize = 131_200;
 
 /// The most bytes of a recording.
 pub const INPUT_LIMIT: usize = 67_108_864;
+
+/// A login that an earlier line asked for.
+#[derive(Debug, Drop)]
+pub struct Login {
+    pub connection: u32,
+    pub payload: Octets,
+}
+
+/// Whether a login is of this connection, or the same.
+fn repeats(logins: &[Login], connection: u32, payload: &[u8]) -> bool
+    ensures { result ≡ list_any (repeats connection payload.now) logins.now }
+{
+    logins.iter().any(|login| login.connection == connection || login.payload.as_slice() == payload)
+}
+
+/// The login that a step asks for: its connection and its payload.
+fn login_in(step: &Step) -> Option<(u32, &[u8])>
+    requires { IsRecordable step.now }
+    ensures { IfSome (taken step.now) (λ step. option_map viewed_login result ≡ login_in step) }
+{
+    let Step::Frame { connection, bytes } = step else {
+        return None;
+    };
+    let frame = frame_of(bytes.as_slice());
+    if frame.kind != AUTHENTICATE {
+        return None;
+    }
+    Some((*connection, frame.payload))
+}
+
+/// Whether a step asks for a login that is not built, because of what earlier lines asked.
+fn asks_again(core: &Core, logins: &[Login], step: &Step) -> bool
+    requires { IsRecordable step.now }
+    ensures { IfSome (taken step.now) (λ step. result ≡ asks_again core.now logins.now step) }
+{
+    match login_in(step) {
+        Some((connection, payload)) => {
+            core.is_old(connection) || repeats(logins, connection, payload)
+        }
+        None => false,
+    }
+}
+
+/// Keeps the login that a step asked for.
+fn keep_login(alloc: Global, logins: &mut Items<Login>, step: &Step) -> Result<(), OutOfMemory>
+    requires { IsRecordable step.now }
+    ensures { IfSome (taken step.now) (λ step. OnOk result (logins.new ≡ logins_after logins.old step)) }
+{
+    match login_in(step) {
+        Some((connection, payload)) => logins.push(Login {
+            connection,
+            payload: Octets::of(alloc, payload)?,
+        }),
+        None => Ok(()),
+    }
+}
 
 /// Which lines may come next.
 #[derive(Debug, Drop)]
@@ -30,136 +93,112 @@ pub enum Phase {
     Workers,
     /// The line of the configuration.
     Config(u8),
-    /// The lines of steps.
-    Running(Core),
+    /// The lines of steps, behind those that asked for these logins.
+    Running(Core, Items<Login>),
     /// None.
     Over,
 }
 
-/// What is wrong with a line.
-#[derive(Clone, Copy, Debug, PartialEq, Eq)]
-pub enum LineFault {
-    /// It has more than `LINE_LIMIT` bytes, or the recording passes `INPUT_LIMIT` bytes in it.
-    TooLong,
-    /// It is not in the grammar of recordings.
-    BadRecording,
-    /// It asks for what is not built yet.
-    NotBuilt,
-    /// Its step is not allowed: what the step gave, against what stands.
-    IllegalStep { given: u64, against: u64 },
+/// The end of a run at a fault of line `n`.
+fn faulty(n: u64, fault: LineFault) -> End
+    ensures { result ≡ End.Faulty n fault }
+{
+    End::Faulty { line: n, fault }
 }
 
-/// How a run over a recording ended.
-#[derive(Clone, Copy, Debug, PartialEq, Eq)]
-pub enum Ending {
-    Finished,
-    Faulty { line: u64, fault: LineFault },
-}
-
-/// Why a line was not taken.
-#[derive(Debug, Drop)]
-enum Stop {
-    Fault(LineFault),
-    OutOfMemory,
-}
-
-impl From<AllocError> for Stop {
-    ghost use Rattle.std.specs.Prelude.{◌≡◌};
-    ghost use Rattle.mum_core.specs.declared.replay.Stop.TheVariants.{OutOfMemory};
-
-    ghost from_gives = { λ _ stop. stop ≡ OutOfMemory };
-
-    fn from(_: AllocError) -> Stop {
-        Stop::OutOfMemory
-    }
-}
-
-impl From<LineFault> for Stop {
-    ghost use Rattle.std.specs.Prelude.{◌≡◌};
-    ghost use Rattle.mum_core.specs.declared.replay.Stop.TheVariants.{Fault};
-
-    ghost from_gives = { λ fault stop. stop ≡ Fault fault };
-
-    fn from(fault: LineFault) -> Stop {
-        Stop::Fault(fault)
-    }
-}
-
-// The step that a line says.
-fn read(alloc: Global, line: &[u8]) -> Result<Step, Stop>
-    ensures said { Says (step_of line.now) result }
+/// The step that line `n` says.
+fn read(alloc: Global, n: u64, line: &[u8]) -> Result<Step, End>
+    ensures said { Says n (step_of line.now) result }
     ensures recordable { IfOk result IsRecordable }
 {
     match read_step(alloc, line) {
         Ok(step) => Ok(step),
-        Err(mum_record::LineFault::NotALine) => Err(Stop::Fault(LineFault::BadRecording)),
-        Err(mum_record::LineFault::OutOfMemory) => Err(Stop::OutOfMemory),
+        Err(mum_record::LineFault::NotALine) => Err(faulty(n, LineFault::BadRecording)),
+        Err(mum_record::LineFault::OutOfMemory) => Err(End::OutOfMemory),
     }
 }
 
-// Takes a step that is built.
-fn take(core: &mut Core, step: &Step) -> Result<Effects, Stop>
-    requires recordable { IsRecordable step.now }
-    requires built { is_built core.old step.now ≡ true }
-    ensures { TakesStep core.old step.now result core.new }
+/// Takes line `n`, which says a step, and appends what it tells.
+fn take_step(
+    alloc: Global,
+    core: &mut Core,
+    logins: &mut Items<Login>,
+    n: u64,
+    step: &Step,
+    text: &mut String,
+) -> Result<(), End>
+    requires { IsRecordable step.now }
+    ensures { StepAnswers n core.old logins.old step.now (string_bytes text.old) result core.new logins.new (string_bytes text.new) }
 {
-    match core.step(step) {
-        Ok(lines) => Ok(lines),
+    if !is_built(step) || asks_again(core, logins.as_slice(), step) {
+        return Err(faulty(n, LineFault::NotBuilt));
+    }
+    match core.take(step, text) {
+        Ok(()) => {}
         Err(StepFault::Illegal { given, against }) => {
-            Err(Stop::Fault(LineFault::IllegalStep { given, against }))
+            return Err(faulty(n, LineFault::IllegalStep { given, against }));
         }
-        Err(StepFault::OutOfMemory) => Err(Stop::OutOfMemory),
+        Err(StepFault::OutOfMemory) => return Err(End::OutOfMemory),
     }
+    text.push_str("\n")?;
+    keep_login(alloc, logins, step)?;
+    Ok(())
 }
 
-fn no_lines(alloc: Global) -> Effects
-    ensures { result ≡ [] }
+/// Whether a step is the last.
+fn is_end(step: &Step) -> bool
+    ensures { result ≡ is_end step.now }
 {
-    Items::from_vec(Vec::new(alloc))
+    matches!(step, Step::End)
+}
+
+/// The phase of steps, at a core that nothing happened to.
+fn running(alloc: Global, workers: u8) -> Result<Phase, OutOfMemory>
+    ensures { IfOk result (λ phase. phase ≡ Phase.Running (start workers) []) }
+{
+    let core = Core::open(alloc, workers, &[])?;
+    Ok(Phase::Running(core, Items::new(alloc)))
 }
 
 impl Phase {
-    // Takes the next line, which is not too long, and gives the lines that it adds to the transcript.
+    /// Takes line `n`, which is not too long, and appends what it tells to the transcript, which has
+    /// nothing yet.
     #[tactic(auto, unfolding(crate::specs::Replay::answer))]
-    fn take(&mut self, alloc: Global, line: &[u8]) -> Result<Effects, Stop>
-        ensures { Answers self.old line.now result self.new }
+    fn take(&mut self, alloc: Global, n: u64, line: &[u8], text: &mut String) -> Result<(), End>
+        requires { string_bytes text.old ≡ [] }
+        ensures { Answers n self.old line.now result self.new (string_bytes text.new) }
     {
         match self {
             Phase::Head => {
                 if !is_recording(line) {
-                    return Err(Stop::Fault(LineFault::BadRecording));
+                    return Err(faulty(n, LineFault::BadRecording));
                 }
                 *self = Phase::Workers;
-                Ok(no_lines(alloc))
             }
             Phase::Workers => {
                 let Some(workers) = read_workers(line) else {
-                    return Err(Stop::Fault(LineFault::BadRecording));
+                    return Err(faulty(n, LineFault::BadRecording));
                 };
                 *self = Phase::Config(workers);
-                Ok(no_lines(alloc))
             }
             Phase::Config(workers) => {
                 if !is_empty_config(line) {
-                    return Err(Stop::Fault(LineFault::BadRecording));
+                    return Err(faulty(n, LineFault::BadRecording));
                 }
-                let core = Core::open(alloc, *workers, &[])?;
-                *self = Phase::Running(core);
-                Ok(no_lines(alloc))
+                *self = running(alloc, *workers)?;
             }
-            Phase::Running(core) => {
-                let step = read(alloc, line)?;
-                if !core.is_built(&step)? {
-                    return Err(Stop::Fault(LineFault::NotBuilt));
+            Phase::Running(core, logins) => {
+                let step = read(alloc, n, line)?;
+                take_step(alloc, core, logins, n, &step, text)?;
+                if !is_end(&step) {
+                    return Ok(());
                 }
-                let lines = take(core, &step)?;
-                if let Step::End = step {
-                    *self = Phase::Over;
-                }
-                Ok(lines)
+                *self = Phase::Over;
+                return Ok(());
             }
-            Phase::Over => Err(Stop::Fault(LineFault::BadRecording)),
+            Phase::Over => return Err(faulty(n, LineFault::BadRecording)),
         }
+        Ok(())
     }
 }
 
@@ -171,62 +210,52 @@ struct Run {
     line: u64,
     /// How many bytes may still come.
     left: usize,
+    /// What the last line told.
+    text: String,
 }
 
 impl Run {
-    fn new() -> Run
-        ensures { result ≡ record { phase = Phase.Head; line = 1; left = INPUT_LIMIT } }
+    fn new(alloc: Global) -> Run
+        ensures phase { result.phase ≡ Phase.Head }
+        ensures line { result.line ≡ 1 }
+        ensures left { result.left ≡ INPUT_LIMIT }
     {
         Run {
             phase: Phase::Head,
             line: 1,
             left: INPUT_LIMIT,
+            text: String::new(alloc),
         }
     }
 
-    // Takes the next line, which a line feed ends.
-    fn take(&mut self, alloc: Global, line: &[u8]) -> Result<Effects, Stop>
+    /// Takes the next line, which a line feed ends.
+    fn take(&mut self, alloc: Global, line: &[u8]) -> Result<(), End>
         requires { self.old.line + 1 < 2 ^ 64 }
         ensures { Advances self.old line.now result self.new }
     {
         if line.len() > LINE_LIMIT || line.len() >= self.left {
-            return Err(Stop::Fault(LineFault::TooLong));
+            return Err(faulty(self.line, LineFault::TooLong));
         }
-        let lines = self.phase.take(alloc, line)?;
+        self.text.clear();
+        self.phase.take(alloc, self.line, line, &mut self.text)?;
         self.line += 1;
         self.left -= line.len() + 1;
-        Ok(lines)
+        Ok(())
     }
 
-    // How the run ends at a line that was not taken.
-    fn stop(&self, stop: Stop) -> Result<Ending, Cut>
-        ensures { result ≡ stopped self.now.line stop }
-    {
-        match stop {
-            Stop::Fault(fault) => Ok(Ending::Faulty {
-                line: self.line,
-                fault,
-            }),
-            Stop::OutOfMemory => Err(Cut::OutOfMemory),
-        }
-    }
-
-    // How the run ends before bytes that no line feed ends.
-    fn end(&self, rest: &[u8]) -> Ending
+    /// How the run ends before bytes that no line feed ends.
+    fn end(&self, rest: &[u8]) -> End
         ensures { result ≡ ending_of self.now.phase self.now.line self.now.left rest.now }
     {
         if let (Phase::Over, []) = (&self.phase, rest) {
-            return Ending::Finished;
+            return End::Finished;
         }
         let fault = if rest.len() > LINE_LIMIT || rest.len() > self.left {
             LineFault::TooLong
         } else {
             LineFault::BadRecording
         };
-        Ending::Faulty {
-            line: self.line,
-            fault,
-        }
+        faulty(self.line, fault)
     }
 }
 
@@ -236,7 +265,7 @@ fn first_line_feed(bytes: &[u8]) -> Option<usize>
     bytes.iter().position(|byte| *byte == b'\n')
 }
 
-// The first line, and what follows its line feed.
+/// The first line, and what follows its line feed.
 fn split_line(bytes: &[u8]) -> Option<(&[u8], &[u8])>
     ensures lines { IsSplit bytes.now result }
     ensures shorter { IfSome result (λ parts. length parts.0.now + 1 + length parts.1.now ≡ length bytes.now) }
@@ -247,66 +276,31 @@ fn split_line(bytes: &[u8]) -> Option<(&[u8], &[u8])>
     }
 }
 
-/// Why a run over a recording was cut short.
-#[derive(Clone, Copy, Debug, PartialEq, Eq)]
-pub enum Cut {
-    /// The transcript could not be written.
-    WriteFault,
-    OutOfMemory,
-}
-
-impl From<AllocError> for Cut {
-    ghost use Rattle.std.specs.Prelude.{◌≡◌};
-    ghost use Rattle.mum_core.specs.declared.replay.Cut.TheVariants.{OutOfMemory};
-
-    ghost from_gives = { λ _ cut. cut ≡ OutOfMemory };
-
-    fn from(_: AllocError) -> Cut {
-        Cut::OutOfMemory
-    }
-}
-
-// The lines, each with its line feed.
-fn joined(alloc: Global, lines: &[Text]) -> Result<Vec<u8>, AllocError>
-    ensures { IfOk result (λ text. text.items ≡ text_of lines.now) }
+/// Writes what a line told. Whether all of it was written.
+fn wrote<O: Sink>(output: &mut O, text: &str) -> bool
+    ensures whole { result ≡ true → Appends (O.written output.old) (O.written output.new) text.now × (O.faults output.new ≡ O.faults output.old) }
+    ensures front { result ≡ false → AppendsFront (O.written output.old) (O.written output.new) text.now × Rose (O.faults output.old) (O.faults output.new) }
 {
-    let mut text = Vec::new(alloc);
-    for line in lines {
-        text.extend_from_slice(line.as_slice())?;
-        text.push(b'\n')?;
-    }
-    Ok(text)
-}
-
-fn write_lines<O: Sink>(alloc: Global, output: &mut O, lines: &[Text]) -> Result<(), Cut>
-    ensures ok { OnOk result (Appends (O.written output.old) (O.written output.new) (text_of lines.now)) }
-    ensures front { OnErr result (AppendsFront (O.written output.old) (O.written output.new) (text_of lines.now)) }
-    ensures cause { IsErrOf result Cut.WriteFault → Rose (O.faults output.old) (O.faults output.new) }
-    ensures never_falls { O.faults output.old ≤ O.faults output.new }
-{
-    let text = joined(alloc, lines)?;
-    match write_all(output, &text) {
-        Ok(()) => Ok(()),
-        Err(_) => Err(Cut::WriteFault),
-    }
+    write_all(output, text.as_bytes()).is_ok()
 }
 
 /// Writes the transcript of a recording, line by line, and tells how the run over it ended.
-pub fn replay<O: Sink>(alloc: Global, bytes: &[u8], output: &mut O) -> Result<Ending, Cut>
-    ensures ending { IfOk result (λ ending. ending ≡ (replayed bytes.now).ending) }
-    ensures whole { OnOk result (Appends (O.written output.old) (O.written output.new) (replayed bytes.now).text) }
-    ensures front { OnErr result (AppendsFront (O.written output.old) (O.written output.new) (replayed bytes.now).text) }
-    ensures cause { IsErrOf result Cut.WriteFault → Rose (O.faults output.old) (O.faults output.new) }
-    ensures never_falls { O.faults output.old ≤ O.faults output.new }
+pub fn replay<O: Sink>(alloc: Global, bytes: &[u8], output: &mut O) -> End
+    ensures ends { Ends (replayed bytes.now) result (O.written output.old) (O.written output.new) }
+    ensures counted { WritesCounted result (O.faults output.old) (O.faults output.new) }
+    ensures no_read { result ≡ End.ReadFault → ⊥ }
 {
-    let mut run = Run::new();
+    let mut run = Run::new(alloc);
     let mut rest = bytes;
     'lines: while let Some((line, behind)) = split_line(rest) {
         match run.take(alloc, line) {
-            Ok(lines) => write_lines(alloc, output, lines.as_slice())?,
-            Err(stop) => return run.stop(stop),
+            Ok(()) => {}
+            Err(end) => return end,
+        }
+        if !wrote(output, run.text.as_str()) {
+            return End::WriteFault;
         }
         rest = behind;
     }
-    Ok(run.end(rest))
+    run.end(rest)
 }

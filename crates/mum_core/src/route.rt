@@ -1,17 +1,15 @@
 //! Who hears a packet, and the copies for them.
 
-ghost use Rattle.std.specs.Prelude.{◌≡◌, ◌<◌, ◌≤◌, [], Some, length, map, filter, IfOk, not};
+ghost use Rattle.std.specs.Prelude.{◌≡◌, ◌<◌, Some, map, filter, IfOk, not};
 ghost use Rattle.std.specs.List.{list_any};
-ghost use Rattle.mum_voice.specs.Packet.{plain_parts, IsPacket};
 ghost use Rattle.mum_core.specs.State.{route, is_session};
-ghost use Rattle.mum_core.specs.Steps.{copy_to, copies_for, audience_in, copies_in};
+ghost use Rattle.mum_core.specs.steps.Look.{audience, copies, copy_to};
 
 use crate::edit::Session;
 use crate::outbox::CopyBytes;
 use crate::slot::ValidSlot;
 use crate::worker::{Held, Outgoing};
 use mum_base::{OutOfMemory, SessionId};
-use mum_voice::Packet;
 use std::alloc::Global;
 use std::collections::VecDeque;
 use std::marker::Model;
@@ -57,13 +55,6 @@ pub struct Member {
     pub context: Context,
 }
 
-/// Who hears a packet, and the copies for them in the same order.
-#[derive(Debug, Drop)]
-pub struct Addressed {
-    pub members: Vec<Member>,
-    pub copies: VecDeque<Outgoing>,
-}
-
 /// Whether the speaker is one of these sessions.
 fn is_among(sessions: &[Session], speaker: u32) -> bool
     ensures { result ≡ list_any (is_session speaker) sessions.now }
@@ -87,7 +78,7 @@ fn others(alloc: Global, sessions: &[Session], speaker: u32) -> Result<Vec<Membe
 }
 
 /// Who of these sessions hears what the speaker says to a target.
-fn audience(
+fn route(
     alloc: Global,
     sessions: &[Session],
     speaker: SessionId,
@@ -101,18 +92,25 @@ fn audience(
     others(alloc, sessions, speaker.0)
 }
 
-/// The copy of a packet for one member.
-fn copy_for(
+/// Who of these sessions hears a packet that a worker holds.
+pub(crate) fn audience(
     alloc: Global,
-    member: &Member,
-    speaker: SessionId,
-    packet: &Packet<'_>,
-) -> Result<Outgoing, OutOfMemory>
-    requires { IsPacket (plain_parts packet.now) }
-    ensures { IfOk result (λ copy. copy ≡ copy_to speaker (plain_parts packet.now) member.now) }
+    sessions: &[Session],
+    held: &Held,
+) -> Result<Vec<Member>, OutOfMemory>
+    ensures { IfOk result (λ members. members.items ≡ audience (record { sessions = sessions.now }) (Some held.now)) }
+{
+    route(alloc, sessions, held.speaker(), held.packet().target)
+}
+
+/// The copy of a packet for one member.
+fn copy_for(alloc: Global, held: &Held, member: &Member) -> Result<Outgoing, OutOfMemory>
+    ensures { IfOk result (λ copy. copy ≡ copy_to held.now member.now) }
 {
     let context = member.context;
-    let bytes = packet.copy_for(speaker, context.number(), true);
+    let bytes = held
+        .packet()
+        .copy_for(held.speaker(), context.number(), true);
     Ok(Outgoing {
         to: member.session,
         slot: member.slot,
@@ -122,38 +120,16 @@ fn copy_for(
 }
 
 /// A copy for each member, in their order.
-fn copies(
+pub(crate) fn copies(
     alloc: Global,
+    held: &Held,
     members: &[Member],
-    speaker: SessionId,
-    packet: &Packet<'_>,
 ) -> Result<VecDeque<Outgoing>, OutOfMemory>
-    requires { IsPacket (plain_parts packet.now) }
-    ensures { IfOk result (λ copies. copies.items ≡ copies_for members.now speaker (plain_parts packet.now)) }
+    ensures { IfOk result (λ copies. copies.items ≡ map (copy_to held.now) members.now) }
 {
     let mut copies = Vec::with_capacity(alloc, members.len())?;
     for member in members {
-        copies.push(copy_for(alloc, member, speaker, packet)?)?;
+        copies.push(copy_for(alloc, held, member)?)?;
     }
     Ok(VecDeque::from_vec(copies))
-}
-
-/// Who of these sessions hears a packet that a worker holds, and the copies for them.
-pub(crate) fn address(
-    alloc: Global,
-    sessions: &[Session],
-    held: &Held,
-) -> Result<Addressed, OutOfMemory>
-    ensures members { IfOk result (λ a. a.members.items ≡ audience_in (record { sessions = sessions.now }) (Some held.now)) }
-    ensures copies { IfOk result (λ a. a.copies.items ≡ copies_in (record { sessions = sessions.now }) (Some held.now)) }
-{
-    let Ok(packet) = Packet::parse(held.packet.as_slice()) else {
-        return Ok(Addressed {
-            members: Vec::new(alloc),
-            copies: VecDeque::new(alloc),
-        });
-    };
-    let members = audience(alloc, sessions, held.speaker, packet.target)?;
-    let copies = copies(alloc, &members, held.speaker, &packet)?;
-    Ok(Addressed { members, copies })
 }

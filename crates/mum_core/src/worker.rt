@@ -1,15 +1,17 @@
 //! What the core keeps of a voice worker.
 
-ghost use Rattle.std.specs.Prelude.{◌≡◌, ◌++◌, Some, None, [], max, is_some, slice_get, drop};
+ghost use Rattle.std.specs.Prelude.{◌≡◌, Some, None, max, slice_get, slice_index_or, drop, IsOk};
 ghost use Rattle.std.specs.Option.{option_copied};
-ghost use Rattle.mum_core.specs.Start.{idle};
-ghost use Rattle.mum_core.specs.Illegal.{in_hand, bound_of};
-ghost use Rattle.mum_core.specs.Steps.{noted, held_at};
+ghost use Rattle.mum_voice.specs.Packet.{packet, plain_parts, IsPacket};
+ghost use Rattle.mum_core.specs.Kept.{parts_in};
+ghost use Rattle.mum_core.specs.Lists.{changed_at};
+ghost use Rattle.mum_core.specs.Worker.{idle, in_hand, least_look};
 
 use crate::outbox::CopyBytes;
 use crate::route::Context;
 use crate::slot::ValidSlot;
 use mum_base::{Octets, SessionId};
+use mum_voice::Packet;
 use std::alloc::Global;
 use std::collections::VecDeque;
 use std::marker::Model;
@@ -17,8 +19,44 @@ use std::marker::Model;
 /// A voice packet that a worker took from a connection and has not looked for yet.
 #[derive(Debug, Drop)]
 pub struct Held {
-    pub speaker: SessionId,
-    pub packet: Octets,
+    speaker: SessionId,
+    bytes: Octets,
+}
+
+impl Model for Held {
+    ghost use Rattle.std.specs.Prelude.{IsOk};
+    ghost use Rattle.mum_voice.specs.Packet.{packet};
+    ghost use Rattle.mum_core.specs.Kept.{parts_in};
+    ghost use Rattle.mum_core.specs.Worker.{HeldPacket};
+
+    ghost Value = { HeldPacket };
+
+    ghost view = { λ h. record { speaker = h.speaker; parts = parts_in (packet h.bytes) } };
+
+    ghost invariant = { λ h. IsOk (packet h.bytes) };
+}
+
+impl Held {
+    /// Bytes that are a packet, of this speaker.
+    pub fn new(speaker: SessionId, bytes: Octets) -> Held
+        requires { IsOk (packet bytes) }
+        ensures { result ≡ record { speaker = speaker; parts = parts_in (packet bytes) } }
+    {
+        Held { speaker, bytes }
+    }
+
+    pub fn speaker(&self) -> SessionId
+        ensures { result ≡ self.now.speaker }
+    {
+        self.speaker
+    }
+
+    pub fn packet(&self) -> Packet<'_>
+        ensures parts { plain_parts result ≡ self.now.parts }
+        ensures proper { IsPacket (plain_parts result) }
+    {
+        Packet::parse(self.bytes.as_slice()).unwrap()
+    }
 }
 
 /// A copy of a packet that is still to be offered.
@@ -64,7 +102,7 @@ impl Worker {
 
     /// How much it has in hand: 1 for a packet that it holds, else its copies.
     pub fn in_hand(&self) -> u64
-        ensures { result ≡ in_hand (Some self.now) }
+        ensures { result ≡ in_hand self.now }
     {
         if self.held.is_some() {
             1
@@ -74,8 +112,8 @@ impl Worker {
     }
 
     /// The least revision of its next look.
-    pub fn bound(&self) -> u64
-        ensures { result ≡ bound_of (Some self.now) }
+    pub fn least_look(&self) -> u64
+        ensures { result ≡ least_look self.now }
     {
         self.seen.max(self.told)
     }
@@ -93,21 +131,22 @@ impl Worker {
         self.copies.front()
     }
 
-    pub fn hold(&mut self, held: Held)
+    /// It holds a packet.
+    fn hold(&mut self, held: Held)
         ensures { self.new ≡ record self.old { held = Some held } }
     {
         self.held = Some(held);
     }
 
-    /// Notes a revision that one of its connections was told.
-    pub fn note(&mut self, revision: u64)
+    /// One of its connections was told a revision.
+    fn note(&mut self, revision: u64)
         ensures { self.new ≡ record self.old { told = max self.old.told revision } }
     {
         self.told = self.told.max(revision);
     }
 
-    /// Lets go of its packet, and has these copies of it to offer.
-    pub fn look(&mut self, revision: u64, copies: VecDeque<Outgoing>)
+    /// It lets go of its packet, and has these copies of it to offer.
+    fn look(&mut self, revision: u64, copies: VecDeque<Outgoing>)
         ensures { self.new ≡ record self.old { seen = revision; held = None; copies = copies.items } }
     {
         self.seen = revision;
@@ -115,7 +154,7 @@ impl Worker {
         self.copies = copies;
     }
 
-    pub fn take_copy(&mut self) -> Option<Outgoing>
+    fn take_copy(&mut self) -> Option<Outgoing>
         ensures copy { result ≡ slice_get self.old.copies 0 }
         ensures others { self.new ≡ record self.old { copies = drop 1 self.old.copies } }
     {
@@ -123,32 +162,37 @@ impl Worker {
     }
 }
 
-/// Notes a revision at one of these workers, if one was told.
-pub(crate) fn note_told(workers: &mut Vec<Worker>, worker: usize, revision: Option<u64>)
-    ensures { workers.new.items ≡ noted workers.old.items worker revision }
+/// The worker at a place holds a packet.
+pub fn hold_at(workers: &mut Vec<Worker>, place: usize, held: Held)
+    ensures { workers.new.items ≡ changed_at place (λ w. record w { held = Some held }) workers.old.items }
 {
-    if let Some(revision) = revision {
-        if let Some(worker) = workers.get_mut(worker) {
-            worker.note(revision);
-        }
-    }
-}
-
-/// How much a worker has in hand: nothing where there is none of that number.
-pub(crate) fn in_hand_of(workers: &[Worker], worker: usize) -> u64
-    ensures { result ≡ in_hand (slice_get workers.now worker) }
-{
-    match workers.get(worker) {
-        Some(worker) => worker.in_hand(),
-        None => 0,
-    }
-}
-
-/// A worker holds a packet, where there is one of that number.
-pub(crate) fn hold_at(workers: &mut Vec<Worker>, worker: usize, held: Held)
-    ensures { workers.new.items ≡ held_at workers.old.items worker held }
-{
-    if let Some(worker) = workers.get_mut(worker) {
+    if let Some(worker) = workers.get_mut(place) {
         worker.hold(held);
     }
+}
+
+/// A connection of the worker at a place was told a revision.
+pub fn note_at(workers: &mut Vec<Worker>, place: usize, revision: u64)
+    ensures { workers.new.items ≡ changed_at place (λ w. record w { told = max w.told revision }) workers.old.items }
+{
+    if let Some(worker) = workers.get_mut(place) {
+        worker.note(revision);
+    }
+}
+
+/// The worker at a place looked at a revision, and has these copies to offer.
+pub fn look_at(workers: &mut Vec<Worker>, place: usize, revision: u64, copies: VecDeque<Outgoing>)
+    ensures { workers.new.items ≡ changed_at place (λ w. record w { seen = revision; held = None; copies = copies.items }) workers.old.items }
+{
+    if let Some(worker) = workers.get_mut(place) {
+        worker.look(revision, copies);
+    }
+}
+
+/// Takes the next copy of the worker at a place.
+pub fn take_copy_at(workers: &mut Vec<Worker>, place: usize) -> Option<Outgoing>
+    ensures others { workers.new.items ≡ changed_at place (λ w. record w { copies = drop 1 w.copies }) workers.old.items }
+    ensures copy { result ≡ slice_get (slice_index_or workers.old.items place idle).copies 0 }
+{
+    workers.get_mut(place)?.take_copy()
 }

@@ -1,4 +1,4 @@
-use Rattle.std.proofs.Common.{◌≤◌, length}
+use Rattle.std.proofs.Common.{◌≡◌, length}
 use Rattle.mum_core.proofs.Underway.{Underway}
 use Rattle.mum_core.proofs.replay.replay.Given as goal
 
@@ -8,7 +8,7 @@ invariant-lines g l =
     let faults = g.O.Sink.faults in
     record {
       underway : Underway (written l.fn.output) (written l.output) l.run.phase l.run.line l.run.left l.rest l.fn.bytes;
-      never_falls : faults l.fn.output ≤ faults l.output;
+      no_fault : faults l.output ≡ faults l.fn.output;
     }
 
 abbrev pub decreases-lines : goal.decreases-lines

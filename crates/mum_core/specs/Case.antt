@@ -1,0 +1,31 @@
+-- When a step is not allowed: its cases, in the order in which they are tested.
+use Rattle.std.specs.Prelude.{◌≡◌, ℕ, Result, Err, not, Bool, List, [], ◌∷◌, length, Option, Some, None, nat_lt, if◌then◌else◌}
+use Rattle.mum_core.specs.declared.machine.StepFault.{StepFault}
+use Rattle.mum_core.specs.declared.machine.StepFault.TheVariants.{Illegal, OutOfMemory}
+use Rattle.mum_core.specs.Core.{CoreState, is_opened}
+
+-- a case: whether it stands, and the numbers given and against
+pub record Case : Type 0 where
+  pub stands : Bool
+  pub given : ℕ
+  pub against : ℕ
+
+-- the numbers of the first case that stands
+abbrev pub first_that_stands : List Case → Option (ℕ × ℕ)
+first_that_stands [] = None
+first_that_stands (case ∷ cases) = if case.stands then Some (case.given, case.against) else first_that_stands cases
+
+-- the numbers that a fault names; none for want of memory
+abbrev pub named_cause : StepFault → Option (ℕ × ℕ)
+named_cause OutOfMemory = None
+named_cause (Illegal given against) = Some (given, against)
+
+-- memory ran out, and nothing changed
+abbrev pub IsStarved : {A : Type 0} → CoreState → Result A StepFault → CoreState → Type 0
+IsStarved old result new = (result ≡ Err OutOfMemory) × (new ≡ old)
+
+abbrev pub not_opened : CoreState → ℕ → Case
+not_opened core c = record { stands = not (is_opened core c); given = c; against = length core.connections }
+
+abbrev pub no_worker : CoreState → ℕ → Case
+no_worker core w = record { stands = not (nat_lt w (length core.workers)); given = w; against = length core.workers }

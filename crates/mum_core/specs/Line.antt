@@ -1,0 +1,23 @@
+-- A line of the transcript as its words, without its line feed.
+use Rattle.std.specs.Prelude.{ℕ, List, ◌∷◌, [], ◌++◌, map, codes, decimal}
+use Rattle.std.specs.List.{flat_map, join_with_byte}
+use Rattle.mum_core.specs.declared.connection.Verdict.{Verdict}
+use Rattle.mum_core.specs.declared.connection.Verdict.TheVariants.{Accepted}
+use Rattle.mum_record.specs.Words.{line_of_words}
+
+-- the text of lines, parted by line feeds
+abbrev pub joined : List (List (List ℕ)) → List ℕ
+joined lines = join_with_byte 10 (map line_of_words lines)
+
+-- the same, each ended by a line feed
+abbrev pub text_of : List (List (List ℕ)) → List ℕ
+text_of lines = flat_map (λ words. line_of_words words ++ 10 ∷ []) lines
+
+-- a verdict in words, as journals have it
+abbrev pub verdict_words : Verdict → List (List ℕ)
+verdict_words (Accepted revision seat) = codes "accepted" ∷ decimal revision ∷ []
+
+-- the same of a connection, whose number stands behind the first word
+abbrev pub said_of : ℕ → List (List ℕ) → List (List ℕ)
+said_of c [] = []
+said_of c (word ∷ words) = word ∷ decimal c ∷ words

@@ -1,0 +1,52 @@
+-- What forbids a step, what it does, and what the transcript gains by it: a case a step.
+use Rattle.std.specs.Prelude.{ℕ, List, Option}
+use Rattle.mum_core.specs.Action.{action}
+use Rattle.mum_core.specs.Built.{BuiltStep, Open, Frame, Edit, Publish, Tell, Look, Offer, Drain, End}
+use Rattle.mum_core.specs.Case.{Case, first_that_stands}
+use Rattle.mum_core.specs.Core.{CoreState, connection_at}
+use Rattle.mum_core.specs.steps.Open as open_step
+use Rattle.mum_core.specs.steps.Frame as frame_step
+use Rattle.mum_core.specs.steps.Edit as edit_step
+use Rattle.mum_core.specs.steps.Publish as publish_step
+use Rattle.mum_core.specs.steps.Tell as tell_step
+use Rattle.mum_core.specs.steps.Look as look_step
+use Rattle.mum_core.specs.steps.Offer as offer_step
+use Rattle.mum_core.specs.steps.Drain as drain_step
+use Rattle.mum_core.specs.steps.End as end_step
+
+abbrev pub forbids : CoreState → BuiltStep → List Case
+forbids core (Open c w) = open_step.forbids core c w
+forbids core (Frame c kind payload) = frame_step.forbids core c
+forbids core (Edit c) = edit_step.forbids core c
+forbids core Publish = publish_step.forbids
+forbids core (Tell c note) = tell_step.forbids core c note
+forbids core (Look w revision) = look_step.forbids core w revision
+forbids core (Offer w) = offer_step.forbids core w
+forbids core (Drain c) = drain_step.forbids core c
+forbids core End = end_step.forbids
+
+abbrev pub does : CoreState → BuiltStep → CoreState
+does core (Open c w) = open_step.does core w
+does core (Frame c kind payload) = frame_step.does core c (action (connection_at core c).seat kind payload)
+does core (Edit c) = edit_step.does core c
+does core Publish = publish_step.does core
+does core (Tell c note) = tell_step.does core c note
+does core (Look w revision) = look_step.does core w revision
+does core (Offer w) = offer_step.does core w
+does core (Drain c) = drain_step.does core c
+does core End = end_step.does core
+
+abbrev pub lines : CoreState → BuiltStep → List (List (List ℕ))
+lines core (Open c w) = open_step.lines c w
+lines core (Frame c kind payload) = frame_step.lines c (action (connection_at core c).seat kind payload)
+lines core (Edit c) = edit_step.lines core c
+lines core Publish = publish_step.lines core
+lines core (Tell c note) = tell_step.lines c note
+lines core (Look w revision) = look_step.lines core w revision
+lines core (Offer w) = offer_step.lines core w
+lines core (Drain c) = drain_step.lines core c
+lines core End = end_step.lines core
+
+-- the numbers of the first case that forbids the step, if any does
+abbrev pub illegal : CoreState → BuiltStep → Option (ℕ × ℕ)
+illegal core step = first_that_stands (forbids core step)

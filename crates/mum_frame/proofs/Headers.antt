@@ -1,4 +1,4 @@
--- What a header says of the bytes behind it, and that a frame is read back from its frame_spelling.
+-- What a header says of the bytes behind it, and that a frame is read back from its spelling.
 use Rattle.std.proofs.Common.{◌≡◌, ℕ, ◌+◌, ◌*◌, ◌/◌, ◌%◌, ◌^◌, ◌-◌, ◌<◌, ◌≤◌, List, [], ◌∷◌, ◌++◌, length, take, drop, get_or, refl, sym, ap, ◌∙◌, arith, length-append, length-drop}
 use Rattle.std.proofs.lemmas.List.{drop_at, take_at, take-append-drop, drop-drop, length-take-le, take_rest}
 use Rattle.byteorder.specs.Endian.{big_bytes, big_number}
@@ -94,7 +94,7 @@ four_bytes-is a b c d rest ha hb hc hd =
     let at_d : (a * 16777216 + (b * 65536 + (c * 256 + (d * 1 + 0)))) % 256 ≡ d = omega arith in
     cc
 
--- bytes are the frame_spelling of what their header names, and what follows
+-- bytes are the spelling of what their header names, and what follows
 pub header_is : (bytes : List ℕ) → ((k : ℕ) → get_or bytes k 0 < 256) → HEADER_LENGTH ≤ length bytes
     → bytes ≡ big_bytes 2 (big_number 2 bytes) ++ (big_bytes 4 (named_length bytes) ++ drop HEADER_LENGTH bytes)
 unfolding named_length

@@ -151,7 +151,7 @@ row_stands (first ∷ rows) id row found =
     (cases_Bool (eqb (number first) id.0))
 
 -- what holds of a channel that is there holds of its row
-any_there : (p : ChannelId → Bool) (rows : List Row) (id : ChannelId) → is_there rows id ≡ true → p id ≡ true → list_any (λ row. p row.channel.id) rows ≡ true
+pub any_there : (p : ChannelId → Bool) (rows : List Row) (id : ChannelId) → is_there rows id ≡ true → p id ≡ true → list_any (λ row. p row.channel.id) rows ≡ true
 any_there p rows id there on =
     let (row, found) = some_row (row_of rows id) there in
     let (k, within, is) = row_stands rows id row found in

@@ -1,8 +1,10 @@
 //! What holds of trees, as theorems. The functions do nothing: their contracts are what they say.
 
-ghost use Rattle.std.specs.Prelude.{◌≡◌, ◌<◌, ◌↔◌, ℕ, Bool, List, None, IsTrue};
+ghost use Rattle.std.specs.Prelude.{◌≡◌, ◌<◌, ◌↔◌, ℕ, Bool, false, List, None, IsTrue};
+ghost use Rattle.std.specs.List.{list_all};
+ghost use Rattle.mum_tree.specs.Change.{overlinks, with_change, Change};
 ghost use Rattle.mum_base.specs.declared.number.ChannelId.{ChannelId};
-ghost use Rattle.mum_tree.specs.Proper.{IsProper};
+ghost use Rattle.mum_tree.specs.Proper.{AreLinks, IsProper};
 ghost use Rattle.mum_tree.specs.Refusals.{fault_of_add, fault_of_remove};
 ghost use Rattle.mum_tree.specs.Rows.{is_there};
 ghost use Rattle.mum_tree.specs.State.{TreeState, with_new, without_subtree};
@@ -36,4 +38,11 @@ pub fn new_channels()
 pub fn removals()
     ensures { (limit : ℕ) (tree : TreeState) (id : ChannelId) → IsProper limit tree → IsTrue (is_there tree.channels id) →
         (fault_of_remove tree id ≡ None) ↔ IsProper limit (without_subtree tree id) }
+{}
+
+/// After a change the links are those of a tree exactly where it leaves no channel too many of them.
+pub fn changed_links()
+    ensures { (limit : ℕ) (tree : TreeState) (id : ChannelId) (change : Change) → IsProper limit tree →
+        IsTrue (is_there tree.channels id) → IsTrue (list_all (is_there tree.channels) change.links_add) →
+        (overlinks tree id change ≡ false) ↔ AreLinks tree.channels (with_change tree id change).links }
 {}

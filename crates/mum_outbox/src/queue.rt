@@ -13,6 +13,7 @@ use std::marker::Model;
 use std::sync::{Arc, Wait};
 
 /// What an offer answers.
+#[derive(Debug, Drop)]
 pub enum Offered<I> {
     /// The item is in the queue.
     Sent,
@@ -168,5 +169,14 @@ impl<I: Drop, const CAPACITY: usize> Queue<I, CAPACITY> {
         ensures rule { (items : List _) × WasThen CAPACITY pass.old items }
     {
         self.ruled.learn_as::<Offering<CAPACITY>>(&mut pass.pass);
+    }
+}
+
+impl<I> BoxPass<I> {
+    /// How often an offer of this pass found the queue full.
+    pub fn full(&self) -> u64
+        ensures { result ≡ self.now.full }
+    {
+        self.full
     }
 }

@@ -3,4 +3,6 @@
 #![tactic(auto)]
 
 #[cfg(test)]
+mod outbox;
+#[cfg(test)]
 mod program;

@@ -4,3 +4,5 @@
 
 #[cfg(test)]
 mod program;
+#[cfg(test)]
+mod tree;

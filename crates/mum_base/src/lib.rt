@@ -15,6 +15,3 @@ pub use number::{AccountId, Cause, ChannelId, SessionId, Slot};
 pub use perm::Perm;
 pub use reply::{Mark, ReplyEnd};
 pub use steps::Steps;
-
-#[cfg(test)]
-mod tests;

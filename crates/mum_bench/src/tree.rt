@@ -4,7 +4,7 @@ ghost use Rattle.std.specs.Prelude.{◌<◌, ◌≤◌, IfOk};
 
 use anyhow::{Result, bail, ensure};
 use mum_base::ChannelId;
-use mum_tree::{CHANNEL_LIMIT, ROOT, Scratch, Tree};
+use mum_tree::{CHANNEL_LIMIT, Scratch, Tree};
 use std::alloc::Global;
 
 /// How many of those that come next by number, and round to the root, a channel is linked to. With those
@@ -88,11 +88,11 @@ fn marks(alloc: Global, walk: Walk, channels: u32, count: usize) -> Result<u64>
     let tree = linked(alloc, channels)?;
     let mut scratch = Scratch::new(alloc)?;
     let mut sum: u64 = 0;
-    ensure!(tree.place(ROOT).is_some(), "the root is there");
+    ensure!(tree.place(ChannelId::ROOT).is_some(), "the root is there");
     for round in 0..count {
         match walk {
-            Walk::Subtree => tree.subtree(ROOT, &mut scratch),
-            Walk::Linked => tree.linked(ROOT, &mut scratch),
+            Walk::Subtree => tree.subtree(ChannelId::ROOT, &mut scratch),
+            Walk::Linked => tree.linked(ChannelId::ROOT, &mut scratch),
         }
         let asked = ChannelId((round % channels as usize) as u32);
         let marked = u64::from(scratch.marked(asked));
@@ -135,7 +135,7 @@ fn builds(alloc: Global, channels: u32, count: usize) -> Result<u64>
     let mut sum = 0;
     for round in 0..count {
         let tree = linked(alloc, channels)?;
-        sum = with_channel(sum, tree.link_at(ROOT, round % 64));
+        sum = with_channel(sum, tree.link_at(ChannelId::ROOT, round % 64));
     }
     Ok(sum)
 }

@@ -6,6 +6,6 @@ pub mod table;
 pub mod tally;
 pub mod words;
 
-pub use table::{Case, Table};
+pub use table::{Case, FileTable, Table};
 pub use tally::Tally;
 pub use words::{bytes_of, hex_of, number};

@@ -14,6 +14,15 @@ pub trait Table {
     fn answer(alloc: Global, question: &str) -> Result<String>;
 }
 
+/// A table about other files of its folder: each question begins with the name of one.
+pub trait FileTable {
+    /// The name of the file of the table itself, and of the table in what is printed.
+    const NAME: &'static str;
+
+    /// The answer to what is asked of a file that has this text.
+    fn answer(alloc: Global, text: &str, question: &str) -> Result<String>;
+}
+
 /// One line of a table.
 #[derive(Clone, Copy)]
 pub struct Case<'a> {

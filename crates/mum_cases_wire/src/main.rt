@@ -2,7 +2,23 @@
 //! Its tables lie in the folder `data`.
 #![tactic(auto)]
 
+mod client;
+mod client_messages;
+mod faults;
+mod fields;
+mod frames;
+mod list;
+mod messages;
 mod name;
+mod packet;
+mod payload;
+mod perm;
+mod shown;
+mod stream;
+mod told_rule;
+mod told_state;
+mod varint;
+mod words;
 
 use anyhow::Result;
 use mum_cases::Tally;
@@ -10,5 +26,15 @@ use mum_cases::Tally;
 fn main(rt: HostRuntime) -> Result<()> {
     let mut tally = Tally::new();
     tally.compare::<name::Names, HostRuntime>(&rt)?;
+    tally.compare::<perm::Perms, HostRuntime>(&rt)?;
+    tally.compare::<list::Lists, HostRuntime>(&rt)?;
+    tally.compare::<stream::Streams, HostRuntime>(&rt)?;
+    tally.compare::<frames::Frames, HostRuntime>(&rt)?;
+    tally.compare::<fields::Fields, HostRuntime>(&rt)?;
+    tally.compare::<messages::Messages, HostRuntime>(&rt)?;
+    tally.compare::<varint::Varints, HostRuntime>(&rt)?;
+    tally.compare::<packet::Packets, HostRuntime>(&rt)?;
+    tally.compare_files::<client::Clients, HostRuntime>(&rt)?;
+    tally.compare::<client_messages::ClientMessages, HostRuntime>(&rt)?;
     tally.finish(&rt)
 }

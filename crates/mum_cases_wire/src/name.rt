@@ -1,8 +1,9 @@
 //! The table `name`.
 
+use crate::words::bytes_or_text;
 use anyhow::{Result, bail};
 use mum_base::{NameFault, check_name, check_text};
-use mum_cases::{Table, bytes_of};
+use mum_cases::Table;
 use std::alloc::Global;
 
 pub struct Names;
@@ -21,7 +22,7 @@ impl Table for Names {
         let Some((rule, word)) = question.split_once(' ') else {
             bail!("no rule and text: {question}");
         };
-        let bytes = bytes_of(alloc, word)?;
+        let bytes = bytes_or_text(alloc, word)?;
         let text = str::from_utf8(&bytes)?;
         match rule {
             "name" => shown(alloc, check_name(text)),

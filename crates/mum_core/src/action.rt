@@ -11,7 +11,7 @@ use crate::payload::{read_authenticate, read_ping, read_version};
 use mum_base::{Octets, OutOfMemory, SessionId, Text};
 use mum_frame::kind::{AUTHENTICATE, PING, UDP_TUNNEL, VERSION};
 use mum_frame::{FrameView, put_frame};
-use mum_msg_state::Authenticate;
+use mum_msg_state::{Authenticate, Message};
 use std::alloc::Global;
 
 /// Why a frame is ignored.

@@ -6,7 +6,7 @@ ghost use Rattle.mum_msg_state.specs.Messages.{authenticate, ping, version};
 ghost use Rattle.mum_core.specs.Reads.{Reads, well_formed};
 
 use mum_base::OutOfMemory;
-use mum_msg_state::{Authenticate, MessageFault, Ping, Version};
+use mum_msg_state::{Authenticate, Message, MessageFault, Ping, Version};
 use std::alloc::{AllocError, Global};
 
 /// A message that was decoded. What is wrong with a malformed payload is told to nobody.

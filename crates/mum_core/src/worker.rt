@@ -2,7 +2,7 @@
 
 ghost use Rattle.std.specs.Prelude.{◌≡◌, Some, None, max, slice_get, slice_index_or, drop, IsOk};
 ghost use Rattle.std.specs.Option.{option_copied};
-ghost use Rattle.mum_voice.specs.Packet.{packet, parts, IsPacket};
+ghost use Rattle.mum_voice.specs.Packet.{packet, plain_parts, IsPacket};
 ghost use Rattle.mum_core.specs.Kept.{parts_in};
 ghost use Rattle.mum_core.specs.Lists.{changed_at};
 ghost use Rattle.mum_core.specs.Worker.{idle, in_hand, least_look};
@@ -52,8 +52,8 @@ impl Held {
     }
 
     pub fn packet(&self) -> Packet<'_>
-        ensures parts { parts result ≡ self.now.parts }
-        ensures proper { IsPacket (parts result) }
+        ensures parts { plain_parts result ≡ self.now.parts }
+        ensures proper { IsPacket (plain_parts result) }
     {
         Packet::parse(self.bytes.as_slice()).unwrap()
     }

@@ -1,9 +1,7 @@
 -- What is decoded, field by field: for the loops of decoders.
-use Rattle.std.proofs.Common.{◌≡◌, ℕ, List, [], ◌∷◌, Some, None, Ok, Err, refl, ap}
-use Rattle.mum_fields.specs.declared.fault.FieldFault.{FieldFault}
-use Rattle.mum_fields.specs.declared.message.MessageFault.TheVariants.{Field}
+use Rattle.std.proofs.Common.{◌≡◌, ℕ, List, [], ◌∷◌, None, Ok, refl, ap}
 use Rattle.mum_fields.specs.Field.{Entry}
-use Rattle.mum_fields.specs.Payload.{Walk, ended, stopped, first}
+use Rattle.mum_fields.specs.Payload.{Walk, ended, first}
 use Rattle.mum_fields.specs.Message.{Rule, value_fault, first_fault, unless, outcome}
 
 -- a field with no fault of its own goes into what is made of the rest
@@ -12,13 +10,5 @@ pub outcome-next : {M : Type 0} (rules : ℕ → Rule) (make then : List Entry �
 outcome-next rules make then w others e is clean made =
     rw (is, clean) (ap (unless (first_fault rules others.items others.fault)) (made others.items))
 
--- a field with a fault of its own ends it
-pub outcome-refused : {M : Type 0} (rules : ℕ → Rule) (make : List Entry → M) (w others : Walk Entry) (e : Entry) (fault : FieldFault) → w ≡ first e others → value_fault (rules e.number) e ≡ Some fault
-    → outcome rules make w ≡ Err (Field fault)
-outcome-refused rules make w others e fault is found = rw (is, found) refl
-
 pub outcome-end : {M : Type 0} (rules : ℕ → Rule) (make : List Entry → M) (w : Walk Entry) → w ≡ ended → outcome rules make w ≡ Ok (make [])
 outcome-end rules make w is = rw is refl
-
-pub outcome-stopped : {M : Type 0} (rules : ℕ → Rule) (make : List Entry → M) (w : Walk Entry) (fault : FieldFault) → w ≡ stopped fault → outcome rules make w ≡ Err (Field fault)
-outcome-stopped rules make w fault is = rw is refl

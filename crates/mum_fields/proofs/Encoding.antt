@@ -4,8 +4,8 @@ use Rattle.std.proofs.lemmas.Bool.{ne_eqb}
 use Rattle.std.proofs.lemmas.List.{append-nil, length-append}
 use Rattle.std.proofs.lemmas.List.Concat.{flat_map-cons}
 use Rattle.mum_fields.specs.Field.{Entry}
-use Rattle.mum_fields.specs.Written.{Item, varint_item, block_item, spelling, written, placed_at, placed_from, number_items, block_items, each_number, each_block}
-use Rattle.mum_fields.specs.Message.{Rule, value_fault, first_fault, newer, last, longer, every, varint_of, block_of, blocks_of, numbers_of}
+use Rattle.mum_fields.specs.Written.{Item, varint_item, block_item, spelling, written, placed_at, placed_from, block_items, each_number, each_block}
+use Rattle.mum_fields.specs.Message.{newer, last, longer, every, block_of, blocks_of, numbers_of}
 
 -- items one after the other
 pub placed_from-append : (xs ys : List Item) (place : ℕ) → placed_from place (xs ++ ys) ≡ placed_from place xs ++ placed_from (place + length (written xs)) ys
@@ -51,10 +51,6 @@ every-others taken number before [] place h = refl
 every-others taken number before (item ∷ items) place h = every-skip taken number before (placed_at place item) (placed_from (place + length (spelling item)) items) h.0 ∙ every-others taken number before items (place + length (spelling item)) h.1
 
 -- the items of a number give back what it was set to
-pub last-number_items : {X : Type 0} (value : ℕ → X) (spelled : X → ℕ) (number : ℕ) (o : Option X) (place : ℕ) → ((x : X) → value (spelled x) ≡ x) → last (varint_of value) number None (placed_from place (number_items spelled number o)) ≡ o
-last-number_items value spelled number None place back = refl
-last-number_items value spelled number (Some x) place back = rw (eq-eqb number number refl, back x) refl
-
 pub last-block_items : (number : ℕ) (o : Option (List ℕ)) (place : ℕ) → last block_of number None (placed_from place (block_items number o)) ≡ o
 last-block_items number None place = refl
 last-block_items number (Some block) place = rw (eq-eqb number number refl) refl
@@ -71,12 +67,3 @@ every-each_block number [] before place = sym (append-nil before)
 every-each_block number (b ∷ bs) before place =
     let others = every-each_block number bs (before ++ b ∷ []) (place + length (spelling (block_item number b))) in
     every-take blocks_of number before (placed_at place (block_item number b)) (placed_from (place + length (spelling (block_item number b))) (each_block number bs)) refl ∙ others ∙ append_assoc before (b ∷ []) bs
-
--- items whose values keep the rules of their numbers have no fault
-abbrev pub AreClean : (ℕ → Rule) → ℕ → List Item → Type 0
-AreClean rules place [] = Unit {0}
-AreClean rules place (item ∷ items) = (value_fault (rules item.number) (placed_at place item) ≡ None) × AreClean rules (place + length (spelling item)) items
-
-pub first_fault-clean : (rules : ℕ → Rule) (items : List Item) (place : ℕ) → AreClean rules place items → first_fault rules (placed_from place items) None ≡ None
-first_fault-clean rules [] place h = refl
-first_fault-clean rules (item ∷ items) place h = rw h.0 (first_fault-clean rules items (place + length (spelling item)) h.1)

@@ -9,7 +9,7 @@ use Rattle.mum_fields.specs.declared.fault.FieldFault.{FieldFault}
 use Rattle.mum_fields.specs.Fault.{fault}
 use Rattle.mum_fields.specs.Varint.{IsVarint, varint}
 use Rattle.mum_fields.specs.Content.{Content, Varint, Fixed8, Block, Fixed4}
-use Rattle.mum_fields.specs.Field.{Entry, Cursor, skip, wire_type, IsValue, IsField, ◌>>=◌, number_from, varint_at, bytes_at, fixed8_at, fixed4_at, placed, value_at, field_at}
+use Rattle.mum_fields.specs.Field.{Entry, Cursor, skip, wire_type, IsValue, IsField, ◌>>=◌, number_from, varint_in_front, bytes_at, fixed8_at, fixed4_at, placed, value_at, field_at}
 use Rattle.mum_fields.proofs.Spellings.{varint-spelled, varint-found}
 
 -- ---- steps that did not fail
@@ -66,8 +66,8 @@ found_varint c x (Ok found) is e =
       is = v.is;
     })
 
-pub varint_at-found : (c : Cursor) (x : ℕ × Cursor) → varint_at c ≡ done x → TookVarint c x.1 x.0
-unfolding varint_at
+pub varint_at-found : (c : Cursor) (x : ℕ × Cursor) → varint_in_front c ≡ done x → TookVarint c x.1 x.0
+unfolding varint_in_front
 varint_at-found c x e = found_varint c x (varint c.rest) refl e
 
 record TookBytes (c after : Cursor) (bytes : List ℕ) (n : ℕ) : Type 0 where
@@ -84,8 +84,8 @@ bytes_at-found missing n c x e =
       count = omega (arith, length-take n c.rest);
     })
 
-pub varint_at-spelled : (place : ℕ) (bytes rest : List ℕ) (n : ℕ) → IsVarint bytes n → varint_at (record { place = place; rest = bytes ++ rest }) ≡ done (n, record { place = place + length bytes; rest = rest })
-unfolding varint_at
+pub varint_at-spelled : (place : ℕ) (bytes rest : List ℕ) (n : ℕ) → IsVarint bytes n → varint_in_front (record { place = place; rest = bytes ++ rest }) ≡ done (n, record { place = place + length bytes; rest = rest })
+unfolding varint_in_front
 varint_at-spelled place bytes rest n h = rw (varint-spelled bytes rest n h, drop_at bytes rest (length bytes) refl) refl
 
 bytes_at-there : (missing : FaultKind) (place n : ℕ) (bytes rest : List ℕ) → length bytes ≡ n → bytes_at missing n (record { place = place; rest = bytes ++ rest }) ≡ done (bytes, record { place = place + n; rest = rest })
@@ -108,9 +108,9 @@ record TookValue (c after : Cursor) (n wire : ℕ) (e : Entry) : Type 0 where
 abbrev Taken : (c : Cursor) (n wire : ℕ) → Entry × Cursor → Type 0
 Taken c n wire x = TookValue c x.1 n wire x.0
 
-took_varint : (n wire : ℕ) (c : Cursor) (x : Entry × Cursor) → wire ≡ 0 → (varint_at c >>= λ found. Ok (placed n c.place (Varint found.0, found.1))) ≡ done x → Taken c n wire x
+took_varint : (n wire : ℕ) (c : Cursor) (x : Entry × Cursor) → wire ≡ 0 → (varint_in_front c >>= λ found. Ok (placed n c.place (Varint found.0, found.1))) ≡ done x → Taken c n wire x
 took_varint n wire c x is e =
-    let b = bind_ok (varint_at c) (λ found. Ok (placed n c.place (Varint found.0, found.1))) x e in
+    let b = bind_ok (varint_in_front c) (λ found. Ok (placed n c.place (Varint found.0, found.1))) x e in
     let v = varint_at-found c b.0 b.1 in
     subst (λ (y : Entry × Cursor). TookValue c y.1 n wire y.0) (ok_is _ x b.2) (record { bytes = v.bytes; skipped = 0; took = v.took; same_number = refl; same_wire = sym is; is = (v.is, refl); begins = omega arith })
 
@@ -134,9 +134,9 @@ took_fixed4 n wire c x is e =
     = record { bytes = d.0.0; skipped = 0; took = v.took; same_number = refl; same_wire = sym is; is = (v.count, refl, refl); begins = omega arith } in
     subst (λ (y : Entry × Cursor). TookValue c y.1 n wire y.0) (ap (λ (f : ℕ × Cursor). placed n c.place (Fixed4 f.0, f.1)) (ok_is _ b.0 d.2) ∙ ok_is _ x b.2) value
 
-took_block : (n wire : ℕ) (c : Cursor) (x : Entry × Cursor) → wire ≡ 2 → (varint_at c >>= λ size. bytes_at BadLength size.0 size.1 >>= λ found. Ok (placed n size.1.place (Block found.0, found.1))) ≡ done x → Taken c n wire x
+took_block : (n wire : ℕ) (c : Cursor) (x : Entry × Cursor) → wire ≡ 2 → (varint_in_front c >>= λ size. bytes_at BadLength size.0 size.1 >>= λ found. Ok (placed n size.1.place (Block found.0, found.1))) ≡ done x → Taken c n wire x
 took_block n wire c x is e =
-    let b = bind_ok (varint_at c) (λ size. bytes_at BadLength size.0 size.1 >>= λ found. Ok (placed n size.1.place (Block found.0, found.1))) x e in
+    let b = bind_ok (varint_in_front c) (λ size. bytes_at BadLength size.0 size.1 >>= λ found. Ok (placed n size.1.place (Block found.0, found.1))) x e in
     let size = varint_at-found c b.0 b.1 in
     let d = bind_ok (bytes_at BadLength b.0.0 b.0.1) (λ found. Ok (placed n b.0.1.place (Block found.0, found.1))) x b.2 in
     let v = bytes_at-found BadLength b.0.0 b.0.1 d.0 d.1 in
@@ -182,7 +182,7 @@ pub record TookField (c after : Cursor) (e : Entry) : Type 0 where
 pub field_at-found : (c : Cursor) (x : Entry × Cursor) → field_at c ≡ done x → TookField c x.1 x.0
 unfolding field_at
 field_at-found c x e =
-    let b = bind_ok (varint_at c) (λ key. cond (eqb (key.0 / 8) 0 || ltb 536870911 (key.0 / 8)) (Err (fault BadWireType c.place)) (value_at c.place (key.0 / 8) (key.0 % 8) key.1)) x e in
+    let b = bind_ok (varint_in_front c) (λ key. cond (eqb (key.0 / 8) 0 || ltb 536870911 (key.0 / 8)) (Err (fault BadWireType c.place)) (value_at c.place (key.0 / 8) (key.0 % 8) key.1)) x e in
     let key = varint_at-found c b.0 b.1 in
     let g = guard_ok (eqb (b.0.0 / 8) 0 || ltb 536870911 (b.0.0 / 8)) (fault BadWireType c.place) (value_at c.place (b.0.0 / 8) (b.0.0 % 8) b.0.1) x b.2 in
     let tests = neither (eqb (b.0.0 / 8) 0) (ltb 536870911 (b.0.0 / 8)) g.0 in

@@ -7,6 +7,8 @@ pub mod Payloads
 pub mod Taking
 pub mod Decoding
 pub mod VarintFaults
+pub mod NoFields
+pub mod Stops
 pub mod Encoding
 pub mod Steps
 pub mod Missing

@@ -7,14 +7,14 @@ use Rattle.std.proofs.lemmas.Nat.{from_le_bytes-to_le_bytes_4, from_le_bytes-to_
 use Rattle.mum_fields.specs.declared.fault.FieldFault.{FieldFault}
 use Rattle.mum_fields.specs.Varint.{shortest}
 use Rattle.mum_fields.specs.Content.{Content, Varint, Fixed8, Block, Fixed4}
-use Rattle.mum_fields.specs.Field.{Entry, Cursor, wire_type, IsValue, IsField, varint_at, field_at}
-use Rattle.mum_fields.specs.Payload.{AreFields, Walk, ended, stopped, first, fields}
+use Rattle.mum_fields.specs.Field.{Entry, Cursor, wire_type, IsValue, IsField, varint_in_front, field_at}
+use Rattle.mum_fields.specs.Payload.{AreFields, Walk, ended, stopped_by, first, fields}
 use Rattle.mum_fields.specs.Written.{Item, value_bytes, spelling, written, FitsContent, Fits, skipped, placed_at, placed_from}
 use Rattle.mum_fields.proofs.Spellings.{shortest-is_varint}
 use Rattle.mum_fields.proofs.Fields.{varint_at-found, field_at-found, field_at-there}
 use Rattle.mum_fields.proofs.Walks.{Shortens, walk-end, walk-item, walk-fault}
 
-pub varint_at-shortens : Shortens varint_at
+pub varint_at-shortens : Shortens varint_in_front
 varint_at-shortens c after n e =
     let t = varint_at-found c (n, after) e in
     omega (arith, ap length t.took.parts, length-append t.bytes after.rest, t.some)
@@ -47,7 +47,7 @@ are-fields c (e ∷ es) h =
     let step : field_at c ≡ Ok (e, after) = rw h.2 (field_at-there c.place e front rest h.3) in
     walk-item field_at field_at-shortens c after e step ∙ ap (first e) (are-fields after es h.4)
 
-stopped_not_whole : (fault : FieldFault) (es : List Entry) → stopped fault ≡ record { items = es; fault = None } → ⊥
+stopped_not_whole : (fault : FieldFault) (es : List Entry) → stopped_by fault ≡ record { items = es; fault = None } → ⊥
 stopped_not_whole fault es e = let h = ap (λ (u : Walk Entry). u.fault) e in cc
 
 more_not_ended : (x : Entry) (w : Walk Entry) → first x w ≡ record { items = []; fault = None } → ⊥
@@ -58,32 +58,33 @@ fields_none c zero len r is h = nil_from_length c.rest len
 fields_none c (suc n) len (Err fault) is h = absurd (stopped_not_whole fault [] (sym (walk-fault field_at c fault (omega arith) is) ∙ h))
 fields_none c (suc n) len (Ok x) is h = absurd (more_not_ended x.0 (fields x.1) (sym (walk-item field_at field_at-shortens c x.1 x.0 is) ∙ h))
 
-record First (c : Cursor) (e : Entry) (es : List Entry) : Type 0 where
-  after : Cursor
-  step : field_at c ≡ Ok (e, after)
-  others : fields after ≡ record { items = es; fault = None }
+-- the first of the fields, and what is left behind it
+pub record First (c : Cursor) (e : Entry) (es : List Entry) (end : Option FieldFault) : Type 0 where
+  pub after : Cursor
+  pub step : field_at c ≡ Ok (e, after)
+  pub others : fields after ≡ record { items = es; fault = end }
 
-walk_is : (w : Walk Entry) (es : List Entry) → w.items ≡ es → w.fault ≡ None → w ≡ record { items = es; fault = None }
-walk_is w es p q = ap (λ (i : List Entry). record { items = i; fault = w.fault }) p ∙ ap (λ (f : Option FieldFault). record { items = es; fault = f }) q
+walk_is : (w : Walk Entry) (es : List Entry) (end : Option FieldFault) → w.items ≡ es → w.fault ≡ end → w ≡ record { items = es; fault = end }
+walk_is w es end p q = ap (λ (i : List Entry). record { items = i; fault = w.fault }) p ∙ ap (λ (f : Option FieldFault). record { items = es; fault = f }) q
 
-ended_not_more : (e : Entry) (es : List Entry) → ended ≡ record { items = e ∷ es; fault = None } → ⊥
-ended_not_more e es h = let k = items_same ended (record { items = e ∷ es; fault = None }) h in cc
+none_not_more : (w : Walk Entry) (e : Entry) (es : List Entry) (end : Option FieldFault) → w.items ≡ [] → w ≡ record { items = e ∷ es; fault = end } → ⊥
+none_not_more w e es end none h = let k = sym none ∙ items_same w (record { items = e ∷ es; fault = end }) h in cc
 
-fields_first : (c : Cursor) (e : Entry) (es : List Entry) (n : ℕ) → length c.rest ≡ n → (r : Result (Entry × Cursor) FieldFault) → field_at c ≡ r → fields c ≡ record { items = e ∷ es; fault = None } → First c e es
-fields_first c e es zero len r is h = absurd (ended_not_more e es (sym (walk-end field_at c (nil_from_length c.rest len)) ∙ h))
-fields_first c e es (suc n) len (Err fault) is h = absurd (stopped_not_whole fault (e ∷ es) (sym (walk-fault field_at c fault (omega arith) is) ∙ h))
-fields_first c e es (suc n) len (Ok x) is h =
+pub fields_first : (c : Cursor) (e : Entry) (es : List Entry) (end : Option FieldFault) (n : ℕ) → length c.rest ≡ n → (r : Result (Entry × Cursor) FieldFault) → field_at c ≡ r → fields c ≡ record { items = e ∷ es; fault = end } → First c e es end
+fields_first c e es end zero len r is h = absurd (none_not_more ended e es end refl (sym (walk-end field_at c (nil_from_length c.rest len)) ∙ h))
+fields_first c e es end (suc n) len (Err fault) is h = absurd (none_not_more (stopped_by fault) e es end refl (sym (walk-fault field_at c fault (omega arith) is) ∙ h))
+fields_first c e es end (suc n) len (Ok x) is h =
     let same = sym (walk-item field_at field_at-shortens c x.1 x.0 is) ∙ h in
     let lists = ap (λ (u : Walk Entry). u.items) same in
-    let faults : (fields x.1).fault ≡ None = ap (λ (u : Walk Entry). u.fault) same in
+    let faults : (fields x.1).fault ≡ end = ap (λ (u : Walk Entry). u.fault) same in
     let head = head_same x.0 e (fields x.1).items es lists in
     let tail = tail_same x.0 e (fields x.1).items es lists in
-    record { after = x.1; step = rw head at is; others = walk_is (fields x.1) es tail faults }
+    record { after = x.1; step = rw head at is; others = walk_is (fields x.1) es end tail faults }
 
 pub fields-are : (c : Cursor) (es : List Entry) → fields c ≡ record { items = es; fault = None } → AreFields c es
 fields-are c [] h = fields_none c (length c.rest) refl (field_at c) refl h
 fields-are c (e ∷ es) h =
-    let f = fields_first c e es (length c.rest) refl (field_at c) refl h in
+    let f = fields_first c e es None (length c.rest) refl (field_at c) refl h in
     let t = field_at-found c (e, f.after) f.step in
     let after : f.after ≡ record { place = c.place + length t.bytes; rest = f.after.rest } = ap (λ (p : ℕ). record { place = p; rest = f.after.rest }) t.took.place in
     (t.bytes, f.after.rest, t.took.parts, t.is, subst (λ (d : Cursor). AreFields d es) after (fields-are f.after es f.others))

@@ -1,13 +1,15 @@
 -- What is written of a message is read back as the message.
-use Rattle.std.proofs.Common.{◌≡◌, ℕ, ◌+◌, ◌<◌, ◌≤◌, ◌^◌, ◌&&◌, eq-eqb, ltb, Bool, true, false, List, [], ◌∷◌, ◌++◌, length, if◌then◌else◌, ◌==◌, None, Ok, refl, ap, ◌∙◌, arith}
-use Rattle.std.specs.List.{All, AllByRecursion}
-use Rattle.std.proofs.lemmas.Bool.{ne_eqb, ltb-true}
-use Rattle.mum_fields.specs.Field.{Entry}
+use Rattle.std.proofs.Common.{◌≡◌, ℕ, ◌+◌, ◌<◌, ◌≤◌, ◌&&◌, eq-eqb, ltb, leb, Bool, true, false, List, [], ◌∷◌, ◌++◌, length, if◌then◌else◌, ◌==◌, None, Result, Ok, Err, refl, sym, ap, ◌∙◌, arith}
+use Rattle.std.specs.List.{AllByRecursion}
+use Rattle.std.proofs.lemmas.Bool.{ne_eqb, ltb-true, leb-true}
+use Rattle.mum_fields.specs.declared.message.MessageFault.{MessageFault}
+use Rattle.mum_fields.specs.declared.message.MessageFault.TheVariants as faults
+use Rattle.mum_fields.specs.Field.{Entry, IsNumber, last_number}
 use Rattle.mum_fields.specs.Payload.{Walk, fields}
 use Rattle.mum_fields.specs.Written.{Item, spelling, written, FitsContent, Fits, placed_at, placed_from}
 use Rattle.mum_fields.specs.Message.{Rule, fault_in, any_block, first_fault, every, messages_of, message}
-use Rattle.mum_fields.specs.Table.{Label, Kind, Value, Layout, Nothing, Field, Blocks, Values, Table, layout, parts, rising, unset, value_after, empty, after, rule_of, rules, missing, whole, gathered, decoded, row_items, each_message, items, spelled}
-use Rattle.mum_fields.specs.Held.{IsBlock, IsValue, AreValues}
+use Rattle.mum_fields.specs.Table.{Label, Kind, Value, Layout, Nothing, Field, Blocks, Values, Table, layout, parts, rising, unset, value_after, no_values, values_after, rule_of, rules, missing, whole, gathered, decoded, ReadsAs, row_items, each_message, items, spelled}
+use Rattle.mum_fields.specs.Typed.{IsTyped, AreTyped, AreTypedBlocks}
 use Rattle.mum_fields.proofs.Payloads.{fields-written}
 use Rattle.mum_fields.proofs.Encoding.{placed_from-append, every-append, AreOthers, every-others}
 use Rattle.mum_fields.proofs.Rows.{IsItem, row-items, message-items, row-back, messages-back, value_after-append, value_after-others}
@@ -26,8 +28,8 @@ all-weaker P Q (x ∷ xs) weaker h = (weaker x h.0, all-weaker P Q xs weaker h.1
 
 abbrev Rises : ℕ → Layout → Type 0
 Rises low Nothing = Unit {0}
-Rises low (Field label kind number others) = (low < number) × (number < 536870912) × Rises number others
-Rises low (Blocks inside number others) = (low < number) × (number < 536870912) × Rises number others × Rises 0 inside
+Rises low (Field label kind number others) = (low < number) × (number ≤ last_number) × Rises number others
+Rises low (Blocks inside number others) = (low < number) × (number ≤ last_number) × Rises number others × Rises 0 inside
 
 first_true : (a b : Bool) → (a && b) ≡ true → a ≡ true
 first_true true b h = refl
@@ -40,19 +42,19 @@ second_true false b h = absurd (cc)
 rises : (low : ℕ) (form : Layout) → rising low form ≡ true → Rises low form
 rises low Nothing h = tt
 rises low (Field label kind number others) h =
-    let most = ltb number 536870912 in
+    let most = leb number last_number in
     let behind = second_true (ltb low number) (most && rising number others) h in (
       ltb-true low number (first_true (ltb low number) (most && rising number others) h),
-      ltb-true number 536870912 (first_true most (rising number others) behind),
+      leb-true number last_number (first_true most (rising number others) behind),
       rises number others (second_true most (rising number others) behind),
     )
 rises low (Blocks inside number others) h =
-    let most = ltb number 536870912 in
+    let most = leb number last_number in
     let both = rising 0 inside && rising number others in
     let behind = second_true (ltb low number) (most && both) h in
     let rest = second_true most both behind in (
       ltb-true low number (first_true (ltb low number) (most && both) h),
-      ltb-true number 536870912 (first_true most both behind),
+      leb-true number last_number (first_true most both behind),
       rises number others (second_true (rising 0 inside) (rising number others) rest),
       rises 0 inside (first_true (rising 0 inside) (rising number others) rest),
     )
@@ -81,11 +83,11 @@ agrees low (Blocks inside number others) up =
 -- ---- items without a fault
 
 record IsClean (ruling : ℕ → Rule) (item : Item) : Type 0 where
-  number : (1 ≤ item.number) × (item.number < 2 ^ 29)
+  number : IsNumber item.number
   fits : FitsContent item.content
   clean : (place : ℕ) → fault_in (ruling item.number) place item.content ≡ None
 
-clean-item : (ruling : ℕ → Rule) (number : ℕ) (rule : Rule) (item : Item) → 1 ≤ number → number < 536870912 → ruling number ≡ rule → IsItem number rule item → IsClean ruling item
+clean-item : (ruling : ℕ → Rule) (number : ℕ) (rule : Rule) (item : Item) → 1 ≤ number → number ≤ last_number → ruling number ≡ rule → IsItem number rule item → IsClean ruling item
 clean-item ruling number rule item some few ruled is = record {
   number = (omega (arith, is.is, some), omega (arith, is.is, few));
   fits = is.fits;
@@ -104,12 +106,12 @@ clean-message : (ruling : ℕ → Rule) (xs : List Item) (place : ℕ) → AllBy
 clean-message ruling xs place h = ap (λ (w : Walk Entry). first_fault ruling w.items w.fault) (clean-read ruling xs place h) ∙ no-fault ruling xs place h
 
 -- the items of one field, and then the others
-clean-more : (ruling : ℕ → Rule) (number : ℕ) (rule : Rule) (own others : List Item) → 1 ≤ number → number < 536870912 → ruling number ≡ rule
+clean-more : (ruling : ℕ → Rule) (number : ℕ) (rule : Rule) (own others : List Item) → 1 ≤ number → number ≤ last_number → ruling number ≡ rule
     → AllByRecursion (IsItem number rule) own → AllByRecursion (IsClean ruling) others → AllByRecursion (IsClean ruling) (own ++ others)
 clean-more ruling number rule own others some few ruled is h =
     all-append (IsClean ruling) own others (all-weaker (IsItem number rule) (IsClean ruling) own (λ item one. clean-item ruling number rule item some few ruled one) is) h
 
-items-clean : (ruling : ℕ → Rule) (low : ℕ) (form : Layout) (values : Values form) → Rises low form → Agrees ruling form → AreValues form values → AllByRecursion (IsClean ruling) (items form values)
+items-clean : (ruling : ℕ → Rule) (low : ℕ) (form : Layout) (values : Values form) → Rises low form → Agrees ruling form → AreTyped form values → AllByRecursion (IsClean ruling) (items form values)
 items-clean ruling low Nothing values up agree h = tt
 items-clean ruling low (Field label kind number others) values up agree h =
     clean-more ruling number (rule_of label kind) (row_items label kind number values.0) (items others values.1) (omega (arith, up.0)) up.1 agree.0
@@ -117,21 +119,18 @@ items-clean ruling low (Field label kind number others) values up agree h =
     (items-clean ruling number others values.1 up.2 agree.1 h.1)
 items-clean ruling low (Blocks inside number others) values up agree h =
     clean-more ruling number (message (rules inside)) (each_message (items inside) number values.0) (items others values.1) (omega (arith, up.0)) up.1 agree.0
-    (message-items (items inside) (AreValues inside) (message (rules inside))
+    (message-items (items inside) (AreTyped inside) (message (rules inside))
     (λ x place held. clean-message (rules inside) (items inside x) place (items-clean (rules inside) 0 inside x up.3 (agrees 0 inside up.3) held))
     number values.0 h.0)
     (items-clean ruling number others values.1 up.2 agree.1 h.1)
 
 -- ---- items of other numbers
 
-abbrev IsValues : (inside : Layout) → List (Values inside) → Type 0
-IsValues inside xs = All (λ x. AreValues inside x × IsBlock (written (items inside x))) xs
-
 own-number : (number : ℕ) (rule : Rule) (own : List Item) → AllByRecursion (IsItem number rule) own → AllByRecursion (λ item. item.number ≡ number) own
 own-number number rule own is = all-weaker (IsItem number rule) (λ item. item.number ≡ number) own (λ item one. one.is) is
 
-message-number : (inside : Layout) (number : ℕ) (xs : List (Values inside)) → IsValues inside xs → AllByRecursion (λ item. item.number ≡ number) (each_message (items inside) number xs)
-message-number inside number xs h = own-number number any_block (each_message (items inside) number xs) (message-items (items inside) (AreValues inside) any_block (λ x place held. refl) number xs h)
+message-number : (inside : Layout) (number : ℕ) (xs : List (Values inside)) → AreTypedBlocks inside xs → AllByRecursion (λ item. item.number ≡ number) (each_message (items inside) number xs)
+message-number inside number xs h = own-number number any_block (each_message (items inside) number xs) (message-items (items inside) (AreTyped inside) any_block (λ x place held. refl) number xs h)
 
 above-more : (low number : ℕ) (own others : List Item) → low < number → AllByRecursion (λ item. item.number ≡ number) own → AllByRecursion (λ item. number < item.number) others → AllByRecursion (λ item. low < item.number) (own ++ others)
 above-more low number own others less is h =
@@ -139,7 +138,7 @@ above-more low number own others less is h =
     (all-weaker (λ item. item.number ≡ number) (λ item. low < item.number) own (λ item one. omega (arith, one, less)) is)
     (all-weaker (λ item. number < item.number) (λ item. low < item.number) others (λ item more. omega (arith, more, less)) h)
 
-items-above : (low : ℕ) (form : Layout) (values : Values form) → Rises low form → AreValues form values → AllByRecursion (λ item. low < item.number) (items form values)
+items-above : (low : ℕ) (form : Layout) (values : Values form) → Rises low form → AreTyped form values → AllByRecursion (λ item. low < item.number) (items form values)
 items-above low Nothing values up h = tt
 items-above low (Field label kind number others) values up h =
     above-more low number (row_items label kind number values.0) (items others values.1) up.0
@@ -159,7 +158,7 @@ of-others low number [] less h = tt
 of-others low number (x ∷ xs) less h = ((λ e. omega (arith, h.0)), of-others low number xs less h.1)
 
 after-others : (number low : ℕ) (form : Layout) (values : Values form) (xs : List Item) (place : ℕ) → number ≤ low → Rises low form → AllByRecursion (λ item. item.number ≡ number) xs
-    → after form values (placed_from place xs) ≡ values
+    → values_after form values (placed_from place xs) ≡ values
 after-others number low Nothing values xs place at_most up h = refl
 after-others number low (Field label kind own others) values xs place at_most up h =
     rw (
@@ -168,28 +167,28 @@ after-others number low (Field label kind own others) values xs place at_most up
     ) refl
 after-others number low (Blocks inside own others) values xs place at_most up h =
     rw (
-      every-others (messages_of (after inside (empty inside))) own values.0 xs place (of-others number own xs (omega (arith, up.0, at_most)) h),
+      every-others (messages_of (values_after inside (no_values inside))) own values.0 xs place (of-others number own xs (omega (arith, up.0, at_most)) h),
       after-others number own others values.1 xs place (omega (arith, up.0, at_most)) up.2 h,
     ) refl
 
 -- ---- all fields
 
-after-append : (form : Layout) (values : Values form) (es fs : List Entry) → after form values (es ++ fs) ≡ after form (after form values es) fs
+after-append : (form : Layout) (values : Values form) (es fs : List Entry) → values_after form values (es ++ fs) ≡ values_after form (values_after form values es) fs
 after-append Nothing values es fs = refl
 after-append (Field label kind number others) values es fs = rw (value_after-append label kind number values.0 es fs, after-append others values.1 es fs) refl
-after-append (Blocks inside number others) values es fs = rw (every-append (messages_of (after inside (empty inside))) number values.0 es fs, after-append others values.1 es fs) refl
+after-append (Blocks inside number others) values es fs = rw (every-append (messages_of (values_after inside (no_values inside))) number values.0 es fs, after-append others values.1 es fs) refl
 
 -- the items of one field change nothing in the later fields
 later-back : (number : ℕ) (others : Layout) (values : Values others) (own : List Item) (place behind : ℕ) → Rises number others → AllByRecursion (λ item. item.number ≡ number) own
-    → after others (empty others) (placed_from behind (items others values)) ≡ values → after others (empty others) (placed_from place own ++ placed_from behind (items others values)) ≡ values
+    → values_after others (no_values others) (placed_from behind (items others values)) ≡ values → values_after others (no_values others) (placed_from place own ++ placed_from behind (items others values)) ≡ values
 later-back number others values own place behind up is back =
     let es = placed_from behind (items others values) in
-    after-append others (empty others) (placed_from place own) es
-    ∙ ap (λ v. after others v es) (after-others number number others (empty others) own place (omega arith) up is)
+    after-append others (no_values others) (placed_from place own) es
+    ∙ ap (λ v. values_after others v es) (after-others number number others (no_values others) own place (omega arith) up is)
     ∙ back
 
 -- later fields change nothing in the values of one
-value-back : (label : Label) (kind : Kind) (number : ℕ) (value : Value label kind) (later : List Item) (place behind : ℕ) → IsValue label kind value → AreOthers number later
+value-back : (label : Label) (kind : Kind) (number : ℕ) (value : Value label kind) (later : List Item) (place behind : ℕ) → IsTyped label kind value → AreOthers number later
     → value_after label kind number (unset label kind) (placed_from place (row_items label kind number value) ++ placed_from behind later) ≡ value
 value-back label kind number value later place behind held h =
     value_after-append label kind number (unset label kind) (placed_from place (row_items label kind number value)) (placed_from behind later)
@@ -197,17 +196,17 @@ value-back label kind number value later place behind held h =
     ∙ value_after-others label kind number value later behind h
 
 abbrev BlocksBack : Layout → Type 0
-BlocksBack inside = (x : Values inside) (place : ℕ) → AreValues inside x → after inside (empty inside) (fields (record { place = place; rest = written (items inside x) })).items ≡ x
+BlocksBack inside = (x : Values inside) (place : ℕ) → AreTyped inside x → values_after inside (no_values inside) (fields (record { place = place; rest = written (items inside x) })).items ≡ x
 
-blocks-back : (inside : Layout) (number : ℕ) (xs : List (Values inside)) (later : List Item) (place behind : ℕ) → BlocksBack inside → IsValues inside xs → AreOthers number later
-    → every (messages_of (after inside (empty inside))) number [] (placed_from place (each_message (items inside) number xs) ++ placed_from behind later) ≡ xs
+blocks-back : (inside : Layout) (number : ℕ) (xs : List (Values inside)) (later : List Item) (place behind : ℕ) → BlocksBack inside → AreTypedBlocks inside xs → AreOthers number later
+    → every (messages_of (values_after inside (no_values inside))) number [] (placed_from place (each_message (items inside) number xs) ++ placed_from behind later) ≡ xs
 blocks-back inside number xs later place behind back held h =
-    let taken = messages_of (after inside (empty inside)) in
+    let taken = messages_of (values_after inside (no_values inside)) in
     every-append taken number [] (placed_from place (each_message (items inside) number xs)) (placed_from behind later)
-    ∙ ap (λ v. every taken number v (placed_from behind later)) (messages-back (after inside (empty inside)) (items inside) (AreValues inside) back number xs [] place held)
+    ∙ ap (λ v. every taken number v (placed_from behind later)) (messages-back (values_after inside (no_values inside)) (items inside) (AreTyped inside) back number xs [] place held)
     ∙ every-others taken number xs later behind h
 
-items-back : (low : ℕ) (form : Layout) (values : Values form) (place : ℕ) → Rises low form → AreValues form values → after form (empty form) (placed_from place (items form values)) ≡ values
+items-back : (low : ℕ) (form : Layout) (values : Values form) (place : ℕ) → Rises low form → AreTyped form values → values_after form (no_values form) (placed_from place (items form values)) ≡ values
 items-back low Nothing values place up h = refl
 items-back low (Field label kind number others) values place up h =
     let own = row_items label kind number values.0 in
@@ -225,7 +224,7 @@ items-back low (Blocks inside number others) values place up h =
     let behind = place + length (written own) in
     let is = message-number inside number values.0 h.0 in
     let back : BlocksBack inside = λ x at held.
-    ap (λ (w : Walk Entry). after inside (empty inside) w.items) (clean-read (rules inside) (items inside x) at (items-clean (rules inside) 0 inside x up.3 (agrees 0 inside up.3) held))
+    ap (λ (w : Walk Entry). values_after inside (no_values inside) w.items) (clean-read (rules inside) (items inside x) at (items-clean (rules inside) 0 inside x up.3 (agrees 0 inside up.3) held))
     ∙ items-back 0 inside x at up.3 held in
     rw (
       placed_from-append own later place,
@@ -233,7 +232,7 @@ items-back low (Blocks inside number others) values place up h =
       later-back number others values.1 own place behind up.2 is (items-back number others values.1 behind up.2 h.1),
     ) refl
 
-pub read_back : {M : Type 0} (rows : Table M) (m : M) → rising 0 (layout rows) ≡ true → AreValues (layout rows) (parts rows m) → missing (layout rows) (parts rows m) ≡ None → decoded rows (spelled rows m) ≡ Ok (parts rows m)
+pub read_back : {M : Type 0} (rows : Table M) (m : M) → rising 0 (layout rows) ≡ true → AreTyped (layout rows) (parts rows m) → missing (layout rows) (parts rows m) ≡ None → decoded rows (spelled rows m) ≡ Ok (parts rows m)
 read_back {M} rows m in_order held none =
     let form = layout rows in
     let values = parts rows m in
@@ -242,3 +241,20 @@ read_back {M} rows m in_order held none =
     let clean = items-clean (rules form) 0 form values up (agrees 0 form up) held in
     ap (λ (w : Walk Entry). whole form (gathered form w)) (clean-read (rules form) all 0 clean)
     ∙ rw (no-fault (rules form) all 0 clean, items-back 0 form values 0 up held, none) refl
+
+-- ---- whatever may be answered for what is written
+
+abbrev same_answer : {X : Type 0} → X → Result X MessageFault
+same_answer x = Ok x
+
+same_value : {X : Type 0} (x y : X) → same_answer x ≡ same_answer y → x ≡ y
+same_value x y e = cc
+
+not_refused : {X : Type 0} (x : X) (e : MessageFault) → same_answer x ≡ Err e → ⊥
+not_refused x e h = cc
+
+pub reads-as : {M : Type 0} (rows : Table M) (m : M) (payload : List ℕ) → ((a b : M) → parts rows a ≡ parts rows b → a ≡ b) → decoded rows payload ≡ Ok (parts rows m) → ReadsAs rows payload m
+reads-as rows m payload told is (Ok read) h = told read m (sym (same_value (parts rows m) (parts rows read) (sym is ∙ h)))
+reads-as rows m payload told is (Err (faults.Field e)) h = absurd (not_refused (parts rows m) (faults.Field e) (sym is ∙ h))
+reads-as rows m payload told is (Err (faults.MissingField n)) h = absurd (not_refused (parts rows m) (faults.MissingField n) (sym is ∙ h))
+reads-as rows m payload told is (Err faults.OutOfMemory) h = refl

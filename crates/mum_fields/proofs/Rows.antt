@@ -9,8 +9,8 @@ use Rattle.mum_fields.specs.Written.{Item, varint_item, block_item, spelling, wr
 use Rattle.mum_fields.specs.Message.{Rule, text, any_block, fault_in, every, numbers_of, messages_of}
 use Rattle.mum_fields.proofs.Texts.{text-read}
 use Rattle.mum_fields.proofs.Encoding.{last-append, every-append, AreOthers, last-others, every-others, every-take, last-block_items, every-each_block}
-use Rattle.mum_fields.specs.Table.{Scalar, Scalar_of, Kind, One, Number, Utf8, Raw, Label, Optional, Required, RequiredOr, Repeated, Value, value_of, number_of, one_in, all_in, unset, value_after, rule_of, one_item, row_items, each_message}
-use Rattle.mum_fields.specs.Held.{IsOne, IsText, IsBlock, IsValue}
+use Rattle.mum_fields.specs.Table.{Scalar, Scalar_of, Kind, One, Number, Utf8, Raw, Label, Optional, Required, RequiredOr, Repeated, Value, value_of, scalar_number, one_in, all_in, unset, value_after, rule_of, one_item, row_items, each_message}
+use Rattle.mum_fields.specs.Typed.{IsOne, IsText, IsBytes, IsTyped}
 
 pub record IsItem (number : ℕ) (rule : Rule) (item : Item) : Type 0 where
   pub is : item.number ≡ number
@@ -30,7 +30,7 @@ one-items Utf8 number (Some x) h = (text-item number x h, tt)
 one-items Raw number None h = tt
 one-items Raw number (Some x) h = (record { is = refl; fits = h; clean = λ place. refl }, tt)
 
-number-items : (scalar : Scalar) (rule : Rule) (number : ℕ) (xs : List (Scalar_of scalar)) → All (IsOne (Number scalar)) xs → AllByRecursion (IsItem number rule) (each_number (number_of scalar) number xs)
+number-items : (scalar : Scalar) (rule : Rule) (number : ℕ) (xs : List (Scalar_of scalar)) → All (IsOne (Number scalar)) xs → AllByRecursion (IsItem number rule) (each_number (scalar_number scalar) number xs)
 number-items scalar rule number [] h = tt
 number-items scalar rule number (x ∷ xs) h = (record { is = refl; fits = (All-head (IsOne (Number scalar)) x xs h).1; clean = λ place. refl }, number-items scalar rule number xs (All-tail (IsOne (Number scalar)) x xs h))
 
@@ -42,7 +42,7 @@ raw-items : (number : ℕ) (xs : List (List ℕ)) → All (IsOne Raw) xs → All
 raw-items number [] h = tt
 raw-items number (x ∷ xs) h = (record { is = refl; fits = All-head (IsOne Raw) x xs h; clean = λ place. refl }, raw-items number xs (All-tail (IsOne Raw) x xs h))
 
-pub row-items : (label : Label) (kind : Kind) (number : ℕ) (value : Value label kind) → IsValue label kind value → AllByRecursion (IsItem number (rule_of label kind)) (row_items label kind number value)
+pub row-items : (label : Label) (kind : Kind) (number : ℕ) (value : Value label kind) → IsTyped label kind value → AllByRecursion (IsItem number (rule_of label kind)) (row_items label kind number value)
 row-items Optional kind number o h = one-items kind number o h
 row-items Required (Number scalar) number o h = one-items (Number scalar) number o h
 row-items Required Utf8 number o h = one-items Utf8 number o h
@@ -56,10 +56,10 @@ row-items Repeated Raw number xs h = raw-items number xs h
 
 -- messages in blocks
 pub message-items : {X : Type 0} (inside : X → List Item) (P : X → Type 0) (rule : Rule) → ((x : X) (place : ℕ) → P x → rule place (written (inside x)) ≡ None)
-    → (number : ℕ) (xs : List X) → All (λ x. P x × IsBlock (written (inside x))) xs → AllByRecursion (IsItem number rule) (each_message inside number xs)
+    → (number : ℕ) (xs : List X) → All (λ x. P x × IsBytes (written (inside x))) xs → AllByRecursion (IsItem number rule) (each_message inside number xs)
 message-items inside P rule clean number [] h = tt
 message-items {X} inside P rule clean number (x ∷ xs) h =
-    let P_block = λ (y : X). P y × IsBlock (written (inside y)) in
+    let P_block = λ (y : X). P y × IsBytes (written (inside y)) in
     let head = All-head P_block x xs h in
     (record { is = refl; fits = head.1; clean = λ place. clean x place head.0 }, message-items inside P rule clean number xs (All-tail P_block x xs h))
 
@@ -72,18 +72,18 @@ one-back Utf8 number o place h = last-block_items number o place
 one-back Raw number o place h = last-block_items number o place
 
 numbers-back : (scalar : Scalar) (number : ℕ) (xs before : List (Scalar_of scalar)) (place : ℕ) → All (IsOne (Number scalar)) xs
-    → every (numbers_of (value_of scalar)) number before (placed_from place (each_number (number_of scalar) number xs)) ≡ before ++ xs
+    → every (numbers_of (value_of scalar)) number before (placed_from place (each_number (scalar_number scalar) number xs)) ≡ before ++ xs
 numbers-back scalar number [] before place h = sym (append-nil before)
 numbers-back scalar number (x ∷ xs) before place h =
     let value = value_of scalar in
-    let item = varint_item number (number_of scalar x) in
+    let item = varint_item number (scalar_number scalar x) in
     let after = place + length (spelling item) in
-    let left = placed_from after (each_number (number_of scalar) number xs) in
+    let left = placed_from after (each_number (scalar_number scalar) number xs) in
     let others = numbers-back scalar number xs (before ++ x ∷ []) after (All-tail (IsOne (Number scalar)) x xs h) in
-    let taken : before ++ value (number_of scalar x) ∷ [] ≡ before ++ x ∷ [] = rw ((All-head (IsOne (Number scalar)) x xs h).0) refl in
+    let taken : before ++ value (scalar_number scalar x) ∷ [] ≡ before ++ x ∷ [] = rw ((All-head (IsOne (Number scalar)) x xs h).0) refl in
     every-take (numbers_of value) number before (placed_at place item) left refl ∙ ap (λ b. every (numbers_of value) number b left) taken ∙ others ∙ append_assoc before (x ∷ []) xs
 
-pub row-back : (label : Label) (kind : Kind) (number : ℕ) (value : Value label kind) (place : ℕ) → IsValue label kind value
+pub row-back : (label : Label) (kind : Kind) (number : ℕ) (value : Value label kind) (place : ℕ) → IsTyped label kind value
     → value_after label kind number (unset label kind) (placed_from place (row_items label kind number value)) ≡ value
 row-back Optional kind number o place h = one-back kind number o place h
 row-back Required kind number o place h = one-back kind number o place h
@@ -94,11 +94,11 @@ row-back Repeated Raw number xs place h = every-each_block number xs [] place
 
 pub messages-back : {X : Type 0} (make : List Entry → X) (inside : X → List Item) (P : X → Type 0)
     → ((x : X) (place : ℕ) → P x → make (fields (record { place = place; rest = written (inside x) })).items ≡ x)
-    → (number : ℕ) (xs before : List X) (place : ℕ) → All (λ x. P x × IsBlock (written (inside x))) xs
+    → (number : ℕ) (xs before : List X) (place : ℕ) → All (λ x. P x × IsBytes (written (inside x))) xs
     → every (messages_of make) number before (placed_from place (each_message inside number xs)) ≡ before ++ xs
 messages-back make inside P back number [] before place h = sym (append-nil before)
 messages-back {X} make inside P back number (x ∷ xs) before place h =
-    let P_block = λ (y : X). P y × IsBlock (written (inside y)) in
+    let P_block = λ (y : X). P y × IsBytes (written (inside y)) in
     let item = block_item number (written (inside x)) in
     let entry = placed_at place item in
     let after = place + length (spelling item) in

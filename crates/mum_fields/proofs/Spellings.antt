@@ -4,7 +4,7 @@ use Rattle.std.proofs.lemmas.Bool.{le-ltb, lt-ltb, ltb-true, ltb-false}
 use Rattle.std.proofs.lemmas.Grind.{pow_more}
 use Rattle.mum_fields.specs.declared.fault.FaultKind.{FaultKind}
 use Rattle.mum_fields.specs.declared.fault.FaultKind.TheVariants.{BadVarint}
-use Rattle.mum_fields.specs.Varint.{Spells, IsVarint, above, varint_with, varint, shortest_with, shortest, AreBytes}
+use Rattle.mum_fields.specs.Varint.{SpellsWithin, IsVarint, above, varint_with, varint, shortest_with, shortest, AreOctets}
 
 abbrev Found : Type 0
 Found = Result (ℕ × ℕ) FaultKind
@@ -13,7 +13,7 @@ abbrev done : ℕ → ℕ → Found
 done n used = Ok (n, used)
 
 -- a number that is spelled at the front is read, whatever follows
-pub varint_with-spelled : (more : ℕ) (bytes rest : List ℕ) (n : ℕ) → Spells more bytes n → varint_with more (bytes ++ rest) ≡ done n (length bytes)
+pub varint_with-spelled : (more : ℕ) (bytes rest : List ℕ) (n : ℕ) → SpellsWithin more bytes n → varint_with more (bytes ++ rest) ≡ done n (length bytes)
 varint_with-spelled more [] rest n h = absurd h
 varint_with-spelled zero (b ∷ []) rest n h = rw (le-ltb 1 b h.0, h.1) refl
 varint_with-spelled zero (b ∷ c ∷ bs) rest n h = absurd h
@@ -27,7 +27,7 @@ varint_with-spelled (suc more) (b ∷ c ∷ bs) rest n h =
 pub record IsFound (more : ℕ) (bytes : List ℕ) (n used : ℕ) : Type 0 where
   pub within : used ≤ length bytes
   pub some : 0 < used
-  pub spells : Spells more (take used bytes) n
+  pub spells : SpellsWithin more (take used bytes) n
 
 number_of : Found → ℕ
 number_of (Ok x) = x.0
@@ -52,7 +52,7 @@ found_at_zero b bs n used false is e =
     let low = ltb-false 1 b is in
     subst (λ (u : ℕ). IsFound zero (b ∷ bs) n u) (pair-1 e) (record { within = omega arith; some = omega arith; spells = (low, sym (pair-0 e)) })
 
-spells_more : (more b n : ℕ) (bs : List ℕ) (high : ℕ) → 128 ≤ b → n + 128 ≡ b + 128 * high → Spells more bs high → Spells (suc more) (b ∷ bs) n
+spells_more : (more b n : ℕ) (bs : List ℕ) (high : ℕ) → 128 ≤ b → n + 128 ≡ b + 128 * high → SpellsWithin more bs high → SpellsWithin (suc more) (b ∷ bs) n
 spells_more more b n [] high top value h = absurd h
 spells_more more b n (c ∷ bs) high top value h = (top, (high, value, h))
 
@@ -104,15 +104,12 @@ pub Rest-whole : (n : ℕ) (out : List ℕ) → n < 2 ^ 64 → Rest n out (out +
 unfolding shortest
 Rest-whole n out below = record { more = 9; below = below; whole = refl }
 
-pub Rest-last : (n : ℕ) (out total : List ℕ) → n < 128 → Rest n out total → out ++ n ∷ [] ≡ total
-Rest-last n out total low h = rw (shortest_with-last h.more n low) at h.whole
-
 -- the shortest spelling is a spelling
-pub shortest_with-spells : (more n : ℕ) → n < 2 * 128 ^ more → Spells more (shortest_with more n) n
+pub shortest_with-spells : (more n : ℕ) → n < 2 * 128 ^ more → SpellsWithin more (shortest_with more n) n
 shortest_with-spells zero n below = (omega arith, refl)
 shortest_with-spells (suc more) n below = by_test (ltb n 128) refl (shortest_with-spells more (n / 128))
   where
-    by_test : (test : Bool) → ltb n 128 ≡ test → (n / 128 < 2 * 128 ^ more → Spells more (shortest_with more (n / 128)) (n / 128)) → Spells (suc more) (cond test (n ∷ []) ((n % 128 + 128) ∷ shortest_with more (n / 128))) n
+    by_test : (test : Bool) → ltb n 128 ≡ test → (n / 128 < 2 * 128 ^ more → SpellsWithin more (shortest_with more (n / 128)) (n / 128)) → SpellsWithin (suc more) (cond test (n ∷ []) ((n % 128 + 128) ∷ shortest_with more (n / 128))) n
     by_test true is others = (ltb-true n 128 is, refl)
     by_test false is others =
         let power : 128 ^ suc more ≡ 128 ^ more * 128 = rw add-one at (pow_more 128 more) in
@@ -124,7 +121,7 @@ unfolding IsVarint shortest
 shortest-is_varint n below = shortest_with-spells 9 n below
 
 -- and no spelling has fewer bytes
-shortest_with-least : (more n : ℕ) (bytes : List ℕ) → AreBytes bytes → Spells more bytes n → length (shortest_with more n) ≤ length bytes
+shortest_with-least : (more n : ℕ) (bytes : List ℕ) → AreOctets bytes → SpellsWithin more bytes n → length (shortest_with more n) ≤ length bytes
 shortest_with-least more n [] fit h = absurd h
 shortest_with-least zero n (b ∷ bs) fit h = omega arith
 shortest_with-least (suc more) n (b ∷ []) fit h = rw (shortest_with-last (suc more) n (omega arith)) (omega arith)
@@ -136,7 +133,7 @@ shortest_with-least (suc more) n (b ∷ c ∷ bs) fit h =
     by_test true is others = omega arith
     by_test false is others = omega arith
 
-pub shortest-least : (n : ℕ) (bytes : List ℕ) → AreBytes bytes → IsVarint bytes n → length (shortest n) ≤ length bytes
+pub shortest-least : (n : ℕ) (bytes : List ℕ) → AreOctets bytes → IsVarint bytes n → length (shortest n) ≤ length bytes
 unfolding IsVarint shortest
 shortest-least n bytes fit h = shortest_with-least 9 n bytes fit h
 

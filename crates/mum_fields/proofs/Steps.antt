@@ -1,7 +1,7 @@
 -- Values field by field: for the loop of decoders.
 use Rattle.std.proofs.Common.{◌≡◌, ℕ, List, [], ◌∷◌, refl}
 use Rattle.mum_fields.specs.Field.{Entry}
-use Rattle.mum_fields.specs.Table.{Label, Optional, Required, RequiredOr, Repeated, Kind, Value, Layout, Nothing, Field, Blocks, Values, value_after, after}
+use Rattle.mum_fields.specs.Table.{Label, Optional, Required, RequiredOr, Repeated, Kind, Value, Layout, Nothing, Field, Blocks, Values, value_after, values_after}
 
 value_after-nothing : (label : Label) (kind : Kind) (number : ℕ) (before : Value label kind) → value_after label kind number before [] ≡ before
 value_after-nothing Optional kind number before = refl
@@ -17,13 +17,13 @@ value_after-next (RequiredOr other) kind number before e es = refl
 value_after-next Repeated kind number before e es = refl
 
 -- no fields change nothing
-pub after-nothing : (form : Layout) (values : Values form) → after form values [] ≡ values
+pub after-nothing : (form : Layout) (values : Values form) → values_after form values [] ≡ values
 after-nothing Nothing values = refl
 after-nothing (Field label kind number others) values = rw (value_after-nothing label kind number values.0, after-nothing others values.1) refl
 after-nothing (Blocks inside number others) values = rw (after-nothing others values.1) refl
 
 -- one field, and then the rest
-pub after-next : (form : Layout) (values : Values form) (e : Entry) (es : List Entry) → after form values (e ∷ es) ≡ after form (after form values (e ∷ [])) es
+pub after-next : (form : Layout) (values : Values form) (e : Entry) (es : List Entry) → values_after form values (e ∷ es) ≡ values_after form (values_after form values (e ∷ [])) es
 after-next Nothing values e es = refl
 after-next (Field label kind number others) values e es = rw (value_after-next label kind number values.0 e es, after-next others values.1 e es) refl
 after-next (Blocks inside number others) values e es = rw (after-next others values.1 e es) refl

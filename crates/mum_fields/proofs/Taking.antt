@@ -3,8 +3,8 @@ use Rattle.std.proofs.Common.{◌≡◌, ℕ, ◌<◌, List, [], ◌∷◌, leng
 use Rattle.std.proofs.lemmas.Bool.{eqb-true, eqb-false}
 use Rattle.std.proofs.lemmas.List.{nil_from_length}
 use Rattle.mum_fields.specs.declared.fault.FieldFault.{FieldFault}
-use Rattle.mum_fields.specs.Field.{Cursor, Entry, varint_at, field_at}
-use Rattle.mum_fields.specs.Payload.{ended, stopped, first, fields, packed}
+use Rattle.mum_fields.specs.Field.{Cursor, Entry, varint_in_front, field_at}
+use Rattle.mum_fields.specs.Payload.{ended, stopped_by, first, fields, packed}
 use Rattle.mum_fields.proofs.Walks.{walk-end, walk-item, walk-fault}
 use Rattle.mum_fields.proofs.Payloads.{varint_at-shortens, field_at-shortens}
 
@@ -24,20 +24,20 @@ fields-end c h = walk-end field_at c h
 pub fields-item : (c after : Cursor) (e : Entry) → field_at c ≡ Ok (e, after) → fields c ≡ first e (fields after)
 fields-item c after e h = walk-item field_at field_at-shortens c after e h
 
-pub fields-fault : (c : Cursor) (e : FieldFault) → (c.rest ≡ [] → ⊥) → field_at c ≡ Err e → fields c ≡ stopped e
+pub fields-fault : (c : Cursor) (e : FieldFault) → (c.rest ≡ [] → ⊥) → field_at c ≡ Err e → fields c ≡ stopped_by e
 fields-fault c e some h = walk-fault field_at c e (some_left c.rest some) h
 
 pub packed-end : (c : Cursor) → c.rest ≡ [] → packed c ≡ ended
-packed-end c h = walk-end varint_at c h
+packed-end c h = walk-end varint_in_front c h
 
-pub packed-item : (c after : Cursor) (n : ℕ) → varint_at c ≡ Ok (n, after) → packed c ≡ first n (packed after)
-packed-item c after n h = walk-item varint_at varint_at-shortens c after n h
+pub packed-item : (c after : Cursor) (n : ℕ) → varint_in_front c ≡ Ok (n, after) → packed c ≡ first n (packed after)
+packed-item c after n h = walk-item varint_in_front varint_at-shortens c after n h
 
-pub packed-fault : (c : Cursor) (e : FieldFault) → (c.rest ≡ [] → ⊥) → varint_at c ≡ Err e → packed c ≡ stopped e
-packed-fault c e some h = walk-fault varint_at c e (some_left c.rest some) h
+pub packed-fault : (c : Cursor) (e : FieldFault) → (c.rest ≡ [] → ⊥) → varint_in_front c ≡ Err e → packed c ≡ stopped_by e
+packed-fault c e some h = walk-fault varint_in_front c e (some_left c.rest some) h
 
 pub fields-shorter : (c after : Cursor) (e : Entry) → field_at c ≡ Ok (e, after) → length after.rest < length c.rest
 fields-shorter c after e h = field_at-shortens c after e h
 
-pub packed-shorter : (c after : Cursor) (n : ℕ) → varint_at c ≡ Ok (n, after) → length after.rest < length c.rest
+pub packed-shorter : (c after : Cursor) (n : ℕ) → varint_in_front c ≡ Ok (n, after) → length after.rest < length c.rest
 packed-shorter c after n h = varint_at-shortens c after n h

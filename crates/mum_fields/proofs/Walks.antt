@@ -1,9 +1,11 @@
 -- Walks, step by step.
-use Rattle.std.proofs.Common.{◌≡◌, ℕ, zero, suc, ◌<◌, ◌≤◌, false, cond, eqb, eq-eqb, [], length, Result, Ok, Err, refl, ap, arith}
+use Rattle.std.proofs.Common.{◌≡◌, ℕ, zero, suc, ◌<◌, ◌≤◌, false, cond, eqb, eq-eqb, List, [], ◌++◌, length, take, Result, Ok, Err, refl, sym, ap, ◌∙◌, append_assoc, arith}
+use Rattle.std.proofs.lemmas.List.{append_cancel_left}
+use Rattle.std.proofs.Math.Seq.{take-append_seam}
 use Rattle.std.proofs.lemmas.Bool.{ne_eqb}
 use Rattle.mum_fields.specs.declared.fault.FieldFault.{FieldFault}
 use Rattle.mum_fields.specs.Field.{Cursor}
-use Rattle.mum_fields.specs.Payload.{Walk, ended, stopped, first, walk_more, walk_with, walk}
+use Rattle.mum_fields.specs.Payload.{Walk, ended, stopped_by, first, walk_more, walk_with, walk}
 
 -- each step takes a byte or more
 abbrev pub Shortens : {X : Type 0} → (Cursor → Result (X × Cursor) FieldFault) → Type 0
@@ -38,12 +40,18 @@ walk-item step shortens c after x is = by_length (length c.rest) refl
         let some : eqb (length c.rest) 0 ≡ false = ne_eqb (length c.rest) 0 (λ none. omega arith) in
         rw (e, some, is) (ap (first x) (walk_with-most step shortens m (length after.rest) after (omega (arith, shortens c after x is)) (omega arith)))
 
-pub walk-fault : {X : Type 0} (step : Cursor → Result (X × Cursor) FieldFault) (c : Cursor) (e : FieldFault) → 0 < length c.rest → step c ≡ Err e → walk step c ≡ stopped e
+pub walk-fault : {X : Type 0} (step : Cursor → Result (X × Cursor) FieldFault) (c : Cursor) (e : FieldFault) → 0 < length c.rest → step c ≡ Err e → walk step c ≡ stopped_by e
 unfolding walk
 walk-fault {X} step c e some is = by_length (length c.rest) refl
   where
-    by_length : (m : ℕ) → length c.rest ≡ m → walk_with step (length c.rest) c ≡ stopped {X = X} e
+    by_length : (m : ℕ) → length c.rest ≡ m → walk_with step (length c.rest) c ≡ stopped_by {X = X} e
     by_length zero h = absurd (omega arith)
     by_length (suc m) h =
         let more : eqb (length c.rest) 0 ≡ false = ne_eqb (length c.rest) 0 (λ none. omega arith) in
         rw (h, more, is) refl
+
+-- what was added so far is a front of all that there is to add
+pub front-of : {X : Type 0} (before part rest all now : List X) → now ≡ before ++ part → now ++ rest ≡ before ++ all → now ≡ before ++ take (length part) all
+front-of before part rest all now is whole =
+    let same : part ++ rest ≡ all = append_cancel_left before (part ++ rest) all (sym (append_assoc before part rest) ∙ ap (λ x. x ++ rest) (sym is) ∙ whole) in
+    is ∙ ap (λ x. before ++ x) (sym (take-append_seam part rest)) ∙ ap (λ x. before ++ take (length part) x) same

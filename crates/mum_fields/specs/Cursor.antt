@@ -8,6 +8,6 @@ abbrev pub cursor_of : CodeCursor → Cursor
 cursor_of c = record { place = c.place; rest = c.rest.now }
 
 -- What a step returned, seen by view, is what reading gives.
-abbrev pub Gives : {X Y : Type 0} → (X → Y) → Result X FieldFault → Result Y FieldFault → Type 0
-Gives view (Ok x) read = read ≡ Ok (view x)
-Gives view (Err e) read = read ≡ Err e
+abbrev pub IsRead : {X Y : Type 0} → (X → Y) → Result X FieldFault → Result Y FieldFault → Type 0
+IsRead view (Ok x) read = read ≡ Ok (view x)
+IsRead view (Err e) read = read ≡ Err e

@@ -1,5 +1,5 @@
 -- A field at the front of what is left of a payload (Protocol Buffers, "Encoding", "Message Structure").
-use Rattle.std.specs.Prelude.{◌≡◌, ℕ, ◌+◌, ◌*◌, ◌/◌, ◌%◌, ◌≤◌, ◌<◌, ◌^◌, ◌==◌, ◌||◌, List, ◌++◌, length, take, drop, Result, Ok, Err, nat_lt, if◌then◌else◌}
+use Rattle.std.specs.Prelude.{◌≡◌, ℕ, ◌+◌, ◌-◌, ◌*◌, ◌/◌, ◌%◌, ◌≤◌, ◌^◌, ◌==◌, ◌||◌, List, ◌++◌, length, take, drop, Result, Ok, Err, nat_lt, if◌then◌else◌}
 use Rattle.std.specs.Int.{w32, w64, from_le_bytes}
 use Rattle.mum_fields.specs.declared.fault.FaultKind.{FaultKind}
 use Rattle.mum_fields.specs.declared.fault.FaultKind.TheVariants.{Truncated, BadWireType, BadLength}
@@ -34,8 +34,12 @@ wire_type (Fixed8 n) = 1
 wire_type (Block block) = 2
 wire_type (Fixed4 n) = 5
 
+-- the greatest number of a field
+abbrev pub last_number : ℕ
+last_number = 2 ^ 29 - 1
+
 abbrev pub IsNumber : ℕ → Type 0
-IsNumber number = (1 ≤ number) × (number < 2 ^ 29)
+IsNumber number = (1 ≤ number) × (number ≤ last_number)
 
 -- these bytes are the value, and what it is begins `skipped` bytes behind their first
 abbrev pub IsValue : Content → List ℕ → ℕ → Type 0
@@ -67,8 +71,8 @@ abbrev pub number_from : Cursor → Result (ℕ × ℕ) FaultKind → Result (�
 number_from c (Ok found) = Ok (found.0, skip found.1 c)
 number_from c (Err kind) = Err (fault kind c.place)
 
-unfoldable pub varint_at : Cursor → Result (ℕ × Cursor) FieldFault
-varint_at c = number_from c (varint c.rest)
+unfoldable pub varint_in_front : Cursor → Result (ℕ × Cursor) FieldFault
+varint_in_front c = number_from c (varint c.rest)
 
 -- so many bytes, where they are left
 unfoldable pub bytes_at : FaultKind → ℕ → Cursor → Result (List ℕ × Cursor) FieldFault
@@ -90,15 +94,15 @@ placed number place found = (record { number = number; content = found.0; place 
 -- the value behind a key that has this place, number and wire type
 unfoldable pub value_at : ℕ → ℕ → ℕ → Cursor → Result (Entry × Cursor) FieldFault
 value_at key number wire c =
-    if wire == 0 then (varint_at c >>= λ found. Ok (placed number c.place (Varint found.0, found.1)))
+    if wire == 0 then (varint_in_front c >>= λ found. Ok (placed number c.place (Varint found.0, found.1)))
     else if wire == 1 then (fixed8_at c >>= λ found. Ok (placed number c.place (Fixed8 found.0, found.1)))
-    else if wire == 2 then (varint_at c >>= λ size. bytes_at BadLength size.0 size.1 >>= λ found. Ok (placed number size.1.place (Block found.0, found.1)))
+    else if wire == 2 then (varint_in_front c >>= λ size. bytes_at BadLength size.0 size.1 >>= λ found. Ok (placed number size.1.place (Block found.0, found.1)))
     else if wire == 5 then (fixed4_at c >>= λ found. Ok (placed number c.place (Fixed4 found.0, found.1)))
     else Err (fault BadWireType key)
 
 -- the first field of what is left
 unfoldable pub field_at : Cursor → Result (Entry × Cursor) FieldFault
 field_at c = do
-  key ← varint_at c
-  (if (key.0 / 8 == 0) || nat_lt 536870911 (key.0 / 8) then Err (fault BadWireType c.place)
+  key ← varint_in_front c
+  (if (key.0 / 8 == 0) || nat_lt last_number (key.0 / 8) then Err (fault BadWireType c.place)
       else value_at c.place (key.0 / 8) (key.0 % 8) key.1)

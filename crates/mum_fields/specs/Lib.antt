@@ -3,9 +3,10 @@ pub mod Varint
 pub mod Content
 pub mod Number
 pub mod Field
+pub mod NoField
 pub mod Payload
 pub mod Message
 pub mod Written
 pub mod Cursor
 pub mod Table
-pub mod Held
+pub mod Typed

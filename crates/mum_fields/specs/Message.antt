@@ -1,6 +1,6 @@
 -- What a message takes from the fields of a payload, from left to right. Each definition goes on from what
 -- came before: so "what is there so far, and then the rest" is the same as all at once.
-use Rattle.std.specs.Prelude.{◌≡◌, ℕ, ◌==◌, List, [], ◌∷◌, ◌++◌, map, Option, Some, None, Result, Ok, Err, if◌then◌else◌}
+use Rattle.std.specs.Prelude.{◌≡◌, ℕ, take, ◌==◌, List, [], ◌∷◌, ◌++◌, map, Option, Some, None, Result, Ok, Err, if◌then◌else◌}
 use Rattle.std.specs.Str.{is_utf8}
 use Rattle.mum_fields.specs.declared.fault.FaultKind.TheVariants.{BadText}
 use Rattle.mum_fields.specs.declared.fault.FieldFault.{FieldFault}
@@ -110,10 +110,6 @@ value_fault rule e = fault_in rule e.place e.content
 abbrev pub only : ℕ → Rule → ℕ → Rule
 only number rule n = if n == number then rule else any_block
 
--- the rules of a message: each number with its rule; of other numbers any block will do
-abbrev pub rule_for : List (ℕ × Rule) → ℕ → Rule
-rule_for [] n = any_block
-rule_for (r ∷ rs) n = if n == r.0 then r.1 else rule_for rs n
 
 -- the first from left to right, in a value or behind the last field that is whole
 abbrev pub first_fault : (ℕ → Rule) → List Entry → Option FieldFault → Option FieldFault
@@ -139,15 +135,22 @@ Refuses (Field e) decoded = decoded ≡ Err (Field e)
 Refuses (MissingField number) decoded = decoded ≡ Err (MissingField number)
 Refuses OutOfMemory decoded = Unit {0}
 
-abbrev pub Answers : {X Y : Type 0} → (X → Y) → Result X MessageFault → Result Y MessageFault → Type 0
-Answers view (Ok x) decoded = decoded ≡ Ok (view x)
-Answers view (Err e) decoded = Refuses e decoded
+abbrev pub Decodes : {X Y : Type 0} → (X → Y) → Result X MessageFault → Result Y MessageFault → Type 0
+Decodes view (Ok x) decoded = decoded ≡ Ok (view x)
+Decodes view (Err e) decoded = Refuses e decoded
 
 -- A call failed by this fault of a field, or since memory ran out.
 abbrev pub IsFaultOf : MessageFault → Option FieldFault → Type 0
 IsFaultOf (Field e) found = found ≡ Some e
 IsFaultOf (MissingField number) found = ⊥
 IsFaultOf OutOfMemory found = Unit {0}
+
+-- A refused call has added some of the elements to a list: those before the fault, or where memory ran out a
+-- front of them.
+abbrev pub KeepsFront : {X : Type 0} → MessageFault → List X → List X → List X → Type 0
+KeepsFront (Field e) before more now = now ≡ before ++ more
+KeepsFront (MissingField number) before more now = ⊥
+KeepsFront OutOfMemory before more now = (count : ℕ) × (now ≡ before ++ take count more)
 
 abbrev pub message_code : MessageFault → Option ℕ
 message_code (Field e) = Some e.code

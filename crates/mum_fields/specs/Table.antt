@@ -2,14 +2,14 @@
 -- number as Mumble.proto gives them, and the part of the message that it is. A field whose type is a message
 -- has the layout of that message: its labels, types and numbers. What a payload decodes to and how a message
 -- is spelled follow from the layout.
-use Rattle.std.specs.Prelude.{ℕ, ℤ, Bool, true, false, List, [], ◌∷◌, ◌++◌, map, min, ◌==◌, nat_lt, ◌&&◌, Option, Some, None, Result, Ok, Err, if◌then◌else◌}
+use Rattle.std.specs.Prelude.{◌≡◌, ℕ, ℤ, Bool, true, false, List, [], ◌∷◌, ◌++◌, map, min, ◌==◌, nat_lt, nat_le, ◌&&◌, Option, Some, None, Result, Ok, Err, if◌then◌else◌}
 use Rattle.mum_fields.specs.declared.message.MessageFault.{MessageFault}
-use Rattle.mum_fields.specs.declared.message.MessageFault.TheVariants.{MissingField}
+use Rattle.mum_fields.specs.declared.message.MessageFault.TheVariants.{MissingField, OutOfMemory}
 use Rattle.mum_fields.specs.Number.{low_32, signed_32, truth, extended, truth_number}
-use Rattle.mum_fields.specs.Field.{Entry}
-use Rattle.mum_fields.specs.Payload.{Walk, start, fields}
+use Rattle.mum_fields.specs.Field.{Entry, last_number}
+use Rattle.mum_fields.specs.Payload.{Walk, at_start, fields}
 use Rattle.mum_fields.specs.Written.{Item, written, block_item, number_items, block_items, each_number, each_block}
-use Rattle.mum_fields.specs.Message.{Rule, any_block, text, packed_numbers, message, varint_of, block_of, blocks_of, messages_of, numbers_of, last, every, outcome}
+use Rattle.mum_fields.specs.Message.{Decodes, Rule, any_block, text, packed_numbers, message, varint_of, block_of, blocks_of, messages_of, numbers_of, last, every, outcome}
 
 -- ---- types and labels
 
@@ -121,8 +121,8 @@ repeated_message rows number part = BlocksRow (layout rows) number (λ m. map (p
 -- the numbers rise, and each is one that a field can have; in blocks too
 abbrev pub rising : ℕ → Layout → Bool
 rising low Nothing = true
-rising low (Field label kind number others) = nat_lt low number && (nat_lt number 536870912 && rising number others)
-rising low (Blocks inside number others) = nat_lt low number && (nat_lt number 536870912 && (rising 0 inside && rising number others))
+rising low (Field label kind number others) = nat_lt low number && (nat_le number last_number && rising number others)
+rising low (Blocks inside number others) = nat_lt low number && (nat_le number last_number && (rising 0 inside && rising number others))
 
 -- ---- reading
 
@@ -150,10 +150,10 @@ unset Required kind = None
 unset (RequiredOr other) kind = None
 unset Repeated kind = []
 
-abbrev pub empty : (fields : Layout) → Values fields
-empty Nothing = tt
-empty (Field label kind number others) = (unset label kind, empty others)
-empty (Blocks inside number others) = ([], empty others)
+abbrev pub no_values : (fields : Layout) → Values fields
+no_values Nothing = tt
+no_values (Field label kind number others) = (unset label kind, no_values others)
+no_values (Blocks inside number others) = ([], no_values others)
 
 -- a singular field has its last value, a repeated one all of them
 abbrev pub value_after : (label : Label) → (kind : Kind) → ℕ → Value label kind → List Entry → Value label kind
@@ -162,10 +162,10 @@ value_after Required kind number before es = last (one_in kind) number before es
 value_after (RequiredOr other) kind number before es = last (one_in kind) number before es
 value_after Repeated kind number before es = every (all_in kind) number before es
 
-abbrev pub after : (fields : Layout) → Values fields → List Entry → Values fields
-after Nothing values es = tt
-after (Field label kind number others) values es = (value_after label kind number values.0 es, after others values.1 es)
-after (Blocks inside number others) values es = (every (messages_of (after inside (empty inside))) number values.0 es, after others values.1 es)
+abbrev pub values_after : (fields : Layout) → Values fields → List Entry → Values fields
+values_after Nothing values es = tt
+values_after (Field label kind number others) values es = (value_after label kind number values.0 es, values_after others values.1 es)
+values_after (Blocks inside number others) values es = (every (messages_of (values_after inside (no_values inside))) number values.0 es, values_after others values.1 es)
 
 -- what a block of a field has to be
 abbrev pub rule_of : Label → Kind → Rule
@@ -236,27 +236,27 @@ whole fields (Err e) = Err e
 
 -- what fields of a payload give: their first fault, or the values that they make
 abbrev pub gathered : (fields : Layout) → Walk Entry → Result (Values fields) MessageFault
-gathered fields found = outcome (rules fields) (after fields (empty fields)) found
+gathered fields found = outcome (rules fields) (values_after fields (no_values fields)) found
 
 -- the values that a payload gives, or its first fault; and where it has none, the least number that is missing
 abbrev pub decoded : {M : Type 0} → (rows : Table M) → List ℕ → Result (Values (layout rows)) MessageFault
-decoded rows payload = whole (layout rows) (gathered (layout rows) (fields (start payload)))
+decoded rows payload = whole (layout rows) (gathered (layout rows) (fields (at_start payload)))
 
 -- ---- writing
 
-abbrev pub number_of : (scalar : Scalar) → Scalar_of scalar → ℕ
-number_of Unsigned32 n = n
-number_of Unsigned64 n = n
-number_of Signed32 n = extended n
-number_of Truth b = truth_number b
+abbrev pub scalar_number : (scalar : Scalar) → Scalar_of scalar → ℕ
+scalar_number Unsigned32 n = n
+scalar_number Unsigned64 n = n
+scalar_number Signed32 n = extended n
+scalar_number Truth b = truth_number b
 
 abbrev pub one_item : (kind : Kind) → ℕ → Option (One kind) → List Item
-one_item (Number scalar) number value = number_items (number_of scalar) number value
+one_item (Number scalar) number value = number_items (scalar_number scalar) number value
 one_item Utf8 number value = block_items number value
 one_item Raw number value = block_items number value
 
 abbrev pub each_item : (kind : Kind) → ℕ → List (One kind) → List Item
-each_item (Number scalar) number values = each_number (number_of scalar) number values
+each_item (Number scalar) number values = each_number (scalar_number scalar) number values
 each_item Utf8 number values = each_block number values
 each_item Raw number values = each_block number values
 
@@ -278,3 +278,12 @@ items (Blocks inside number others) values = each_message (items inside) number 
 -- the spelling of a message: each field that is set, in the order of the numbers
 abbrev pub spelled : {M : Type 0} → (rows : Table M) → M → List ℕ
 spelled rows m = written (items (layout rows) (parts rows m))
+
+-- this message, or want of memory
+abbrev pub IsItOrNoMemory : {M : Type 0} → M → Result M MessageFault → Type 0
+IsItOrNoMemory m (Ok read) = read ≡ m
+IsItOrNoMemory m (Err e) = e ≡ OutOfMemory
+
+-- whatever `decode` may answer for the payload is this message, or want of memory
+abbrev pub ReadsAs : {M : Type 0} → Table M → List ℕ → M → Type 0
+ReadsAs {M} rows payload m = (read : Result M MessageFault) → Decodes (parts rows) read (decoded rows payload) → IsItOrNoMemory m read

@@ -5,16 +5,16 @@ use Rattle.mum_fields.specs.declared.fault.FaultKind.TheVariants.{Truncated, Bad
 
 -- The bytes spell the number: seven bits a byte, the least first, and each byte but the last has its top
 -- bit set. Behind the first byte stand at most `more` others, and the last that may stand is 0 or 1.
-abbrev pub Spells : ℕ → List ℕ → ℕ → Type 0
-Spells more [] n = ⊥
-Spells zero (b ∷ []) n = (b ≤ 1) × (n ≡ b)
-Spells zero (b ∷ c ∷ bs) n = ⊥
-Spells (suc more) (b ∷ []) n = (b < 128) × (n ≡ b)
-Spells (suc more) (b ∷ c ∷ bs) n = (128 ≤ b) × ((high : ℕ) × (n + 128 ≡ b + 128 * high) × Spells more (c ∷ bs) high)
+abbrev pub SpellsWithin : ℕ → List ℕ → ℕ → Type 0
+SpellsWithin more [] n = ⊥
+SpellsWithin zero (b ∷ []) n = (b ≤ 1) × (n ≡ b)
+SpellsWithin zero (b ∷ c ∷ bs) n = ⊥
+SpellsWithin (suc more) (b ∷ []) n = (b < 128) × (n ≡ b)
+SpellsWithin (suc more) (b ∷ c ∷ bs) n = (128 ≤ b) × ((high : ℕ) × (n + 128 ≡ b + 128 * high) × SpellsWithin more (c ∷ bs) high)
 
 -- ten bytes at most, so that the number has at most 64 bits
 unfoldable pub IsVarint : List ℕ → ℕ → Type 0
-IsVarint bytes n = Spells 9 bytes n
+IsVarint bytes n = SpellsWithin 9 bytes n
 
 -- seven bits below a number that is read
 abbrev pub above : ℕ → Result (ℕ × ℕ) FaultKind → Result (ℕ × ℕ) FaultKind
@@ -38,9 +38,9 @@ shortest_with (suc more) n = if nat_lt n 128 then n ∷ [] else (n % 128 + 128) 
 unfoldable pub shortest : ℕ → List ℕ
 shortest n = shortest_with 9 n
 
-abbrev pub AreBytes : List ℕ → Type 0
-AreBytes [] = Unit {0}
-AreBytes (b ∷ bs) = (b < 256) × AreBytes bs
+abbrev pub AreOctets : List ℕ → Type 0
+AreOctets [] = Unit {0}
+AreOctets (b ∷ bs) = (b < 256) × AreOctets bs
 
 -- each byte says that another follows
 abbrev pub HaveTops : List ℕ → Type 0

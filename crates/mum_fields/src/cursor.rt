@@ -19,8 +19,8 @@ pub struct Cursor<'a> {
 
 impl<'a> Cursor<'a> {
     ghost use Rattle.std.specs.Prelude.{◌≡◌, IfOk, Ok, Err};
-    ghost use Rattle.mum_fields.specs.Cursor.{cursor_of, Gives};
-    ghost use Rattle.mum_fields.specs.Field.{entry_of, skip, varint_at, bytes_at, fixed8_at, fixed4_at, value_at, field_at};
+    ghost use Rattle.mum_fields.specs.Cursor.{cursor_of, IsRead};
+    ghost use Rattle.mum_fields.specs.Field.{entry_of, skip, varint_in_front, bytes_at, fixed8_at, fixed4_at, value_at, field_at};
 
     fn skip(self, count: usize) -> Cursor<'a>
         requires { count ≤ length self.rest.now }
@@ -33,9 +33,9 @@ impl<'a> Cursor<'a> {
     }
 
     /// The varint at the front.
-    #[tactic(auto, unfolding(crate::specs::Field::varint_at))]
+    #[tactic(auto, unfolding(crate::specs::Field::varint_in_front))]
     pub fn varint(self) -> Result<(u64, Cursor<'a>), FieldFault>
-        ensures { Gives (λ x. (x.0, cursor_of x.1)) result (varint_at (cursor_of self.entry)) }
+        ensures { IsRead (λ x. (x.0, cursor_of x.1)) result (varint_in_front (cursor_of self.entry)) }
     {
         match read_varint(self.rest) {
             Ok((number, used)) => Ok((number, self.skip(used))),
@@ -46,7 +46,7 @@ impl<'a> Cursor<'a> {
     /// So many bytes from the front. Where they are not left, that is this fault.
     #[tactic(auto, unfolding(crate::specs::Field::bytes_at))]
     fn bytes(self, missing: FaultKind, count: usize) -> Result<(&'a [u8], Cursor<'a>), FieldFault>
-        ensures reads { Gives (λ x. (x.0.now, cursor_of x.1)) result (bytes_at missing count (cursor_of self.entry)) }
+        ensures reads { IsRead (λ x. (x.0.now, cursor_of x.1)) result (bytes_at missing count (cursor_of self.entry)) }
         ensures count { IfOk result (λ x. length x.0.now ≡ count) }
         ensures fits { IfOk result (λ x. self.entry.place + length x.0.now < 2 ^ 64) }
     {
@@ -58,7 +58,7 @@ impl<'a> Cursor<'a> {
 
     #[tactic(auto, unfolding(crate::specs::Field::fixed8_at))]
     fn fixed8(self) -> Result<(u64, Cursor<'a>), FieldFault>
-        ensures { Gives (λ x. (x.0, cursor_of x.1)) result (fixed8_at (cursor_of self.entry)) }
+        ensures { IsRead (λ x. (x.0, cursor_of x.1)) result (fixed8_at (cursor_of self.entry)) }
     {
         let (b, after) = self.bytes(FaultKind::Truncated, 8)?;
         let number = u64::from_le_bytes([b[0], b[1], b[2], b[3], b[4], b[5], b[6], b[7]]);
@@ -67,7 +67,7 @@ impl<'a> Cursor<'a> {
 
     #[tactic(auto, unfolding(crate::specs::Field::fixed4_at))]
     fn fixed4(self) -> Result<(u32, Cursor<'a>), FieldFault>
-        ensures { Gives (λ x. (x.0, cursor_of x.1)) result (fixed4_at (cursor_of self.entry)) }
+        ensures { IsRead (λ x. (x.0, cursor_of x.1)) result (fixed4_at (cursor_of self.entry)) }
     {
         let (b, after) = self.bytes(FaultKind::Truncated, 4)?;
         let number = u32::from_le_bytes([b[0], b[1], b[2], b[3]]);
@@ -82,7 +82,7 @@ impl<'a> Cursor<'a> {
         number: u32,
         wire_type: u64,
     ) -> Result<(Placed<'a>, Cursor<'a>), FieldFault>
-        ensures { Gives (λ x. (entry_of x.0, cursor_of x.1)) result (value_at key number wire_type (cursor_of self.entry)) }
+        ensures { IsRead (λ x. (entry_of x.0, cursor_of x.1)) result (value_at key number wire_type (cursor_of self.entry)) }
     {
         match wire_type {
             0 => {
@@ -115,7 +115,7 @@ impl<'a> Cursor<'a> {
     /// The field at the front.
     #[tactic(auto, unfolding(crate::specs::Field::field_at))]
     pub fn field(self) -> Result<(Placed<'a>, Cursor<'a>), FieldFault>
-        ensures { Gives (λ x. (entry_of x.0, cursor_of x.1)) result (field_at (cursor_of self.entry)) }
+        ensures { IsRead (λ x. (entry_of x.0, cursor_of x.1)) result (field_at (cursor_of self.entry)) }
     {
         let (key, after) = self.varint()?;
         let number = key / 8;

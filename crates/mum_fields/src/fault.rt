@@ -25,11 +25,11 @@ pub enum FaultKind {
 }
 
 impl FaultKind {
-    ghost use Rattle.mum_fields.specs.Fault.{fault_code, fault};
+    ghost use Rattle.mum_fields.specs.Fault.{kind_code, fault};
 
     /// The number of the fault, 11 to 15.
     pub fn code(self) -> u8
-        ensures { result ≡ fault_code self }
+        ensures { result ≡ kind_code self }
     {
         match self {
             FaultKind::Truncated => 11,

@@ -1,14 +1,20 @@
-//! What all messages share: why a payload is none, what is missing, and how they are written.
+//! What all messages share: why a payload is none, what is missing, and how they are read and
+//! written.
 
-ghost use Rattle.std.specs.Prelude.{◌≡◌, ◌++◌, map, OnOk, IfOk, None, Ok, Some, true, is_some, if◌then◌else◌};
+ghost use Rattle.std.specs.Prelude.{◌≡◌, ◌∷◌, [], ◌++◌, map, OnOk, OnErr, IfOk, IfErr, None, Some, true, is_some, if◌then◌else◌};
+ghost use Rattle.mum_fields.specs.Field.{entry_of};
+ghost use Rattle.mum_fields.specs.Payload.{fields};
+ghost use Rattle.mum_fields.specs.Message.{Decodes, longer, message, messages_of, only, value_fault, IsFaultOf};
 ghost use Rattle.mum_fields.specs.Written.{written};
-ghost use Rattle.mum_fields.specs.Table.{Table, layout, parts, items, rising, lesser, least, missing, decoded, spelled};
-ghost use Rattle.mum_fields.specs.Held.{AreValues};
+ghost use Rattle.mum_fields.specs.Table.{Table, ReadsAs, layout, parts, items, rising, rules, no_values, values_after, gathered, lesser, least, missing, decoded, spelled};
+ghost use Rattle.mum_fields.specs.Typed.{AreTyped};
 ghost use Rattle.mum_fields.specs.declared.message.MessageFault.TheVariants.{Field, OutOfMemory};
 
 use crate::fault::FieldFault;
+use crate::field::{Placed, Value};
+use crate::reader::Reader;
 use crate::writer::Writer;
-use mum_base::{Octets, OutOfMemory};
+use mum_base::{Items, Octets, OutOfMemory};
 use std::alloc::{AllocError, AllocFailed, Global};
 use thiserror::Error;
 
@@ -42,14 +48,6 @@ impl From<AllocError> for MessageFault {
     }
 }
 
-impl<T: Drop> From<AllocFailed<T>> for MessageFault {
-    ghost from_gives = { λ _ e. e ≡ OutOfMemory };
-
-    fn from(_error: AllocFailed<T>) -> MessageFault {
-        MessageFault::OutOfMemory
-    }
-}
-
 impl MessageFault {
     ghost use Rattle.mum_fields.specs.Message.{message_code};
 
@@ -65,35 +63,98 @@ impl MessageFault {
     }
 }
 
-/// A message of the protocol, told by the table of its fields.
-pub trait Message {
+/// A message of the protocol, told by the table of its fields. It is its own draft: a decoder begins
+/// with one in which nothing is set and hands it each field of the payload.
+pub trait Message: Drop {
     ghost rows: { Table Self };
 
-    /// Writes each field that is set, in the order of the numbers.
-    fn put(&self, writer: &mut Writer) -> Result<(), OutOfMemory>
-        ensures ok { OnOk result (writer.new ≡ writer.old ++ written (items (layout rows) (parts rows self.now))) }
-        ensures held { OnOk result (AreValues (layout rows) (parts rows self.now)) };
+    /// Nothing is set.
+    fn new(alloc: Global) -> Self
+        ensures { parts rows result ≡ no_values (layout rows) };
+
+    /// Hands one field of a payload to each field of the message. After a refusal those before the
+    /// one that refused may have taken it.
+    fn take(&mut self, alloc: Global, placed: &Placed<'_>) -> Result<(), MessageFault>
+        ensures ok { OnOk result (parts rows self.new
+            ≡ values_after (layout rows) (parts rows self.old) (entry_of placed.now ∷ [])) }
+        ensures clean { OnOk result (value_fault (rules (layout rows) placed.now.field.number) (entry_of placed.now) ≡ None) }
+        ensures fault { IfErr result (λ e. IsFaultOf e (value_fault (rules (layout rows) placed.now.field.number) (entry_of placed.now))) };
+
+    /// Adds each field that is set to a payload, in the order of the numbers.
+    fn put(&self, writer: Writer) -> Result<Writer, OutOfMemory>
+        ensures ok { IfOk result (λ more. more ≡ writer ++ written (items (layout rows) (parts rows self.now))) }
+        ensures typed { OnOk result (AreTyped (layout rows) (parts rows self.now)) };
 
     /// The least required number that is not set, in the message or in a block of it.
     fn missing(&self) -> Option<u32>
         ensures { result ≡ missing (layout rows) (parts rows self.now) };
 
     ghost in_order: { rising 0 (layout rows) ≡ true };
+
+    // The table misses no field.
+    ghost told_by_parts: { (m n : Self) → parts rows m ≡ parts rows n → m ≡ n };
+
+    /// The message that a payload is. A field of another number or wire type is passed over, in
+    /// blocks too. A refusal is the first fault of a field with its place in the whole payload, or
+    /// want of memory; where each field is whole, it is the least required number that is missing,
+    /// in the message or in a block of it.
+    final fn decode(alloc: Global, payload: &[u8]) -> Result<Self, MessageFault>
+        ensures { Decodes (parts rows) result (decoded rows payload.now) }
+    {
+        let message = gather::<Self>(alloc, Reader::new(payload))?;
+        match message.missing() {
+            Some(number) => Err(MessageFault::MissingField { number }),
+            None => Ok(message),
+        }
+    }
+
+    /// The payload of this message: each field that is set, in the order of the numbers, each
+    /// element of a list as a field of its own, and each message of a list in a block of its own. It
+    /// is read back as this message where no required field is missing, in it or in a block of it.
+    final fn encode(&self, alloc: Global) -> Result<Octets, OutOfMemory>
+        ensures written { IfOk result (λ octets. octets ≡ spelled rows self.now) }
+        ensures read_back { IfOk result (λ octets. missing (layout rows) (parts rows self.now) ≡ None
+            → ReadsAs rows octets self.now) }
+    {
+        Ok(self.put(Writer::new(alloc))?.finish())
+    }
 }
 
-/// The payload of a message: it is read back as the message, where no required field is missing.
-pub fn encode<M: Message>(message: &M, alloc: Global) -> Result<Octets, OutOfMemory>
-    ensures written { IfOk result (λ octets. octets ≡ spelled M.rows message.now) }
-    ensures read_back { IfOk result (λ octets. missing (layout M.rows) (parts M.rows message.now) ≡ None
-        → decoded M.rows octets ≡ Ok (parts M.rows message.now)) }
+/// Gathers the fields that are left into a message, in one pass; each text is copied once.
+fn gather<M: Message>(alloc: Global, mut reader: Reader<'_>) -> Result<M, MessageFault>
+    ensures { Decodes (parts M.rows) result (gathered (layout M.rows) (fields reader.entry)) }
 {
-    let mut writer = Writer::new(alloc);
-    message.put(&mut writer)?;
-    Ok(writer.finish())
+    let mut message = M::new(alloc);
+    while let Some(placed) = reader.next_placed()? {
+        message.take(alloc, &placed)?;
+    }
+    Ok(message)
 }
 
-/// The number of a required field that is not set.
-pub fn required<T>(number: u32, slot: &Option<T>) -> Option<u32>
+/// One more message of a list: a block of this number. A fault inside the block is told by its
+/// place in the whole payload; what is missing in the block is no fault here.
+pub fn add_message<M: Message>(
+    alloc: Global,
+    list: &mut Items<M>,
+    number: u32,
+    placed: &Placed<'_>,
+) -> Result<(), MessageFault>
+    ensures ok { OnOk result (map (parts M.rows) list.new
+        ≡ longer (messages_of (values_after (layout M.rows) (no_values (layout M.rows)))) number (map (parts M.rows) list.old) (entry_of placed.now)) }
+    ensures clean { OnOk result (value_fault (only number (message (rules (layout M.rows))) placed.now.field.number) (entry_of placed.now) ≡ None) }
+    ensures fault { IfErr result (λ e. IsFaultOf e (value_fault (only number (message (rules (layout M.rows))) placed.now.field.number) (entry_of placed.now))) }
+    ensures err { OnErr result (list.new ≡ list.old) }
+{
+    if placed.field.number == number {
+        if let Value::Block(block) = placed.field.value {
+            list.push(gather::<M>(alloc, Reader::within(block, placed.at))?)?;
+        }
+    }
+    Ok(())
+}
+
+/// The number of a required field where it is not set.
+pub fn missing_number<T>(number: u32, slot: &Option<T>) -> Option<u32>
     ensures { result ≡ (if is_some slot.now then None else Some number) }
 {
     if slot.is_some() { None } else { Some(number) }

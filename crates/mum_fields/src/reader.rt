@@ -3,7 +3,9 @@
 ghost use Rattle.std.specs.Prelude.{◌≡◌, ◌↔◌, ℕ, ◌+◌, ◌^◌, ◌<◌, [], length, IfOk, IfErr, IfSome, OnSome, OnErr, Ok, Err, Some, None};
 ghost use Rattle.mum_fields.specs.Content.{content_of};
 ghost use Rattle.mum_fields.specs.Field.{entry_of, field_at};
-ghost use Rattle.mum_fields.specs.Payload.{start, fields, Takes};
+ghost use Rattle.mum_fields.specs.Payload.{at_start, fields, TakesFirst};
+ghost use Rattle.mum_fields.specs.NoField.{HasFieldFault};
+ghost use Rattle.mum_fields.specs.declared.fault.FieldFault.{FieldFault};
 
 use crate::cursor::Cursor;
 use crate::fault::FieldFault;
@@ -29,7 +31,7 @@ impl<'a> Model for Reader<'a> {
 impl<'a> Reader<'a> {
     /// A reader of the whole payload.
     pub fn new(payload: &'a [u8]) -> Reader<'a>
-        ensures { result ≡ start payload.now }
+        ensures { result ≡ at_start payload.now }
     {
         Reader {
             cursor: Cursor {
@@ -50,19 +52,12 @@ impl<'a> Reader<'a> {
         }
     }
 
-    /// The place in the payload of the first byte that is left.
-    pub fn at(&self) -> usize
-        ensures { result ≡ self.now.place }
-    {
-        self.cursor.place
-    }
-
     /// The next field, or None at the end. After a fault each later call answers it again.
     pub fn next_field(&mut self) -> Result<Option<Field<'a>>, FieldFault>
         ensures end { (result ≡ Ok None) ↔ (self.old.rest ≡ []) }
         ensures field { IfOk result (λ found. IfSome found (λ field. (place : ℕ)
             × (field_at self.old ≡ Ok (record { number = field.number; content = content_of field.value; place = place }, self.new)))) }
-        ensures fault { IfErr result (λ fault. field_at self.old ≡ Err fault) }
+        ensures faults { (fault : FieldFault) → (result ≡ Err fault) ↔ HasFieldFault self.old fault }
         ensures kept { (result ≡ Ok None) → self.new ≡ self.old }
         ensures err { OnErr result (self.new ≡ self.old) }
     {
@@ -77,8 +72,8 @@ impl<'a> Reader<'a> {
     pub fn next_placed(&mut self) -> Result<Option<Placed<'a>>, FieldFault>
         ensures end { (result ≡ Ok None) ↔ (self.old.rest ≡ []) }
         ensures field { IfOk result (λ found. IfSome found (λ placed. field_at self.old ≡ Ok (entry_of placed, self.new))) }
-        ensures fault { IfErr result (λ fault. field_at self.old ≡ Err fault) }
-        ensures takes { Takes entry_of (fields self.old) result (fields self.new) }
+        ensures faults { (fault : FieldFault) → (result ≡ Err fault) ↔ HasFieldFault self.old fault }
+        ensures takes { TakesFirst entry_of (fields self.old) result (fields self.new) }
         ensures shorter { IfOk result (λ found. OnSome found (length self.new.rest < length self.old.rest)) }
         ensures kept { (result ≡ Ok None) → self.new ≡ self.old }
         ensures err { OnErr result (self.new ≡ self.old) }

@@ -3,16 +3,16 @@
 //! value, a repeated one all of them (Protocol Buffers, "Encoding", "Last One Wins" and "Packed
 //! Repeated Fields"); a field of another number or wire type leaves the slot as it is.
 
-ghost use Rattle.std.specs.Prelude.{◌≡◌, OnOk, OnErr, IfOk, IfErr, List, ◌++◌, None};
+ghost use Rattle.std.specs.Prelude.{◌≡◌, OnOk, OnErr, IfOk, IfErr, None};
 ghost use Rattle.mum_fields.specs.Field.{entry_of};
-ghost use Rattle.mum_fields.specs.Message.{newer, longer, varint_of, block_of, blocks_of, numbers_of, only, text, packed_numbers, value_fault, IsFaultOf};
+ghost use Rattle.mum_fields.specs.Message.{newer, longer, varint_of, block_of, blocks_of, numbers_of, only, text, packed_numbers, value_fault, IsFaultOf, KeepsFront};
 
 use crate::field::{Placed, Value};
 use crate::message::MessageFault;
 use crate::number::VarintType;
 use crate::packed::push_numbers;
 use crate::text::read_text;
-use mum_base::{Octets, OutOfMemory, Text};
+use mum_base::{Items, Octets, OutOfMemory, Text};
 use std::alloc::Global;
 
 /// A number that goes as a varint.
@@ -78,14 +78,14 @@ pub fn set_text(
 /// One more text of a list. Each has to be UTF-8.
 pub fn add_text(
     alloc: Global,
-    list: &mut Vec<Text>,
+    list: &mut Items<Text>,
     number: u32,
     placed: &Placed<'_>,
 ) -> Result<(), MessageFault>
-    ensures ok { OnOk result (list.new.items ≡ longer blocks_of number list.old.items (entry_of placed.now)) }
+    ensures ok { OnOk result (list.new ≡ longer blocks_of number list.old (entry_of placed.now)) }
     ensures clean { OnOk result (value_fault (only number text placed.now.field.number) (entry_of placed.now) ≡ None) }
     ensures fault { IfErr result (λ e. IsFaultOf e (value_fault (only number text placed.now.field.number) (entry_of placed.now))) }
-    ensures err { OnErr result (list.new.items ≡ list.old.items) }
+    ensures err { OnErr result (list.new ≡ list.old) }
 {
     if placed.field.number == number {
         if let Value::Block(block) = placed.field.value {
@@ -96,16 +96,16 @@ pub fn add_text(
 }
 
 /// More numbers of a list: a varint by itself, or those packed in a block. After a fault the
-/// numbers before it are there.
+/// numbers before it are there, and where memory runs out a front of them.
 pub fn add_numbers<N: VarintType>(
-    list: &mut Vec<N>,
+    list: &mut Items<N>,
     number: u32,
     placed: &Placed<'_>,
 ) -> Result<(), MessageFault>
-    ensures ok { OnOk result (list.new.items ≡ longer (numbers_of N.value_of) number list.old.items (entry_of placed.now)) }
+    ensures ok { OnOk result (list.new ≡ longer (numbers_of N.value_of) number list.old (entry_of placed.now)) }
     ensures clean { OnOk result (value_fault (only number packed_numbers placed.now.field.number) (entry_of placed.now) ≡ None) }
     ensures fault { IfErr result (λ e. IsFaultOf e (value_fault (only number packed_numbers placed.now.field.number) (entry_of placed.now))) }
-    ensures err { OnErr result ((part : List N) × (list.new.items ≡ list.old.items ++ part)) }
+    ensures err { IfErr result (λ e. KeepsFront e list.old (numbers_of N.value_of (entry_of placed.now)) list.new) }
 {
     if placed.field.number == number {
         return push_numbers(list, placed);

@@ -1,6 +1,7 @@
 //! A writer of a payload, field by field.
 
 ghost use Rattle.std.specs.Prelude.{◌≡◌, ℕ, List, [], ◌++◌, ◌<◌, ◌≤◌, ◌^◌, OnOk, OnErr};
+ghost use Rattle.mum_fields.specs.Field.{last_number};
 ghost use Rattle.mum_fields.specs.Written.{varint_item, block_item, spelling};
 
 use crate::varint::push_varint;
@@ -15,7 +16,7 @@ const VARINT: u64 = 0;
 const BLOCK: u64 = 2;
 
 fn push_varint_field(out: &mut Vec<u8>, number: u32, value: u64) -> Result<(), OutOfMemory>
-    requires { number < 2 ^ 29 }
+    requires { number ≤ last_number }
     ensures ok { OnOk result (out.new.items ≡ out.old.items ++ spelling (varint_item number value)) }
     ensures err { OnErr result ((part : List ℕ) × (out.new.items ≡ out.old.items ++ part)) }
 {
@@ -24,7 +25,7 @@ fn push_varint_field(out: &mut Vec<u8>, number: u32, value: u64) -> Result<(), O
 }
 
 fn push_block_field(out: &mut Vec<u8>, number: u32, bytes: &[u8]) -> Result<(), OutOfMemory>
-    requires { number < 2 ^ 29 }
+    requires { number ≤ last_number }
     ensures ok { OnOk result (out.new.items ≡ out.old.items ++ spelling (block_item number bytes.now)) }
     ensures err { OnErr result ((part : List ℕ) × (out.new.items ≡ out.old.items ++ part)) }
 {
@@ -69,7 +70,7 @@ impl Writer {
     /// Writes a varint field. Want of memory leaves what was written before.
     pub fn put_varint(&mut self, number: u32, value: u64) -> Result<(), OutOfMemory>
         requires some { 1 ≤ number }
-        requires few { number < 2 ^ 29 }
+        requires few { number ≤ last_number }
         ensures ok { OnOk result (self.new ≡ self.old ++ spelling (varint_item number value)) }
         ensures err { OnErr result (self.new ≡ self.old) }
     {
@@ -85,7 +86,7 @@ impl Writer {
     /// leaves what was written before.
     pub fn put_block(&mut self, number: u32, bytes: &[u8]) -> Result<(), OutOfMemory>
         requires some { 1 ≤ number }
-        requires few { number < 2 ^ 29 }
+        requires few { number ≤ last_number }
         ensures ok { OnOk result (self.new ≡ self.old ++ spelling (block_item number bytes.now)) }
         ensures err { OnErr result (self.new ≡ self.old) }
     {

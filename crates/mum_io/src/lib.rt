@@ -12,6 +12,3 @@ pub use memory::{MemSink, MemSource};
 pub use sink::{Sink, WriteEnd};
 pub use source::{ReadEnd, Source};
 pub use whole::{ReadFault, WriteFault, read_up_to, write_all};
-
-#[cfg(test)]
-mod tests;

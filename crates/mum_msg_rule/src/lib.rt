@@ -14,12 +14,9 @@ pub mod voice_target;
 pub use acl::Acl;
 pub use acl_group::AclGroup;
 pub use acl_line::AclLine;
-pub use mum_fields::MessageFault;
+pub use mum_fields::{Message, MessageFault};
 pub use permission_denied::PermissionDenied;
 pub use permission_query::PermissionQuery;
 pub use target_block::TargetBlock;
 pub use text_message::TextMessage;
 pub use voice_target::VoiceTarget;
-
-#[cfg(test)]
-mod tests;

@@ -1,10 +1,7 @@
 //! PermissionDenied: what a user asked for is denied.
 
-use mum_base::{Octets, OutOfMemory, Text};
-use mum_fields::{
-    Draft, Message, MessageFault, Placed, Writer, encode, put_number, put_text, read, set_text,
-    set_varint,
-};
+use mum_base::{OutOfMemory, Text};
+use mum_fields::{Message, MessageFault, Placed, Writer, set_text, set_varint};
 use std::alloc::Global;
 
 /// Mumble.proto, message PermissionDenied.
@@ -25,16 +22,11 @@ pub struct PermissionDenied {
     pub name: Option<Text>,
 }
 
-impl Draft for PermissionDenied {
-    ghost use Rattle.std.specs.Prelude.{refl};
-    ghost use Rattle.mum_fields.specs.Table.{parts};
+impl Message for PermissionDenied {
     ghost use Rattle.mum_msg_rule.specs.Messages.{permission_denied};
-
-    type Message = PermissionDenied;
+    ghost use Rattle.mum_msg_rule.specs.Parts.{permission_denied_told};
 
     ghost rows = { permission_denied };
-
-    ghost values = { parts permission_denied };
 
     fn new(_alloc: Global) -> PermissionDenied {
         PermissionDenied {
@@ -57,56 +49,23 @@ impl Draft for PermissionDenied {
         Ok(())
     }
 
-    fn finish(self) -> PermissionDenied {
-        self
-    }
-
-    ghost same_rows = { refl };
-}
-
-impl Message for PermissionDenied {
-    ghost use Rattle.std.specs.Prelude.{refl};
-    ghost use Rattle.mum_msg_rule.specs.Messages.{permission_denied};
-
-    ghost rows = { permission_denied };
-
-    fn put(&self, writer: &mut Writer) -> Result<(), OutOfMemory> {
-        put_number(writer, 1, &self.permission)?;
-        put_number(writer, 2, &self.channel_id)?;
-        put_number(writer, 3, &self.session)?;
-        put_text(writer, 4, &self.reason)?;
-        put_number(writer, 5, &self.kind)?;
-        put_text(writer, 6, &self.name)?;
-        Ok(())
+    fn put(&self, mut writer: Writer) -> Result<Writer, OutOfMemory> {
+        writer.put_number(1, &self.permission)?;
+        writer.put_number(2, &self.channel_id)?;
+        writer.put_number(3, &self.session)?;
+        writer.put_text(4, &self.reason)?;
+        writer.put_number(5, &self.kind)?;
+        writer.put_text(6, &self.name)?;
+        Ok(writer)
     }
 
     fn missing(&self) -> Option<u32> {
         None
     }
 
+    ghost use Rattle.std.specs.Prelude.{refl};
+
     ghost in_order = { refl };
-}
 
-impl PermissionDenied {
-    ghost use Rattle.std.specs.Prelude.{◌≡◌, IfOk, None, Ok};
-    ghost use Rattle.mum_fields.specs.Message.{Answers};
-    ghost use Rattle.mum_fields.specs.Table.{layout, parts, decoded, spelled, missing};
-    ghost use Rattle.mum_msg_rule.specs.Messages.{permission_denied};
-
-    /// The message that a payload is. A field of another number or wire type is passed over. A
-    /// refusal is the first fault of a field with its place, or want of memory.
-    pub fn decode(alloc: Global, payload: &[u8]) -> Result<PermissionDenied, MessageFault>
-        ensures { Answers (parts permission_denied) result (decoded permission_denied payload.now) }
-    {
-        read::<PermissionDenied>(alloc, payload)
-    }
-
-    /// The payload of this message: each field that is set, in the order of the numbers.
-    pub fn encode(&self, alloc: Global) -> Result<Octets, OutOfMemory>
-        ensures written { IfOk result (λ octets. octets ≡ spelled permission_denied self.now) }
-        ensures read_back { IfOk result (λ octets. missing (layout permission_denied) (parts permission_denied self.now) ≡ None
-            → decoded permission_denied octets ≡ Ok (parts permission_denied self.now)) }
-    {
-        encode(self, alloc)
-    }
+    ghost told_by_parts = { permission_denied_told };
 }

@@ -1,9 +1,7 @@
 //! PermissionQuery: a client asks for its permissions on a channel, and the server tells them.
 
-use mum_base::{Octets, OutOfMemory};
-use mum_fields::{
-    Draft, Message, MessageFault, Placed, Writer, encode, put_number, read, set_varint,
-};
+use mum_base::OutOfMemory;
+use mum_fields::{Message, MessageFault, Placed, Writer, set_varint};
 use std::alloc::Global;
 
 /// Mumble.proto, message PermissionQuery.
@@ -17,16 +15,11 @@ pub struct PermissionQuery {
     pub flush: Option<bool>,
 }
 
-impl Draft for PermissionQuery {
-    ghost use Rattle.std.specs.Prelude.{refl};
-    ghost use Rattle.mum_fields.specs.Table.{parts};
+impl Message for PermissionQuery {
     ghost use Rattle.mum_msg_rule.specs.Messages.{permission_query};
-
-    type Message = PermissionQuery;
+    ghost use Rattle.mum_msg_rule.specs.Parts.{permission_query_told};
 
     ghost rows = { permission_query };
-
-    ghost values = { parts permission_query };
 
     fn new(_alloc: Global) -> PermissionQuery {
         PermissionQuery {
@@ -43,53 +36,20 @@ impl Draft for PermissionQuery {
         Ok(())
     }
 
-    fn finish(self) -> PermissionQuery {
-        self
-    }
-
-    ghost same_rows = { refl };
-}
-
-impl Message for PermissionQuery {
-    ghost use Rattle.std.specs.Prelude.{refl};
-    ghost use Rattle.mum_msg_rule.specs.Messages.{permission_query};
-
-    ghost rows = { permission_query };
-
-    fn put(&self, writer: &mut Writer) -> Result<(), OutOfMemory> {
-        put_number(writer, 1, &self.channel_id)?;
-        put_number(writer, 2, &self.permissions)?;
-        put_number(writer, 3, &self.flush)?;
-        Ok(())
+    fn put(&self, mut writer: Writer) -> Result<Writer, OutOfMemory> {
+        writer.put_number(1, &self.channel_id)?;
+        writer.put_number(2, &self.permissions)?;
+        writer.put_number(3, &self.flush)?;
+        Ok(writer)
     }
 
     fn missing(&self) -> Option<u32> {
         None
     }
 
+    ghost use Rattle.std.specs.Prelude.{refl};
+
     ghost in_order = { refl };
-}
 
-impl PermissionQuery {
-    ghost use Rattle.std.specs.Prelude.{◌≡◌, IfOk, None, Ok};
-    ghost use Rattle.mum_fields.specs.Message.{Answers};
-    ghost use Rattle.mum_fields.specs.Table.{layout, parts, decoded, spelled, missing};
-    ghost use Rattle.mum_msg_rule.specs.Messages.{permission_query};
-
-    /// The message that a payload is. A field of another number or wire type is passed over. A
-    /// refusal is the first fault of a field with its place, or want of memory.
-    pub fn decode(alloc: Global, payload: &[u8]) -> Result<PermissionQuery, MessageFault>
-        ensures { Answers (parts permission_query) result (decoded permission_query payload.now) }
-    {
-        read::<PermissionQuery>(alloc, payload)
-    }
-
-    /// The payload of this message: each field that is set, in the order of the numbers.
-    pub fn encode(&self, alloc: Global) -> Result<Octets, OutOfMemory>
-        ensures written { IfOk result (λ octets. octets ≡ spelled permission_query self.now) }
-        ensures read_back { IfOk result (λ octets. missing (layout permission_query) (parts permission_query self.now) ≡ None
-            → decoded permission_query octets ≡ Ok (parts permission_query self.now)) }
-    {
-        encode(self, alloc)
-    }
+    ghost told_by_parts = { permission_query_told };
 }

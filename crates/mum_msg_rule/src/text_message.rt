@@ -1,9 +1,8 @@
 //! TextMessage: a text goes to users, to channels, or to trees of channels.
 
-use mum_base::{Items, Octets, OutOfMemory, Text};
+use mum_base::{Items, OutOfMemory, Text};
 use mum_fields::{
-    Draft, Message, MessageFault, Placed, Writer, add_numbers, encode, put_each_number, put_number,
-    put_text, read, required, set_text, set_varint,
+    Message, MessageFault, Placed, Writer, add_numbers, missing_number, set_text, set_varint,
 };
 use std::alloc::Global;
 
@@ -22,38 +21,18 @@ pub struct TextMessage {
     pub message: Option<Text>,
 }
 
-#[derive(Drop)]
-struct TextMessageDraft {
-    actor: Option<u32>,
-    session: Vec<u32>,
-    channel_id: Vec<u32>,
-    tree_id: Vec<u32>,
-    message: Option<Text>,
-}
-
-impl Draft for TextMessageDraft {
-    ghost use Rattle.std.specs.Prelude.{refl};
-    ghost use Rattle.mum_fields.specs.Table.{parts};
+impl Message for TextMessage {
     ghost use Rattle.mum_msg_rule.specs.Messages.{text_message};
-
-    type Message = TextMessage;
+    ghost use Rattle.mum_msg_rule.specs.Parts.{text_message_told};
 
     ghost rows = { text_message };
 
-    ghost values = { λ d. parts text_message (record {
-      actor = d.actor;
-      session = d.session.items;
-      channel_id = d.channel_id.items;
-      tree_id = d.tree_id.items;
-      message = d.message;
-    }) };
-
-    fn new(alloc: Global) -> TextMessageDraft {
-        TextMessageDraft {
+    fn new(alloc: Global) -> TextMessage {
+        TextMessage {
             actor: None,
-            session: Vec::new(alloc),
-            channel_id: Vec::new(alloc),
-            tree_id: Vec::new(alloc),
+            session: Items::new(alloc),
+            channel_id: Items::new(alloc),
+            tree_id: Items::new(alloc),
             message: None,
         }
     }
@@ -67,63 +46,22 @@ impl Draft for TextMessageDraft {
         Ok(())
     }
 
-    fn finish(self) -> TextMessage {
-        TextMessage {
-            actor: self.actor,
-            session: Items::from_vec(self.session),
-            channel_id: Items::from_vec(self.channel_id),
-            tree_id: Items::from_vec(self.tree_id),
-            message: self.message,
-        }
-    }
-
-    ghost same_rows = { refl };
-}
-
-impl Message for TextMessage {
-    ghost use Rattle.std.specs.Prelude.{refl};
-    ghost use Rattle.mum_msg_rule.specs.Messages.{text_message};
-
-    ghost rows = { text_message };
-
-    fn put(&self, writer: &mut Writer) -> Result<(), OutOfMemory> {
-        put_number(writer, 1, &self.actor)?;
-        put_each_number(writer, 2, &self.session)?;
-        put_each_number(writer, 3, &self.channel_id)?;
-        put_each_number(writer, 4, &self.tree_id)?;
-        put_text(writer, 5, &self.message)?;
-        Ok(())
+    fn put(&self, mut writer: Writer) -> Result<Writer, OutOfMemory> {
+        writer.put_number(1, &self.actor)?;
+        writer.put_each_number(2, &self.session)?;
+        writer.put_each_number(3, &self.channel_id)?;
+        writer.put_each_number(4, &self.tree_id)?;
+        writer.put_text(5, &self.message)?;
+        Ok(writer)
     }
 
     fn missing(&self) -> Option<u32> {
-        required(5, &self.message)
+        missing_number(5, &self.message)
     }
+
+    ghost use Rattle.std.specs.Prelude.{refl};
 
     ghost in_order = { refl };
-}
 
-impl TextMessage {
-    ghost use Rattle.std.specs.Prelude.{◌≡◌, IfOk, None, Ok};
-    ghost use Rattle.mum_fields.specs.Message.{Answers};
-    ghost use Rattle.mum_fields.specs.Table.{layout, parts, decoded, spelled, missing};
-    ghost use Rattle.mum_msg_rule.specs.Messages.{text_message};
-
-    /// The message that a payload is. A field of another number or wire type is passed over. A
-    /// refusal is the first fault of a field with its place, or want of memory; where each field is
-    /// whole, it is the number of a missing text.
-    pub fn decode(alloc: Global, payload: &[u8]) -> Result<TextMessage, MessageFault>
-        ensures { Answers (parts text_message) result (decoded text_message payload.now) }
-    {
-        read::<TextMessageDraft>(alloc, payload)
-    }
-
-    /// The payload of this message: each field that is set, in the order of the numbers, and each
-    /// element of a list as a field of its own. It is read back where the text is not missing.
-    pub fn encode(&self, alloc: Global) -> Result<Octets, OutOfMemory>
-        ensures written { IfOk result (λ octets. octets ≡ spelled text_message self.now) }
-        ensures read_back { IfOk result (λ octets. missing (layout text_message) (parts text_message self.now) ≡ None
-            → decoded text_message octets ≡ Ok (parts text_message self.now)) }
-    {
-        encode(self, alloc)
-    }
+    ghost told_by_parts = { text_message_told };
 }

@@ -1,9 +1,8 @@
 //! Authenticate: a client asks to be let in under a name.
 
-use mum_base::{Items, Octets, OutOfMemory, Text};
+use mum_base::{Items, OutOfMemory, Text};
 use mum_fields::{
-    Draft, Message, MessageFault, Placed, Writer, add_numbers, add_text, encode, put_each_number,
-    put_each_text, put_number, put_text, read, set_text, set_varint,
+    Message, MessageFault, Placed, Writer, add_numbers, add_text, set_text, set_varint,
 };
 use std::alloc::Global;
 
@@ -22,38 +21,18 @@ pub struct Authenticate {
     pub opus: Option<bool>,
 }
 
-#[derive(Drop)]
-struct AuthenticateDraft {
-    username: Option<Text>,
-    password: Option<Text>,
-    tokens: Vec<Text>,
-    celt_versions: Vec<i32>,
-    opus: Option<bool>,
-}
-
-impl Draft for AuthenticateDraft {
-    ghost use Rattle.std.specs.Prelude.{refl};
-    ghost use Rattle.mum_fields.specs.Table.{parts};
+impl Message for Authenticate {
     ghost use Rattle.mum_msg_state.specs.Messages.{authenticate};
-
-    type Message = Authenticate;
+    ghost use Rattle.mum_msg_state.specs.Parts.{authenticate_told};
 
     ghost rows = { authenticate };
 
-    ghost values = { λ d. parts authenticate (record {
-      username = d.username;
-      password = d.password;
-      tokens = d.tokens.items;
-      celt_versions = d.celt_versions.items;
-      opus = d.opus;
-    }) };
-
-    fn new(alloc: Global) -> AuthenticateDraft {
-        AuthenticateDraft {
+    fn new(alloc: Global) -> Authenticate {
+        Authenticate {
             username: None,
             password: None,
-            tokens: Vec::new(alloc),
-            celt_versions: Vec::new(alloc),
+            tokens: Items::new(alloc),
+            celt_versions: Items::new(alloc),
             opus: None,
         }
     }
@@ -67,62 +46,22 @@ impl Draft for AuthenticateDraft {
         Ok(())
     }
 
-    fn finish(self) -> Authenticate {
-        Authenticate {
-            username: self.username,
-            password: self.password,
-            tokens: Items::from_vec(self.tokens),
-            celt_versions: Items::from_vec(self.celt_versions),
-            opus: self.opus,
-        }
-    }
-
-    ghost same_rows = { refl };
-}
-
-impl Message for Authenticate {
-    ghost use Rattle.std.specs.Prelude.{refl};
-    ghost use Rattle.mum_msg_state.specs.Messages.{authenticate};
-
-    ghost rows = { authenticate };
-
-    fn put(&self, writer: &mut Writer) -> Result<(), OutOfMemory> {
-        put_text(writer, 1, &self.username)?;
-        put_text(writer, 2, &self.password)?;
-        put_each_text(writer, 3, &self.tokens)?;
-        put_each_number(writer, 4, &self.celt_versions)?;
-        put_number(writer, 5, &self.opus)?;
-        Ok(())
+    fn put(&self, mut writer: Writer) -> Result<Writer, OutOfMemory> {
+        writer.put_text(1, &self.username)?;
+        writer.put_text(2, &self.password)?;
+        writer.put_each_text(3, &self.tokens)?;
+        writer.put_each_number(4, &self.celt_versions)?;
+        writer.put_number(5, &self.opus)?;
+        Ok(writer)
     }
 
     fn missing(&self) -> Option<u32> {
         None
     }
 
+    ghost use Rattle.std.specs.Prelude.{refl};
+
     ghost in_order = { refl };
-}
 
-impl Authenticate {
-    ghost use Rattle.std.specs.Prelude.{◌≡◌, IfOk, None, Ok};
-    ghost use Rattle.mum_fields.specs.Message.{Answers};
-    ghost use Rattle.mum_fields.specs.Table.{layout, parts, decoded, spelled, missing};
-    ghost use Rattle.mum_msg_state.specs.Messages.{authenticate};
-
-    /// The message that a payload is. A field of another number or wire type is passed over. A
-    /// refusal is the first fault of a field with its place, or want of memory.
-    pub fn decode(alloc: Global, payload: &[u8]) -> Result<Authenticate, MessageFault>
-        ensures { Answers (parts authenticate) result (decoded authenticate payload.now) }
-    {
-        read::<AuthenticateDraft>(alloc, payload)
-    }
-
-    /// The payload of this message: each field that is set, in the order of the numbers, and each
-    /// element of a list as a field of its own.
-    pub fn encode(&self, alloc: Global) -> Result<Octets, OutOfMemory>
-        ensures written { IfOk result (λ octets. octets ≡ spelled authenticate self.now) }
-        ensures read_back { IfOk result (λ octets. missing (layout authenticate) (parts authenticate self.now) ≡ None
-            → decoded authenticate octets ≡ Ok (parts authenticate self.now)) }
-    {
-        encode(self, alloc)
-    }
+    ghost told_by_parts = { authenticate_told };
 }

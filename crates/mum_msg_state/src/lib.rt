@@ -17,13 +17,10 @@ pub use authenticate::Authenticate;
 pub use channel_remove::ChannelRemove;
 pub use channel_state::ChannelState;
 pub use codec_version::CodecVersion;
-pub use mum_fields::MessageFault;
+pub use mum_fields::{Message, MessageFault};
 pub use ping::Ping;
 pub use reject::Reject;
 pub use server_sync::ServerSync;
 pub use user_remove::UserRemove;
 pub use user_state::UserState;
 pub use version::Version;
-
-#[cfg(test)]
-mod tests;

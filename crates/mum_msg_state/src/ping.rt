@@ -1,9 +1,7 @@
 //! Ping: each side asks now and then whether the other still hears it.
 
-use mum_base::{Octets, OutOfMemory};
-use mum_fields::{
-    Draft, Message, MessageFault, Placed, Writer, encode, put_number, read, set_varint,
-};
+use mum_base::OutOfMemory;
+use mum_fields::{Message, MessageFault, Placed, Writer, set_varint};
 use std::alloc::Global;
 
 /// Mumble.proto, message Ping. Of its fields only the timestamp is read; a reply repeats it.
@@ -13,16 +11,11 @@ pub struct Ping {
     pub timestamp: Option<u64>,
 }
 
-impl Draft for Ping {
-    ghost use Rattle.std.specs.Prelude.{refl};
-    ghost use Rattle.mum_fields.specs.Table.{parts};
+impl Message for Ping {
     ghost use Rattle.mum_msg_state.specs.Messages.{ping};
-
-    type Message = Ping;
+    ghost use Rattle.mum_msg_state.specs.Parts.{ping_told};
 
     ghost rows = { ping };
-
-    ghost values = { parts ping };
 
     fn new(_alloc: Global) -> Ping {
         Ping { timestamp: None }
@@ -33,51 +26,18 @@ impl Draft for Ping {
         Ok(())
     }
 
-    fn finish(self) -> Ping {
-        self
-    }
-
-    ghost same_rows = { refl };
-}
-
-impl Message for Ping {
-    ghost use Rattle.std.specs.Prelude.{refl};
-    ghost use Rattle.mum_msg_state.specs.Messages.{ping};
-
-    ghost rows = { ping };
-
-    fn put(&self, writer: &mut Writer) -> Result<(), OutOfMemory> {
-        put_number(writer, 1, &self.timestamp)?;
-        Ok(())
+    fn put(&self, mut writer: Writer) -> Result<Writer, OutOfMemory> {
+        writer.put_number(1, &self.timestamp)?;
+        Ok(writer)
     }
 
     fn missing(&self) -> Option<u32> {
         None
     }
 
+    ghost use Rattle.std.specs.Prelude.{refl};
+
     ghost in_order = { refl };
-}
 
-impl Ping {
-    ghost use Rattle.std.specs.Prelude.{◌≡◌, IfOk, None, Ok};
-    ghost use Rattle.mum_fields.specs.Message.{Answers};
-    ghost use Rattle.mum_fields.specs.Table.{layout, parts, decoded, spelled, missing};
-    ghost use Rattle.mum_msg_state.specs.Messages.{ping};
-
-    /// The message that a payload is. A field of another number or wire type is passed over. A
-    /// refusal is the first fault of a field with its place, or want of memory.
-    pub fn decode(alloc: Global, payload: &[u8]) -> Result<Ping, MessageFault>
-        ensures { Answers (parts ping) result (decoded ping payload.now) }
-    {
-        read::<Ping>(alloc, payload)
-    }
-
-    /// The payload of this message: each field that is set, in the order of the numbers.
-    pub fn encode(&self, alloc: Global) -> Result<Octets, OutOfMemory>
-        ensures written { IfOk result (λ octets. octets ≡ spelled ping self.now) }
-        ensures read_back { IfOk result (λ octets. missing (layout ping) (parts ping self.now) ≡ None
-            → decoded ping octets ≡ Ok (parts ping self.now)) }
-    {
-        encode(self, alloc)
-    }
+    ghost told_by_parts = { ping_told };
 }

@@ -1,10 +1,7 @@
 //! Reject: the server lets a client not in.
 
-use mum_base::{Octets, OutOfMemory, Text};
-use mum_fields::{
-    Draft, Message, MessageFault, Placed, Writer, encode, put_number, put_text, read, set_text,
-    set_varint,
-};
+use mum_base::{OutOfMemory, Text};
+use mum_fields::{Message, MessageFault, Placed, Writer, set_text, set_varint};
 use std::alloc::Global;
 
 /// Mumble.proto, message Reject.
@@ -16,16 +13,11 @@ pub struct Reject {
     pub reason: Option<Text>,
 }
 
-impl Draft for Reject {
-    ghost use Rattle.std.specs.Prelude.{refl};
-    ghost use Rattle.mum_fields.specs.Table.{parts};
+impl Message for Reject {
     ghost use Rattle.mum_msg_state.specs.Messages.{reject};
-
-    type Message = Reject;
+    ghost use Rattle.mum_msg_state.specs.Parts.{reject_told};
 
     ghost rows = { reject };
-
-    ghost values = { parts reject };
 
     fn new(_alloc: Global) -> Reject {
         Reject {
@@ -40,52 +32,19 @@ impl Draft for Reject {
         Ok(())
     }
 
-    fn finish(self) -> Reject {
-        self
-    }
-
-    ghost same_rows = { refl };
-}
-
-impl Message for Reject {
-    ghost use Rattle.std.specs.Prelude.{refl};
-    ghost use Rattle.mum_msg_state.specs.Messages.{reject};
-
-    ghost rows = { reject };
-
-    fn put(&self, writer: &mut Writer) -> Result<(), OutOfMemory> {
-        put_number(writer, 1, &self.kind)?;
-        put_text(writer, 2, &self.reason)?;
-        Ok(())
+    fn put(&self, mut writer: Writer) -> Result<Writer, OutOfMemory> {
+        writer.put_number(1, &self.kind)?;
+        writer.put_text(2, &self.reason)?;
+        Ok(writer)
     }
 
     fn missing(&self) -> Option<u32> {
         None
     }
 
+    ghost use Rattle.std.specs.Prelude.{refl};
+
     ghost in_order = { refl };
-}
 
-impl Reject {
-    ghost use Rattle.std.specs.Prelude.{◌≡◌, IfOk, None, Ok};
-    ghost use Rattle.mum_fields.specs.Message.{Answers};
-    ghost use Rattle.mum_fields.specs.Table.{layout, parts, decoded, spelled, missing};
-    ghost use Rattle.mum_msg_state.specs.Messages.{reject};
-
-    /// The message that a payload is. A field of another number or wire type is passed over. A
-    /// refusal is the first fault of a field with its place, or want of memory.
-    pub fn decode(alloc: Global, payload: &[u8]) -> Result<Reject, MessageFault>
-        ensures { Answers (parts reject) result (decoded reject payload.now) }
-    {
-        read::<Reject>(alloc, payload)
-    }
-
-    /// The payload of this message: each field that is set, in the order of the numbers.
-    pub fn encode(&self, alloc: Global) -> Result<Octets, OutOfMemory>
-        ensures written { IfOk result (λ octets. octets ≡ spelled reject self.now) }
-        ensures read_back { IfOk result (λ octets. missing (layout reject) (parts reject self.now) ≡ None
-            → decoded reject octets ≡ Ok (parts reject self.now)) }
-    {
-        encode(self, alloc)
-    }
+    ghost told_by_parts = { reject_told };
 }

@@ -1,10 +1,7 @@
 //! ServerSync: the server has told a new client of all channels and users.
 
-use mum_base::{Octets, OutOfMemory, Text};
-use mum_fields::{
-    Draft, Message, MessageFault, Placed, Writer, encode, put_number, put_text, read, set_text,
-    set_varint,
-};
+use mum_base::{OutOfMemory, Text};
+use mum_fields::{Message, MessageFault, Placed, Writer, set_text, set_varint};
 use std::alloc::Global;
 
 /// Mumble.proto, message ServerSync.
@@ -20,16 +17,11 @@ pub struct ServerSync {
     pub permissions: Option<u64>,
 }
 
-impl Draft for ServerSync {
-    ghost use Rattle.std.specs.Prelude.{refl};
-    ghost use Rattle.mum_fields.specs.Table.{parts};
+impl Message for ServerSync {
     ghost use Rattle.mum_msg_state.specs.Messages.{server_sync};
-
-    type Message = ServerSync;
+    ghost use Rattle.mum_msg_state.specs.Parts.{server_sync_told};
 
     ghost rows = { server_sync };
-
-    ghost values = { parts server_sync };
 
     fn new(_alloc: Global) -> ServerSync {
         ServerSync {
@@ -48,54 +40,21 @@ impl Draft for ServerSync {
         Ok(())
     }
 
-    fn finish(self) -> ServerSync {
-        self
-    }
-
-    ghost same_rows = { refl };
-}
-
-impl Message for ServerSync {
-    ghost use Rattle.std.specs.Prelude.{refl};
-    ghost use Rattle.mum_msg_state.specs.Messages.{server_sync};
-
-    ghost rows = { server_sync };
-
-    fn put(&self, writer: &mut Writer) -> Result<(), OutOfMemory> {
-        put_number(writer, 1, &self.session)?;
-        put_number(writer, 2, &self.max_bandwidth)?;
-        put_text(writer, 3, &self.welcome_text)?;
-        put_number(writer, 4, &self.permissions)?;
-        Ok(())
+    fn put(&self, mut writer: Writer) -> Result<Writer, OutOfMemory> {
+        writer.put_number(1, &self.session)?;
+        writer.put_number(2, &self.max_bandwidth)?;
+        writer.put_text(3, &self.welcome_text)?;
+        writer.put_number(4, &self.permissions)?;
+        Ok(writer)
     }
 
     fn missing(&self) -> Option<u32> {
         None
     }
 
+    ghost use Rattle.std.specs.Prelude.{refl};
+
     ghost in_order = { refl };
-}
 
-impl ServerSync {
-    ghost use Rattle.std.specs.Prelude.{◌≡◌, IfOk, None, Ok};
-    ghost use Rattle.mum_fields.specs.Message.{Answers};
-    ghost use Rattle.mum_fields.specs.Table.{layout, parts, decoded, spelled, missing};
-    ghost use Rattle.mum_msg_state.specs.Messages.{server_sync};
-
-    /// The message that a payload is. A field of another number or wire type is passed over. A
-    /// refusal is the first fault of a field with its place, or want of memory.
-    pub fn decode(alloc: Global, payload: &[u8]) -> Result<ServerSync, MessageFault>
-        ensures { Answers (parts server_sync) result (decoded server_sync payload.now) }
-    {
-        read::<ServerSync>(alloc, payload)
-    }
-
-    /// The payload of this message: each field that is set, in the order of the numbers.
-    pub fn encode(&self, alloc: Global) -> Result<Octets, OutOfMemory>
-        ensures written { IfOk result (λ octets. octets ≡ spelled server_sync self.now) }
-        ensures read_back { IfOk result (λ octets. missing (layout server_sync) (parts server_sync self.now) ≡ None
-            → decoded server_sync octets ≡ Ok (parts server_sync self.now)) }
-    {
-        encode(self, alloc)
-    }
+    ghost told_by_parts = { server_sync_told };
 }

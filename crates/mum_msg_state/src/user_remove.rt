@@ -1,10 +1,7 @@
 //! UserRemove: a user leaves, or is to be kicked or banned.
 
-use mum_base::{Octets, OutOfMemory, Text};
-use mum_fields::{
-    Draft, Message, MessageFault, Placed, Writer, encode, put_number, put_text, read, required,
-    set_text, set_varint,
-};
+use mum_base::{OutOfMemory, Text};
+use mum_fields::{Message, MessageFault, Placed, Writer, missing_number, set_text, set_varint};
 use std::alloc::Global;
 
 /// Mumble.proto, message UserRemove.
@@ -20,16 +17,11 @@ pub struct UserRemove {
     pub ban: Option<bool>,
 }
 
-impl Draft for UserRemove {
-    ghost use Rattle.std.specs.Prelude.{refl};
-    ghost use Rattle.mum_fields.specs.Table.{parts};
+impl Message for UserRemove {
     ghost use Rattle.mum_msg_state.specs.Messages.{user_remove};
-
-    type Message = UserRemove;
+    ghost use Rattle.mum_msg_state.specs.Parts.{user_remove_told};
 
     ghost rows = { user_remove };
-
-    ghost values = { parts user_remove };
 
     fn new(_alloc: Global) -> UserRemove {
         UserRemove {
@@ -48,56 +40,21 @@ impl Draft for UserRemove {
         Ok(())
     }
 
-    fn finish(self) -> UserRemove {
-        self
-    }
-
-    ghost same_rows = { refl };
-}
-
-impl Message for UserRemove {
-    ghost use Rattle.std.specs.Prelude.{refl};
-    ghost use Rattle.mum_msg_state.specs.Messages.{user_remove};
-
-    ghost rows = { user_remove };
-
-    fn put(&self, writer: &mut Writer) -> Result<(), OutOfMemory> {
-        put_number(writer, 1, &self.session)?;
-        put_number(writer, 2, &self.actor)?;
-        put_text(writer, 3, &self.reason)?;
-        put_number(writer, 4, &self.ban)?;
-        Ok(())
+    fn put(&self, mut writer: Writer) -> Result<Writer, OutOfMemory> {
+        writer.put_number(1, &self.session)?;
+        writer.put_number(2, &self.actor)?;
+        writer.put_text(3, &self.reason)?;
+        writer.put_number(4, &self.ban)?;
+        Ok(writer)
     }
 
     fn missing(&self) -> Option<u32> {
-        required(1, &self.session)
+        missing_number(1, &self.session)
     }
+
+    ghost use Rattle.std.specs.Prelude.{refl};
 
     ghost in_order = { refl };
-}
 
-impl UserRemove {
-    ghost use Rattle.std.specs.Prelude.{◌≡◌, IfOk, None, Ok};
-    ghost use Rattle.mum_fields.specs.Message.{Answers};
-    ghost use Rattle.mum_fields.specs.Table.{layout, parts, decoded, spelled, missing};
-    ghost use Rattle.mum_msg_state.specs.Messages.{user_remove};
-
-    /// The message that a payload is. A field of another number or wire type is passed over. A
-    /// refusal is the first fault of a field with its place, or want of memory; where each field is
-    /// whole, it is the least required number that is missing.
-    pub fn decode(alloc: Global, payload: &[u8]) -> Result<UserRemove, MessageFault>
-        ensures { Answers (parts user_remove) result (decoded user_remove payload.now) }
-    {
-        read::<UserRemove>(alloc, payload)
-    }
-
-    /// The payload of this message: each field that is set, in the order of the numbers. It is read
-    /// back where no required field is missing.
-    pub fn encode(&self, alloc: Global) -> Result<Octets, OutOfMemory>
-        ensures written { IfOk result (λ octets. octets ≡ spelled user_remove self.now) }
-        ensures read_back { IfOk result (λ octets. missing (layout user_remove) (parts user_remove self.now) ≡ None
-            → decoded user_remove octets ≡ Ok (parts user_remove self.now)) }
-    {
-        encode(self, alloc)
-    }
+    ghost told_by_parts = { user_remove_told };
 }

@@ -2,8 +2,7 @@
 
 use mum_base::{Items, Octets, OutOfMemory, Text};
 use mum_fields::{
-    Draft, Message, MessageFault, Placed, Writer, add_numbers, add_text, encode, put_each_number,
-    put_each_text, put_number, put_octets, put_text, read, set_block, set_text, set_varint,
+    Message, MessageFault, Placed, Writer, add_numbers, add_text, set_block, set_text, set_varint,
 };
 use std::alloc::Global;
 
@@ -48,60 +47,14 @@ pub struct UserState {
     pub listening_channel_remove: Items<u32>,
 }
 
-#[derive(Drop)]
-struct UserStateDraft {
-    session: Option<u32>,
-    actor: Option<u32>,
-    name: Option<Text>,
-    user_id: Option<u32>,
-    channel_id: Option<u32>,
-    mute: Option<bool>,
-    deaf: Option<bool>,
-    suppress: Option<bool>,
-    self_mute: Option<bool>,
-    self_deaf: Option<bool>,
-    plugin_context: Option<Octets>,
-    plugin_identity: Option<Text>,
-    comment: Option<Text>,
-    priority_speaker: Option<bool>,
-    recording: Option<bool>,
-    temporary_access_tokens: Vec<Text>,
-    listening_channel_add: Vec<u32>,
-    listening_channel_remove: Vec<u32>,
-}
-
-impl Draft for UserStateDraft {
-    ghost use Rattle.std.specs.Prelude.{refl};
-    ghost use Rattle.mum_fields.specs.Table.{parts};
+impl Message for UserState {
     ghost use Rattle.mum_msg_state.specs.Messages.{user_state};
-
-    type Message = UserState;
+    ghost use Rattle.mum_msg_state.specs.Parts.{user_state_told};
 
     ghost rows = { user_state };
 
-    ghost values = { λ d. parts user_state (record {
-      session = d.session;
-      actor = d.actor;
-      name = d.name;
-      user_id = d.user_id;
-      channel_id = d.channel_id;
-      mute = d.mute;
-      deaf = d.deaf;
-      suppress = d.suppress;
-      self_mute = d.self_mute;
-      self_deaf = d.self_deaf;
-      plugin_context = d.plugin_context;
-      plugin_identity = d.plugin_identity;
-      comment = d.comment;
-      priority_speaker = d.priority_speaker;
-      recording = d.recording;
-      temporary_access_tokens = d.temporary_access_tokens.items;
-      listening_channel_add = d.listening_channel_add.items;
-      listening_channel_remove = d.listening_channel_remove.items;
-    }) };
-
-    fn new(alloc: Global) -> UserStateDraft {
-        UserStateDraft {
+    fn new(alloc: Global) -> UserState {
+        UserState {
             session: None,
             actor: None,
             name: None,
@@ -117,9 +70,9 @@ impl Draft for UserStateDraft {
             comment: None,
             priority_speaker: None,
             recording: None,
-            temporary_access_tokens: Vec::new(alloc),
-            listening_channel_add: Vec::new(alloc),
-            listening_channel_remove: Vec::new(alloc),
+            temporary_access_tokens: Items::new(alloc),
+            listening_channel_add: Items::new(alloc),
+            listening_channel_remove: Items::new(alloc),
         }
     }
 
@@ -145,88 +98,35 @@ impl Draft for UserStateDraft {
         Ok(())
     }
 
-    fn finish(self) -> UserState {
-        UserState {
-            session: self.session,
-            actor: self.actor,
-            name: self.name,
-            user_id: self.user_id,
-            channel_id: self.channel_id,
-            mute: self.mute,
-            deaf: self.deaf,
-            suppress: self.suppress,
-            self_mute: self.self_mute,
-            self_deaf: self.self_deaf,
-            plugin_context: self.plugin_context,
-            plugin_identity: self.plugin_identity,
-            comment: self.comment,
-            priority_speaker: self.priority_speaker,
-            recording: self.recording,
-            temporary_access_tokens: Items::from_vec(self.temporary_access_tokens),
-            listening_channel_add: Items::from_vec(self.listening_channel_add),
-            listening_channel_remove: Items::from_vec(self.listening_channel_remove),
-        }
-    }
-
-    ghost same_rows = { refl };
-}
-
-impl Message for UserState {
-    ghost use Rattle.std.specs.Prelude.{refl};
-    ghost use Rattle.mum_msg_state.specs.Messages.{user_state};
-
-    ghost rows = { user_state };
-
-    fn put(&self, writer: &mut Writer) -> Result<(), OutOfMemory> {
-        put_number(writer, 1, &self.session)?;
-        put_number(writer, 2, &self.actor)?;
-        put_text(writer, 3, &self.name)?;
-        put_number(writer, 4, &self.user_id)?;
-        put_number(writer, 5, &self.channel_id)?;
-        put_number(writer, 6, &self.mute)?;
-        put_number(writer, 7, &self.deaf)?;
-        put_number(writer, 8, &self.suppress)?;
-        put_number(writer, 9, &self.self_mute)?;
-        put_number(writer, 10, &self.self_deaf)?;
-        put_octets(writer, 12, &self.plugin_context)?;
-        put_text(writer, 13, &self.plugin_identity)?;
-        put_text(writer, 14, &self.comment)?;
-        put_number(writer, 18, &self.priority_speaker)?;
-        put_number(writer, 19, &self.recording)?;
-        put_each_text(writer, 20, &self.temporary_access_tokens)?;
-        put_each_number(writer, 21, &self.listening_channel_add)?;
-        put_each_number(writer, 22, &self.listening_channel_remove)?;
-        Ok(())
+    fn put(&self, mut writer: Writer) -> Result<Writer, OutOfMemory> {
+        writer.put_number(1, &self.session)?;
+        writer.put_number(2, &self.actor)?;
+        writer.put_text(3, &self.name)?;
+        writer.put_number(4, &self.user_id)?;
+        writer.put_number(5, &self.channel_id)?;
+        writer.put_number(6, &self.mute)?;
+        writer.put_number(7, &self.deaf)?;
+        writer.put_number(8, &self.suppress)?;
+        writer.put_number(9, &self.self_mute)?;
+        writer.put_number(10, &self.self_deaf)?;
+        writer.put_octets(12, &self.plugin_context)?;
+        writer.put_text(13, &self.plugin_identity)?;
+        writer.put_text(14, &self.comment)?;
+        writer.put_number(18, &self.priority_speaker)?;
+        writer.put_number(19, &self.recording)?;
+        writer.put_each_text(20, &self.temporary_access_tokens)?;
+        writer.put_each_number(21, &self.listening_channel_add)?;
+        writer.put_each_number(22, &self.listening_channel_remove)?;
+        Ok(writer)
     }
 
     fn missing(&self) -> Option<u32> {
         None
     }
 
+    ghost use Rattle.std.specs.Prelude.{refl};
+
     ghost in_order = { refl };
-}
 
-impl UserState {
-    ghost use Rattle.std.specs.Prelude.{◌≡◌, IfOk, None, Ok};
-    ghost use Rattle.mum_fields.specs.Message.{Answers};
-    ghost use Rattle.mum_fields.specs.Table.{layout, parts, decoded, spelled, missing};
-    ghost use Rattle.mum_msg_state.specs.Messages.{user_state};
-
-    /// The message that a payload is. A field of another number or wire type is passed over. A
-    /// refusal is the first fault of a field with its place, or want of memory.
-    pub fn decode(alloc: Global, payload: &[u8]) -> Result<UserState, MessageFault>
-        ensures { Answers (parts user_state) result (decoded user_state payload.now) }
-    {
-        read::<UserStateDraft>(alloc, payload)
-    }
-
-    /// The payload of this message: each field that is set, in the order of the numbers, and each
-    /// element of a list as a field of its own.
-    pub fn encode(&self, alloc: Global) -> Result<Octets, OutOfMemory>
-        ensures written { IfOk result (λ octets. octets ≡ spelled user_state self.now) }
-        ensures read_back { IfOk result (λ octets. missing (layout user_state) (parts user_state self.now) ≡ None
-            → decoded user_state octets ≡ Ok (parts user_state self.now)) }
-    {
-        encode(self, alloc)
-    }
+    ghost told_by_parts = { user_state_told };
 }

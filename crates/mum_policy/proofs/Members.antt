@@ -1,5 +1,5 @@
 -- The nearest definition that speaks of an account decides.
-use Rattle.std.proofs.Common.{◌≡◌, ℕ, ◌==◌, ◌||◌, ◌&&◌, Bool, true, false, not, List, [], ◌∷◌, ◌++◌, length, reverse, refl, ap, ◌∙◌, if◌then◌else◌, Option, Some, None, arith}
+use Rattle.std.proofs.Common.{◌≡◌, ℕ, ◌==◌, ◌||◌, ◌&&◌, Bool, true, false, not, List, [], ◌∷◌, ◌++◌, length, map, reverse, refl, ap, ◌∙◌, if◌then◌else◌, Option, Some, None, arith}
 use Rattle.std.specs.List.{list_any}
 use Rattle.std.specs.Option.{unwrap_or}
 use Rattle.std.proofs.lemmas.Bool.{eqb-true}
@@ -44,10 +44,10 @@ nearest_decides nearest further account =
 
 -- whether the account is in the group that the channels of the path define, the last of them chosen
 abbrev pub found : Bool → PolicyMap → List ℕ → AccountId → List ChannelId → Bool
-found above policies name account path = lists (members (definitions_from above policies name (reverse path))) account
+found above policies name account path = lists (members (definitions_from above name (map policies (reverse path)))) account
 
 taken_at : (above : Bool) (policies : PolicyMap) (name : List ℕ) (path rest : List ChannelId) (channel : ChannelId) → path ≡ rest ++ (channel ∷ [])
-    → definitions_from above policies name (reverse path) ≡ taken above (definition (policies channel) name) (definitions_from true policies name (reverse rest))
+    → definitions_from above name (map policies (reverse path)) ≡ taken above (definition (policies channel) name) (definitions_from true name (map policies (reverse rest)))
 unfolding definitions_from
 taken_at above policies name path rest channel e = rw (e, reverse-append rest (channel ∷ [])) refl
 
@@ -67,9 +67,9 @@ found_barred above policies name account path rest channel group e some barred =
 found_taken : (above : Bool) (policies : PolicyMap) (name : List ℕ) (account : AccountId) (path rest : List ChannelId) (channel : ChannelId) (group : Group)
     → path ≡ rest ++ (channel ∷ []) → Some group ≡ definition (policies channel) name → (above && not group.inheritable) ≡ false
     → found above policies name account path
-    ≡ unwrap_or (decision group account) (lists (members (if group.inherit then definitions_from true policies name (reverse rest) else [])) account)
+    ≡ unwrap_or (decision group account) (lists (members (if group.inherit then definitions_from true name (map policies (reverse rest)) else [])) account)
 found_taken above policies name account path rest channel group e some free =
-    rw (taken_at above policies name path rest channel e, ← some, free) (nearest_decides group (if group.inherit then definitions_from true policies name (reverse rest) else []) account)
+    rw (taken_at above policies name path rest channel e, ← some, free) (nearest_decides group (if group.inherit then definitions_from true name (map policies (reverse rest)) else []) account)
 
 pub found_decided : (above : Bool) (policies : PolicyMap) (name : List ℕ) (account : AccountId) (path rest : List ChannelId) (channel : ChannelId) (group : Group) (decided : Bool)
     → path ≡ rest ++ (channel ∷ []) → Some group ≡ definition (policies channel) name → (above && not group.inheritable) ≡ false

@@ -1,5 +1,5 @@
 -- Which sessions are in a group: "Groups" of the Murmur manual.
-use Rattle.std.specs.Prelude.{ℕ, ◌-◌, ◌+◌, ◌==◌, ◌&&◌, Bool, true, false, not, List, [], ◌∷◌, ◌++◌, length, take, filter, find, reverse, Option, Some, None, is_some, if◌then◌else◌}
+use Rattle.std.specs.Prelude.{ℕ, ◌-◌, ◌+◌, ◌==◌, ◌&&◌, Bool, true, false, not, List, [], ◌∷◌, ◌++◌, length, map, take, filter, find, reverse, Option, Some, None, is_some, if◌then◌else◌}
 use Rattle.std.specs.List.{list_any}
 use Rattle.std.specs.Str.{bytes_eq, str_eq_ignore_ascii_case}
 use Rattle.mum_base.specs.declared.number.AccountId.{AccountId}
@@ -30,14 +30,13 @@ taken above (Some group) further =
     if above && not group.inheritable then []
     else group ∷ (if group.inherit then further else [])
 
-unfoldable pub definitions_from : Bool → PolicyMap → List ℕ → List ChannelId → List Group
-definitions_from above policies name [] = []
-definitions_from above policies name (channel ∷ up) =
-    taken above (definition (policies channel) name) (definitions_from true policies name up)
+unfoldable pub definitions_from : Bool → List ℕ → List (Option ChannelPolicy) → List Group
+definitions_from above name [] = []
+definitions_from above name (policy ∷ up) = taken above (definition policy name) (definitions_from true name up)
 
--- the nearest first, of a chosen channel and those above it
-abbrev pub definitions : PolicyMap → List ℕ → List ChannelId → List Group
-definitions policies name up = definitions_from false policies name up
+-- the nearest first, by the policies of a chosen channel and of those above it
+abbrev pub definitions : List ℕ → List (Option ChannelPolicy) → List Group
+definitions name up = definitions_from false name up
 
 -- ---- the accounts of a group
 
@@ -57,7 +56,17 @@ unfoldable pub is_listed : List Group → Option AccountId → Bool
 is_listed groups None = false
 is_listed groups (Some account) = lists (members groups) account
 
--- ---- a session
+-- ---- who asks
+
+-- a session, as entries and groups see it
+pub record Asker : Type 0 where
+  pub account : Option AccountId
+  pub channel : ChannelId
+  pub tokens : List (List ℕ)
+
+-- what the code's asker says
+abbrev pub asker_of : Who → Asker
+asker_of who = record { account = who.account; channel = who.channel; tokens = who.tokens.now }
 
 -- one of its tokens is the word, ASCII case ignored
 unfoldable pub has_token : List (List ℕ) → List ℕ → Bool
@@ -68,26 +77,38 @@ abbrev pub upwards : List ChannelId → ℕ → List ChannelId
 upwards path place = reverse (take (place + 1) path)
 
 -- the session is in the chosen channel
-unfoldable pub is_in : Who → List ChannelId → Bool
+unfoldable pub is_in : Asker → List ChannelId → Bool
 is_in who [] = false
 is_in who (chosen ∷ above) = chosen.0 == who.channel.0
 
-unfoldable pub meets : PolicyMap → List ChannelId → Who → Asks → Bool
-meets policies up who Asks.nobody = false
-meets policies up who Asks.everybody = true
-meets policies up who Asks.registered = is_some who.account
-meets policies up who Asks.inside = is_in who up
-meets policies up who Asks.outside = not (is_in who up)
-meets policies up who (Asks.token word) = has_token who.tokens.now word
-meets policies up who (Asks.defined name) = is_listed (definitions policies name up) who.account
+-- ---- what is asked
 
--- The last channel of the path is asked; the ACL stands in the one at `acl_at`. The negation is
--- applied last.
-abbrev pub member_by : PolicyMap → List ChannelId → ℕ → Who → Understood → Bool
-member_by policies path acl_at who name =
-    let chosen : ℕ = (if name.at_acl then acl_at else length path - 1) in
-    let met : Bool = meets policies (upwards path chosen) who name.asks in
+-- where a name is asked: the last channel of the path is asked, and the ACL stands in the one at `acl_at`
+pub record Question : Type 0 where
+  pub path : List ChannelId
+  pub acl_at : ℕ
+
+-- the chosen channel and those above it
+abbrev pub chosen : Question → Bool → List ChannelId
+chosen question at_acl = upwards question.path (if at_acl then question.acl_at else length question.path - 1)
+
+unfoldable pub meets : PolicyMap → Question → Bool → Asker → Asks → Bool
+meets policies question at_acl who Asks.nobody = false
+meets policies question at_acl who Asks.everybody = true
+meets policies question at_acl who Asks.registered = is_some who.account
+meets policies question at_acl who Asks.inside = is_in who (chosen question at_acl)
+meets policies question at_acl who Asks.outside = not (is_in who (chosen question at_acl))
+meets policies question at_acl who (Asks.token word) = has_token who.tokens word
+meets policies question at_acl who (Asks.defined name) =
+    is_listed (definitions name (map policies (chosen question at_acl))) who.account
+
+-- the negation is applied last
+abbrev pub member_by : PolicyMap → Question → Asker → Understood → Bool
+member_by policies question who name =
+    let met : Bool = meets policies question name.at_acl who name.asks in
     if name.negated then not met else met
 
-unfoldable pub member : PolicyMap → List ChannelId → ℕ → List ℕ → Who → Bool
-member policies path acl_at name who = member_by policies path acl_at who (understood name)
+-- the session is in the group of this name, asked in the last channel of the path for an ACL at a place of it
+unfoldable pub member : PolicyMap → List ChannelId → ℕ → List ℕ → Asker → Bool
+member policies path acl_at name who =
+    member_by policies (record { path = path; acl_at = acl_at }) who (understood name)

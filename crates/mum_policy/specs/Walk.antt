@@ -6,11 +6,10 @@ use Rattle.mum_base.specs.declared.number.ChannelId.{ChannelId}
 use Rattle.mum_base.specs.declared.perm.Perm.{Perm}
 use Rattle.mum_policy.specs.declared.policy.AclEntry.{AclEntry}
 use Rattle.mum_policy.specs.declared.policy.ChannelPolicy.{ChannelPolicy}
-use Rattle.mum_policy.specs.declared.policy.Who.{Who}
 use Rattle.mum_policy.specs.declared.policy.Whom.{Whom}
 use Rattle.mum_policy.specs.declared.policy.Whom.TheVariants.{Account, Group}
 use Rattle.mum_policy.specs.declared.walk.Walk.{Walk}
-use Rattle.mum_policy.specs.Member.{PolicyMap, member}
+use Rattle.mum_policy.specs.Member.{Asker, PolicyMap, member}
 
 -- ---- permissions, by the manual's numbers
 
@@ -28,7 +27,7 @@ start_set = record { 0 = 0xB0E }
 abbrev pub root_only : ℕ
 root_only = 0x1F0000
 
--- what SuperUser may do, and what Write brings along: all but Speak
+-- what SuperUser may do, and what Write brings along: all but Speak and Whisper
 abbrev pub full_set : Bool → ℕ
 full_set on_root = if on_root then 0x1F0EF7 else 0xEF7
 
@@ -45,7 +44,8 @@ walk_start = record { set = start_set; traverse = true; write = false }
 abbrev pub goes_on : Walk → Bool
 goes_on walk = walk.traverse || walk.write
 
--- A mark is set where its bit is granted, and then cleared where its bit is denied.
+-- A mark is set where its bit is granted, and then cleared where its bit is denied. That marks are kept along a
+-- path, whatever the sets are, is this server's own choice.
 abbrev pub marked : Bool → AclEntry → ℕ → Bool
 marked mark entry bit = (mark || holds entry.grant.0 bit) && not (holds entry.deny.0 bit)
 
@@ -73,11 +73,11 @@ is_account None account = false
 is_account (Some own) account = own.0 == account.0
 
 -- an account by its number, a group by its name, asked in the last channel of the path
-abbrev pub names : PolicyMap → List ChannelId → Who → ℕ → Whom → Bool
+abbrev pub names : PolicyMap → List ChannelId → Asker → ℕ → Whom → Bool
 names policies path who place (Account account) = is_account who.account account
 names policies path who place (Group name) = member policies path place name who
 
-unfoldable pub matches : PolicyMap → List ChannelId → Who → ℕ → AclEntry → Bool
+unfoldable pub matches : PolicyMap → List ChannelId → Asker → ℕ → AclEntry → Bool
 matches policies path who place entry = names policies path who place entry.whom
 
 -- the entries in list order, where `matching` says which of them match
@@ -90,12 +90,12 @@ after_entries matching asked (entry ∷ entries) walk =
 abbrev pub entering : Bool → Walk → Walk
 entering inherit walk = record { set = (if inherit then walk.set else start_set); traverse = walk.traverse; write = walk.write }
 
-abbrev pub after_policy : PolicyMap → List ChannelId → Who → ℕ → Bool → ChannelPolicy → Walk → Walk
+abbrev pub after_policy : PolicyMap → List ChannelId → Asker → ℕ → Bool → ChannelPolicy → Walk → Walk
 after_policy policies path who place asked policy walk =
     after_entries (matches policies path who place) asked policy.acls (entering policy.inherit_acls walk)
 
 -- a channel without a policy is passed over
-unfoldable pub after_channel : PolicyMap → List ChannelId → Who → ℕ → Bool → Option ChannelPolicy → Walk → Walk
+unfoldable pub after_channel : PolicyMap → List ChannelId → Asker → ℕ → Bool → Option ChannelPolicy → Walk → Walk
 after_channel policies path who place asked None walk = walk
 after_channel policies path who place asked (Some policy) walk = after_policy policies path who place asked policy walk
 
@@ -112,14 +112,14 @@ is_asked (channel ∷ below) = false
 
 -- from the channel at a place of the path down to the asked one; none where neither mark holds after a
 -- channel, since the walk ends there
-unfoldable pub along : PolicyMap → List ChannelId → Who → ℕ → List ChannelId → Walk → Option Walk
+unfoldable pub along : PolicyMap → List ChannelId → Asker → ℕ → List ChannelId → Walk → Option Walk
 along policies path who place [] walk = Some walk
 along policies path who place (channel ∷ below) walk =
     let after : Walk = after_channel policies path who place (is_asked below) (policies channel) walk in
     if goes_on after then along policies path who (place + 1) below after else None
 
 -- the entries of these channels, up to the one at which the walk ends
-unfoldable pub visits_along : PolicyMap → List ChannelId → Who → ℕ → List ChannelId → Walk → ℕ
+unfoldable pub visits_along : PolicyMap → List ChannelId → Asker → ℕ → List ChannelId → Walk → ℕ
 visits_along policies path who place [] walk = 0
 visits_along policies path who place (channel ∷ below) walk =
     let after : Walk = after_channel policies path who place (is_asked below) (policies channel) walk in
@@ -148,12 +148,12 @@ abbrev pub set_of : Bool → Option Walk → ℕ
 set_of root None = 0
 set_of root (Some walk) = finished root walk.set.0
 
-unfoldable pub perm : PolicyMap → List ChannelId → Who → ℕ
+unfoldable pub perm : PolicyMap → List ChannelId → Asker → ℕ
 perm policies path who =
     if is_account who.account super_user then full_set (on_root path)
     else set_of (on_root path) (along policies path who 0 path walk_start)
 
-unfoldable pub visits : PolicyMap → List ChannelId → Who → ℕ
+unfoldable pub visits : PolicyMap → List ChannelId → Asker → ℕ
 visits policies path who =
     if is_account who.account super_user then 0
     else visits_along policies path who 0 path walk_start

@@ -1,10 +1,10 @@
 //! Which sessions are in a group.
 
-ghost use Rattle.std.specs.Prelude.{◌≡◌, ◌<◌, length, reverse, true, false, if◌then◌else◌};
+ghost use Rattle.std.specs.Prelude.{◌≡◌, ◌<◌, length, map, reverse, true, false, if◌then◌else◌};
 ghost use Rattle.std.specs.Option.{option_copied};
 ghost use Rattle.std.specs.Str.{str_eq_ignore_ascii_case};
 ghost use Rattle.mum_policy.specs.Name.{asks_of};
-ghost use Rattle.mum_policy.specs.Member.{definition, definitions, has_token, is_listed, lists, meets, member};
+ghost use Rattle.mum_policy.specs.Member.{asker_of, definition, definitions, has_token, is_in, is_listed, lists, meets, member, upwards};
 
 use crate::name::{Asked, understand};
 use crate::policy::{ChannelPolicy, Group, Policies, Who};
@@ -73,7 +73,8 @@ fn is_in_defined<P: Policies>(
     name: &[u8],
     account: AccountId,
 ) -> bool
-    ensures { result ≡ is_listed (definitions (P.policy_of policies.now) name.now (reverse path.now)) (Some account) }
+    ensures { result ≡ is_listed
+        (definitions name.now (map (P.policy_of policies.now) (reverse path.now))) (Some account) }
 {
     let mut above = false;
     let mut up = path;
@@ -106,30 +107,45 @@ pub fn is_member<P: Policies>(
     who: &Who,
 ) -> bool
     requires { acl_at < length path.now }
-    ensures { result ≡ member (P.policy_of policies.now) path.now acl_at name.now who.now }
+    ensures { result ≡ member (P.policy_of policies.now) path.now acl_at name.now (asker_of who.now) }
 {
     let name = understand(name.as_bytes());
-    let chosen = if name.at_acl { acl_at } else { path.len() - 1 };
-    name.negated != meets_asked(policies, &path[..=chosen], who, name.asked)
+    name.negated != meets_asked(policies, path, acl_at, name.at_acl, who, name.asked)
 }
 
-// Whether the session is what is asked, where the last channel of the path is chosen.
-#[tactic(auto, unfolding(crate::specs::Member::meets, crate::specs::Member::is_listed))]
-fn meets_asked<P: Policies>(policies: &P, path: &[ChannelId], who: &Who, asked: Asked) -> bool
-    requires { 0 < length path.now }
-    ensures { result ≡ meets (P.policy_of policies.now) (reverse path.now) who.now (asks_of asked.entry) }
+// Whether the session is in the channel at a place of the path.
+fn is_in(path: &[ChannelId], place: usize, who: &Who) -> bool
+    requires { place < length path.now }
+    ensures { result ≡ is_in (asker_of who.now) (upwards path.now place) }
 {
-    let chosen = path[path.len() - 1];
-    let is_in = chosen == who.channel;
+    let chosen = path[place];
+    chosen == who.channel
+}
+
+// Whether the session is what is asked. The channel of the ACL is chosen, or the last of the path.
+#[tactic(auto, unfolding(crate::specs::Member::meets, crate::specs::Member::is_listed))]
+fn meets_asked<P: Policies>(
+    policies: &P,
+    path: &[ChannelId],
+    acl_at: usize,
+    at_acl: bool,
+    who: &Who,
+    asked: Asked,
+) -> bool
+    requires { acl_at < length path.now }
+    ensures { result ≡ meets (P.policy_of policies.now)
+        (record { path = path.now; acl_at = acl_at }) at_acl (asker_of who.now) (asks_of asked.entry) }
+{
+    let chosen = if at_acl { acl_at } else { path.len() - 1 };
     match asked {
         Asked::Nobody => false,
         Asked::Everybody => true,
         Asked::Registered => who.account.is_some(),
-        Asked::Inside => is_in,
-        Asked::Outside => !is_in,
+        Asked::Inside => is_in(path, chosen, who),
+        Asked::Outside => !is_in(path, chosen, who),
         Asked::Token(word) => one_is(who.tokens, word),
         Asked::Defined(name) => match who.account {
-            Some(account) => is_in_defined(policies, path, name, account),
+            Some(account) => is_in_defined(policies, &path[..=chosen], name, account),
             None => false,
         },
     }

@@ -11,6 +11,3 @@ pub mod walk;
 pub use group::is_member;
 pub use policy::{AclEntry, ChannelPolicy, Group, Policies, Who, Whom};
 pub use walk::permissions;
-
-#[cfg(test)]
-mod tests;

@@ -1,16 +1,13 @@
 //! The walk over the access control lists from the root to a channel.
 
 ghost use Rattle.std.specs.Prelude.{◌≡◌, ◌+◌, ◌<◌, ◌==◌, All, IsSome, length};
+ghost use Rattle.mum_policy.specs.Member.{asker_of};
 ghost use Rattle.mum_policy.specs.Walk.{BeginsAtRoot, after_match, after_policy, entering, finished, full_set, goes_on, holds, is_account, marked, matches, on_root, perm, visits, walk_start};
 
 use crate::group::is_member;
 use crate::policy::{AclEntry, ChannelPolicy, Policies, Who, Whom};
 use mum_base::{AccountId, ChannelId, Perm, Steps};
 use std::sync::ledger::Ledger;
-
-const ROOT: ChannelId = ChannelId(0);
-
-const SUPER_USER: AccountId = AccountId(0);
 
 /// How far a walk has come.
 #[derive(Clone, Copy, Debug)]
@@ -103,7 +100,7 @@ fn speaks_of<P: Policies>(
     entry: &AclEntry,
 ) -> bool
     requires { place < length path.now }
-    ensures { result ≡ matches (P.policy_of policies.now) path.now who.now place entry.now }
+    ensures { result ≡ matches (P.policy_of policies.now) path.now (asker_of who.now) place entry.now }
 {
     match &entry.whom {
         Whom::Account(account) => is_of(who, *account),
@@ -122,7 +119,7 @@ fn pass_channel<P: Policies, L: Ledger>(
     steps: &mut Steps<L>,
 ) -> Walk
     requires { place < length path.now }
-    ensures walk { result ≡ after_policy (P.policy_of policies.now) path.now who.now place (place + 1 == length path.now) policy.now walk }
+    ensures walk { result ≡ after_policy (P.policy_of policies.now) path.now (asker_of who.now) place (place + 1 == length path.now) policy.now walk }
     ensures steps { steps.new ≡ steps.old + length policy.now.acls }
 {
     let asked = place + 1 == path.len();
@@ -168,7 +165,7 @@ fn ends_at_root(path: &[ChannelId]) -> bool
     ensures { result ≡ on_root path.now }
 {
     let asked = path[path.len() - 1];
-    asked == ROOT
+    asked == ChannelId::ROOT
 }
 
 /// What the session may do in the last channel of the path, which leads there from the root. A step
@@ -181,11 +178,11 @@ pub fn permissions<P: Policies, L: Ledger>(
 ) -> Perm
     requires root { BeginsAtRoot path.now }
     requires there { All (λ channel. IsSome (P.policy_of policies.now channel)) path.now }
-    ensures value { result.0 ≡ perm (P.policy_of policies.now) path.now who.now }
-    ensures steps { steps.new ≡ steps.old + visits (P.policy_of policies.now) path.now who.now }
+    ensures value { result.0 ≡ perm (P.policy_of policies.now) path.now (asker_of who.now) }
+    ensures steps { steps.new ≡ steps.old + visits (P.policy_of policies.now) path.now (asker_of who.now) }
 {
     let on_root = ends_at_root(path);
-    if is_of(who, SUPER_USER) {
+    if is_of(who, AccountId::SUPER_USER) {
         return full_permissions(on_root);
     }
     let mut walk = Walk::start();

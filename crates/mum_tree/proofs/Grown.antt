@@ -7,7 +7,8 @@ use Rattle.std.proofs.lemmas.List.Elements.{All-push, All-weaker}
 use Rattle.std.proofs.lemmas.List.Quantifiers.{all_pairs_push}
 use Rattle.mum_base.specs.declared.number.ChannelId.{ChannelId}
 use Rattle.mum_tree.specs.declared.channel.Row.{Row}
-use Rattle.mum_tree.specs.Rows.{number, row_of, is_there, is_temporary, is_taken, has_name_beside, upward, IsFree, Rise}
+use Rattle.mum_tree.specs.Rows.{number, row_of, is_there, is_temporary, is_taken, has_name_beside, upward, Rise}
+use Rattle.mum_tree.specs.Places.{IsFree}
 use Rattle.mum_tree.specs.Proper.{AreApart, IsProper, IsUnderLasting, LeadUp}
 use Rattle.mum_tree.specs.State.{TreeState, with_row}
 use Rattle.mum_tree.proofs.Find.{contains_later, row_of_at}
@@ -92,8 +93,8 @@ there_still rows row id there =
     (λ found. ap is_some (row_of_old rows row id found.0 found.1))
     (option_cases (row_of rows id))
 
-pub grown_proper : (tree : TreeState) (row parent : Row) → IsProper tree → tree.greatest < number row → row_of tree.channels row.channel.parent ≡ Some parent → is_taken tree.channels row.channel.parent row.channel.id row.channel.name ≡ false → is_temporary tree.channels row.channel.parent ≡ false → Contains (upward tree.channels 32 row.channel.parent) the_root → length tree.channels < 1024 → row.place < 1024 → IsFree tree.channels row.place → IsProper (with_row tree row)
-grown_proper tree row parent proper above there free lasts room few seated seat =
+pub grown_proper : {limit : ℕ} → (tree : TreeState) (row parent : Row) → IsProper limit tree → tree.greatest < number row → row_of tree.channels row.channel.parent ≡ Some parent → is_taken tree.channels row.channel.parent row.channel.id row.channel.name ≡ false → is_temporary tree.channels row.channel.parent ≡ false → Contains (upward tree.channels 32 row.channel.parent) the_root → length tree.channels < limit → row.place < limit → IsFree tree.channels row.place → IsProper limit (with_row tree row)
+grown_proper {limit} tree row parent proper above there free lasts room few seated seat =
     let rows = tree.channels in
     let lower : number row ≢ 0 = λ (e : number row ≡ 0). absurd (omega arith) in
     let (root, found, is) = proper.root in
@@ -103,7 +104,7 @@ grown_proper tree row parent proper above there free lasts room few seated seat 
       lead = grown_lead rows row proper.lead lower room;
       apart = grown_apart rows row tree.greatest proper.known above proper.apart free;
       lasting = grown_lasting rows row parent proper.rise proper.lead proper.lasting there lasts;
-      seated = All-push (λ one. one.place < 1024) rows row proper.seated seated;
+      seated = All-push (λ one. one.place < limit) rows row proper.seated seated;
       seats = all_pairs_push (λ one other. one.place ≢ other.place) rows row proper.seats seat;
       few = omega (arith, length-append rows (row ∷ []));
       known = All-push (λ one. number one ≤ number row) rows row (All-weaker (λ one. number one ≤ tree.greatest) (λ one. number one ≤ number row) (λ one known. omega arith) rows proper.known) (omega arith);

@@ -2,7 +2,7 @@
 use Rattle.std.proofs.Common.{◌≡◌, ◌≢◌, ℕ, zero, suc, ◌<◌, ◌≤◌, ◌+◌, ◌||◌, ◌&&◌, not, Bool, true, false, cond, eqb, ltb, List, [], ◌∷◌, get_or, refl, arith, ap, sym, ◌∙◌, subst}
 use Rattle.std.specs.Bool.{IsTrue}
 use Rattle.std.specs.List.{All, AllPairs, Contains, count_by, filter, list_any}
-use Rattle.std.proofs.lemmas.Bool.{eqb-true, ne_eqb, cond_both, both_ways, or_parts}
+use Rattle.std.proofs.lemmas.Bool.{eqb-true, ne_eqb, cond_both, both_ways, not_from_false, or_from, or_parts}
 use Rattle.std.proofs.lemmas.Bool.Decides.{nat_tests}
 use Rattle.std.proofs.lemmas.List.Elements.{All-cons, All-contains, All-filter, All-nil, All-tail, All-weaker, filter_passes}
 use Rattle.std.proofs.lemmas.List.Sums.{sum_by-cons}
@@ -10,24 +10,28 @@ use Rattle.std.proofs.lemmas.List.Kept.{AllPairs-cons, AllPairs-filter}
 use Rattle.mum_base.specs.declared.number.ChannelId.{ChannelId}
 use Rattle.mum_tree.specs.declared.channel.Row.{Row}
 use Rattle.mum_tree.specs.Rows.{is_there}
-use Rattle.mum_tree.specs.Proper.{AreLinks, IsBetween, IsProper}
-use Rattle.mum_tree.specs.State.{Pair, Ordered, TreeState, is_above, is_pair, starts_at, with_pair}
+use Rattle.mum_tree.specs.Proper.{AreBothWays, AreLinks, ArePairs, IsBetween, IsProper}
+use Rattle.mum_tree.specs.State.{Pair, Ordered, TreeState, is_above, is_pair, pairs_without, starts_at, with_pair}
 use Rattle.mum_tree.proofs.Find.{AllPairs-tail, contains_later}
 
 pub links_none : (rows : List Row) → AreLinks rows []
 links_none rows = record {
-  between = All-nil (IsBetween rows);
-  both = All-nil (λ pair. Contains [] (pair.1, pair.0));
-  ordered = λ i j d below within. absurd (omega arith);
+  pairs = record {
+    between = All-nil (IsBetween rows);
+    both = All-nil (λ pair. Contains [] (pair.1, pair.0));
+    ordered = λ i j d below within. absurd (omega arith);
+  };
   few_each = λ id. omega arith;
 }
 
 -- other rows, where what was there is there
 pub links_kept : (rows rows-2 : List Row) (links : List Pair) → ((id : ChannelId) → is_there rows id ≡ true → is_there rows-2 id ≡ true) → AreLinks rows links → AreLinks rows-2 links
 links_kept rows rows-2 links keeps are = record {
-  between = All-weaker (IsBetween rows) (IsBetween rows-2) (λ pair is. (keeps pair.0 is.0, keeps pair.1 is.1, is.2)) links are.between;
-  both = are.both;
-  ordered = are.ordered;
+  pairs = record {
+    between = All-weaker (IsBetween rows) (IsBetween rows-2) (λ pair is. (keeps pair.0 is.0, keeps pair.1 is.1, is.2)) links are.pairs.between;
+    both = are.pairs.both;
+    ordered = are.pairs.ordered;
+  };
   few_each = are.few_each;
 }
 
@@ -46,13 +50,18 @@ count_filtered q p (x ∷ xs) =
     cond_both (p x) (x ∷ filter p xs) (filter p xs) (λ zs. count_by q zs ≤ count_by q (x ∷ xs)) (λ e. omega (arith, sum_by-cons f x xs, sum_by-cons f x (filter p xs))) (λ e. omega (arith, sum_by-cons f x xs))
 
 -- the pairs that pass a test which treats both directions alike
-pub links_filtered : (p : Pair → Bool) (rows rows-2 : List Row) (links : List Pair) → ((pair : Pair) → p pair ≡ true → p (pair.1, pair.0) ≡ true) → ((pair : Pair) → p pair ≡ true → IsBetween rows pair → IsBetween rows-2 pair) → AreLinks rows links → AreLinks rows-2 (filter p links)
-links_filtered p rows rows-2 links turns stays are = record {
+pub pairs_filtered : (p : Pair → Bool) (rows rows-2 : List Row) (links : List Pair) → ((pair : Pair) → p pair ≡ true → p (pair.1, pair.0) ≡ true) → ((pair : Pair) → p pair ≡ true → IsBetween rows pair → IsBetween rows-2 pair) → ArePairs rows links → ArePairs rows-2 (filter p links)
+pairs_filtered p rows rows-2 links turns stays are = record {
   between = λ k d within. stays (get_or (filter p links) k d) (filter_passes p links k d within) (All-filter p (IsBetween rows) links are.between k d within);
   both = λ k d within.
       let pair = get_or (filter p links) k d in
       contains_filtered p links (pair.1, pair.0) (All-filter p (λ one. Contains links (one.1, one.0)) links are.both k d within) (turns pair (filter_passes p links k d within));
   ordered = AllPairs-filter (λ pair later. IsTrue (is_above pair.0 pair.1 later)) p links are.ordered;
+}
+
+pub links_filtered : (p : Pair → Bool) (rows rows-2 : List Row) (links : List Pair) → ((pair : Pair) → p pair ≡ true → p (pair.1, pair.0) ≡ true) → ((pair : Pair) → p pair ≡ true → IsBetween rows pair → IsBetween rows-2 pair) → AreLinks rows links → AreLinks rows-2 (filter p links)
+links_filtered p rows rows-2 links turns stays are = record {
+  pairs = pairs_filtered p rows rows-2 links turns stays are.pairs;
   few_each = λ id. omega (arith, count_filtered (starts_at id) p links, are.few_each id);
 }
 
@@ -133,34 +142,86 @@ few_more true false n one two apart few = let less = one refl in omega arith
 few_more false true n one two apart few = let less = two refl in omega arith
 few_more false false n one two apart few = omega arith
 
+both_parted_test : (a b : ChannelId) (pair : Pair) → not (is_pair a b pair || is_pair b a pair) ≡ true → not (is_pair a b (pair.1, pair.0) || is_pair b a (pair.1, pair.0)) ≡ true
+both_parted_test a b pair off = turned (eqb pair.0.0 a.0) (eqb pair.1.0 b.0) (eqb pair.0.0 b.0) (eqb pair.1.0 a.0) off
+
+pub both_parted : (links : List Pair) (a b : ChannelId) → AreBothWays links → AreBothWays (pairs_without a b links)
+both_parted links a b both k d within =
+    let p : Pair → Bool = λ pair. not (is_pair a b pair || is_pair b a pair) in
+    let pair = get_or (filter p links) k d in
+    contains_filtered p links (pair.1, pair.0) (All-filter p (λ one. Contains links (one.1, one.0)) links both k d within) (both_parted_test a b pair (filter_passes p links k d within))
+
+pub ordered_parted : (links : List Pair) (a b : ChannelId) → Ordered links → Ordered (pairs_without a b links)
+ordered_parted links a b ordered = AllPairs-filter (λ pair later. IsTrue (is_above pair.0 pair.1 later)) (λ pair. not (is_pair a b pair || is_pair b a pair)) links ordered
+
+filter_whole : {X : Type 0} (p : X → Bool) (xs : List X) → All (λ x. p x ≡ true) xs → filter p xs ≡ xs
+filter_whole p [] all = refl
+filter_whole {X} p (x ∷ xs) all =
+    ap (λ (b : Bool). cond b (x ∷ filter p xs) (filter p xs)) (all 0 x (omega arith))
+    ∙ ap (λ (rest : List X). x ∷ rest) (filter_whole p xs (λ k d within. all (suc k) d (omega arith)))
+
 -- a link that is taken away
-pub links_parted : (rows : List Row) (links : List Pair) (a b : ChannelId) → AreLinks rows links → AreLinks rows (filter (λ pair. not (is_pair a b pair || is_pair b a pair)) links)
-links_parted rows links a b are =
-    links_filtered (λ pair. not (is_pair a b pair || is_pair b a pair)) rows rows links
+pub pairs_parted : (rows : List Row) (links : List Pair) (a b : ChannelId) → ArePairs rows links → ArePairs rows (pairs_without a b links)
+pairs_parted rows links a b are =
+    pairs_filtered (λ pair. not (is_pair a b pair || is_pair b a pair)) rows rows links
     (λ pair off. turned (eqb pair.0.0 a.0) (eqb pair.1.0 b.0) (eqb pair.0.0 b.0) (eqb pair.1.0 a.0) off)
     (λ pair off is. is)
     are
 
+pub links_parted : (rows : List Row) (links : List Pair) (a b : ChannelId) → AreLinks rows links → AreLinks rows (pairs_without a b links)
+links_parted rows links a b are = record {
+  pairs = pairs_parted rows links a b are.pairs;
+  few_each = λ id. omega (arith, count_filtered (starts_at id) (λ pair. not (is_pair a b pair || is_pair b a pair)) links, are.few_each id);
+}
+
 count_same : (x y : ChannelId) (links : List Pair) → x.0 ≡ y.0 → count_by (starts_at x) links ≡ count_by (starts_at y) links
 count_same x y links e = ap (λ n. count_by (starts_at (record { 0 = n })) links) e
 
--- a new link between two channels that have room for it
+-- a new link in both directions
+pub both_made : (links : List Pair) (a b : ChannelId) → AreBothWays links → AreBothWays (with_pair b a (with_pair a b links))
+both_made links a b both =
+    let one = with_pair a b links in
+    let two = with_pair b a one in
+    let P : Pair → Type 0 = λ pair. Contains two (pair.1, pair.0) in
+    All-with P b a one (contains_old b a one (a, b) (contains_new a b links))
+    (All-with P a b links (contains_new b a one)
+    (All-weaker (λ pair. Contains links (pair.1, pair.0)) P (λ pair is. contains_old b a one (pair.1, pair.0) (contains_old a b links (pair.1, pair.0) is)) links both))
+
+-- what is not there in one direction is not in the other
+pub none_turned : (links : List Pair) (a b : ChannelId) → AreBothWays links → All (λ pair. is_pair a b pair ≡ false) links → All (λ pair. is_pair b a pair ≡ false) links
+none_turned links a b both none k d within =
+    let pair = get_or links k d in
+    and_swap (eqb pair.0.0 b.0) (eqb pair.1.0 a.0) ∙ All-contains (λ (p : Pair). is_pair a b p ≡ false) links (pair.1, pair.0) none (both k d within)
+
+-- a link that is not there leaves all when it is taken away
+pub parted_none : (links : List Pair) (a b : ChannelId) → AreBothWays links → list_any (is_pair a b) links ≡ false → pairs_without a b links ≡ links
+parted_none links a b both none =
+    let one = none_any (is_pair a b) links none in
+    let two = none_turned links a b both one in
+    filter_whole (λ pair. not (is_pair a b pair || is_pair b a pair)) links (λ k d within. not_from_false _ (or_from _ _ (one k d within) (two k d within)))
+
+pub ordered_made : (links : List Pair) (a b : ChannelId) → AreBothWays links → a.0 ≢ b.0 → list_any (is_pair a b) links ≡ false → Ordered links → Ordered (with_pair b a (with_pair a b links))
+ordered_made links a b both differ new ordered =
+    let one = with_pair a b links in
+    let none = none_any (is_pair a b) links new in
+    let apart : is_pair b a (a, b) ≡ false = ap (λ (t : Bool). t && eqb b.0 a.0) (ne_eqb a.0 b.0 differ) in
+    ordered_with b a one (All-with (λ pair. is_pair b a pair ≡ false) a b links apart (none_turned links a b both none)) (ordered_with a b links none ordered)
+
+-- a new link between two channels
+pub pairs_made : (rows : List Row) (links : List Pair) (a b : ChannelId) → is_there rows a ≡ true → is_there rows b ≡ true → a.0 ≢ b.0 → list_any (is_pair a b) links ≡ false → ArePairs rows links → ArePairs rows (with_pair b a (with_pair a b links))
+pairs_made rows links a b here there differ new are = record {
+  between = All-with (IsBetween rows) b a (with_pair a b links) (there, here, λ (e : b.0 ≡ a.0). differ (sym e)) (All-with (IsBetween rows) a b links (here, there, differ) are.between);
+  both = both_made links a b are.both;
+  ordered = ordered_made links a b are.both differ new are.ordered;
+}
+
+-- and both have room for it
 pub links_made : (rows : List Row) (links : List Pair) (a b : ChannelId) → is_there rows a ≡ true → is_there rows b ≡ true → a.0 ≢ b.0 → list_any (is_pair a b) links ≡ false → count_by (starts_at a) links < 64 → count_by (starts_at b) links < 64 → AreLinks rows links → AreLinks rows (with_pair b a (with_pair a b links))
 links_made rows links a b here there differ new room room-2 are =
     let one = with_pair a b links in
     let two = with_pair b a one in
-    let P : Pair → Type 0 = λ pair. Contains two (pair.1, pair.0) in
-    let none = none_any (is_pair a b) links new in
-    let none-2 : All (λ pair. is_pair b a pair ≡ false) links = λ k d within.
-    let pair = get_or links k d in
-    and_swap (eqb pair.0.0 b.0) (eqb pair.1.0 a.0) ∙ All-contains (λ (p : Pair). is_pair a b p ≡ false) links (pair.1, pair.0) none (are.both k d within) in
-    let apart : is_pair b a (a, b) ≡ false = ap (λ (t : Bool). t && eqb b.0 a.0) (ne_eqb a.0 b.0 differ) in
     record {
-      between = All-with (IsBetween rows) b a one (there, here, λ (e : b.0 ≡ a.0). differ (sym e)) (All-with (IsBetween rows) a b links (here, there, differ) are.between);
-      both = All-with P b a one (contains_old b a one (a, b) (contains_new a b links))
-          (All-with P a b links (contains_new b a one)
-          (All-weaker (λ pair. Contains links (pair.1, pair.0)) P (λ pair is. contains_old b a one (pair.1, pair.0) (contains_old a b links (pair.1, pair.0) is)) links are.both));
-      ordered = ordered_with b a one (All-with (λ pair. is_pair b a pair ≡ false) a b links apart none-2) (ordered_with a b links none are.ordered);
+      pairs = pairs_made rows links a b here there differ new are.pairs;
       few_each = λ id.
           let count : count_by (starts_at id) two ≡ cond (eqb b.0 id.0) 1 0 + (cond (eqb a.0 id.0) 1 0 + count_by (starts_at id) links) =
           count_with (starts_at id) b a one ∙ ap (λ n. cond (eqb b.0 id.0) 1 0 + n) (count_with (starts_at id) a b links) in
@@ -172,7 +233,7 @@ links_made rows links a b here there differ new room room-2 are =
           (are.few_each id));
     }
 
-pub relinked : (tree : TreeState) (links : List Pair) → AreLinks tree.channels links → IsProper tree → IsProper (record { channels = tree.channels; links = links; greatest = tree.greatest })
+pub relinked : {limit : ℕ} → (tree : TreeState) (links : List Pair) → AreLinks tree.channels links → IsProper limit tree → IsProper limit (record { channels = tree.channels; links = links; greatest = tree.greatest })
 relinked tree links are proper = record {
   rise = proper.rise;
   root = proper.root;

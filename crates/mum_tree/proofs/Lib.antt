@@ -1,6 +1,8 @@
 pub mod Changed
 pub mod Climb
+pub mod Closure
 pub mod Depths
+pub mod Edited
 pub mod Edits
 pub mod Find
 pub mod Grown
@@ -9,6 +11,7 @@ pub mod Linking
 pub mod LinkSearch
 pub mod Marks
 pub mod Moved
+pub mod Partners
 pub mod Places
 pub mod Reached
 pub mod Search

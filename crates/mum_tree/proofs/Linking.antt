@@ -7,7 +7,7 @@ use Rattle.std.proofs.lemmas.List.{drop_more, length-map}
 use Rattle.std.proofs.lemmas.List.Sums.{length-filter}
 use Rattle.mum_base.specs.declared.number.ChannelId.{ChannelId}
 use Rattle.mum_tree.specs.declared.fault.TreeFault.TheVariants.{LinkCount, NoChannel}
-use Rattle.mum_tree.specs.Calls.{fault_of_link, fault_of_unlink}
+use Rattle.mum_tree.specs.Refusals.{fault_of_link, fault_of_unlink}
 use Rattle.mum_tree.specs.Proper.{AreLinks, IsProper}
 use Rattle.mum_tree.specs.Rows.{is_there}
 use Rattle.mum_tree.specs.State.{Pair, TreeState, are_linked, ends_from, partners, is_above, starts_at, with_link, with_pair}
@@ -54,16 +54,16 @@ pub link_made : (tree : TreeState) (a b : ChannelId) (pairs : List Pair) → (a.
 link_made tree a b pairs differ unlinked made =
     let passed : ((eqb a.0 b.0) || are_linked tree a b) ≡ false = or_from _ _ (ne_eqb a.0 b.0 differ) unlinked in
     ap (λ (ps : List Pair). record { channels = tree.channels; links = ps; greatest = tree.greatest }) made
-    ∙ sym (ap (λ (x : Bool). cond x tree (record tree { links = with_pair b a (with_pair a b tree.links) })) passed)
+    ∙ sym (ap (λ (x : Bool). record tree { links = cond x tree.links (with_pair b a (with_pair a b tree.links)) }) passed)
 
 pub unlink_allowed : (tree : TreeState) (a b : ChannelId) → (is_there tree.channels a && is_there tree.channels b) ≡ true → fault_of_unlink tree a b ≡ None
 unlink_allowed tree a b there = ap (λ (x : Bool). cond (not x) (Some NoChannel) None) there
 
-room_left : (pairs : List Pair) (of : ChannelId) → leb 64 (length (ends_from of pairs)) ≡ false → count_by (starts_at of) pairs < 64
+pub room_left : (pairs : List Pair) (of : ChannelId) → leb 64 (length (ends_from of pairs)) ≡ false → count_by (starts_at of) pairs < 64
 room_left pairs of few = omega (arith, leb-false 64 (length (ends_from of pairs)) few, length-filter (starts_at of) pairs, length-map (filter (starts_at of) pairs) (λ pair. pair.1))
 
 -- the links with one more, where no cause stands against it
-pub links_grown : (tree : TreeState) (a b : ChannelId) → IsProper tree → fault_of_link tree a b ≡ None → a.0 ≢ b.0 → are_linked tree a b ≡ false → AreLinks tree.channels (with_pair b a (with_pair a b tree.links))
+pub links_grown : {limit : ℕ} → (tree : TreeState) (a b : ChannelId) → IsProper limit tree → fault_of_link tree a b ≡ None → a.0 ≢ b.0 → are_linked tree a b ≡ false → AreLinks tree.channels (with_pair b a (with_pair a b tree.links))
 links_grown tree a b proper allowed differ unlinked =
     let rows = tree.channels in
     let passed : ((eqb a.0 b.0) || are_linked tree a b) ≡ false = or_from _ _ (ne_eqb a.0 b.0 differ) unlinked in

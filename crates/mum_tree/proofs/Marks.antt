@@ -1,9 +1,11 @@
 -- The marks of channels.
-use Rattle.std.proofs.Common.{◌≡◌, ℕ, zero, suc, ◌<◌, Bool, true, false, cond, List, [], ◌∷◌, length, get_or, map, refl, arith, ap, sym, ◌∙◌, subst, ⊎_elim}
+use Rattle.std.proofs.Common.{◌≡◌, ◌≢◌, ℕ, zero, suc, ◌+◌, ◌<◌, ◌||◌, eqb, replicate, set, take, Bool, true, false, cond, List, [], ◌∷◌, length, get_or, map, refl, arith, ap, sym, ◌∙◌, subst, ⊎_elim}
 use Rattle.std.specs.Prelude.{◌↔◌}
 use Rattle.std.specs.List.{All, AllPairs, Contains, filter}
-use Rattle.std.proofs.lemmas.Bool.{cases_Bool, cases_order}
-use Rattle.std.proofs.lemmas.List.{get_or_default, get_or_read}
+use Rattle.std.proofs.lemmas.Bool.{cases_Bool, cases_eq, cases_order, eq-eqb, ne_eqb, or_right}
+use Rattle.std.proofs.lemmas.List.Folds.{list_any_more}
+use Rattle.mum_tree.specs.Change.{is_among}
+use Rattle.std.proofs.lemmas.List.{get_or_default, get_or_read, get_or-set_same, get_or-set_other}
 use Rattle.mum_base.specs.declared.number.ChannelId.{ChannelId}
 use Rattle.mum_tree.specs.declared.channel.Row.{Row}
 use Rattle.mum_tree.specs.declared.scratch.Seat.{Seat}
@@ -107,13 +109,41 @@ seats_rise rows rise = AllPairs-map (λ one later. number one < number later) (�
 pub marked_rows : (marks : List Bool) (rows : List Row) → marked_at marks (map seat_of rows) ≡ map (λ row. row.channel.id) (filter (λ row. get_or marks row.place false) rows)
 marked_rows marks rows = map-filter_of_map (λ seat. seat.id) (is_marked marks) seat_of rows
 
--- the marks of rows that were found
-pub marked_found : (rows : List Row) (found : List ℕ) (marks : List Bool) → ((k : ℕ) (d : Row) → k < length rows → (get_or marks (get_or rows k d).place false ≡ true) ↔ Contains found k) → (other : ChannelId) → Contains (map (λ row. row.channel.id) (filter (λ row. get_or marks row.place false) rows)) other ↔ HasRow rows found other
-marked_found rows found marks each other = (
-  λ has.
-      let (k, within, passes) = passes_from (λ row. get_or marks row.place false) (λ row. row.channel.id) rows other has in
-      (k, (each k root_row within).0 (passes root_row).0, within, λ d. (passes d).1),
-  λ here.
-      let (k, has, within, named) = here in
-      passes_to (λ row. get_or marks row.place false) (λ row. row.channel.id) rows other (k, within, λ d. ((each k d within).1 has, named d)),
-)
+pub none_marked : (n place : ℕ) → get_or (replicate n false) place false ≡ false
+none_marked zero place = refl
+none_marked (suc n) zero = refl
+none_marked (suc n) (suc place) = none_marked n place
+
+-- the marks of the channels of a list, one more
+pub mark_more : (rows : List Row) (marks : List Bool) (ids : List ChannelId) (i : ℕ) (id other : ChannelId) (at : ℕ) (row d : Row) → Rise rows → AllPairs (λ one later. one.place ≢ later.place) rows → i < length ids → id ≡ get_or ids i other → at < length rows → row ≡ get_or rows at d → row.channel.id ≡ id → row.place < length marks → All (λ one. get_or marks one.place false ≡ is_among (take i ids) one.channel.id) rows → All (λ one. get_or (set marks row.place true) one.place false ≡ is_among (take (i + 1) ids) one.channel.id) rows
+mark_more rows marks ids i id other at row d rise seats inside read within here named seated done k e below =
+    let one = get_or rows k e in
+    let more : is_among (take (i + 1) ids) one.channel.id ≡ (is_among (take i ids) one.channel.id || eqb id.0 (number one)) =
+    list_any_more (λ (x : ChannelId). eqb x.0 (number one)) ids i other inside ∙ ap (λ (x : ChannelId). is_among (take i ids) one.channel.id || eqb x.0 (number one)) (sym read) in
+    let mine : row ≡ get_or rows at e = here ∙ get_or_default rows at d e within in
+    ⊎_elim
+    (λ (s : k ≡ at).
+    let same : row ≡ one = mine ∙ ap (λ j. get_or rows j e) (sym s) in
+    ap (λ (p : ℕ). get_or (set marks row.place true) p false) (ap (λ (r : Row). r.place) (sym same))
+    ∙ get_or-set_same marks row.place true false seated
+    ∙ sym (or_right (is_among (take i ids) one.channel.id) (eqb id.0 (number one)) (eq-eqb id.0 (number one) (ap (λ (x : ChannelId). x.0) (sym named) ∙ ap number same)))
+    ∙ sym more)
+    (λ (n : k ≡ at → ⊥).
+    let apart : one.place ≢ row.place = λ p. place_apart rows seats k at e n below within (p ∙ ap (λ (r : Row). r.place) mine) in
+    let off : eqb id.0 (number one) ≡ false = ne_eqb id.0 (number one) (λ (p : id.0 ≡ number one). n (one_place number rows k at e rise below within (sym p ∙ ap (λ (x : ChannelId). x.0) (sym named) ∙ ap number mine))) in
+    get_or-set_other marks row.place one.place true false apart
+    ∙ done k e below
+    ∙ sym (or_false (is_among (take i ids) one.channel.id))
+    ∙ sym (ap (λ (b : Bool). is_among (take i ids) one.channel.id || b) off)
+    ∙ sym more)
+    (cases_eq k at)
+  where
+    or_false : (b : Bool) → (b || false) ≡ b
+    or_false true = refl
+    or_false false = refl
+
+    place_apart : (rows : List Row) → AllPairs (λ one later. one.place ≢ later.place) rows → (k at : ℕ) (e : Row) → (k ≡ at → ⊥) → k < length rows → at < length rows → (get_or rows k e).place ≢ (get_or rows at e).place
+    place_apart rows seats k at e differ below within p =
+        ⊎_elim (λ (s : k ≡ at). differ s)
+        (λ o. ⊎_elim (λ (l : k < at). seats k at e l within p) (λ (g : at < k). seats at k e g below (sym p)) o)
+        (cases_order k at)

@@ -12,7 +12,7 @@ use Rattle.mum_tree.specs.Rows.{number, row_of, is_there, is_temporary, is_taken
 use Rattle.mum_tree.specs.Proper.{AreApart, IsProper, IsUnderLasting, LeadUp}
 use Rattle.mum_tree.specs.declared.fault.TreeFault.TheVariants.{NoChannel, SameName, UnderItself, Nesting, RootFixed, TemporaryParent}
 use Rattle.std.proofs.lemmas.Bool.{and_parts, not-false}
-use Rattle.mum_tree.specs.Calls.{fault_of_move, name_of}
+use Rattle.mum_tree.specs.Refusals.{fault_of_move, fault_of_seat, name_of}
 use Rattle.mum_tree.specs.State.{TreeState, changed, with_channel}
 use Rattle.mum_tree.proofs.Find.{contains_later}
 use Rattle.mum_tree.proofs.Joined.{links_kept}
@@ -22,51 +22,49 @@ use Rattle.std.proofs.lemmas.Option.{same_Some}
 use Rattle.mum_tree.proofs.Edits.{clash, none_stands, row_read, same_row, set_row, some_row}
 use Rattle.mum_tree.proofs.Shrunk.{is_top, list_any-reverse, upward_enough}
 
-abbrev pub placed : ChannelId → Channel → Channel
-placed parent channel = record channel { parent = parent }
+-- a channel with the name, the parent and the info of another
+abbrev pub placed : Channel → Channel → Channel
+placed seat channel = record channel { name = seat.name; parent = seat.parent; info = seat.info }
 
-abbrev moved_row : ChannelId → ChannelId → Row → Row
-moved_row id parent row = change_row id (placed parent) row
+abbrev moved_row : ChannelId → Channel → Row → Row
+moved_row id seat row = change_row id (placed seat) row
 
-same_number : (id parent : ChannelId) (row : Row) → number (moved_row id parent row) ≡ number row
-same_number id parent row = cond_both (eqb (number row) id.0) (record row { channel = placed parent row.channel }) row (λ r. number r ≡ number row) (λ e. refl) (λ e. refl)
+same_number : (id : ChannelId) (seat : Channel) (row : Row) → number (moved_row id seat row) ≡ number row
+same_number id seat row = cond_both (eqb (number row) id.0) (record row { channel = placed seat row.channel }) row (λ r. number r ≡ number row) (λ e. refl) (λ e. refl)
 
-same_place : (id parent : ChannelId) (row : Row) → (moved_row id parent row).place ≡ row.place
-same_place id parent row = cond_both (eqb (number row) id.0) (record row { channel = placed parent row.channel }) row (λ r. r.place ≡ row.place) (λ e. refl) (λ e. refl)
+same_place : (id : ChannelId) (seat : Channel) (row : Row) → (moved_row id seat row).place ≡ row.place
+same_place id seat row = cond_both (eqb (number row) id.0) (record row { channel = placed seat row.channel }) row (λ r. r.place ≡ row.place) (λ e. refl) (λ e. refl)
 
-same_kind : (id parent : ChannelId) (row : Row) → (moved_row id parent row).channel.temporary ≡ row.channel.temporary
-same_kind id parent row = cond_both (eqb (number row) id.0) (record row { channel = placed parent row.channel }) row (λ r. r.channel.temporary ≡ row.channel.temporary) (λ e. refl) (λ e. refl)
+same_kind : (id : ChannelId) (seat : Channel) (row : Row) → (moved_row id seat row).channel.temporary ≡ row.channel.temporary
+same_kind id seat row = cond_both (eqb (number row) id.0) (record row { channel = placed seat row.channel }) row (λ r. r.channel.temporary ≡ row.channel.temporary) (λ e. refl) (λ e. refl)
 
-same_name : (id parent : ChannelId) (row : Row) → (moved_row id parent row).channel.name ≡ row.channel.name
-same_name id parent row = cond_both (eqb (number row) id.0) (record row { channel = placed parent row.channel }) row (λ r. r.channel.name ≡ row.channel.name) (λ e. refl) (λ e. refl)
+unmoved : (id : ChannelId) (seat : Channel) (row : Row) → eqb (number row) id.0 ≡ false → moved_row id seat row ≡ row
+unmoved id seat row e = ap (λ (b : Bool). cond b (record row { channel = placed seat row.channel }) row) e
 
-unmoved : (id parent : ChannelId) (row : Row) → eqb (number row) id.0 ≡ false → moved_row id parent row ≡ row
-unmoved id parent row e = ap (λ (b : Bool). cond b (record row { channel = placed parent row.channel }) row) e
+moved : (id : ChannelId) (seat : Channel) (row : Row) → eqb (number row) id.0 ≡ true → moved_row id seat row ≡ record row { channel = placed seat row.channel }
+moved id seat row e = ap (λ (b : Bool). cond b (record row { channel = placed seat row.channel }) row) e
 
-moved : (id parent : ChannelId) (row : Row) → eqb (number row) id.0 ≡ true → moved_row id parent row ≡ record row { channel = placed parent row.channel }
-moved id parent row e = ap (λ (b : Bool). cond b (record row { channel = placed parent row.channel }) row) e
+abbrev all_moved : ChannelId → Channel → List Row → List Row
+all_moved id seat rows = map (moved_row id seat) rows
 
-abbrev all_moved : ChannelId → ChannelId → List Row → List Row
-all_moved id parent rows = map (moved_row id parent) rows
-
-found_moved : (id parent : ChannelId) (rows : List Row) (x : ChannelId) (row : Row) → row_of rows x ≡ Some row → row_of (all_moved id parent rows) x ≡ Some (moved_row id parent row)
-found_moved id parent rows x row found = row_of-map (moved_row id parent) (same_number id parent) rows x ∙ ap (option_map (moved_row id parent)) found
+found_moved : (id : ChannelId) (seat : Channel) (rows : List Row) (x : ChannelId) (row : Row) → row_of rows x ≡ Some row → row_of (all_moved id seat rows) x ≡ Some (moved_row id seat row)
+found_moved id seat rows x row found = row_of-map (moved_row id seat) (same_number id seat) rows x ∙ ap (option_map (moved_row id seat)) found
 
 -- a way up without the moved channel stays as it is
-up_off : (rows : List Row) (id parent : ChannelId) (steps : ℕ) (x : ChannelId) → Contains (upward rows steps x) the_root → list_any (is_top id) (upward rows steps x) ≡ false → upward (all_moved id parent rows) steps x ≡ upward rows steps x
-up_off rows id parent zero x lead off = upward_zero (all_moved id parent rows) x ∙ sym (upward_zero rows x)
-up_off rows id parent (suc steps) x lead off =
+up_off : (rows : List Row) (id : ChannelId) (seat : Channel) (steps : ℕ) (x : ChannelId) → Contains (upward rows steps x) the_root → list_any (is_top id) (upward rows steps x) ≡ false → upward (all_moved id seat rows) steps x ≡ upward rows steps x
+up_off rows id seat zero x lead off = upward_zero (all_moved id seat rows) x ∙ sym (upward_zero rows x)
+up_off rows id seat (suc steps) x lead off =
     let (row, found) = there_from_lead rows (suc steps) x lead in
-    let new = all_moved id parent rows in
+    let new = all_moved id seat rows in
     ⊎_elim
-    (λ (root : eqb x.0 0 ≡ true). upward_root new steps x (moved_row id parent row) (found_moved id parent rows x row found) root ∙ sym (upward_root rows steps x row found root))
+    (λ (root : eqb x.0 0 ≡ true). upward_root new steps x (moved_row id seat row) (found_moved id seat rows x row found) root ∙ sym (upward_root rows steps x row found root))
     (λ (under : eqb x.0 0 ≡ false).
     let up = upward_under rows steps x row found under in
     let parts = or_parts (is_top id x) (list_any (is_top id) (upward rows steps row.channel.parent)) (ap (list_any (is_top id)) (sym up) ∙ off) in
     let still : eqb (number row) id.0 ≡ false = ap (λ n. eqb n id.0) (number_found rows x row found) ∙ parts.0 in
-    let again : row_of new x ≡ Some row = found_moved id parent rows x row found ∙ ap (λ (r : Row). Some r) (unmoved id parent row still) in
+    let again : row_of new x ≡ Some row = found_moved id seat rows x row found ∙ ap (λ (r : Row). Some r) (unmoved id seat row still) in
     upward_under new steps x row again under
-    ∙ ap (λ us. x ∷ us) (up_off rows id parent steps row.channel.parent (lead_parent rows steps x row found under lead) parts.1)
+    ∙ ap (λ us. x ∷ us) (up_off rows id seat steps row.channel.parent (lead_parent rows steps x row found under lead) parts.1)
     ∙ sym up)
     (cases_Bool (eqb x.0 0))
 
@@ -86,12 +84,12 @@ up_fits rows (suc steps) x (suc m) lead fits =
     (cases_Bool (eqb x.0 0))
 
 -- a way up that has the moved channel goes on by its new parent
-up_on : (rows : List Row) (id parent : ChannelId) → id.0 ≢ 0 → Contains (upward rows 33 parent) the_root → list_any (is_top id) (upward rows 33 parent) ≡ false → (steps : ℕ) (x : ChannelId) → steps ≤ 33 → Contains (upward rows steps x) the_root → list_any (is_top id) (upward rows steps x) ≡ true → (k : ℕ) × (length (upward rows steps x) ≡ k + length (upward rows 33 id)) × Contains (upward (all_moved id parent rows) (suc (k + length (upward rows 33 parent))) x) the_root
-up_on rows id parent lower above off zero x short lead on = absurd (none_contained the_root (subst (λ (us : List ChannelId). Contains us the_root) (upward_zero rows x) lead))
-up_on rows id parent lower above off (suc steps) x short lead on =
+up_on : (rows : List Row) (id : ChannelId) (seat : Channel) → id.0 ≢ 0 → Contains (upward rows 33 seat.parent) the_root → list_any (is_top id) (upward rows 33 seat.parent) ≡ false → (steps : ℕ) (x : ChannelId) → steps ≤ 33 → Contains (upward rows steps x) the_root → list_any (is_top id) (upward rows steps x) ≡ true → (k : ℕ) × (length (upward rows steps x) ≡ k + length (upward rows 33 id)) × Contains (upward (all_moved id seat rows) (suc (k + length (upward rows 33 seat.parent))) x) the_root
+up_on rows id seat lower above off zero x short lead on = absurd (none_contained the_root (subst (λ (us : List ChannelId). Contains us the_root) (upward_zero rows x) lead))
+up_on rows id seat lower above off (suc steps) x short lead on =
     let (row, found) = there_from_lead rows (suc steps) x lead in
-    let new = all_moved id parent rows in
-    let high = length (upward rows 33 parent) in
+    let new = all_moved id seat rows in
+    let high = length (upward rows 33 seat.parent) in
     ⊎_elim
     (λ (here : eqb x.0 id.0 ≡ true).
     let same : x ≡ id = ap (λ n. record { 0 = n }) (eqb-true x.0 id.0 here) in
@@ -99,14 +97,14 @@ up_on rows id parent lower above off (suc steps) x short lead on =
     let long : length (upward rows (suc steps) x) ≡ 0 + length (upward rows 33 id) = omega (arith, ap length whole, ap (λ y. length (upward rows 33 y)) same) in
     let under : eqb x.0 0 ≡ false = ne_eqb x.0 0 (λ (e : x.0 ≡ 0). lower (sym (eqb-true x.0 id.0 here) ∙ e)) in
     let mine : eqb (number row) id.0 ≡ true = ap (λ n. eqb n id.0) (number_found rows x row found) ∙ here in
-    let again : row_of new x ≡ Some (record row { channel = placed parent row.channel }) = found_moved id parent rows x row found ∙ ap (λ (r : Row). Some r) (moved id parent row mine) in
-    let kept = up_off rows id parent 33 parent above off in
-    let fits = up_fits new 33 parent high (subst (λ (us : List ChannelId). Contains us the_root) (sym kept) above) (omega (arith, ap length kept)) in
+    let again : row_of new x ≡ Some (record row { channel = placed seat row.channel }) = found_moved id seat rows x row found ∙ ap (λ (r : Row). Some r) (moved id seat row mine) in
+    let kept = up_off rows id seat 33 seat.parent above off in
+    let fits = up_fits new 33 seat.parent high (subst (λ (us : List ChannelId). Contains us the_root) (sym kept) above) (omega (arith, ap length kept)) in
     let count : suc (0 + high) ≡ suc high = omega arith in (
       0,
       long,
       subst (λ n. Contains (upward new n x) the_root) (sym count)
-          (subst (λ (us : List ChannelId). Contains us the_root) (sym (upward_under new high x _ again under)) (contains_later x the_root (upward new high parent) fits)),
+          (subst (λ (us : List ChannelId). Contains us the_root) (sym (upward_under new high x _ again under)) (contains_later x the_root (upward new high seat.parent) fits)),
     ))
     (λ (other : eqb x.0 id.0 ≡ false). ⊎_elim
     (λ (root : eqb x.0 0 ≡ true).
@@ -114,9 +112,9 @@ up_on rows id parent lower above off (suc steps) x short lead on =
     (λ (under : eqb x.0 0 ≡ false).
     let up = upward_under rows steps x row found under in
     let on-2 : list_any (is_top id) (upward rows steps row.channel.parent) ≡ true = sym (ap (λ (b : Bool). b || list_any (is_top id) (upward rows steps row.channel.parent)) other) ∙ ap (list_any (is_top id)) (sym up) ∙ on in
-    let (k, long, leads) = up_on rows id parent lower above off steps row.channel.parent (omega arith) (lead_parent rows steps x row found under lead) on-2 in
+    let (k, long, leads) = up_on rows id seat lower above off steps row.channel.parent (omega arith) (lead_parent rows steps x row found under lead) on-2 in
     let still : eqb (number row) id.0 ≡ false = ap (λ n. eqb n id.0) (number_found rows x row found) ∙ other in
-    let again : row_of new x ≡ Some row = found_moved id parent rows x row found ∙ ap (λ (r : Row). Some r) (unmoved id parent row still) in
+    let again : row_of new x ≡ Some row = found_moved id seat rows x row found ∙ ap (λ (r : Row). Some r) (unmoved id seat row still) in
     let count : suc (suc k + high) ≡ suc (suc (k + high)) = omega arith in (
       suc k,
       omega (arith, ap length up),
@@ -147,27 +145,27 @@ not_deep rows id parent x there shallow under =
     omega (arith, ltb-false _ _ room, ap (λ y. length (upward rows 33 y)) same, length-reverse (upward rows 33 id), length-reverse (upward rows 33 parent), length-reverse (upward rows 33 row.channel.id)))
     (and_cases (is_below rows id row.channel.id) (ltb (33 + length (path rows id)) (length (path rows parent) + 1 + length (path rows row.channel.id))) (none_found (nests rows id parent) rows x row shallow found))
 
-moved_lead : (rows : List Row) (id parent : ChannelId) → Rise rows → LeadUp rows → id.0 ≢ 0 → is_there rows parent ≡ true → is_below rows id parent ≡ false → list_any (nests rows id parent) rows ≡ false → LeadUp (all_moved id parent rows)
-moved_lead rows id parent rise lead lower stands free shallow x there =
-    let new = all_moved id parent rows in
-    let above = lead parent stands in
-    let off = sym (list_any-reverse (is_top id) (upward rows 33 parent)) ∙ free in
-    let before : is_there rows x ≡ true = some_from (moved_row id parent) (row_of rows x) (subst (λ (o : Option Row). is_some o ≡ true) (row_of-map (moved_row id parent) (same_number id parent) rows x) there) in
+moved_lead : (rows : List Row) (id : ChannelId) (seat : Channel) → Rise rows → LeadUp rows → id.0 ≢ 0 → is_there rows seat.parent ≡ true → is_below rows id seat.parent ≡ false → list_any (nests rows id seat.parent) rows ≡ false → LeadUp (all_moved id seat rows)
+moved_lead rows id seat rise lead lower stands free shallow x there =
+    let new = all_moved id seat rows in
+    let above = lead seat.parent stands in
+    let off = sym (list_any-reverse (is_top id) (upward rows 33 seat.parent)) ∙ free in
+    let before : is_there rows x ≡ true = some_from (moved_row id seat) (row_of rows x) (subst (λ (o : Option Row). is_some o ≡ true) (row_of-map (moved_row id seat) (same_number id seat) rows x) there) in
     let leads = lead x before in
     ⊎_elim
     (λ (on : list_any (is_top id) (upward rows 33 x) ≡ true).
-    let (k, long, fits) = up_on rows id parent lower above off 33 x (omega arith) leads on in
-    let deep = not_deep rows id parent x before shallow (list_any-reverse (is_top id) (upward rows 33 x) ∙ on) in
-    let room : suc (k + length (upward rows 33 parent)) ≤ 33 = omega arith in
-    subst (λ (us : List ChannelId). Contains us the_root) (sym (upward_enough new (suc (k + length (upward rows 33 parent))) (32 - (k + length (upward rows 33 parent))) 33 x (omega arith) fits)) fits)
+    let (k, long, fits) = up_on rows id seat lower above off 33 x (omega arith) leads on in
+    let deep = not_deep rows id seat.parent x before shallow (list_any-reverse (is_top id) (upward rows 33 x) ∙ on) in
+    let room : suc (k + length (upward rows 33 seat.parent)) ≤ 33 = omega arith in
+    subst (λ (us : List ChannelId). Contains us the_root) (sym (upward_enough new (suc (k + length (upward rows 33 seat.parent))) (32 - (k + length (upward rows 33 seat.parent))) 33 x (omega arith) fits)) fits)
     (λ (off-2 : list_any (is_top id) (upward rows 33 x) ≡ false).
-    subst (λ (us : List ChannelId). Contains us the_root) (sym (up_off rows id parent 33 x leads off-2)) leads)
+    subst (λ (us : List ChannelId). Contains us the_root) (sym (up_off rows id seat 33 x leads off-2)) leads)
     (cases_Bool (list_any (is_top id) (upward rows 33 x)))
 
-moved_apart : (rows : List Row) (id parent : ChannelId) (row : Row) → Rise rows → AllPairs AreApart rows → row_of rows id ≡ Some row → is_taken rows parent id row.channel.name ≡ false → AllPairs AreApart (all_moved id parent rows)
-moved_apart rows id parent row rise apart found free =
-    let there : Row = record row { channel = placed parent row.channel } in
-    AllPairs-map AreApart AreApart (moved_row id parent) rows
+moved_apart : (rows : List Row) (id : ChannelId) (seat : Channel) (row : Row) → Rise rows → AllPairs AreApart rows → row_of rows id ≡ Some row → is_taken rows seat.parent id seat.name ≡ false → AllPairs AreApart (all_moved id seat rows)
+moved_apart rows id seat row rise apart found free =
+    let there : Row = record row { channel = placed seat row.channel } in
+    AllPairs-map AreApart AreApart (moved_row id seat) rows
     (λ i j d below within differ.
     let one = get_or rows i d in
     let other = get_or rows j d in
@@ -177,71 +175,89 @@ moved_apart rows id parent row rise apart found free =
     let here : number one ≡ id.0 = eqb-true (number one) id.0 e in
     let off : eqb (number other) id.0 ≡ false = ne_eqb (number other) id.0 (λ (f : number other ≡ id.0). absurd (omega arith)) in
     let mine : one ≡ row = same_row rows i d id row rise (omega arith) here found in
-    subst (λ (r : Row). AreApart r (moved_row id parent other)) (sym (moved id parent one e))
-    (subst (λ (r : Row). AreApart (record one { channel = placed parent one.channel }) r) (sym (unmoved id parent other off))
-    (λ lower lower-2 under same. clash rows id there row.channel.name free j d within lower-2 (λ (f : number other ≡ id.0). absurd (omega arith)) (sym under) (sym same ∙ ap (λ (r : Row). r.channel.name) mine))))
+    subst (λ (r : Row). AreApart r (moved_row id seat other)) (sym (moved id seat one e))
+    (subst (λ (r : Row). AreApart (record one { channel = placed seat one.channel }) r) (sym (unmoved id seat other off))
+    (λ lower lower-2 under same. clash rows id there seat.name free j d within lower-2 (λ (f : number other ≡ id.0). absurd (omega arith)) (sym under) (sym same))))
     (λ (e : eqb (number one) id.0 ≡ false). ⊎_elim
     (λ (f : eqb (number other) id.0 ≡ true).
     let here : number other ≡ id.0 = eqb-true (number other) id.0 f in
     let mine : other ≡ row = same_row rows j d id row rise within here found in
-    subst (λ (r : Row). AreApart r (moved_row id parent other)) (sym (unmoved id parent one e))
-    (subst (λ (r : Row). AreApart one r) (sym (moved id parent other f))
-    (λ lower lower-2 under same. clash rows id there row.channel.name free i d (omega arith) lower (λ (g : number one ≡ id.0). absurd (omega arith)) under (same ∙ ap (λ (r : Row). r.channel.name) mine))))
+    subst (λ (r : Row). AreApart r (moved_row id seat other)) (sym (unmoved id seat one e))
+    (subst (λ (r : Row). AreApart one r) (sym (moved id seat other f))
+    (λ lower lower-2 under same. clash rows id there seat.name free i d (omega arith) lower (λ (g : number one ≡ id.0). absurd (omega arith)) under same)))
     (λ (f : eqb (number other) id.0 ≡ false).
-    subst (λ (r : Row). AreApart r (moved_row id parent other)) (sym (unmoved id parent one e))
-    (subst (λ (r : Row). AreApart one r) (sym (unmoved id parent other f)) differ))
+    subst (λ (r : Row). AreApart r (moved_row id seat other)) (sym (unmoved id seat one e))
+    (subst (λ (r : Row). AreApart one r) (sym (unmoved id seat other f)) differ))
     (cases_Bool (eqb (number other) id.0)))
     (cases_Bool (eqb (number one) id.0)))
     apart
 
-kinds_kept : (rows : List Row) (id parent x : ChannelId) → is_temporary (all_moved id parent rows) x ≡ is_temporary rows x
-kinds_kept rows id parent x =
-    ap (λ (o : Option Row). option_map_or (λ r. r.channel.temporary) o false) (row_of-map (moved_row id parent) (same_number id parent) rows x)
-    ∙ is_temporary-map (moved_row id parent) (same_kind id parent) (row_of rows x)
+kinds_kept : (rows : List Row) (id : ChannelId) (seat : Channel) (x : ChannelId) → is_temporary (all_moved id seat rows) x ≡ is_temporary rows x
+kinds_kept rows id seat x =
+    ap (λ (o : Option Row). option_map_or (λ r. r.channel.temporary) o false) (row_of-map (moved_row id seat) (same_number id seat) rows x)
+    ∙ is_temporary-map (moved_row id seat) (same_kind id seat) (row_of rows x)
 
-moved_lasting : (rows : List Row) (id parent : ChannelId) → All (IsUnderLasting rows) rows → is_temporary rows parent ≡ false → All (IsUnderLasting (all_moved id parent rows)) (all_moved id parent rows)
-moved_lasting rows id parent lasting lasts =
-    All-map (IsUnderLasting (all_moved id parent rows)) (moved_row id parent) rows
-    (All-weaker (IsUnderLasting rows) (λ row. IsUnderLasting (all_moved id parent rows) (moved_row id parent row))
+moved_lasting : (rows : List Row) (id : ChannelId) (seat : Channel) → All (IsUnderLasting rows) rows → is_temporary rows seat.parent ≡ false → All (IsUnderLasting (all_moved id seat rows)) (all_moved id seat rows)
+moved_lasting rows id seat lasting lasts =
+    All-map (IsUnderLasting (all_moved id seat rows)) (moved_row id seat) rows
+    (All-weaker (IsUnderLasting rows) (λ row. IsUnderLasting (all_moved id seat rows) (moved_row id seat row))
     (λ row under. ⊎_elim
-    (λ (e : eqb (number row) id.0 ≡ true). subst (λ (r : Row). IsUnderLasting (all_moved id parent rows) r) (sym (moved id parent row e)) (λ lower. kinds_kept rows id parent parent ∙ lasts))
-    (λ (e : eqb (number row) id.0 ≡ false). subst (λ (r : Row). IsUnderLasting (all_moved id parent rows) r) (sym (unmoved id parent row e)) (λ lower. kinds_kept rows id parent row.channel.parent ∙ under lower))
+    (λ (e : eqb (number row) id.0 ≡ true). subst (λ (r : Row). IsUnderLasting (all_moved id seat rows) r) (sym (moved id seat row e)) (λ lower. kinds_kept rows id seat seat.parent ∙ lasts))
+    (λ (e : eqb (number row) id.0 ≡ false). subst (λ (r : Row). IsUnderLasting (all_moved id seat rows) r) (sym (unmoved id seat row e)) (λ lower. kinds_kept rows id seat row.channel.parent ∙ under lower))
     (cases_Bool (eqb (number row) id.0)))
     rows lasting)
 
-pub moved_proper : (tree : TreeState) (id parent : ChannelId) (row : Row) → IsProper tree → row_of tree.channels id ≡ Some row → id.0 ≢ 0 → is_there tree.channels parent ≡ true → is_taken tree.channels parent id row.channel.name ≡ false → is_below tree.channels id parent ≡ false → is_temporary tree.channels parent ≡ false → list_any (nests tree.channels id parent) tree.channels ≡ false → IsProper (with_channel tree id (placed parent))
-moved_proper tree id parent row proper found lower stands free off lasts shallow =
+pub moved_proper : {limit : ℕ} → (tree : TreeState) (id : ChannelId) (seat : Channel) (row : Row) → IsProper limit tree → row_of tree.channels id ≡ Some row → id.0 ≢ 0 → is_there tree.channels seat.parent ≡ true → is_taken tree.channels seat.parent id seat.name ≡ false → is_below tree.channels id seat.parent ≡ false → is_temporary tree.channels seat.parent ≡ false → list_any (nests tree.channels id seat.parent) tree.channels ≡ false → IsProper limit (with_channel tree id (placed seat))
+moved_proper {limit} tree id seat row proper found lower stands free off lasts shallow =
     let rows = tree.channels in
-    let f : Row → Row = moved_row id parent in
+    let f : Row → Row = moved_row id seat in
     let (root, here, is) = proper.root in
-    let still : f root ≡ root = unmoved id parent root (ne_eqb (number root) id.0 (λ (e : number root ≡ id.0). lower (sym e ∙ number_found rows the_root root here))) in
+    let still : f root ≡ root = unmoved id seat root (ne_eqb (number root) id.0 (λ (e : number root ≡ id.0). lower (sym e ∙ number_found rows the_root root here))) in
     record {
-      rise = AllPairs-map (λ one later. number one < number later) (λ one later. number one < number later) f rows (λ i j d below within less. rw (same_number id parent (get_or rows i d), same_number id parent (get_or rows j d)) less) proper.rise;
-      root = (root, found_moved id parent rows the_root root here ∙ ap (λ (r : Row). Some r) still, is);
-      lead = moved_lead rows id parent proper.rise proper.lead lower stands off shallow;
-      apart = moved_apart rows id parent row proper.rise proper.apart found free;
-      lasting = moved_lasting rows id parent proper.lasting lasts;
-      seated = All-map (λ one. one.place < 1024) f rows (All-weaker (λ one. one.place < 1024) (λ one. (f one).place < 1024) (λ one seated. rw (same_place id parent one) seated) rows proper.seated);
-      seats = AllPairs-map (λ one other. one.place ≢ other.place) (λ one other. one.place ≢ other.place) f rows (λ i j d below within differ same. differ (sym (same_place id parent (get_or rows i d)) ∙ same ∙ same_place id parent (get_or rows j d))) proper.seats;
+      rise = AllPairs-map (λ one later. number one < number later) (λ one later. number one < number later) f rows (λ i j d below within less. rw (same_number id seat (get_or rows i d), same_number id seat (get_or rows j d)) less) proper.rise;
+      root = (root, found_moved id seat rows the_root root here ∙ ap (λ (r : Row). Some r) still, is);
+      lead = moved_lead rows id seat proper.rise proper.lead lower stands off shallow;
+      apart = moved_apart rows id seat row proper.rise proper.apart found free;
+      lasting = moved_lasting rows id seat proper.lasting lasts;
+      seated = All-map (λ one. one.place < limit) f rows (All-weaker (λ one. one.place < limit) (λ one. (f one).place < limit) (λ one seated. rw (same_place id seat one) seated) rows proper.seated);
+      seats = AllPairs-map (λ one other. one.place ≢ other.place) (λ one other. one.place ≢ other.place) f rows (λ i j d below within differ same. differ (sym (same_place id seat (get_or rows i d)) ∙ same ∙ same_place id seat (get_or rows j d))) proper.seats;
       few = rw (length-map rows f) proper.few;
-      known = All-map (λ one. number one ≤ tree.greatest) f rows (All-weaker (λ one. number one ≤ tree.greatest) (λ one. number (f one) ≤ tree.greatest) (λ one known. rw (same_number id parent one) known) rows proper.known);
-      joined = links_kept rows (all_moved id parent rows) tree.links (λ x there. subst (λ (o : Option Row). is_some o ≡ true) (sym (row_of-map (moved_row id parent) (same_number id parent) rows x)) (some_to (moved_row id parent) (row_of rows x) there)) proper.joined;
+      known = All-map (λ one. number one ≤ tree.greatest) f rows (All-weaker (λ one. number one ≤ tree.greatest) (λ one. number (f one) ≤ tree.greatest) (λ one known. rw (same_number id seat one) known) rows proper.known);
+      joined = links_kept rows (all_moved id seat rows) tree.links (λ x there. subst (λ (o : Option Row). is_some o ≡ true) (sym (row_of-map (moved_row id seat) (same_number id seat) rows x)) (some_to (moved_row id seat) (row_of rows x) there)) proper.joined;
     }
 
--- what a move leaves, as the code has it, where no cause stands against it
-pub moving : (tree : TreeState) (seen : List Row) (at : ℕ) (id parent : ChannelId) (row : Row) → IsProper tree → seen ≡ tree.channels → (at < length seen) × ((other : Row) → row_of seen id ≡ Some (get_or seen at other)) → row ≡ get_or tree.channels at row → fault_of_move tree id parent ≡ None → (set tree.channels at (record row { channel = placed parent row.channel }) ≡ changed id (placed parent) tree.channels) × IsProper (with_channel tree id (placed parent))
-moving tree seen at id parent row proper same located is allowed =
+-- two changes that leave the same of the channel leave the same
+pub same_change : (rows : List Row) (at : ℕ) (id : ChannelId) (row : Row) (one other : Channel → Channel) → Rise rows → at < length rows → row_of rows id ≡ Some row → row ≡ get_or rows at row → one row.channel ≡ other row.channel → changed id one rows ≡ changed id other rows
+same_change rows at id row one other rise within found is same =
+    sym (set_row rows at id row one rise within found is)
+    ∙ ap (λ (channel : Channel). set rows at (record row { channel = channel })) same
+    ∙ set_row rows at id row other rise within found is
+
+-- what another name or parent leaves, where nothing is said against them
+pub reseated_proper : {limit : ℕ} → (tree : TreeState) (id : ChannelId) (seat : Channel) (row : Row) → IsProper limit tree → row_of tree.channels id ≡ Some row → is_there tree.channels seat.parent ≡ true → fault_of_seat tree id seat.name seat.parent ≡ None → IsProper limit (with_channel tree id (placed seat))
+reseated_proper {limit} tree id seat row proper found stands allowed =
     let rows = tree.channels in
+    let (lower, rest) = none_stands (eqb id.0 0) RootFixed _ allowed in
+    let (free, rest-2) = none_stands (is_taken rows seat.parent id seat.name) SameName _ rest in
+    let (off, rest-3) = none_stands (is_below rows id seat.parent) UnderItself _ rest-2 in
+    let (lasts, rest-4) = none_stands (is_temporary rows seat.parent) TemporaryParent _ rest-3 in
+    let (shallow, rest-5) = none_stands (list_any (nests rows id seat.parent) rows) Nesting None rest-4 in
+    moved_proper tree id seat row proper found (λ (e : id.0 ≡ 0). both_ways (eqb id.0 0) lower (eq-eqb id.0 0 e)) stands free off lasts shallow
+
+abbrev pub under_parent : ChannelId → Channel → Channel
+under_parent parent channel = record channel { parent = parent }
+
+-- what a move leaves, as the code has it, where no cause stands against it
+pub moving : {limit : ℕ} → (tree : TreeState) (seen : List Row) (at : ℕ) (id parent : ChannelId) (row : Row) → IsProper limit tree → seen ≡ tree.channels → (at < length seen) × ((other : Row) → row_of seen id ≡ Some (get_or seen at other)) → row ≡ get_or tree.channels at row → fault_of_move tree id parent ≡ None → (set tree.channels at (record row { channel = under_parent parent row.channel }) ≡ changed id (under_parent parent) tree.channels) × IsProper limit (with_channel tree id (under_parent parent))
+moving {limit} tree seen at id parent row proper same located is allowed =
+    let rows = tree.channels in
+    let seat = under_parent parent row.channel in
     let (within, finds) = subst (λ (rs : List Row). (at < length rs) × ((other : Row) → row_of rs id ≡ Some (get_or rs at other))) same located in
     let found : row_of rows id ≡ Some row = row_read rows at id row finds is in
     let name : name_of tree id ≡ row.channel.name = ap (λ (o : Option Row). option_map_or (λ r. r.channel.name) o []) found in
     let (there, rest) = none_stands (not (is_there rows id && is_there rows parent)) NoChannel _ allowed in
-    let (lower, rest-2) = none_stands (eqb id.0 0) RootFixed _ rest in
-    let (free, rest-3) = none_stands (is_taken rows parent id (name_of tree id)) SameName _ rest-2 in
-    let (off, rest-4) = none_stands (is_below rows id parent) UnderItself _ rest-3 in
-    let (lasts, rest-5) = none_stands (is_temporary rows parent) TemporaryParent _ rest-4 in
-    let (shallow, rest-6) = none_stands (list_any (nests rows id parent) rows) Nesting None rest-5 in
-    let stands = (and_parts (is_there rows id) (is_there rows parent) (not-false (is_there rows id && is_there rows parent) there)).1 in (
-      set_row rows at id row (placed parent) proper.rise within found is,
-      moved_proper tree id parent row proper found (λ (e : id.0 ≡ 0). both_ways (eqb id.0 0) lower (eq-eqb id.0 0 e)) stands (sym (ap (is_taken rows parent id) name) ∙ free) off lasts shallow,
+    let stands = (and_parts (is_there rows id) (is_there rows parent) (not-false (is_there rows id && is_there rows parent) there)).1 in
+    let done = reseated_proper tree id seat row proper found stands (ap (λ n. fault_of_seat tree id n parent) (sym name) ∙ rest) in (
+      set_row rows at id row (under_parent parent) proper.rise within found is,
+      subst (λ (rs : List Row). IsProper limit (record tree { channels = rs })) (same_change rows at id row (placed seat) (under_parent parent) proper.rise within found is refl) done,
     )

@@ -1,11 +1,11 @@
 -- Which places are taken.
-use Rattle.std.proofs.Common.{◌≡◌, ◌≢◌, ℕ, zero, suc, ◌<◌, ◌+◌, ◌≤◌, Bool, true, false, cond, List, [], ◌∷◌, length, get_or, set, replicate, refl, arith, ap, sym, subst, ◌∙◌, ⊎_elim}
-use Rattle.std.specs.List.{AllPairs, count_by}
-use Rattle.std.proofs.lemmas.Bool.{both_ways, cases_eq, false≢true}
+use Rattle.std.proofs.Common.{◌≡◌, ◌≢◌, ℕ, zero, suc, ◌<◌, ◌+◌, ◌≤◌, ◌||◌, not, eqb, Bool, true, false, cond, List, [], ◌∷◌, length, get_or, set, replicate, refl, arith, ap, sym, subst, ◌∙◌, ⊎_elim}
+use Rattle.std.specs.List.{AllPairs, count_by, filter}
+use Rattle.std.proofs.lemmas.Bool.{both_ways, cases_Bool, cases_eq, cases_order, eq-eqb, eqb-true, false≢true, ne_eqb, or_parts}
 use Rattle.std.proofs.lemmas.List.{get_or-set_same, get_or-set_other, get_or_default}
-use Rattle.std.proofs.lemmas.List.Sums.{sum_by-set, sum_by-cons}
+use Rattle.std.proofs.lemmas.List.Sums.{count_by-le-length, length-filter, sum_by-set, sum_by-cons}
 use Rattle.mum_tree.specs.declared.channel.Row.{Row}
-use Rattle.mum_tree.specs.Rows.{IsFree}
+use Rattle.mum_tree.specs.Places.{first_place, has_place, least_place, IsFree, IsLeastFree}
 
 pub count_set : (taken : List Bool) (i : ℕ) → i < length taken → count_by (λ one. one) (set taken i true) ≤ count_by (λ one. one) taken + 1
 count_set taken i within = omega (arith, sum_by-set (λ (one : Bool). cond one 1 0) taken i true false within)
@@ -60,3 +60,109 @@ seat_more {B} P none rows marks i row value within read seated seats done now k 
     let differs : (get_or rows k d).place ≢ row.place = λ e. seats k i d before within (e ∙ ap (λ (r : Row). r.place) (read ∙ get_or_default rows i row d within)) in
     subst (λ (b : B). P k (get_or rows k d) b) (sym (get_or-set_other marks row.place (get_or rows k d).place value none differs)) (done k d before))
     (cases_eq k i)
+
+-- where a row has the place, not all others have
+had : (rows : List Row) (place : ℕ) → has_place rows place ≡ true → IsFree rows place → ⊥
+had [] place has free = absurd (false≢true has)
+had (row ∷ rows) place has free =
+    ⊎_elim
+    (λ (e : eqb row.place place ≡ true). free 0 row (omega arith) (eqb-true row.place place e))
+    (λ (e : eqb row.place place ≡ false). had rows place (sym (ap (λ (b : Bool). b || has_place rows place) e) ∙ has) (λ k d within. free (suc k) d (omega arith)))
+    (cases_Bool (eqb row.place place))
+
+pub unhad : (rows : List Row) (place : ℕ) → has_place rows place ≡ false → IsFree rows place
+unhad [] place none k d within same = absurd (omega arith)
+unhad (row ∷ rows) place none zero d within same = both_ways (eqb row.place place) (or_parts (eqb row.place place) (has_place rows place) none).0 (eq-eqb row.place place same)
+unhad (row ∷ rows) place none (suc k) d within same = unhad rows place (or_parts (eqb row.place place) (has_place rows place) none).1 k d (omega arith) same
+
+abbrev off : ℕ → Row → Bool
+off place row = not (eqb row.place place)
+
+-- without the rows of one place the others have theirs
+still_had : (rows : List Row) (gone place : ℕ) → place ≢ gone → has_place rows place ≡ true → has_place (filter (off gone) rows) place ≡ true
+still_had [] gone place differ has = has
+still_had (row ∷ rows) gone place differ has =
+    ⊎_elim
+    (λ (e : eqb row.place gone ≡ true).
+    let other : eqb row.place place ≡ false = ne_eqb row.place place (λ (same : row.place ≡ place). differ (sym same ∙ eqb-true row.place gone e)) in
+    ap (λ (b : Bool). has_place (cond (not b) (row ∷ filter (off gone) rows) (filter (off gone) rows)) place) e
+    ∙ still_had rows gone place differ (sym (ap (λ (b : Bool). b || has_place rows place) other) ∙ has))
+    (λ (e : eqb row.place gone ≡ false).
+    ap (λ (b : Bool). has_place (cond (not b) (row ∷ filter (off gone) rows) (filter (off gone) rows)) place) e
+    ∙ ⊎_elim
+    (λ (f : eqb row.place place ≡ true). ap (λ (b : Bool). b || has_place (filter (off gone) rows) place) f)
+    (λ (f : eqb row.place place ≡ false). ap (λ (b : Bool). b || has_place (filter (off gone) rows) place) f ∙ still_had rows gone place differ (sym (ap (λ (b : Bool). b || has_place rows place) f) ∙ has))
+    (cases_Bool (eqb row.place place)))
+    (cases_Bool (eqb row.place gone))
+
+-- and they are fewer
+fewer : (rows : List Row) (gone : ℕ) → has_place rows gone ≡ true → length (filter (off gone) rows) < length rows
+fewer [] gone has = absurd (false≢true has)
+fewer (row ∷ rows) gone has =
+    ⊎_elim
+    (λ (e : eqb row.place gone ≡ true).
+    let cut : length (filter (off gone) (row ∷ rows)) ≡ length (filter (off gone) rows) = ap (λ (b : Bool). length (cond (not b) (row ∷ filter (off gone) rows) (filter (off gone) rows))) e in
+    omega (arith, length-filter (off gone) rows, count_by-le-length (off gone) rows))
+    (λ (e : eqb row.place gone ≡ false).
+    let kept : length (filter (off gone) (row ∷ rows)) ≡ suc (length (filter (off gone) rows)) = ap (λ (b : Bool). length (cond (not b) (row ∷ filter (off gone) rows) (filter (off gone) rows))) e in
+    omega (arith, fewer rows gone (sym (ap (λ (b : Bool). b || has_place rows gone) e) ∙ has)))
+    (cases_Bool (eqb row.place gone))
+
+-- so many places that are had need so many rows
+as_many : (places : ℕ) (rows : List Row) → ((k : ℕ) → k < places → has_place rows k ≡ true) → places ≤ length rows
+as_many zero rows all = omega arith
+as_many (suc places) rows all =
+    let rest = as_many places (filter (off places) rows) (λ k below. still_had rows places k (λ (e : k ≡ places). absurd (omega arith)) (all k (omega arith))) in
+    omega (arith, fewer rows places (all places (omega arith)))
+
+-- what the search for a place finds
+record Search (rows : List Row) (more place found : ℕ) : Type 0 where
+  within : found ≤ place + more
+  had : (k : ℕ) → place ≤ k → k < found → has_place rows k ≡ true
+  free : found < place + more → has_place rows found ≡ false
+
+searched : (rows : List Row) (more place : ℕ) → Search rows more place (first_place rows more place)
+unfolding first_place
+searched rows zero place = record { within = omega arith; had = λ k above below. absurd (omega arith); free = λ less. absurd (omega arith) }
+searched rows (suc more) place =
+    ⊎_elim
+    (λ (e : has_place rows place ≡ true).
+    let next = searched rows more (place + 1) in
+    subst (Search rows (suc more) place) (sym (ap (λ (b : Bool). cond b (first_place rows more (place + 1)) place) e))
+    (record {
+      within = omega (arith, next.within);
+      had = λ k above below. ⊎_elim (λ (s : k ≡ place). ap (has_place rows) s ∙ e) (λ (n : k ≡ place → ⊥). next.had k (omega arith) below) (cases_eq k place);
+      free = λ less. next.free (omega arith);
+    }))
+    (λ (e : has_place rows place ≡ false).
+    subst (Search rows (suc more) place) (sym (ap (λ (b : Bool). cond b (first_place rows more (place + 1)) place) e))
+    (record { within = omega arith; had = λ k above below. absurd (omega arith); free = λ less. e }))
+    (cases_Bool (has_place rows place))
+
+pub least_within : (rows : List Row) → least_place rows ≤ length rows
+least_within rows = let found = searched rows (length rows) 0 in omega (arith, found.within)
+
+-- the place that is found is the least that no row has
+pub least_free : (rows : List Row) → IsLeastFree rows (least_place rows)
+least_free rows =
+    let found = searched rows (length rows) 0 in
+    let place = least_place rows in (
+      ⊎_elim
+          (λ (e : has_place rows place ≡ true).
+          let all : (k : ℕ) → k < suc place → has_place rows k ≡ true = λ k below. ⊎_elim (λ (s : k ≡ place). ap (has_place rows) s ∙ e) (λ (n : k ≡ place → ⊥). found.had k (omega arith) (omega arith)) (cases_eq k place) in
+          let many : suc place ≤ length rows = as_many (suc place) rows all in
+          absurd (both_ways (has_place rows place) (found.free (omega arith)) e))
+          (λ (e : has_place rows place ≡ false). unhad rows place e)
+          (cases_Bool (has_place rows place)),
+      λ lower below free. had rows lower (found.had lower (omega arith) below) free,
+    )
+
+-- there is but one least place that no row has
+pub least_is : (rows : List Row) (place : ℕ) → IsLeastFree rows place → place ≡ least_place rows
+least_is rows place (free, least) =
+    ⊎_elim (λ (e : place ≡ least_place rows). e)
+    (λ o. ⊎_elim
+    (λ (l : place < least_place rows). absurd ((least_free rows).1 place l free))
+    (λ (g : least_place rows < place). absurd (least (least_place rows) g (least_free rows).0))
+    o)
+    (cases_order place (least_place rows))

@@ -10,7 +10,7 @@ use Rattle.std.proofs.lemmas.Option.{same_Some}
 use Rattle.mum_base.specs.declared.number.ChannelId.{ChannelId}
 use Rattle.mum_tree.specs.declared.channel.Row.{Row}
 use Rattle.mum_tree.specs.declared.fault.TreeFault.TheVariants.{NoChannel, RootFixed}
-use Rattle.mum_tree.specs.Calls.{fault_of_remove}
+use Rattle.mum_tree.specs.Refusals.{fault_of_remove}
 use Rattle.mum_tree.specs.Rows.{number, row_of, is_there, is_below, upward, Rise}
 use Rattle.mum_tree.specs.Proper.{AreApart, AreLinks, IsProper, IsUnderLasting, LeadUp}
 use Rattle.mum_tree.specs.State.{Pair, TreeState}
@@ -19,7 +19,7 @@ use Rattle.mum_tree.proofs.Upward.{the_root, reverse-cons, option_cases, upward_
 use Rattle.mum_tree.proofs.Changed.{number_found}
 use Rattle.mum_tree.proofs.Joined.{links_filtered}
 
-or_swap : (a b c : Bool) → (a || (b || c)) ≡ (b || (a || c))
+pub or_swap : (a b c : Bool) → (a || (b || c)) ≡ (b || (a || c))
 or_swap true true c = refl
 or_swap true false c = refl
 or_swap false true c = refl
@@ -189,8 +189,8 @@ shrunk_links rows kept links are =
     (λ pair passes is. let (here, there) = and_parts (is_there kept pair.0) (is_there kept pair.1) passes in (here, there, is.2))
     are
 
-pub shrunk_proper : (tree : TreeState) (top : ChannelId) (links : List Pair) → IsProper tree → top.0 ≢ 0 → links ≡ links_left (filter (stays tree.channels top) tree.channels) tree.links → IsProper (record { channels = filter (stays tree.channels top) tree.channels; links = links; greatest = tree.greatest })
-shrunk_proper tree top links proper lower left =
+pub shrunk_proper : {limit : ℕ} → (tree : TreeState) (top : ChannelId) (links : List Pair) → IsProper limit tree → top.0 ≢ 0 → links ≡ links_left (filter (stays tree.channels top) tree.channels) tree.links → IsProper limit (record { channels = filter (stays tree.channels top) tree.channels; links = links; greatest = tree.greatest })
+shrunk_proper {limit} tree top links proper lower left =
     let rows = tree.channels in
     let q = stays rows top in
     let (root, found, is) = proper.root in
@@ -202,7 +202,7 @@ shrunk_proper tree top links proper lower left =
       lead = shrunk_lead rows top proper.rise proper.lead;
       apart = AllPairs-filter AreApart q rows proper.apart;
       lasting = shrunk_lasting rows top proper.rise proper.lead proper.lasting;
-      seated = All-filter q (λ one. one.place < 1024) rows proper.seated;
+      seated = All-filter q (λ one. one.place < limit) rows proper.seated;
       seats = AllPairs-filter (λ one other. one.place ≢ other.place) q rows proper.seats;
       few = omega (arith, length-filter q rows, count_by-le-length q rows);
       known = All-filter q (λ one. number one ≤ tree.greatest) rows proper.known;

@@ -8,6 +8,7 @@ use Rattle.std.proofs.lemmas.List.Elements.{All-cons, All-nil}
 use Rattle.mum_base.specs.declared.number.ChannelId.{ChannelId}
 use Rattle.mum_tree.specs.declared.channel.ChannelInfo.{ChannelInfo}
 use Rattle.mum_tree.specs.declared.channel.Row.{Row}
+use Rattle.mum_tree.specs.declared.channel.TheConstants.{CHANNEL_LIMIT}
 use Rattle.mum_tree.specs.Rows.{number, is_there, upward}
 use Rattle.mum_tree.specs.State.{Pair, root_alone, new_row, plain_info}
 use Rattle.mum_tree.specs.Proper.{IsProper, LeadUp, IsUnderLasting}
@@ -31,7 +32,7 @@ root_leads id there =
     let leads : Contains (upward root_alone.channels 33 the_root) the_root = subst (λ (us : List ChannelId). Contains us the_root) (sym up) (0, omega arith, refl) in
     subst (λ (x : ChannelId). Contains (upward root_alone.channels 33 x) the_root) same leads
 
-pub root_proper : IsProper root_alone
+pub root_proper : IsProper CHANNEL_LIMIT root_alone
 root_proper = record {
   rise = λ i j d below within. absurd (omega arith);
   root = (root_row, refl, (refl, refl, refl, refl));
@@ -46,5 +47,5 @@ root_proper = record {
 }
 
 -- what was put together as the root alone is a tree
-pub made_proper : (before rows : List Row) (links : List Pair) (name : List ℕ) (info : ChannelInfo) → before ≡ [] → rows ≡ before ++ record { place = 0; channel = record { id = the_root; parent = the_root; name = name; temporary = false; info = info } } ∷ [] → name ≡ codes "Root" → info ≡ plain_info → links ≡ [] → IsProper (record { channels = rows; links = links; greatest = 0 })
+pub made_proper : (before rows : List Row) (links : List Pair) (name : List ℕ) (info : ChannelInfo) → before ≡ [] → rows ≡ before ++ record { place = 0; channel = record { id = the_root; parent = the_root; name = name; temporary = false; info = info } } ∷ [] → name ≡ codes "Root" → info ≡ plain_info → links ≡ [] → IsProper CHANNEL_LIMIT (record { channels = rows; links = links; greatest = 0 })
 made_proper before rows links name info none all named plain unlinked = rw (all, none, named, plain, unlinked) root_proper

@@ -1,14 +1,15 @@
 -- The way up from a channel.
-use Rattle.std.proofs.Common.{◌≡◌, ℕ, zero, suc, ◌<◌, ◌-◌, ◌≤◌, true, false, eqb, cond, List, [], ◌∷◌, ◌++◌, Option, Some, None, length, reverse, refl, arith, ap, sym, subst, ◌∙◌, append_assoc, ◌⊎◌, inl, inr, ⊎_elim}
+use Rattle.std.proofs.Common.{◌≡◌, ℕ, zero, suc, ◌<◌, ◌-◌, ◌≤◌, true, false, eqb, cond, List, [], ◌∷◌, ◌++◌, Option, Some, None, IfSome, MatchOption, length, reverse, refl, arith, ap, sym, subst, ◌∙◌, append_assoc, ◌⊎◌, inl, inr, ⊎_elim}
 use Rattle.std.specs.Bool.{IsTrue}
-use Rattle.std.specs.List.{Contains}
+use Rattle.std.specs.List.{All, Contains}
 use Rattle.std.specs.Option.{is_some}
-use Rattle.std.proofs.lemmas.Bool.{eq-eqb, false_from_ne_true, both_ways, cases_Bool}
-use Rattle.std.proofs.lemmas.List.{length-append, reverse-append}
+use Rattle.std.proofs.lemmas.Bool.{eq-eqb, eqb-true, false_from_ne_true, both_ways, cases_Bool}
+use Rattle.std.proofs.lemmas.List.{get_or-reverse, length-append, length-reverse, reverse-append}
+use Rattle.std.proofs.lemmas.List.Elements.{All-cons, All-nil}
 use Rattle.std.proofs.lemmas.Map.Made.{Contains-tail}
 use Rattle.mum_base.specs.declared.number.ChannelId.{ChannelId}
 use Rattle.mum_tree.specs.declared.channel.Row.{Row}
-use Rattle.mum_tree.specs.Rows.{row_of, is_there, upward}
+use Rattle.mum_tree.specs.Rows.{row_of, is_there, path, upward, IsWay}
 
 pub upward_at : (rows : List Row) (steps : ℕ) (id : ChannelId) (row : Row) → row_of rows id ≡ Some row → upward rows (suc steps) id ≡ id ∷ cond (eqb id.0 0) [] (upward rows steps row.channel.parent)
 unfolding upward
@@ -158,3 +159,54 @@ upward_kept rows new keep (suc steps) id lead =
     ∙ ap (λ us. id ∷ us) (upward_kept rows new keep steps row.channel.parent (lead_parent rows steps id row found under lead))
     ∙ sym (upward_under rows steps id row found under))
     (cases_Bool (eqb id.0 0))
+
+-- the way up begins at the channel and is of channels that are there
+way_from : (rows : List Row) (steps : ℕ) (id : ChannelId) → Contains (upward rows steps id) the_root → (above : List ChannelId) × (upward rows steps id ≡ id ∷ above)
+way_from rows zero id lead = absurd (none_contained the_root (subst (λ (us : List ChannelId). Contains us the_root) (upward_zero rows id) lead))
+way_from rows (suc steps) id lead =
+    let (row, found) = there_from_lead rows (suc steps) id lead in
+    (cond (eqb id.0 0) [] (upward rows steps row.channel.parent), upward_at rows steps id row found)
+
+-- it ends at the root
+way_to : (rows : List Row) (steps : ℕ) (id : ChannelId) → Contains (upward rows steps id) the_root → (below : List ChannelId) × (upward rows steps id ≡ below ++ the_root ∷ [])
+way_to rows zero id lead = absurd (none_contained the_root (subst (λ (us : List ChannelId). Contains us the_root) (upward_zero rows id) lead))
+way_to rows (suc steps) id lead =
+    let (row, found) = there_from_lead rows (suc steps) id lead in
+    ⊎_elim
+    (λ (root : eqb id.0 0 ≡ true).
+    let same : id ≡ the_root = ap (λ n. record { 0 = n }) (eqb-true id.0 0 root) in
+    ([], upward_root rows steps id row found root ∙ ap (λ (x : ChannelId). x ∷ []) same))
+    (λ (under : eqb id.0 0 ≡ false).
+    let (below, is) = way_to rows steps row.channel.parent (lead_parent rows steps id row found under lead) in
+    (id ∷ below, upward_under rows steps id row found under ∙ ap (λ us. id ∷ us) is))
+    (cases_Bool (eqb id.0 0))
+
+way_there : (rows : List Row) (steps : ℕ) (id : ChannelId) → Contains (upward rows steps id) the_root → All (λ one. is_there rows one ≡ true) (upward rows steps id)
+way_there rows zero id lead = absurd (none_contained the_root (subst (λ (us : List ChannelId). Contains us the_root) (upward_zero rows id) lead))
+way_there rows (suc steps) id lead =
+    let (row, found) = there_from_lead rows (suc steps) id lead in
+    let P : ChannelId → Type 0 = λ one. is_there rows one ≡ true in
+    ⊎_elim
+    (λ (root : eqb id.0 0 ≡ true). subst (All P) (sym (upward_root rows steps id row found root)) (All-cons P id [] (ap is_some found) (All-nil P)))
+    (λ (under : eqb id.0 0 ≡ false).
+    subst (All P) (sym (upward_under rows steps id row found under))
+    (All-cons P id (upward rows steps row.channel.parent) (ap is_some found) (way_there rows steps row.channel.parent (lead_parent rows steps id row found under lead))))
+    (cases_Bool (eqb id.0 0))
+
+-- a path leads from the root down to the channel
+pub path_leads : (rows : List Row) (id : ChannelId) → Contains (upward rows 33 id) the_root → IsWay rows id (path rows id)
+path_leads rows id lead =
+    let up = upward rows 33 id in
+    let (above, from) = way_from rows 33 id lead in
+    let (below, to) = way_to rows 33 id lead in
+    record {
+      begins = (reverse below, ap reverse to ∙ reverse-append below (the_root ∷ []));
+      ends = (reverse above, ap reverse from ∙ reverse-cons id above);
+      there = λ k d within.
+          let inside : k < length up = omega (arith, length-reverse up) in
+          subst (λ (x : ChannelId). is_there rows x ≡ true) (sym (get_or-reverse up k d inside)) (way_there rows 33 id lead (length up - 1 - k) d (omega arith));
+    }
+
+pub way_found : {X : Type 0} (items : X → List ChannelId) (found : Option X) (rows : List Row) (id : ChannelId) → (is_there rows id ≡ true → Contains (upward rows 33 id) the_root) → MatchOption found (row_of rows id ≡ None) (λ x. items x ≡ path rows id) → is_some found ≡ is_there rows id → IfSome found (λ x. IsWay rows id (items x))
+way_found items None rows id lead value there = tt
+way_found items (Some x) rows id lead value there = subst (IsWay rows id) (sym value) (path_leads rows id (lead (sym there)))

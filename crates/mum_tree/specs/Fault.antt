@@ -1,4 +1,4 @@
--- The faults of a tree: their numbers, and what each answer says of the first cause that stands.
+-- The faults of a tree: their numbers, and the cause that each names.
 use Rattle.std.specs.Prelude.{ℕ, Option, Some, None}
 use Rattle.mum_tree.specs.declared.fault.TreeFault.{TreeFault}
 use Rattle.mum_tree.specs.declared.fault.TreeFault.TheVariants.{NoChannel, SameName, UnderItself, Nesting, Count, RootFixed, TemporaryParent, LinkCount, OutOfMemory}
@@ -17,12 +17,5 @@ fault_code OutOfMemory = None
 
 -- the cause that an answer names: memory runs out only where no cause stands
 abbrev pub named_cause : TreeFault → Option TreeFault
-named_cause NoChannel = Some NoChannel
-named_cause SameName = Some SameName
-named_cause UnderItself = Some UnderItself
-named_cause Nesting = Some Nesting
-named_cause Count = Some Count
-named_cause RootFixed = Some RootFixed
-named_cause TemporaryParent = Some TemporaryParent
-named_cause LinkCount = Some LinkCount
 named_cause OutOfMemory = None
+named_cause fault = Some fault

@@ -1,51 +1,63 @@
 -- What every tree keeps.
-use Rattle.std.specs.Prelude.{◌≡◌, ◌≢◌, ◌<◌, ◌≤◌, false, List, length, Some, codes, IsTrue}
+use Rattle.std.specs.Prelude.{◌≡◌, ◌≢◌, ℕ, ◌<◌, ◌≤◌, false, List, length, Some, codes, IsTrue}
 use Rattle.std.specs.List.{count_by, All, AllPairs, Contains}
 use Rattle.mum_base.specs.declared.number.ChannelId.{ChannelId}
+use Rattle.mum_base.specs.declared.number.TheConstants.ChannelId.{ROOT}
 use Rattle.mum_tree.specs.declared.channel.Row.{Row}
+use Rattle.mum_tree.specs.declared.channel.TheConstants.{PATH_LIMIT}
+use Rattle.mum_tree.specs.declared.links.TheConstants.{LINK_LIMIT}
 use Rattle.mum_tree.specs.Rows.{number, row_of, is_there, is_temporary, upward, Rise}
 use Rattle.mum_tree.specs.State.{Ordered, Pair, TreeState, starts_at}
 
 abbrev pub IsRoot : Row → Type 0
 IsRoot row =
-    (row.place ≡ 0) × (row.channel.parent.0 ≡ 0) × (row.channel.name ≡ codes "Root") × (row.channel.temporary ≡ false)
+    (row.place ≡ 0) × (row.channel.parent.0 ≡ ROOT.0) × (row.channel.name ≡ codes "Root") × (row.channel.temporary ≡ false)
 
 abbrev pub HasRoot : List Row → Type 0
-HasRoot rows = (row : Row) × (row_of rows (record { 0 = 0 }) ≡ Some row) × IsRoot row
+HasRoot rows = (row : Row) × (row_of rows ROOT ≡ Some row) × IsRoot row
 
--- from each channel parents lead to the root, which is at most 32 above it
+-- from each channel parents lead to the root, and no path is longer than it may be
 abbrev pub LeadUp : List Row → Type 0
-LeadUp rows = (id : ChannelId) → IsTrue (is_there rows id) → Contains (upward rows 33 id) (record { 0 = 0 })
+LeadUp rows = (id : ChannelId) → IsTrue (is_there rows id) → Contains (upward rows PATH_LIMIT id) ROOT
 
 -- two channels under one parent have two names
 abbrev pub AreApart : Row → Row → Type 0
 AreApart row other =
-    number row ≢ 0 → number other ≢ 0 → row.channel.parent.0 ≡ other.channel.parent.0 →
+    number row ≢ ROOT.0 → number other ≢ ROOT.0 → row.channel.parent.0 ≡ other.channel.parent.0 →
     row.channel.name ≡ other.channel.name → ⊥
 
 -- the row is the root's, or its parent is not temporary
 abbrev pub IsUnderLasting : List Row → Row → Type 0
-IsUnderLasting rows row = number row ≢ 0 → is_temporary rows row.channel.parent ≡ false
+IsUnderLasting rows row = number row ≢ ROOT.0 → is_temporary rows row.channel.parent ≡ false
 
 -- the pair is of two channels that are there
 abbrev pub IsBetween : List Row → Pair → Type 0
 IsBetween rows pair = IsTrue (is_there rows pair.0) × IsTrue (is_there rows pair.1) × (pair.0.0 ≢ pair.1.0)
 
--- links between these channels: each stands once in each direction, in order, and a channel has at most 64
-pub record AreLinks (rows : List Row) (links : List Pair) : Type 0 where
-  pub between : All (IsBetween rows) links
-  pub both : All (λ pair. Contains links (pair.1, pair.0)) links
-  pub ordered : Ordered links
-  pub few_each : (id : ChannelId) → count_by (starts_at id) links ≤ 64
+-- each pair stands in the other direction too
+abbrev pub AreBothWays : List Pair → Type 0
+AreBothWays links = All (λ pair. Contains links (pair.1, pair.0)) links
 
-pub record IsProper (tree : TreeState) : Type 0 where
+-- pairs of these channels: each stands once in each direction, in order
+pub record ArePairs (rows : List Row) (links : List Pair) : Type 0 where
+  pub between : All (IsBetween rows) links
+  pub both : AreBothWays links
+  pub ordered : Ordered links
+
+-- links between these channels, of which no channel has too many
+pub record AreLinks (rows : List Row) (links : List Pair) : Type 0 where
+  pub pairs : ArePairs rows links
+  pub few_each : (id : ChannelId) → count_by (starts_at id) links ≤ LINK_LIMIT
+
+-- a tree of at most so many channels
+pub record IsProper (limit : ℕ) (tree : TreeState) : Type 0 where
   pub rise : Rise tree.channels
   pub root : HasRoot tree.channels
   pub lead : LeadUp tree.channels
   pub apart : AllPairs AreApart tree.channels
   pub lasting : All (IsUnderLasting tree.channels) tree.channels
-  pub seated : All (λ row. row.place < 1024) tree.channels
+  pub seated : All (λ row. row.place < limit) tree.channels
   pub seats : AllPairs (λ row other. row.place ≢ other.place) tree.channels
-  pub few : length tree.channels ≤ 1024
+  pub few : length tree.channels ≤ limit
   pub known : All (λ row. number row ≤ tree.greatest) tree.channels
   pub joined : AreLinks tree.channels tree.links

@@ -2,9 +2,11 @@
 use Rattle.std.specs.Prelude.{ℕ, ◌+◌, ◌-◌, ◌^◌, nat_lt, Option, Some, None, ◌==◌, ◌&&◌, ◌||◌, not, Bool, false, List, [], ◌∷◌, ◌++◌, map, pos, codes, if◌then◌else◌, IsTrue}
 use Rattle.std.specs.List.{filter, list_any, AllPairs}
 use Rattle.mum_base.specs.declared.number.ChannelId.{ChannelId}
+use Rattle.mum_base.specs.declared.number.TheConstants.ChannelId.{ROOT}
 use Rattle.mum_tree.specs.declared.channel.Channel.{Channel}
 use Rattle.mum_tree.specs.declared.channel.ChannelInfo.{ChannelInfo}
 use Rattle.mum_tree.specs.declared.channel.Row.{Row}
+use Rattle.mum_tree.specs.Places.{least_place}
 use Rattle.mum_tree.specs.Rows.{is_below, is_there, number}
 
 pub record TreeState : Type 0 where
@@ -28,7 +30,7 @@ new_row place id parent name temporary = record {
 -- the root alone
 abbrev pub root_alone : TreeState
 root_alone = record {
-  channels = new_row 0 (record { 0 = 0 }) (record { 0 = 0 }) (codes "Root") false ∷ [];
+  channels = new_row 0 ROOT ROOT (codes "Root") false ∷ [];
   links = [];
   greatest = 0;
 }
@@ -36,12 +38,25 @@ root_alone = record {
 abbrev pub with_row : TreeState → Row → TreeState
 with_row tree row = record tree { channels = tree.channels ++ row ∷ []; greatest = number row }
 
+-- one channel more, at the least place that no channel has
+abbrev pub with_new : TreeState → ChannelId → ChannelId → List ℕ → Bool → TreeState
+with_new tree id parent name temporary = with_row tree (new_row (least_place tree.channels) id parent name temporary)
+
 -- the channel changed, and no other
 abbrev pub changed : ChannelId → (Channel → Channel) → List Row → List Row
 changed id change rows = map (λ row. if number row == id.0 then record row { channel = change row.channel } else row) rows
 
 abbrev pub with_channel : TreeState → ChannelId → (Channel → Channel) → TreeState
 with_channel tree id change = record tree { channels = changed id change tree.channels }
+
+abbrev pub with_name : TreeState → ChannelId → List ℕ → TreeState
+with_name tree id name = with_channel tree id (λ channel. record channel { name = name })
+
+abbrev pub with_info : TreeState → ChannelId → ChannelInfo → TreeState
+with_info tree id info = with_channel tree id (λ channel. record channel { info = info })
+
+abbrev pub with_parent : TreeState → ChannelId → ChannelId → TreeState
+with_parent tree id parent = with_channel tree id (λ channel. record channel { parent = parent })
 
 -- one above the greatest number ever used, while numbers of 32 bits last
 abbrev pub next_number : TreeState → Option ChannelId
@@ -79,14 +94,19 @@ abbrev pub with_pair : ChannelId → ChannelId → List Pair → List Pair
 with_pair from to [] = (from, to) ∷ []
 with_pair from to (pair ∷ pairs) = if is_above from to pair then (from, to) ∷ pair ∷ pairs else pair ∷ with_pair from to pairs
 
--- a link of a channel to itself, or one that is there, changes nothing
+-- a link more, in both directions; one of a channel to itself, or that is there, changes nothing
+abbrev pub pairs_with : ChannelId → ChannelId → List Pair → List Pair
+pairs_with a b pairs = if (a.0 == b.0) || list_any (is_pair a b) pairs then pairs else with_pair b a (with_pair a b pairs)
+
+-- a link less
+abbrev pub pairs_without : ChannelId → ChannelId → List Pair → List Pair
+pairs_without a b pairs = filter (λ pair. not (is_pair a b pair || is_pair b a pair)) pairs
+
 abbrev pub with_link : TreeState → ChannelId → ChannelId → TreeState
-with_link tree a b =
-    if (a.0 == b.0) || are_linked tree a b then tree
-    else record tree { links = with_pair b a (with_pair a b tree.links) }
+with_link tree a b = record tree { links = pairs_with a b tree.links }
 
 abbrev pub without_link : TreeState → ChannelId → ChannelId → TreeState
-without_link tree a b = record tree { links = filter (λ pair. not (is_pair a b pair || is_pair b a pair)) tree.links }
+without_link tree a b = record tree { links = pairs_without a b tree.links }
 
 -- a channel and all below it: those whose path holds it
 abbrev pub below : TreeState → ChannelId → List ChannelId

@@ -1,9 +1,20 @@
 -- Where links lead.
-use Rattle.std.specs.Prelude.{◌≡◌, ℕ, zero, suc, ◌<◌, List, length, slice_index_or}
-use Rattle.std.specs.List.{Contains}
+use Rattle.std.specs.Prelude.{◌≡◌, ℕ, zero, suc, ◌<◌, ◌==◌, ◌&&◌, ◌||◌, Bool, List, filter, length, map, slice_index_or}
+use Rattle.std.specs.List.{list_any, Contains}
 use Rattle.mum_base.specs.declared.number.ChannelId.{ChannelId}
 use Rattle.mum_tree.specs.declared.channel.Row.{Row}
-use Rattle.mum_tree.specs.State.{Pair}
+use Rattle.mum_tree.specs.State.{Pair, TreeState}
+
+-- at most so many links, one after the other, lead from a channel to another
+unfoldable pub is_reached : List Pair → ℕ → ChannelId → ChannelId → Bool
+is_reached links zero from to = from.0 == to.0
+is_reached links (suc rounds) from to =
+    is_reached links rounds from to || list_any (λ pair. (pair.1.0 == to.0) && is_reached links rounds from pair.0) links
+
+-- the channels that links lead to from one, itself among them, in order of number: as many rounds as there are
+-- channels find all
+abbrev pub linked : TreeState → ChannelId → List ChannelId
+linked tree id = map (λ row. row.channel.id) (filter (λ row. is_reached tree.links (length tree.channels) id row.channel.id) tree.channels)
 
 -- so many links, one after the other, lead from a channel to another
 abbrev pub Walk : List Pair → ℕ → ChannelId → ChannelId → Type 0

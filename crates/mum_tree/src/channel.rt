@@ -2,9 +2,6 @@
 
 use mum_base::{ChannelId, Text};
 
-/// The root of the tree.
-pub const ROOT: ChannelId = ChannelId(0);
-
 /// The most channels of a tree, with the root. Places are below it.
 pub const CHANNEL_LIMIT: usize = 1024;
 

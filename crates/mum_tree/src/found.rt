@@ -16,6 +16,7 @@ pub(crate) struct Found {
 }
 
 impl Model for Found {
+    ghost use Rattle.mum_tree.specs.declared.channel.TheConstants.{CHANNEL_LIMIT};
     ghost use Rattle.std.specs.Prelude.{◌≡◌, ◌<◌, ◌≤◌, ◌↔◌, ℕ, true, false, List, length, take, slice_index_or};
     ghost use Rattle.std.specs.List.{Contains, count_by};
 
@@ -24,11 +25,11 @@ impl Model for Found {
     ghost view = { λ f. take f.count f.order };
 
     ghost invariant = { λ f. record {
-      whole : length f.marks ≡ 1024;
-      room : length f.order ≡ 1024;
-      within : f.count ≤ 1024;
+      whole : length f.marks ≡ CHANNEL_LIMIT;
+      room : length f.order ≡ CHANNEL_LIMIT;
+      within : f.count ≤ CHANNEL_LIMIT;
       counted : count_by (λ mark. mark) f.marks ≡ f.count;
-      marked : (k : ℕ) → k < 1024 → (slice_index_or f.marks k false ≡ true) ↔ Contains (take f.count f.order) k;
+      marked : (k : ℕ) → k < CHANNEL_LIMIT → (slice_index_or f.marks k false ≡ true) ↔ Contains (take f.count f.order) k;
     } };
 }
 
@@ -45,7 +46,7 @@ impl Found {
 
     pub(crate) fn len(&self) -> usize
         ensures value { result ≡ length self.now }
-        ensures within { result ≤ 1024 }
+        ensures within { result ≤ CHANNEL_LIMIT }
     {
         self.count
     }
@@ -53,14 +54,14 @@ impl Found {
     /// The number that so many were found before.
     pub(crate) fn at(&self, i: usize) -> usize
         requires there { i < length self.now }
-        requires within { i < 1024 }
+        requires within { i < CHANNEL_LIMIT }
         ensures { result ≡ slice_index_or self.now i 0 }
     {
         self.order[i]
     }
 
     pub(crate) fn has(&self, number: usize) -> bool
-        requires { number < 1024 }
+        requires { number < CHANNEL_LIMIT }
         ensures { IsTrue result ↔ Contains self.now number }
     {
         self.marks[number]
@@ -68,7 +69,7 @@ impl Found {
 
     /// Adds a number behind the others, if it is not among them.
     pub(crate) fn add(&mut self, number: usize)
-        requires { number < 1024 }
+        requires { number < CHANNEL_LIMIT }
         ensures { (Contains self.old number × (self.new ≡ self.old)) ⊎ (self.new ≡ self.old ++ number ∷ []) }
     {
         if self.marks[number] {

@@ -1,19 +1,19 @@
 //! How far channels are under one of them.
 
-ghost use Rattle.std.specs.Prelude.{◌≡◌, ◌≢◌, ◌+◌, ◌<◌, ℕ, None, length, nat_lt, false, slice_index_or, IfSome};
+ghost use Rattle.std.specs.Prelude.{◌≡◌, ◌≢◌, ◌+◌, ◌<◌, ◌≤◌, ℕ, None, length, nat_lt, false, slice_index_or, IfSome};
 ghost use Rattle.std.specs.List.{All, AllPairs, list_any};
 ghost use Rattle.std.specs.Option.{option_map, option_map_or};
 ghost use Rattle.mum_tree.specs.Proper.{LeadUp};
 ghost use Rattle.mum_tree.specs.Rows.{is_below, level, nests, path, AreLevels, Rise};
 ghost use Rattle.mum_tree.specs.declared.channel.Row.{Row};
 
-use crate::channel::{CHANNEL_LIMIT, PATH_LIMIT, ROOT, Row};
+use crate::channel::{CHANNEL_LIMIT, PATH_LIMIT, Row};
 use crate::rows::{path_length, place_in_rows};
 use mum_base::ChannelId;
 
 /// One step more.
 fn one_further(level: Option<u8>) -> Option<u8>
-    requires { IfSome level (λ steps. steps < 33) }
+    requires { IfSome level (λ steps. steps < PATH_LIMIT) }
     ensures { result ≡ option_map (λ steps. steps + 1) level }
 {
     match level {
@@ -32,10 +32,10 @@ fn find_level(
 ) -> Option<u8>
     requires rise { Rise rows.now }
     requires lead { LeadUp rows.now }
-    requires seated { All (λ row. row.place < 1024) rows.now }
+    requires seated { All (λ row. row.place < CHANNEL_LIMIT) rows.now }
     requires seats { AllPairs (λ row other. row.place ≢ other.place) rows.now }
     requires there { at < length rows.now }
-    requires room { length known.old ≡ 1024 }
+    requires room { length known.old ≡ CHANNEL_LIMIT }
     requires right { AreLevels rows.now top known.old }
     ensures value { (other : Row) → result ≡ level rows.now top (slice_index_or rows.now at other).channel.id }
     ensures kept { AreLevels rows.now top known.new }
@@ -44,7 +44,7 @@ fn find_level(
     if row.channel.id.0 == top.0 {
         return Some(0);
     }
-    if row.channel.id.0 == ROOT.0 {
+    if row.channel.id.0 == ChannelId::ROOT.0 {
         return None;
     }
     let place = row.place as usize;
@@ -62,9 +62,9 @@ fn find_level(
 fn find_levels(rows: &[Row], top: ChannelId) -> [Option<u8>; CHANNEL_LIMIT]
     requires rise { Rise rows.now }
     requires lead { LeadUp rows.now }
-    requires seated { All (λ row. row.place < 1024) rows.now }
+    requires seated { All (λ row. row.place < CHANNEL_LIMIT) rows.now }
     requires seats { AllPairs (λ row other. row.place ≢ other.place) rows.now }
-    ensures length { length result ≡ 1024 }
+    ensures length { length result ≡ CHANNEL_LIMIT }
     ensures value { All (λ row. slice_index_or result row.place None ≡ level rows.now top row.channel.id) rows.now }
 {
     let mut known = [None; CHANNEL_LIMIT];
@@ -79,9 +79,9 @@ fn find_levels(rows: &[Row], top: ChannelId) -> [Option<u8>; CHANNEL_LIMIT]
 pub(crate) fn places_below(rows: &[Row], top: ChannelId) -> [bool; CHANNEL_LIMIT]
     requires rise { Rise rows.now }
     requires lead { LeadUp rows.now }
-    requires seated { All (λ row. row.place < 1024) rows.now }
+    requires seated { All (λ row. row.place < CHANNEL_LIMIT) rows.now }
     requires seats { AllPairs (λ row other. row.place ≢ other.place) rows.now }
-    ensures length { length result ≡ 1024 }
+    ensures length { length result ≡ CHANNEL_LIMIT }
     ensures value { All (λ row. slice_index_or result row.place false ≡ is_below rows.now top row.channel.id) rows.now }
 {
     let levels = find_levels(rows, top);
@@ -96,8 +96,8 @@ pub(crate) fn places_below(rows: &[Row], top: ChannelId) -> [bool; CHANNEL_LIMIT
 /// Whether a channel so many steps under another is too deep once that one is under a channel
 /// which has so many channels on its path.
 fn is_too_deep(level: Option<u8>, above: usize) -> bool
-    requires { above < 34 }
-    ensures { result ≡ option_map_or (λ steps. nat_lt 33 (above + 1 + steps)) level false }
+    requires { above ≤ PATH_LIMIT }
+    ensures { result ≡ option_map_or (λ steps. nat_lt PATH_LIMIT (above + 1 + steps)) level false }
 {
     match level {
         Some(steps) => PATH_LIMIT < above + 1 + steps as usize,
@@ -109,7 +109,7 @@ fn is_too_deep(level: Option<u8>, above: usize) -> bool
 pub(crate) fn nests_too_deep(rows: &[Row], id: ChannelId, parent: ChannelId) -> bool
     requires rise { Rise rows.now }
     requires lead { LeadUp rows.now }
-    requires seated { All (λ row. row.place < 1024) rows.now }
+    requires seated { All (λ row. row.place < CHANNEL_LIMIT) rows.now }
     requires seats { AllPairs (λ row other. row.place ≢ other.place) rows.now }
     ensures { result ≡ list_any (nests rows.now id parent) rows.now }
 {

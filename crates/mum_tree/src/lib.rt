@@ -3,21 +3,21 @@
 //! what links lead to.
 #![tactic(auto)]
 
-pub mod channel;
-pub mod fault;
+mod change;
+mod channel;
+mod fault;
 mod found;
+pub mod laws;
 mod levels;
-pub mod links;
+mod links;
 mod reach;
-pub mod rows;
-pub mod scratch;
-pub mod tree;
+mod rows;
+mod scratch;
+mod tree;
 
-pub use channel::{CHANNEL_LIMIT, Channel, ChannelInfo, PATH_LIMIT, ROOT, Row};
+pub use change::ChannelChange;
+pub use channel::{CHANNEL_LIMIT, Channel, ChannelInfo, PATH_LIMIT, Row};
 pub use fault::TreeFault;
 pub use links::LINK_LIMIT;
 pub use scratch::Scratch;
 pub use tree::Tree;
-
-#[cfg(test)]
-mod tests;

@@ -12,13 +12,12 @@ use crate::channel::{CHANNEL_LIMIT, Row};
 use crate::found::Found;
 use crate::links::first_link;
 use crate::rows::place_in_rows;
-use crate::scratch::Scratch;
 use mum_base::ChannelId;
 
 /// Finds the rows of the channels that a link joins to this one.
 fn find_partners(rows: &[Row], links: &[(ChannelId, ChannelId)], from: ChannelId, found: &mut Found)
     requires rise { Rise rows.now }
-    requires few { length rows.now ≤ 1024 }
+    requires few { length rows.now ≤ CHANNEL_LIMIT }
     requires joined { AreLinks rows.now links.now }
     ensures all { (to : ChannelId) → Contains links.now (from, to) → HasRow rows.now found.new to }
     ensures only { All (λ at. Contains found.old at ⊎ ((at < length rows.now) × ((other : Row) → Contains links.now (from, (slice_index_or rows.now at other).channel.id)))) found.new }
@@ -36,7 +35,7 @@ fn find_partners(rows: &[Row], links: &[(ChannelId, ChannelId)], from: ChannelId
 /// Finds the rows of the channels that links lead to, the channel's own among them.
 pub(crate) fn find_linked(rows: &[Row], links: &[(ChannelId, ChannelId)], id: ChannelId) -> Found
     requires rise { Rise rows.now }
-    requires few { length rows.now ≤ 1024 }
+    requires few { length rows.now ≤ CHANNEL_LIMIT }
     requires joined { AreLinks rows.now links.now }
     requires there { IsTrue (is_there rows.now id) }
     ensures { (other : ChannelId) → HasRow rows.now result other ↔ LeadTo links.now id other }
@@ -53,11 +52,11 @@ pub(crate) fn find_linked(rows: &[Row], links: &[(ChannelId, ChannelId)], id: Ch
 }
 
 /// Which places have a channel whose row was found.
-fn places_found(rows: &[Row], found: &Found) -> [bool; CHANNEL_LIMIT]
-    requires few { length rows.now ≤ 1024 }
-    requires seated { All (λ row. row.place < 1024) rows.now }
+pub(crate) fn places_found(rows: &[Row], found: &Found) -> [bool; CHANNEL_LIMIT]
+    requires few { length rows.now ≤ CHANNEL_LIMIT }
+    requires seated { All (λ row. row.place < CHANNEL_LIMIT) rows.now }
     requires seats { AllPairs (λ row other. row.place ≢ other.place) rows.now }
-    ensures length { length result ≡ 1024 }
+    ensures length { length result ≡ CHANNEL_LIMIT }
     ensures value { (k : ℕ) (other : Row) → k < length rows.now → IsTrue (slice_index_or result (slice_index_or rows.now k other).place false) ↔ Contains found.now k }
 {
     let mut places = [false; CHANNEL_LIMIT];
@@ -65,16 +64,4 @@ fn places_found(rows: &[Row], found: &Found) -> [bool; CHANNEL_LIMIT]
         places[row.place as usize] = found.has(at);
     }
     places
-}
-
-/// Marks the channels whose rows were found.
-pub(crate) fn mark_found(rows: &[Row], found: &Found, scratch: &mut Scratch)
-    requires rise { Rise rows.now }
-    requires few { length rows.now ≤ 1024 }
-    requires seated { All (λ row. row.place < 1024) rows.now }
-    requires seats { AllPairs (λ row other. row.place ≢ other.place) rows.now }
-    ensures { (other : ChannelId) → Contains scratch.new other ↔ HasRow rows.now found.now other }
-{
-    let places = places_found(rows, found);
-    scratch.fill(rows, &places);
 }

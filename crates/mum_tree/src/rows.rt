@@ -2,12 +2,14 @@
 
 ghost use Rattle.std.specs.Prelude.{◌≡◌, ◌≢◌, ◌&&◌, ℕ, ◌≤◌, true, false, slice_index_or, ◌<◌, None, Some, length, MatchOption, IfOk, IfSome, IsTrue, is_some};
 ghost use Rattle.std.specs.Option.{option_copied};
-ghost use Rattle.std.specs.List.{All, AllPairs, count_by, list_any};
-ghost use Rattle.mum_tree.specs.Rows.{row_of, is_there, path, level, is_below, is_taken, nests, IsFree, IsLeastFree, Rise};
+ghost use Rattle.std.specs.List.{All, AllPairs, count_by, list_all, list_any};
+ghost use Rattle.mum_tree.specs.Change.{is_among};
+ghost use Rattle.mum_tree.specs.Places.{least_place, IsFree};
+ghost use Rattle.mum_tree.specs.Rows.{row_of, is_temporary, is_there, path, level, is_below, is_taken, nests, Rise};
 ghost use Rattle.mum_tree.specs.Proper.{LeadUp};
 ghost use Rattle.mum_tree.specs.declared.channel.Row.{Row};
 
-use crate::channel::{CHANNEL_LIMIT, Channel, ChannelInfo, PATH_LIMIT, ROOT, Row};
+use crate::channel::{CHANNEL_LIMIT, Channel, ChannelInfo, PATH_LIMIT, Row};
 use arrayvec::ArrayVec;
 use mum_base::{ChannelId, OutOfMemory, Text};
 use std::alloc::Global;
@@ -63,6 +65,25 @@ pub(crate) fn both_there(rows: &[Row], a: ChannelId, b: ChannelId) -> bool
     stands(rows, a) && stands(rows, b)
 }
 
+/// Whether all these channels are there.
+pub(crate) fn all_stand(rows: &[Row], ids: &[ChannelId]) -> bool
+    requires { Rise rows.now }
+    ensures { result ≡ list_all (is_there rows.now) ids.now }
+{
+    ids.iter().all(|id| stands(rows, *id))
+}
+
+/// Whether a channel is there and is temporary.
+pub(crate) fn is_temporary_there(rows: &[Row], id: ChannelId) -> bool
+    requires { Rise rows.now }
+    ensures { result ≡ is_temporary rows.now id }
+{
+    match find_row(rows, id) {
+        Some(row) => row.channel.temporary,
+        None => false,
+    }
+}
+
 /// The channels from the root down to one.
 pub(crate) fn find_path(rows: &[Row], id: ChannelId) -> Option<ArrayVec<ChannelId, PATH_LIMIT>>
     requires rise { Rise rows.now }
@@ -77,7 +98,7 @@ pub(crate) fn find_path(rows: &[Row], id: ChannelId) -> Option<ArrayVec<ChannelI
             return None;
         };
         channels.push(at);
-        if at.0 == ROOT.0 {
+        if at.0 == ChannelId::ROOT.0 {
             channels.reverse();
             return Some(channels);
         }
@@ -90,7 +111,7 @@ pub(crate) fn find_path(rows: &[Row], id: ChannelId) -> Option<ArrayVec<ChannelI
 pub(crate) fn steps_under(rows: &[Row], top: ChannelId, id: ChannelId) -> Option<usize>
     requires { Rise rows.now }
     ensures value { result ≡ level rows.now top id }
-    ensures within { IfSome result (λ steps. steps < 33) }
+    ensures within { IfSome result (λ steps. steps < PATH_LIMIT) }
 {
     let mut at = id;
     for steps in 0..PATH_LIMIT {
@@ -100,7 +121,7 @@ pub(crate) fn steps_under(rows: &[Row], top: ChannelId, id: ChannelId) -> Option
         if at.0 == top.0 {
             return Some(steps);
         }
-        if at.0 == ROOT.0 {
+        if at.0 == ChannelId::ROOT.0 {
             return None;
         }
         at = row.channel.parent;
@@ -113,9 +134,9 @@ pub(crate) fn path_length(rows: &[Row], id: ChannelId) -> usize
     requires rise { Rise rows.now }
     requires lead { LeadUp rows.now }
     ensures value { result ≡ length (path rows.now id) }
-    ensures within { result ≤ 33 }
+    ensures within { result ≤ PATH_LIMIT }
 {
-    match steps_under(rows, ROOT, id) {
+    match steps_under(rows, ChannelId::ROOT, id) {
         Some(steps) => steps + 1,
         None => 0,
     }
@@ -135,7 +156,7 @@ pub(crate) fn has_name(rows: &[Row], parent: ChannelId, id: ChannelId, name: &st
 {
     rows.iter().any(|row| {
         let channel = &row.channel;
-        channel.id.0 != ROOT.0
+        channel.id.0 != ChannelId::ROOT.0
             && channel.parent.0 == parent.0
             && channel.id.0 != id.0
             && channel.name.as_str() == name
@@ -144,9 +165,9 @@ pub(crate) fn has_name(rows: &[Row], parent: ChannelId, id: ChannelId, name: &st
 
 /// Which places have a channel.
 fn taken_places(rows: &[Row]) -> [bool; CHANNEL_LIMIT]
-    requires { All (λ row. row.place < 1024) rows.now }
-    ensures length { length result ≡ 1024 }
-    ensures free { (place : ℕ) → place < 1024 → slice_index_or result place false ≡ false → IsFree rows.now place }
+    requires { All (λ row. row.place < CHANNEL_LIMIT) rows.now }
+    ensures length { length result ≡ CHANNEL_LIMIT }
+    ensures free { (place : ℕ) → place < CHANNEL_LIMIT → slice_index_or result place false ≡ false → IsFree rows.now place }
     ensures taken { (place : ℕ) → slice_index_or result place false ≡ true → IsFree rows.now place → ⊥ }
     ensures count { count_by (λ one. one) result ≤ length rows.now }
 {
@@ -155,6 +176,23 @@ fn taken_places(rows: &[Row]) -> [bool; CHANNEL_LIMIT]
         taken[row.place as usize] = true;
     }
     taken
+}
+
+/// Which places have one of these channels.
+pub(crate) fn places_of(rows: &[Row], ids: &[ChannelId]) -> [bool; CHANNEL_LIMIT]
+    requires rise { Rise rows.now }
+    requires seated { All (λ row. row.place < CHANNEL_LIMIT) rows.now }
+    requires seats { AllPairs (λ row other. row.place ≢ other.place) rows.now }
+    requires there { IsTrue (list_all (is_there rows.now) ids.now) }
+    ensures length { length result ≡ CHANNEL_LIMIT }
+    ensures value { All (λ row. slice_index_or result row.place false ≡ is_among ids.now row.channel.id) rows.now }
+{
+    let mut marks = [false; CHANNEL_LIMIT];
+    for id in ids {
+        let row = &rows[place_in_rows(rows, *id)];
+        marks[row.place as usize] = true;
+    }
+    marks
 }
 
 /// Whether a place is marked.
@@ -169,10 +207,10 @@ pub(crate) fn has_mark(marks: &[bool], place: u16) -> bool
 
 /// The least place that no channel has.
 pub(crate) fn least_free_place(rows: &[Row]) -> u16
-    requires seated { All (λ row. row.place < 1024) rows.now }
-    requires room { length rows.now < 1024 }
-    ensures least { IsLeastFree rows.now result }
-    ensures within { result < 1024 }
+    requires seated { All (λ row. row.place < CHANNEL_LIMIT) rows.now }
+    requires room { length rows.now < CHANNEL_LIMIT }
+    ensures least { result ≡ least_place rows.now }
+    ensures within { result < CHANNEL_LIMIT }
 {
     let taken = taken_places(rows);
     for place in 0..CHANNEL_LIMIT {

@@ -4,7 +4,7 @@ ghost use Rattle.std.specs.Prelude.{◌≡◌, ◌<◌, ◌≤◌, ◌↔◌, []
 ghost use Rattle.std.specs.List.{All, Contains};
 ghost use Rattle.mum_tree.specs.Rows.{Rise};
 
-use crate::channel::{CHANNEL_LIMIT, ROOT, Row};
+use crate::channel::{CHANNEL_LIMIT, Row};
 use mum_base::{ChannelId, OutOfMemory};
 use std::alloc::Global;
 use std::marker::Model;
@@ -28,6 +28,7 @@ pub struct Scratch {
 }
 
 impl Model for Scratch {
+    ghost use Rattle.mum_tree.specs.declared.channel.TheConstants.{CHANNEL_LIMIT};
     ghost use Rattle.std.specs.Prelude.{◌≡◌, ◌<◌, ◌≤◌, List, false, filter, length, map, slice_index_or, take};
     ghost use Rattle.std.specs.List.{All, AllPairs};
     ghost use Rattle.mum_base.specs.declared.number.ChannelId.{ChannelId};
@@ -37,10 +38,10 @@ impl Model for Scratch {
     ghost view = { λ s. map (λ seat. seat.id) (filter (λ seat. slice_index_or s.marks.items seat.place false) (take s.count s.seats.items)) };
 
     ghost invariant = { λ s. record {
-      whole : length s.seats.items ≡ 1024;
-      marked : length s.marks.items ≡ 1024;
-      within : s.count ≤ 1024;
-      seated : All (λ seat. seat.place < 1024) (take s.count s.seats.items);
+      whole : length s.seats.items ≡ CHANNEL_LIMIT;
+      marked : length s.marks.items ≡ CHANNEL_LIMIT;
+      within : s.count ≤ CHANNEL_LIMIT;
+      seated : All (λ seat. seat.place < CHANNEL_LIMIT) (take s.count s.seats.items);
       rise : AllPairs (λ one later. one.id.0 < later.id.0) (take s.count s.seats.items);
     } };
 }
@@ -64,7 +65,10 @@ impl Scratch {
     pub fn new(alloc: Global) -> Result<Scratch, OutOfMemory>
         ensures { IfOk result (λ scratch. scratch ≡ []) }
     {
-        let seat = Seat { id: ROOT, place: 0 };
+        let seat = Seat {
+            id: ChannelId::ROOT,
+            place: 0,
+        };
         Ok(Scratch {
             seats: vec![in alloc; seat; CHANNEL_LIMIT]?,
             count: 0,
@@ -86,9 +90,9 @@ impl Scratch {
     /// Marks the channels of these rows whose places are marked, and no other.
     pub(crate) fn fill(&mut self, rows: &[Row], marks: &[bool])
         requires rise { Rise rows.now }
-        requires few { length rows.now ≤ 1024 }
-        requires seated { All (λ row. row.place < 1024) rows.now }
-        requires whole { length marks.now ≡ 1024 }
+        requires few { length rows.now ≤ CHANNEL_LIMIT }
+        requires seated { All (λ row. row.place < CHANNEL_LIMIT) rows.now }
+        requires whole { length marks.now ≡ CHANNEL_LIMIT }
         ensures { self.new ≡ map (λ row. row.channel.id) (filter (λ row. slice_index_or marks.now row.place false) rows.now) }
     {
         seat_rows(rows, &mut self.seats);

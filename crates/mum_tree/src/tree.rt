@@ -1,23 +1,30 @@
 //! The tree of channels, and what is read from it.
 
-ghost use Rattle.std.specs.Prelude.{◌≡◌, ◌<◌, ◌↔◌, ◌&&◌, IfOk, IsTrue, MatchOption, None, is_some, slice_get};
-ghost use Rattle.std.specs.List.{Contains};
+ghost use Rattle.std.specs.Prelude.{◌≡◌, if◌then◌else◌, ◌<◌, ◌↔◌, ◌&&◌, IfOk, IfSome, IsTrue, MatchOption, None, is_some, slice_get};
+ghost use Rattle.std.specs.List.{list_all, Contains};
 ghost use Rattle.std.specs.Option.{option_copied, option_map};
 ghost use Rattle.mum_base.specs.declared.number.ChannelId.{ChannelId};
 ghost use Rattle.mum_tree.specs.Proper.{IsProper};
-ghost use Rattle.mum_tree.specs.Rows.{row_of, is_there, path};
-ghost use Rattle.mum_tree.specs.State.{root_alone, next_number, plain_info, partners, below};
-ghost use Rattle.mum_tree.specs.Walks.{LeadTo};
-ghost use Rattle.mum_tree.specs.Calls.{is_full, fault_of_add, fault_of_link, fault_of_move, fault_of_rename, Adds, JoinsTwo, Moves, PartsTwo, Removes, Renames, SetsInfo};
+ghost use Rattle.mum_tree.specs.Rows.{row_of, is_there, path, IsWay};
+ghost use Rattle.mum_tree.specs.State.{root_alone, next_number, plain_info, partners, below, with_info, with_link, with_name, with_new, with_parent, without_link, without_subtree};
+ghost use Rattle.mum_tree.specs.Walks.{linked, LeadTo};
+ghost use Rattle.mum_tree.specs.Refusals.{is_full, fault_of_add, fault_of_link, fault_of_move, fault_of_remove, fault_of_rename, fault_of_seat, fault_of_set_info, fault_of_unlink};
+ghost use Rattle.mum_tree.specs.Fault.{named_cause};
+ghost use Rattle.mum_tree.specs.Change.{change_of, fault_of_edit, overlinks, with_change};
+ghost use Rattle.mum_base.specs.Refusal.{Settles, SettlesInPlace};
 
-use crate::channel::{CHANNEL_LIMIT, Channel, ChannelInfo, PATH_LIMIT, ROOT, Row};
+use crate::change::{ChannelChange, copied, give};
+use crate::channel::{CHANNEL_LIMIT, Channel, ChannelInfo, PATH_LIMIT, Row};
 use crate::fault::TreeFault;
 use crate::levels::{nests_too_deep, places_below};
-use crate::links::{has_link, is_crowded, joins, keep_ends, nth_end, place_for};
-use crate::reach::{find_linked, mark_found};
+use crate::links::{
+    LINK_LIMIT, has_link, is_crowded, keep_ends, nth_end, put_link, put_links, take_link,
+    take_links,
+};
+use crate::reach::{find_linked, places_found};
 use crate::rows::{
-    both_there, copy_rows, find_path, find_row, has_mark, has_name, least_free_place, locate,
-    path_length, stands, stands_below,
+    all_stand, both_there, copy_rows, find_path, find_row, has_mark, has_name, is_temporary_there,
+    least_free_place, locate, path_length, places_of, stands, stands_below,
 };
 use crate::scratch::Scratch;
 use arrayvec::ArrayVec;
@@ -36,6 +43,7 @@ pub struct Tree {
 }
 
 impl Model for Tree {
+    ghost use Rattle.mum_tree.specs.declared.channel.TheConstants.{CHANNEL_LIMIT};
     ghost use Rattle.mum_tree.specs.Proper.{IsProper};
     ghost use Rattle.mum_tree.specs.State.{TreeState};
 
@@ -43,7 +51,7 @@ impl Model for Tree {
 
     ghost view = { λ t. record { channels = t.rows.items; links = t.links.items; greatest = t.greatest } };
 
-    ghost invariant = { λ t. IsProper (record { channels = t.rows.items; links = t.links.items; greatest = t.greatest }) };
+    ghost invariant = { λ t. IsProper CHANNEL_LIMIT (record { channels = t.rows.items; links = t.links.items; greatest = t.greatest }) };
 }
 
 /// No description, no place among its siblings, no limit of users.
@@ -57,17 +65,25 @@ fn plain_channel_info(alloc: Global) -> Result<ChannelInfo, OutOfMemory>
     })
 }
 
+/// One if it holds, else nothing.
+fn one_if(holds: bool) -> usize
+    ensures { result ≡ (if holds then 1 else 0) }
+{
+    if holds { 1 } else { 0 }
+}
+
 impl Tree {
     /// The root alone.
     pub fn new(alloc: Global) -> Result<Tree, OutOfMemory>
-        ensures { IfOk result (λ tree. tree ≡ root_alone) }
+        ensures made { IfOk result (λ tree. tree ≡ root_alone) }
+        ensures proper { IfOk result (λ tree. IsProper CHANNEL_LIMIT tree) }
     {
         let mut rows = Vec::new(alloc);
         rows.push(Row {
             place: 0,
             channel: Channel {
-                id: ROOT,
-                parent: ROOT,
+                id: ChannelId::ROOT,
+                parent: ChannelId::ROOT,
                 name: Text::of(alloc, "Root")?,
                 temporary: false,
                 info: plain_channel_info(alloc)?,
@@ -79,13 +95,6 @@ impl Tree {
             links: Vec::new(alloc),
             greatest: 0,
         })
-    }
-
-    /// What every tree keeps. This does nothing: its contract is the theorem.
-    pub fn is_proper(&self)
-        ensures { IsProper self.now }
-    {
-        let _rows = &self.rows;
     }
 
     /// The number for a new channel: one above the greatest that a channel ever had.
@@ -133,13 +142,14 @@ impl Tree {
     pub fn path(&self, id: ChannelId) -> Option<ArrayVec<ChannelId, PATH_LIMIT>>
         ensures value { MatchOption result (row_of self.now.channels id ≡ None) (λ found. found.items ≡ path self.now.channels id) }
         ensures there { is_some result ≡ is_there self.now.channels id }
+        ensures way { IfSome result (λ found. IsWay self.now.channels id found.items) }
     {
         find_path(&self.rows, id)
     }
 
     /// Whether there are as many channels as there can be.
     pub fn full(&self) -> bool
-        ensures { result ≡ is_full self.now }
+        ensures { result ≡ is_full CHANNEL_LIMIT self.now }
     {
         self.rows.len() >= CHANNEL_LIMIT
     }
@@ -151,7 +161,7 @@ impl Tree {
         parent: ChannelId,
         name: &str,
     ) -> Option<TreeFault>
-        ensures { result ≡ fault_of_add self.now id parent name.now }
+        ensures { result ≡ fault_of_add CHANNEL_LIMIT self.now id parent name.now }
     {
         let rows = self.rows.as_slice();
         let Some(above) = find_row(rows, parent) else {
@@ -182,7 +192,9 @@ impl Tree {
         temporary: bool,
     ) -> Result<(), TreeFault>
         requires { self.old.greatest < id.0 }
-        ensures { Adds self.old id parent name.now temporary result self.new }
+        ensures made { Settles named_cause (fault_of_add CHANNEL_LIMIT self.old id parent name.now)
+            (with_new self.old id parent name.now temporary) self.old result self.new }
+        ensures proper { IsProper CHANNEL_LIMIT self.new }
     {
         if let Some(cause) = self.cause_against_adding(id, parent, name) {
             return Err(cause);
@@ -208,7 +220,7 @@ impl Tree {
         let Some(renamed) = find_row(rows, id) else {
             return Some(TreeFault::NoChannel);
         };
-        if renamed.channel.id.0 == ROOT.0 {
+        if renamed.channel.id.0 == ChannelId::ROOT.0 {
             return Some(TreeFault::RootFixed);
         }
         if has_name(rows, renamed.channel.parent, id, name) {
@@ -219,7 +231,9 @@ impl Tree {
 
     /// Gives a channel another name. Refused, in this order: NoChannel, RootFixed, SameName.
     pub fn rename(&mut self, id: ChannelId, name: &str) -> Result<(), TreeFault>
-        ensures { Renames self.old id name.now result self.new }
+        ensures made { Settles named_cause (fault_of_rename self.old id name.now)
+            (with_name self.old id name.now) self.old result self.new }
+        ensures proper { IsProper CHANNEL_LIMIT self.new }
     {
         let Some(at) = locate(&self.rows, id) else {
             return Err(TreeFault::NoChannel);
@@ -236,7 +250,9 @@ impl Tree {
     /// Gives a channel another description, position and limit of users. Refused: NoChannel.
     /// It takes no memory.
     pub fn set_info(&mut self, id: ChannelId, info: ChannelInfo) -> Result<(), TreeFault>
-        ensures { SetsInfo self.old id info result self.new }
+        ensures made { SettlesInPlace (fault_of_set_info self.old id)
+            (with_info self.old id info) self.old result self.new }
+        ensures proper { IsProper CHANNEL_LIMIT self.new }
     {
         let Some(at) = locate(&self.rows, id) else {
             return Err(TreeFault::NoChannel);
@@ -256,12 +272,14 @@ impl Tree {
     /// Takes the link between two channels away, if there is one. Refused: NoChannel.
     /// It takes no memory.
     pub fn unlink(&mut self, a: ChannelId, b: ChannelId) -> Result<(), TreeFault>
-        ensures { PartsTwo self.old a b result self.new }
+        ensures made { SettlesInPlace (fault_of_unlink self.old a b)
+            (without_link self.old a b) self.old result self.new }
+        ensures proper { IsProper CHANNEL_LIMIT self.new }
     {
         if !both_there(&self.rows, a, b) {
             return Err(TreeFault::NoChannel);
         }
-        self.links.retain(|link| !joins(link, a, b));
+        take_link(&mut self.links, a, b);
         Ok(())
     }
 
@@ -284,7 +302,9 @@ impl Tree {
     /// Links two channels. A link of a channel to itself, or one that is there, changes nothing.
     /// Refused, in this order: NoChannel, LinkCount.
     pub fn link(&mut self, a: ChannelId, b: ChannelId) -> Result<(), TreeFault>
-        ensures { JoinsTwo self.old a b result self.new }
+        ensures made { Settles named_cause (fault_of_link self.old a b)
+            (with_link self.old a b) self.old result self.new }
+        ensures proper { IsProper CHANNEL_LIMIT self.new }
     {
         if let Some(cause) = self.cause_against_linking(a, b) {
             return Err(cause);
@@ -293,11 +313,31 @@ impl Tree {
             return Ok(());
         }
         self.links.reserve(2)?;
-        let at = place_for(&self.links, a, b);
-        self.links.insert(at, (a, b)).unwrap();
-        let at = place_for(&self.links, b, a);
-        self.links.insert(at, (b, a)).unwrap();
+        put_link(&mut self.links, a, b);
         Ok(())
+    }
+
+    /// What is said against another name or another parent of a channel, as both shall be.
+    fn cause_against_seat(&self, id: ChannelId, name: &str, parent: ChannelId) -> Option<TreeFault>
+        ensures { result ≡ fault_of_seat self.now id name.now parent }
+    {
+        let rows = self.rows.as_slice();
+        if id.0 == ChannelId::ROOT.0 {
+            return Some(TreeFault::RootFixed);
+        }
+        if has_name(rows, parent, id, name) {
+            return Some(TreeFault::SameName);
+        }
+        if stands_below(rows, id, parent) {
+            return Some(TreeFault::UnderItself);
+        }
+        if is_temporary_there(rows, parent) {
+            return Some(TreeFault::TemporaryParent);
+        }
+        if nests_too_deep(rows, id, parent) {
+            return Some(TreeFault::Nesting);
+        }
+        None
     }
 
     /// The first cause for which a move is refused.
@@ -308,31 +348,18 @@ impl Tree {
         let Some(moved) = find_row(rows, id) else {
             return Some(TreeFault::NoChannel);
         };
-        let Some(above) = find_row(rows, parent) else {
+        if !stands(rows, parent) {
             return Some(TreeFault::NoChannel);
-        };
-        if moved.channel.id.0 == ROOT.0 {
-            return Some(TreeFault::RootFixed);
         }
-        if has_name(rows, parent, id, moved.channel.name.as_str()) {
-            return Some(TreeFault::SameName);
-        }
-        if stands_below(rows, id, parent) {
-            return Some(TreeFault::UnderItself);
-        }
-        if above.channel.temporary {
-            return Some(TreeFault::TemporaryParent);
-        }
-        if nests_too_deep(rows, id, parent) {
-            return Some(TreeFault::Nesting);
-        }
-        None
+        self.cause_against_seat(id, moved.channel.name.as_str(), parent)
     }
 
     /// Puts a channel, with all below it, under another. Refused, in this order: NoChannel,
     /// RootFixed, SameName, UnderItself, TemporaryParent, Nesting. It takes no memory.
     pub fn move_under(&mut self, id: ChannelId, parent: ChannelId) -> Result<(), TreeFault>
-        ensures { Moves self.old id parent result self.new }
+        ensures made { SettlesInPlace (fault_of_move self.old id parent)
+            (with_parent self.old id parent) self.old result self.new }
+        ensures proper { IsProper CHANNEL_LIMIT self.new }
     {
         let Some(at) = locate(&self.rows, id) else {
             return Err(TreeFault::NoChannel);
@@ -345,15 +372,98 @@ impl Tree {
         Ok(())
     }
 
+    /// Whether after a change of its links a channel has too many, or a new partner of it has.
+    fn overlinks(&self, id: ChannelId, change: &ChannelChange<'_>) -> bool
+        requires added { IsTrue (list_all (is_there self.now.channels) change.now.links_add.now) }
+        requires removed { IsTrue (list_all (is_there self.now.channels) change.now.links_remove.now) }
+        ensures { result ≡ overlinks self.now id (change_of change.now) }
+    {
+        let rows = self.rows.as_slice();
+        let added = places_of(rows, change.links_add);
+        let removed = places_of(rows, change.links_remove);
+        let mut partners = 0;
+        for row in rows {
+            let other = row.channel.id;
+            let before = has_link(&self.links, id, other);
+            let added = has_mark(&added, row.place) && other.0 != id.0;
+            let after = (before || added) && !has_mark(&removed, row.place);
+            if after && !before && is_crowded(&self.links, other) {
+                return true;
+            }
+            partners += one_if(after);
+        }
+        partners > LINK_LIMIT
+    }
+
+    /// The first cause for which a change of a channel is refused.
+    fn cause_against_editing(&self, id: ChannelId, change: &ChannelChange<'_>) -> Option<TreeFault>
+        ensures { result ≡ fault_of_edit self.now id (change_of change.now) }
+    {
+        let rows = self.rows.as_slice();
+        let Some(row) = find_row(rows, id) else {
+            return Some(TreeFault::NoChannel);
+        };
+        let before = row.channel.name.as_str();
+        let name = change.name.unwrap_or(before);
+        let parent = change.parent.unwrap_or(row.channel.parent);
+        if !stands(rows, parent)
+            || !all_stand(rows, change.links_add)
+            || !all_stand(rows, change.links_remove)
+        {
+            return Some(TreeFault::NoChannel);
+        }
+        if name != before || parent.0 != row.channel.parent.0 {
+            if let Some(cause) = self.cause_against_seat(id, name, parent) {
+                return Some(cause);
+            }
+        }
+        if self.overlinks(id, change) {
+            return Some(TreeFault::LinkCount);
+        }
+        None
+    }
+
+    /// Changes a channel in several parts at once: what is given of its name, its parent and what
+    /// describes it, then the links that come, then those that go. Refused, in this order: NoChannel
+    /// for any that the change names; where the name or the parent becomes another, RootFixed,
+    /// SameName under the parent that it then has, UnderItself, TemporaryParent, Nesting; LinkCount,
+    /// of the links that are left.
+    pub fn edit(&mut self, id: ChannelId, change: &ChannelChange<'_>) -> Result<(), TreeFault>
+        ensures made { Settles named_cause (fault_of_edit self.old id (change_of change.now))
+            (with_change self.old id (change_of change.now)) self.old result self.new }
+        ensures proper { IsProper CHANNEL_LIMIT self.new }
+    {
+        let Some(at) = locate(&self.rows, id) else {
+            return Err(TreeFault::NoChannel);
+        };
+        if let Some(cause) = self.cause_against_editing(id, change) {
+            return Err(cause);
+        }
+        let name = copied(self.alloc, change.name)?;
+        let description = copied(self.alloc, change.description)?;
+        self.links.reserve(2 * change.links_add.len())?;
+        put_links(&mut self.links, id, change.links_add);
+        take_links(&mut self.links, id, change.links_remove);
+        let channel = &mut self.rows[at].channel;
+        give(&mut channel.name, name);
+        give(&mut channel.parent, change.parent);
+        give(&mut channel.info.description, description);
+        give(&mut channel.info.position, change.position);
+        give(&mut channel.info.max_users, change.max_users);
+        Ok(())
+    }
+
     /// Takes away a channel, all below it, and their links. Refused, in this order: NoChannel,
     /// RootFixed. It takes no memory.
     pub fn remove_subtree(&mut self, id: ChannelId) -> Result<(), TreeFault>
-        ensures { Removes self.old id result self.new }
+        ensures made { SettlesInPlace (fault_of_remove self.old id)
+            (without_subtree self.old id) self.old result self.new }
+        ensures proper { IsProper CHANNEL_LIMIT self.new }
     {
         if !stands(&self.rows, id) {
             return Err(TreeFault::NoChannel);
         }
-        if id.0 == ROOT.0 {
+        if id.0 == ChannelId::ROOT.0 {
             return Err(TreeFault::RootFixed);
         }
         let gone = places_below(&self.rows, id);
@@ -364,7 +474,8 @@ impl Tree {
 
     /// An equal tree.
     pub fn copy(&self, alloc: Global) -> Result<Tree, OutOfMemory>
-        ensures { IfOk result (λ tree. tree ≡ self.now) }
+        ensures made { IfOk result (λ tree. tree ≡ self.now) }
+        ensures proper { IfOk result (λ tree. IsProper CHANNEL_LIMIT tree) }
     {
         Ok(Tree {
             alloc,
@@ -387,9 +498,11 @@ impl Tree {
     /// Marks a channel and all that links lead to from it. It takes no memory.
     pub fn linked(&self, id: ChannelId, scratch: &mut Scratch)
         requires { IsTrue (is_there self.now.channels id) }
-        ensures { (other : ChannelId) → Contains scratch.new other ↔ LeadTo self.now.links id other }
+        ensures marks { scratch.new ≡ linked self.now id }
+        ensures leads { (other : ChannelId) → Contains (linked self.now id) other ↔ LeadTo self.now.links id other }
     {
         let found = find_linked(&self.rows, &self.links, id);
-        mark_found(&self.rows, &found, scratch);
+        let places = places_found(&self.rows, &found);
+        scratch.fill(&self.rows, &places);
     }
 }

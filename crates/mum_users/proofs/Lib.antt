@@ -3,4 +3,9 @@ pub mod Places
 pub mod Slots
 pub mod Orders
 pub mod Search
+pub mod Runs
+pub mod Pairs
+pub mod PairCounts
+pub mod Indexes
 pub mod Rosters
+pub mod Edits

@@ -1,15 +1,13 @@
 -- Lists in order stay in order.
 use Rattle.std.proofs.Common.{◌≡◌, Bool, true, false, List, [], ◌∷◌, refl, arith}
-use Rattle.std.specs.List.{filter, list_any}
-use Rattle.std.proofs.lemmas.Bool.{or_parts}
+use Rattle.std.specs.List.{filter}
 use Rattle.std.proofs.lemmas.Bool.Decides.{nat_tests}
 use Rattle.std.specs.Prelude.{IsTrue}
-use Rattle.mum_users.specs.declared.listening.ListenerPair.{ListenerPair}
 use Rattle.mum_users.specs.declared.target.TargetRow.{TargetRow}
-use Rattle.mum_users.specs.State.{is_pair, is_target}
-use Rattle.mum_users.specs.Listeners.{pair_below, with_pair}
+use Rattle.mum_users.specs.State.{is_target}
 use Rattle.mum_users.specs.Targets.{with_target}
-use Rattle.mum_users.specs.Proper.{IsBelowAll, Rises, row_below}
+use Rattle.mum_users.specs.Order.{IsBelowAll, Rises}
+use Rattle.mum_users.specs.Proper.{row_below}
 
 module _ {X : Type 0} (below : X → X → Bool) where
   pub IsBelowAll-filter : (q : X → Bool) (first : X) (xs : List X) → IsBelowAll below first xs → IsBelowAll below first (filter q xs)
@@ -33,16 +31,10 @@ module _ {X : Type 0} (below : X → X → Bool) where
   IsBelowAll-through through first second [] lower all = tt
   IsBelowAll-through through first second (x ∷ xs) lower all = (through first second x lower all.0, IsBelowAll-through through first second xs lower all.1)
 
-pair_through : (a b c : ListenerPair) → IsTrue (pair_below a b) → IsTrue (pair_below b c) → IsTrue (pair_below a c)
-pair_through a b c x y = grind (arith, nat_tests)
-
 pub row_through : (a b c : TargetRow) → IsTrue (row_below a b) → IsTrue (row_below b c) → IsTrue (row_below a c)
 row_through a b c x y = grind (arith, nat_tests)
 
--- of two pairs that differ one is below the other
-pair_other_way : (new pair : ListenerPair) → is_pair new.session new.channel pair ≡ false → pair_below pair new ≡ false → IsTrue (pair_below new pair)
-pair_other_way new pair other not_below = grind (arith, nat_tests)
-
+-- of two rows that differ one is below the other
 pub row_other_way : (new row : TargetRow) → is_target new.session new.id row ≡ false → row_below row new ≡ false → IsTrue (row_below new row)
 row_other_way new row other not_below = grind (arith, nat_tests)
 
@@ -53,27 +45,6 @@ row_same new row other same lower = grind (arith, nat_tests)
 IsBelowAll-same : (new row : TargetRow) (rows : List TargetRow) → is_target new.session new.id row ≡ true → IsBelowAll row_below row rows → IsBelowAll row_below new rows
 IsBelowAll-same new row [] same all = tt
 IsBelowAll-same new row (other ∷ rows) same all = (row_same new row other same all.0, IsBelowAll-same new row rows same all.1)
-
-IsBelowAll-with_pair : (first new : ListenerPair) (pairs : List ListenerPair) → IsTrue (pair_below first new) → IsBelowAll pair_below first pairs → IsBelowAll pair_below first (with_pair new pairs)
-IsBelowAll-with_pair first new [] lower all = (lower, tt)
-IsBelowAll-with_pair first new (pair ∷ pairs) lower all = split (pair_below pair new) refl (IsBelowAll-with_pair first new pairs lower all.1)
-  where
-    split : (b : Bool) → pair_below pair new ≡ b → IsBelowAll pair_below first (with_pair new pairs) → IsBelowAll pair_below first (with_pair new (pair ∷ pairs))
-    split true e rest = rw e (all.0, rest)
-    split false e rest = rw e (lower, all)
-
-pub Rises-with_pair : (new : ListenerPair) (pairs : List ListenerPair) → list_any (is_pair new.session new.channel) pairs ≡ false → Rises pair_below pairs → Rises pair_below (with_pair new pairs)
-Rises-with_pair new [] absent rise = (tt, tt)
-Rises-with_pair new (pair ∷ pairs) absent rise = split (pair_below pair new) refl (Rises-with_pair new pairs)
-  where
-    head : is_pair new.session new.channel pair ≡ false
-    head = (or_parts _ _ absent).0
-
-    split : (b : Bool) → pair_below pair new ≡ b → (list_any (is_pair new.session new.channel) pairs ≡ false → Rises pair_below pairs → Rises pair_below (with_pair new pairs)) → Rises pair_below (with_pair new (pair ∷ pairs))
-    split true e rest = rw e (IsBelowAll-with_pair pair new pairs e rise.0, rest (or_parts _ _ absent).1 rise.1)
-    split false e rest =
-        let lower = pair_other_way new pair head e in
-        rw e ((lower, IsBelowAll-through pair_below pair_through new pair pairs lower rise.0), rise)
 
 IsBelowAll-with_target : (first new : TargetRow) (rows : List TargetRow) → IsTrue (row_below first new) → IsBelowAll row_below first rows → IsBelowAll row_below first (with_target new rows)
 IsBelowAll-with_target first new [] lower all = (lower, tt)

@@ -3,10 +3,8 @@ use Rattle.std.proofs.Common.{◌≡◌, ℕ, suc, ◌+◌, ◌<◌, ◌≤◌, 
 use Rattle.std.specs.Prelude.{IsTrue, unwrap_or}
 use Rattle.std.specs.List.{count_by, insert, list_any, position, position_or_len}
 use Rattle.std.proofs.lemmas.Bool.Decides.{nat_tests}
-use Rattle.mum_users.specs.declared.listening.ListenerPair.{ListenerPair}
 use Rattle.mum_users.specs.declared.target.TargetRow.{TargetRow}
 use Rattle.mum_users.specs.State.{is_target}
-use Rattle.mum_users.specs.Listeners.{pair_below, with_pair}
 use Rattle.mum_users.specs.Targets.{target_below, with_target}
 use Rattle.mum_users.proofs.Counts.{count_by-cons}
 
@@ -49,14 +47,6 @@ set-position p f (x ∷ xs) d few within = split (p x) refl (set-position p f xs
     split : (b : Bool) → p x ≡ b → (count_by p xs ≤ 1 → position_or_len p xs < length xs → set xs (position_or_len p xs) (f (get_or xs (position_or_len p xs) d)) ≡ map (λ y. cond (p y) (f y) y) xs) → set (x ∷ xs) (position_or_len p (x ∷ xs)) (f (get_or (x ∷ xs) (position_or_len p (x ∷ xs)) d)) ≡ map (λ y. cond (p y) (f y) y) (x ∷ xs)
     split true e rest = rw e (ap (λ ys. f x ∷ ys) (sym (map-absent p f xs (omega (arith, count_by-cons p x xs, ap (λ (b : Bool). cond {A = ℕ} b 1 0) e)))))
     split false e rest = grind (arith, nat_tests, count_by-cons p x xs)
-
-pub with_pair-insert : (new : ListenerPair) (pairs : List ListenerPair) → with_pair new pairs ≡ insert pairs (position_or_len (λ pair. not (pair_below pair new)) pairs) new
-with_pair-insert new [] = refl
-with_pair-insert new (pair ∷ pairs) = split (pair_below pair new) refl (with_pair-insert new pairs)
-  where
-    split : (b : Bool) → pair_below pair new ≡ b → with_pair new pairs ≡ insert pairs (position_or_len (λ x. not (pair_below x new)) pairs) new → with_pair new (pair ∷ pairs) ≡ insert (pair ∷ pairs) (position_or_len (λ x. not (pair_below x new)) (pair ∷ pairs)) new
-    split true e rest = rw e (rw (one_more (position_or_len (λ x. not (pair_below x new)) pairs)) (ap (λ ys. pair ∷ ys) rest))
-    split false e rest = rw e refl
 
 -- the first row that is not below the new one
 abbrev pub place_for : TargetRow → List TargetRow → ℕ

@@ -10,21 +10,23 @@ use Rattle.mum_base.specs.declared.number.SessionId.{SessionId}
 use Rattle.mum_base.specs.declared.number.ChannelId.{ChannelId}
 use Rattle.mum_base.specs.declared.number.AccountId.{AccountId}
 use Rattle.mum_users.specs.declared.user.User.{User}
-use Rattle.mum_users.specs.declared.user.TheConstants.{SESSIONS}
 use Rattle.mum_users.specs.declared.listening.TheConstants.{CHANNEL_LISTENERS, LISTENED_CHANNELS}
 use Rattle.mum_users.specs.declared.listening.ListenerPair.{ListenerPair}
+use Rattle.mum_users.specs.declared.listening.PairOrder.TheVariants.{BySession}
 use Rattle.mum_users.specs.declared.target.TargetRow.{TargetRow}
 use Rattle.mum_users.specs.State.{RosterState, has_name, has_number, is_of, is_of_channel, is_of_session, is_target, joining}
 use Rattle.mum_users.specs.declared.fault.UserFault.TheVariants.{NoSession}
 use Rattle.mum_users.specs.Sessions.{absent_fault, changed, free_slot, joined, left, next_number, next_slot}
-use Rattle.mum_users.specs.Listeners.{listens, pair_below, with_pair}
+use Rattle.mum_users.specs.Listeners.{listen_fault, listening, listens, pair_below, with_pair}
 use Rattle.mum_users.specs.declared.target.TheConstants.{LAST_TARGET}
 use Rattle.mum_users.specs.Targets.{is_oversize, target_below, with_target}
 use Rattle.mum_users.specs.Proper.{IsProper, is_sound, row_below}
 use Rattle.mum_users.proofs.Counts.{count_by-cons, count_by-insert, count_by-filter-le, count_by-filter_others, count_by-filter_none, count_by-map, none_from, some_from}
-use Rattle.mum_users.proofs.Places.{absent_from, present_from, set-position, with_pair-insert}
+use Rattle.mum_users.proofs.Places.{absent_from, present_from, set-position}
 use Rattle.mum_users.proofs.Slots.{SlotsRise-filter, SlotsRise-map, SlotsRise-seated, free_slot_from-le}
-use Rattle.mum_users.proofs.Orders.{Rises-filter, Rises-with_pair, Rises-with_target}
+use Rattle.mum_users.proofs.Orders.{Rises-filter, Rises-with_target}
+use Rattle.mum_users.proofs.Pairs.{Rises-put}
+use Rattle.mum_users.proofs.PairCounts.{count-put_new, listed-stays}
 
 -- a change of a row that leaves what the row is found by
 pub record KeepsIdentity (change : User → User) : Type 0 where
@@ -36,15 +38,15 @@ either : {A : Type 0} (g : User → A) (change : User → User) (user : User) (b
 either g change user true e = e
 either g change user false e = refl
 
-pub IsProper-changed : (state : RosterState) (session : SessionId) (change : User → User) → KeepsIdentity change → IsProper state → IsProper (changed state session change)
-IsProper-changed state session change keeps proper =
+pub IsProper-changed : {limit : ℕ} (state : RosterState) (session : SessionId) (change : User → User) → KeepsIdentity change → IsProper limit state → IsProper limit (changed state session change)
+IsProper-changed {limit} state session change keeps proper =
     let f : User → User = λ user. cond (has_number session user) (change user) user in
     let counts : (s : SessionId) → count_by (has_number s) (map f state.sessions) ≡ count_by (has_number s) state.sessions =
     λ s. count_by-map (has_number s) f (λ user. either (has_number s) change user (has_number session user) (ap (λ (n : SessionId). eqb n.0 s.0) (keeps.session user))) state.sessions in
     let names : (n : List ℕ) → count_by (has_name n) (map f state.sessions) ≡ count_by (has_name n) state.sessions =
     λ n. count_by-map (has_name n) f (λ user. either (has_name n) change user (has_number session user) (ap (λ (m : List ℕ). bytes_eq m n) (keeps.name user))) state.sessions in
     record {
-      slots = SlotsRise-map f (λ user. either (λ u. u.slot.0) change user (has_number session user) (ap (λ s. s.0) (keeps.slot user))) 0 state.sessions proper.slots;
+      slots = SlotsRise-map limit f (λ user. either (λ u. u.slot.0) change user (has_number session user) (ap (λ s. s.0) (keeps.slot user))) 0 state.sessions proper.slots;
       numbers = λ s. rw (counts s) (proper.numbers s);
       names = λ n. rw (names n) (proper.names n);
       given = λ s lt. counts s ∙ proper.given s lt;
@@ -59,7 +61,7 @@ IsProper-changed state session change keeps proper =
     }
 
 -- the same, of the row that code finds and changes at its place
-pub set-changed : (state : RosterState) (session : SessionId) (change : User → User) (seen : List User) (i : ℕ) (user : User) → IsProper state → seen ≡ state.sessions → Some i ≡ position (has_number session) seen → user ≡ get_or state.sessions i user → set state.sessions i (change user) ≡ map (λ u. cond (has_number session u) (change u) u) state.sessions
+pub set-changed : {limit : ℕ} (state : RosterState) (session : SessionId) (change : User → User) (seen : List User) (i : ℕ) (user : User) → IsProper limit state → seen ≡ state.sessions → Some i ≡ position (has_number session) seen → user ≡ get_or state.sessions i user → set state.sessions i (change user) ≡ map (λ u. cond (has_number session u) (change u) u) state.sessions
 set-changed state session change seen i user proper e found is =
     let place = present_from (has_number session) state.sessions i (rw e at found) in
     let at = place.first in
@@ -68,12 +70,12 @@ set-changed state session change seen i user proper e found is =
     ∙ ap (λ (k : ℕ). set state.sessions k (change (get_or state.sessions (position_or_len (has_number session) state.sessions) user))) at
     ∙ set-position (has_number session) change state.sessions user (proper.numbers session) place.within
 
-pub IsProper-set : (state : RosterState) (session : SessionId) (change : User → User) (seen : List User) (i : ℕ) (user : User) → KeepsIdentity change → IsProper state → seen ≡ state.sessions → Some i ≡ position (has_number session) seen → user ≡ get_or state.sessions i user → IsProper (record state { sessions = set state.sessions i (change user) })
-IsProper-set state session change seen i user keeps proper e found is =
-    subst (λ (users : List User). IsProper (record state { sessions = users })) (sym (set-changed state session change seen i user proper e found is)) (IsProper-changed state session change keeps proper)
+pub IsProper-set : {limit : ℕ} (state : RosterState) (session : SessionId) (change : User → User) (seen : List User) (i : ℕ) (user : User) → KeepsIdentity change → IsProper limit state → seen ≡ state.sessions → Some i ≡ position (has_number session) seen → user ≡ get_or state.sessions i user → IsProper limit (record state { sessions = set state.sessions i (change user) })
+IsProper-set {limit} state session change seen i user keeps proper e found is =
+    subst (λ (users : List User). IsProper limit (record state { sessions = users })) (sym (set-changed state session change seen i user proper e found is)) (IsProper-changed state session change keeps proper)
 
 -- what a call that changes a row answers, where code finds the row, and where it finds none
-pub found : (state now : RosterState) (session : SessionId) (change : User → User) (seen : List User) (i : ℕ) (user : User) → state ≡ now → IsProper state → seen ≡ state.sessions → Some i ≡ position (has_number session) seen → user ≡ get_or state.sessions i user → (absent_fault now session ≡ None) × (record state { sessions = set state.sessions i (change user) } ≡ changed now session change)
+pub found : {limit : ℕ} (state now : RosterState) (session : SessionId) (change : User → User) (seen : List User) (i : ℕ) (user : User) → state ≡ now → IsProper limit state → seen ≡ state.sessions → Some i ≡ position (has_number session) seen → user ≡ get_or state.sessions i user → (absent_fault now session ≡ None) × (record state { sessions = set state.sessions i (change user) } ≡ changed now session change)
 found state now session change seen i user same proper e spot is =
     let there : list_any (has_number session) state.sessions ≡ true = (present_from (has_number session) state.sessions i (rw e at spot)).there in
     rw (← same) (
@@ -89,14 +91,14 @@ pub not_found : (state now : RosterState) (session : SessionId) (seen : List Use
 not_found state now session seen same e none =
     rw (← same) (ap (λ (b : Bool). cond b None (Some NoSession)) (absent_from (has_number session) state.sessions (rw e at none)))
 
-pub IsProper-left : (state : RosterState) (session : SessionId) → IsProper state → IsProper (left state session)
-IsProper-left state session proper =
+pub IsProper-left : {limit : ℕ} (state : RosterState) (session : SessionId) → IsProper limit state → IsProper limit (left state session)
+IsProper-left {limit} state session proper =
     let others : User → Bool = λ user. not (has_number session user) in
     let fewer : (p : User → Bool) → count_by p (filter others state.sessions) ≤ count_by p state.sessions = λ p. count_by-filter-le p others state.sessions in
     let stays : (s : SessionId) → eqb s.0 session.0 ≡ false → count_by (has_number s) (filter others state.sessions) ≡ count_by (has_number s) state.sessions =
     λ s apart. count_by-filter_others (has_number s) others (λ user taken. grind (arith, nat_tests)) state.sessions in
     record {
-      slots = SlotsRise-filter others 0 state.sessions proper.slots;
+      slots = SlotsRise-filter limit others 0 state.sessions proper.slots;
       numbers = λ s. omega (arith, fewer (has_number s), proper.numbers s);
       names = λ n. omega (arith, fewer (has_name n), proper.names n);
       given = λ s lt. omega (arith, fewer (has_number s), proper.given s lt);
@@ -116,16 +118,16 @@ IsProper-left state session proper =
       targets_rise = Rises-filter row_below (λ row. not (is_of session row)) state.targets proper.targets_rise;
     }
 
-module _ (state : RosterState) (name : List ℕ) (account : Option AccountId) (tokens : List (List ℕ)) (proper : IsProper state) (unnamed : list_any (has_name name) state.sessions ≡ false) (room : length state.sessions < SESSIONS) (left_over : state.last < 2 ^ 32 - 1) where
+module _ (limit : ℕ) (state : RosterState) (name : List ℕ) (account : Option AccountId) (tokens : List (List ℕ)) (proper : IsProper limit state) (unnamed : list_any (has_name name) state.sessions ≡ false) (room : length state.sessions < limit) (left_over : state.last < 2 ^ 32 - 1) where
   counted : (p : User → Bool) → count_by p (joined state name account tokens).sessions ≡ count_by p state.sessions + cond (p (joining (next_number state) (next_slot state) name account tokens)) 1 0
   counted p = count_by-insert p state.sessions (free_slot state) (joining (next_number state) (next_slot state) name account tokens)
 
   none_named : (other : List ℕ) → bytes_eq name other ≡ true → count_by (has_name other) state.sessions ≡ 0
   none_named other same = subst (λ (n : List ℕ). count_by (has_name n) state.sessions ≡ 0) ((bytes_eq-Decides name other).0 same) (none_from (has_name name) state.sessions unnamed)
 
-  pub IsProper-joined : IsProper (joined state name account tokens)
+  pub IsProper-joined : IsProper limit (joined state name account tokens)
   IsProper-joined = record {
-    slots = SlotsRise-seated 0 (free_slot state) state.sessions _ proper.slots refl (omega (arith, free_slot_from-le 0 state.sessions)) (omega arith);
+    slots = SlotsRise-seated limit 0 (free_slot state) state.sessions _ proper.slots refl (omega (arith, free_slot_from-le 0 state.sessions)) (omega arith);
     numbers = λ s. grind (arith, nat_tests, counted (has_number s), proper.numbers s, proper.given s);
     names = λ n. elim (cases_Bool (bytes_eq name n)) [
       | inl same ↦ omega (arith, counted (has_name n), none_named n same, ap (λ (b : Bool). cond {A = ℕ} b 1 0) same)
@@ -143,19 +145,16 @@ module _ (state : RosterState) (name : List ℕ) (account : Option AccountId) (t
   }
 
 -- a session that is here is none of those that are not
-apart_from : (users : List User) (session other : SessionId) → list_any (has_number session) users ≡ true → count_by (has_number other) users ≡ 0 → eqb session.0 other.0 ≡ false
+pub apart_from : (users : List User) (session other : SessionId) → list_any (has_number session) users ≡ true → count_by (has_number other) users ≡ 0 → eqb session.0 other.0 ≡ false
 apart_from users session other here none = elim (cases_Bool (eqb session.0 other.0)) [
   | inl same ↦ absurd (omega (arith, some_from (has_number session) users here, ap (λ (k : ℕ). count_by (λ (user : User). eqb user.session.0 k) users) (eqb-true _ _ same)))
   | inr apart ↦ apart
 ]
 
-count_by-with_pair : (p : ListenerPair → Bool) (new : ListenerPair) (pairs : List ListenerPair) → count_by p (with_pair new pairs) ≡ count_by p pairs + cond (p new) 1 0
-count_by-with_pair p new pairs = ap (λ xs. count_by p xs) (with_pair-insert new pairs) ∙ count_by-insert p pairs _ new
-
-pub IsProper-listening : (state : RosterState) (session : SessionId) (channel : ChannelId) → IsProper state → list_any (has_number session) state.sessions ≡ true → listens state session channel ≡ false → count_by (is_of_channel channel) state.listeners < CHANNEL_LISTENERS → count_by (is_of_session session) state.listeners < LISTENED_CHANNELS → IsProper (record state { listeners = with_pair (record { session = session; channel = channel }) state.listeners })
+pub IsProper-listening : {limit : ℕ} (state : RosterState) (session : SessionId) (channel : ChannelId) → IsProper limit state → list_any (has_number session) state.sessions ≡ true → listens state session channel ≡ false → count_by (is_of_channel channel) state.listeners < CHANNEL_LISTENERS → count_by (is_of_session session) state.listeners < LISTENED_CHANNELS → IsProper limit (record state { listeners = with_pair pair_below (record { session = session; channel = channel }) state.listeners })
 IsProper-listening state session channel proper here absent room own_room =
-    let counted : (p : ListenerPair → Bool) → count_by p (with_pair (record { session = session; channel = channel }) state.listeners) ≡ count_by p state.listeners + cond (p (record { session = session; channel = channel })) 1 0 =
-    λ p. count_by-with_pair p (record { session = session; channel = channel }) state.listeners in
+    let counted : (p : ListenerPair → Bool) → count_by p (with_pair pair_below (record { session = session; channel = channel }) state.listeners) ≡ count_by p state.listeners + cond (p (record { session = session; channel = channel })) 1 0 =
+    λ p. count-put_new p (record { session = session; channel = channel }) state.listeners proper.listeners_rise absent in
     record {
       slots = proper.slots;
       numbers = proper.numbers;
@@ -171,13 +170,20 @@ IsProper-listening state session channel proper here absent room own_room =
         | inl same ↦ omega (arith, counted (is_of_session other), ap (λ (b : Bool). cond {A = ℕ} b 1 0) same, ap (λ (k : ℕ). count_by (λ (pair : ListenerPair). eqb pair.session.0 k) state.listeners) (eqb-true _ _ same))
         | inr apart ↦ omega (arith, counted (is_of_session other), ap (λ (b : Bool). cond {A = ℕ} b 1 0) apart, proper.few_channels other)
       ];
-      listeners_rise = Rises-with_pair (record { session = session; channel = channel }) state.listeners absent proper.listeners_rise;
+      listeners_rise = Rises-put BySession (record { session = session; channel = channel }) state.listeners proper.listeners_rise;
       targets_here = proper.targets_here;
       targets_sound = proper.targets_sound;
       targets_rise = proper.targets_rise;
     }
 
-pub IsProper-fewer_listeners : (state : RosterState) (q : ListenerPair → Bool) → IsProper state → IsProper (record state { listeners = filter q state.listeners })
+-- a session that listens already is allowed to, and nothing changes
+pub listed_already : {limit : ℕ} (state now : RosterState) (session : SessionId) (channel : ChannelId) → state ≡ now → IsProper limit state → list_any (has_number session) state.sessions ≡ true → listens state session channel ≡ true → (listen_fault now session channel ≡ None) × (now ≡ listening now session channel)
+listed_already state now session channel same proper here there =
+    let allowed : listen_fault state session channel ≡ None = rw (here, there) refl in
+    let stays = listed-stays (record { session = session; channel = channel }) state.listeners proper.listeners_rise there in
+    rw (← same) (allowed, ap (λ (pairs : List ListenerPair). record state { listeners = pairs }) (sym stays))
+
+pub IsProper-fewer_listeners : {limit : ℕ} (state : RosterState) (q : ListenerPair → Bool) → IsProper limit state → IsProper limit (record state { listeners = filter q state.listeners })
 IsProper-fewer_listeners state q proper = record {
   slots = proper.slots;
   numbers = proper.numbers;
@@ -193,7 +199,7 @@ IsProper-fewer_listeners state q proper = record {
   targets_rise = proper.targets_rise;
 }
 
-pub IsProper-fewer_targets : (state : RosterState) (q : TargetRow → Bool) → IsProper state → IsProper (record state { targets = filter q state.targets })
+pub IsProper-fewer_targets : {limit : ℕ} (state : RosterState) (q : TargetRow → Bool) → IsProper limit state → IsProper limit (record state { targets = filter q state.targets })
 IsProper-fewer_targets state q proper = record {
   slots = proper.slots;
   numbers = proper.numbers;
@@ -218,7 +224,7 @@ count_by-with_target-le p new (row ∷ rows) = split (target_below new.session n
     split false true e f rest = rw (e, f) (omega (arith, count_by-cons p row rows, count_by-cons p new rows))
     split false false e f rest = rw (e, f) (omega (arith, count_by-cons p new (row ∷ rows)))
 
-pub IsProper-with_target : (state : RosterState) (new : TargetRow) → IsProper state → list_any (has_number new.session) state.sessions ≡ true → is_sound new ≡ true → IsProper (record state { targets = with_target new state.targets })
+pub IsProper-with_target : {limit : ℕ} (state : RosterState) (new : TargetRow) → IsProper limit state → list_any (has_number new.session) state.sessions ≡ true → is_sound new ≡ true → IsProper limit (record state { targets = with_target new state.targets })
 IsProper-with_target state new proper here sound = record {
   slots = proper.slots;
   numbers = proper.numbers;

@@ -10,7 +10,8 @@ use Rattle.mum_base.specs.declared.number.SessionId.{SessionId}
 use Rattle.mum_users.specs.declared.target.TargetRow.{TargetRow}
 use Rattle.mum_users.specs.State.{is_target}
 use Rattle.mum_users.specs.Targets.{target_below}
-use Rattle.mum_users.specs.Proper.{IsBelowAll, Rises, row_below}
+use Rattle.mum_users.specs.Order.{IsBelowAll, Rises}
+use Rattle.mum_users.specs.Proper.{row_below}
 use Rattle.mum_users.proofs.Orders.{IsBelowAll-through, row_through, row_other_way}
 use Rattle.mum_users.proofs.Places.{one_more}
 
@@ -26,21 +27,23 @@ module _ {X : Type 0} (below : X → X → Bool) where
   Rises-at (x ∷ xs) zero (suc j) d rise lt within = IsBelowAll-at x xs j d rise.0 (omega arith)
   Rises-at (x ∷ xs) (suc i) (suc j) d rise lt within = Rises-at xs i j d rise.1 (omega arith) (omega arith)
 
-module _ (session : SessionId) (id : ℕ) where
-  -- what is below a number of a session stands before what is not
-  pub rows_parted : (rows : List TargetRow) → Rises row_below rows → IsPartitionedBy (target_below session id) rows
-  rows_parted rows rise i j d le within lower = elim (cases_lt i j) [
-    | inl lt ↦ row_through (get_or rows i d) (get_or rows j d) (record { session = session; id = id; target = d.target }) (Rises-at row_below rows i j d rise lt within) lower
-    | inr ge ↦ (let same : i ≡ j = omega arith in ap (λ (k : ℕ). target_below session id (get_or rows k d)) same ∙ lower)
-  ]
+-- a test that passes below whatever passes parts a list that rises
+pub parted : {X : Type 0} (below : X → X → Bool) (lower : X → Bool) → ((x y : X) → IsTrue (below x y) → lower y ≡ true → lower x ≡ true) → (xs : List X) → Rises below xs → IsPartitionedBy lower xs
+parted below lower down xs rise i j d le within low = elim (cases_lt i j) [
+  | inl lt ↦ down (get_or xs i d) (get_or xs j d) (Rises-at below xs i j d rise lt within) low
+  | inr ge ↦ (let same : i ≡ j = omega arith in ap (λ (k : ℕ). lower (get_or xs k d)) same ∙ low)
+]
 
-  -- the place between them is the first that is not below
-  pub place_between : (rows : List TargetRow) (i : ℕ) → i ≤ length rows → IsPartitionPoint (λ row. target_below session id row ≡ true) (λ row. target_below session id row ≡ false) rows i → i ≡ position_or_len (λ row. not (target_below session id row)) rows
-  place_between rows i within parted =
-      let d : TargetRow = record { session = session; id = id; target = record { items = [] } } in
-      sym (position_or_len_is (λ row. not (target_below session id row)) rows i d within
-      (λ k lt. not_from_true _ (parted.0 k d (omega arith) lt))
-      (λ lt. not_from_false _ (parted.1 i d (omega arith) lt)))
+-- the place between what passes and what does not is the first that does not
+pub place_between : {X : Type 0} (lower : X → Bool) (xs : List X) (i : ℕ) (d : X) → i ≤ length xs → IsPartitionPoint (λ x. lower x ≡ true) (λ x. lower x ≡ false) xs i → i ≡ position_or_len (λ x. not (lower x)) xs
+place_between lower xs i d within split =
+    sym (position_or_len_is (λ x. not (lower x)) xs i d within
+    (λ k lt. not_from_true _ (split.0 k d (omega arith) lt))
+    (λ lt. not_from_false _ (split.1 i d (omega arith) lt)))
+
+module _ (session : SessionId) (id : ℕ) where
+  pub below_down : (row other : TargetRow) → IsTrue (row_below row other) → target_below session id other ≡ true → target_below session id row ≡ true
+  below_down row other lower low = row_through row other (record { session = session; id = id; target = row.target }) lower low
 
   below_is_other : (row : TargetRow) → target_below session id row ≡ true → is_target session id row ≡ false
   below_is_other row lower = grind (arith, nat_tests)

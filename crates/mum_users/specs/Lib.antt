@@ -1,7 +1,9 @@
 pub mod Fault
+pub mod Order
 pub mod Flags
 pub mod State
 pub mod Sessions
 pub mod Listeners
+pub mod Edit
 pub mod Targets
 pub mod Proper

@@ -1,30 +1,22 @@
 -- What holds of every roster.
-use Rattle.std.specs.Prelude.{◌≡◌, ℕ, ◌+◌, ◌^◌, ◌<◌, ◌≤◌, ◌==◌, ◌||◌, not, nat_lt, Bool, List, [], ◌∷◌, length, count_by, IsTrue, ⊤}
+use Rattle.std.specs.Prelude.{◌≡◌, ℕ, ◌+◌, ◌^◌, ◌<◌, ◌≤◌, ◌==◌, ◌||◌, not, nat_lt, Bool, List, [], ◌∷◌, length, count_by}
 use Rattle.mum_base.specs.declared.number.SessionId.{SessionId}
 use Rattle.mum_base.specs.declared.number.ChannelId.{ChannelId}
 use Rattle.mum_users.specs.declared.user.User.{User}
-use Rattle.mum_users.specs.declared.user.TheConstants.{SESSIONS}
 use Rattle.mum_users.specs.declared.listening.TheConstants.{CHANNEL_LISTENERS, LISTENED_CHANNELS}
 use Rattle.mum_users.specs.declared.target.TheConstants.{LAST_TARGET}
 use Rattle.mum_users.specs.declared.target.TargetRow.{TargetRow}
 use Rattle.mum_users.specs.Listeners.{pair_below}
+use Rattle.mum_users.specs.Order.{Rises}
 use Rattle.mum_users.specs.Targets.{is_oversize, target_below}
 use Rattle.mum_users.specs.State.{RosterState, has_name, has_number, is_of, is_of_channel, is_of_session}
 
--- the slots are at least this one, rise, and are below the limit
-abbrev pub SlotsRise : ℕ → List User → Type 0
-SlotsRise low [] = low ≤ SESSIONS
-SlotsRise low (user ∷ users) = (low ≤ user.slot.0) × SlotsRise (user.slot.0 + 1) users
+-- the slots are at least the low one, rise, and are below the limit
+abbrev pub SlotsRise : ℕ → ℕ → List User → Type 0
+SlotsRise limit low [] = low ≤ limit
+SlotsRise limit low (user ∷ users) = (low ≤ user.slot.0) × SlotsRise limit (user.slot.0 + 1) users
 
-abbrev pub IsBelowAll : {X : Type 0} → (X → X → Bool) → X → List X → Type 0
-IsBelowAll below first [] = ⊤
-IsBelowAll below first (x ∷ xs) = IsTrue (below first x) × IsBelowAll below first xs
-
--- each is below all that come after it, so a set of them stands in one order alone
-abbrev pub Rises : {X : Type 0} → (X → X → Bool) → List X → Type 0
-Rises below [] = ⊤
-Rises below (x ∷ xs) = IsBelowAll below x xs × Rises below xs
-
+-- by their sessions, those of one session by their numbers
 abbrev pub row_below : TargetRow → TargetRow → Bool
 row_below row other = target_below other.session other.id row
 
@@ -32,9 +24,10 @@ row_below row other = target_below other.session other.id row
 abbrev pub is_sound : TargetRow → Bool
 is_sound row = not ((row.id == 0) || nat_lt LAST_TARGET row.id || (length row.target.items == 0) || is_oversize row.target)
 
-pub record IsProper (state : RosterState) : Type 0 where
+-- a roster in which so many sessions may be
+pub record IsProper (limit : ℕ) (state : RosterState) : Type 0 where
   -- no two sessions have one slot, number or name
-  pub slots : SlotsRise 0 state.sessions
+  pub slots : SlotsRise limit 0 state.sessions
   pub numbers : (session : SessionId) → count_by (has_number session) state.sessions ≤ 1
   pub names : (name : List ℕ) → count_by (has_name name) state.sessions ≤ 1
   -- no number is above the last that was given

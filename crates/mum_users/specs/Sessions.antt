@@ -7,15 +7,16 @@ use Rattle.mum_base.specs.declared.number.ChannelId.{ChannelId}
 use Rattle.mum_base.specs.declared.number.Slot.{Slot}
 use Rattle.mum_users.specs.declared.flags.FlagChange.{FlagChange}
 use Rattle.mum_users.specs.declared.user.User.{User}
-use Rattle.mum_users.specs.declared.user.TheConstants.{SESSIONS}
 use Rattle.mum_users.specs.declared.fault.UserFault.{UserFault}
 use Rattle.mum_users.specs.declared.fault.UserFault.TheVariants.{NameInUse, Full, NoSession, SessionsUsedUp}
 use Rattle.mum_users.specs.Flags.{flagged}
 use Rattle.mum_users.specs.State.{RosterState, has_name, has_number, has_slot, is_of, is_of_session, joining}
 
+-- the session of this number
 abbrev pub session_of : RosterState → SessionId → Option User
 session_of state session = find (has_number session) state.sessions
 
+-- the session in this slot
 abbrev pub session_at : RosterState → Slot → Option User
 session_at state slot = find (has_slot slot) state.sessions
 
@@ -28,6 +29,7 @@ abbrev pub free_slot_from : ℕ → List User → ℕ
 free_slot_from slot [] = slot
 free_slot_from slot (user ∷ users) = if user.slot.0 == slot then free_slot_from (slot + 1) users else slot
 
+-- the least slot that no session has
 abbrev pub free_slot : RosterState → ℕ
 free_slot state = free_slot_from 0 state.sessions
 
@@ -36,28 +38,33 @@ pub record IsLeastFree (users : List User) (slot : ℕ) : Type 0 where
   pub free : list_any (λ user. user.slot.0 == slot) users ≡ false
   pub least : (below : ℕ) → below < slot → IsTrue (list_any (λ user. user.slot.0 == below) users)
 
-abbrev pub is_full : RosterState → Bool
-is_full state = nat_le SESSIONS (length state.sessions)
+-- as many sessions are here as there may be at most
+abbrev pub is_full : ℕ → RosterState → Bool
+is_full limit state = nat_le limit (length state.sessions)
 
+-- no session number is left
 abbrev pub is_used_up : RosterState → Bool
 is_used_up state = nat_le (2 ^ 32 - 1) state.last
 
+-- one above the last number that was given
 abbrev pub next_number : RosterState → SessionId
 next_number state = record { 0 = state.last + 1 }
 
+-- the slot that the next session takes
 abbrev pub next_slot : RosterState → Slot
 next_slot state = record { 0 = free_slot state }
 
--- what the next join takes
-abbrev pub next_join : RosterState → Option (SessionId × Slot)
-next_join state =
-    if is_full state || is_used_up state then None
+-- what the next join takes, where this many sessions may be here
+abbrev pub next_join : ℕ → RosterState → Option (SessionId × Slot)
+next_join limit state =
+    if is_full limit state || is_used_up state then None
     else Some (next_number state, next_slot state)
 
-abbrev pub join_fault : RosterState → List ℕ → Option UserFault
-join_fault state name =
+-- the first cause that refuses a join, where this many sessions may be here
+abbrev pub join_fault : ℕ → RosterState → List ℕ → Option UserFault
+join_fault limit state name =
     if list_any (has_name name) state.sessions then Some NameInUse
-    else if is_full state then Some Full
+    else if is_full limit state then Some Full
     else if is_used_up state then Some SessionsUsedUp
     else None
 
@@ -82,8 +89,13 @@ changed state session change = record state {
   sessions = map (λ user. if has_number session user then change user else user) state.sessions;
 }
 
+-- the session is in this channel
 abbrev pub placed : RosterState → SessionId → ChannelId → RosterState
 placed state session channel = changed state session (λ user. record user { channel = channel })
+
+-- it may speak or not where it is
+abbrev pub suppressed : RosterState → SessionId → Bool → RosterState
+suppressed state session on = changed state session (λ user. record user { suppress = on })
 
 abbrev pub with_flags : RosterState → SessionId → FlagChange → RosterState
 with_flags state session change = changed state session (λ user. flagged user change)

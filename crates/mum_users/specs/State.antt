@@ -1,11 +1,13 @@
 -- What a roster holds, as plain lists.
-use Rattle.std.specs.Prelude.{ℕ, ◌==◌, ◌&&◌, Bool, false, List, [], Option}
+use Rattle.std.specs.Prelude.{ℕ, ◌==◌, ◌&&◌, not, nat_lt, nat_le, Bool, false, List, [], length, Option}
+use Rattle.std.specs.List.{list_any}
 use Rattle.std.specs.Str.{bytes_eq}
 use Rattle.mum_base.specs.declared.number.SessionId.{SessionId}
 use Rattle.mum_base.specs.declared.number.AccountId.{AccountId}
 use Rattle.mum_base.specs.declared.number.ChannelId.{ChannelId}
 use Rattle.mum_base.specs.declared.number.Slot.{Slot}
 use Rattle.mum_users.specs.declared.user.User.{User}
+use Rattle.mum_users.specs.declared.user.TheConstants.{CONTEXT_BYTES, TOKEN_BYTES, TOKENS}
 use Rattle.mum_users.specs.declared.listening.ListenerPair.{ListenerPair}
 use Rattle.mum_users.specs.declared.target.TargetRow.{TargetRow}
 
@@ -29,6 +31,9 @@ has_slot slot user = user.slot.0 == slot.0
 abbrev pub has_name : List ℕ → User → Bool
 has_name name user = bytes_eq user.name name
 
+abbrev pub is_in : ChannelId → User → Bool
+is_in channel user = user.channel.0 == channel.0
+
 abbrev pub is_pair : SessionId → ChannelId → ListenerPair → Bool
 is_pair session channel pair = (pair.session.0 == session.0) && (pair.channel.0 == channel.0)
 
@@ -46,6 +51,17 @@ is_target session id row = (row.session.0 == session.0) && (row.id == id)
 
 abbrev pub empty_roster : RosterState
 empty_roster = record { sessions = []; listeners = []; targets = []; last = 0 }
+
+abbrev pub is_long_token : List ℕ → Bool
+is_long_token token = nat_lt TOKEN_BYTES (length token)
+
+-- as many tokens as a session may have, none of them too long
+abbrev pub are_tokens : List (List ℕ) → Bool
+are_tokens tokens = nat_le (length tokens) TOKENS && not (list_any is_long_token tokens)
+
+-- a plugin context that is not too long
+abbrev pub is_context : List ℕ → Bool
+is_context bytes = nat_le (length bytes) CONTEXT_BYTES
 
 -- the row of a session that joins: in the root channel, with no flag and no texts
 abbrev pub joining : SessionId → Slot → List ℕ → Option AccountId → List (List ℕ) → User

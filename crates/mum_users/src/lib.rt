@@ -3,16 +3,21 @@
 //! Contracts see a roster as plain lists, in `specs/State.antt`.
 #![tactic(auto)]
 
+mod edit;
 pub mod fault;
 pub mod flags;
+pub mod limits;
+mod listeners;
 pub mod listening;
 pub mod roster;
 mod sessions;
 pub mod target;
 pub mod user;
 
+pub use edit::UserChange;
 pub use fault::UserFault;
 pub use flags::FlagChange;
+pub use listening::{ChannelSet, ListenerPair};
 pub use roster::Roster;
 pub use target::{Target, TargetItem};
 pub use user::User;

@@ -1,27 +1,28 @@
 //! The roster, and its calls.
 
 ghost use Rattle.std.specs.Prelude.{◌≡◌, IfOk, IfSome};
+ghost use Rattle.std.specs.List.{list_any};
 ghost use Rattle.std.specs.Option.{option_copied};
-ghost use Rattle.mum_users.specs.Fault.{Settles, SettlesInPlace};
+ghost use Rattle.mum_base.specs.Refusal.{Gives, Settles, SettlesInPlace};
+ghost use Rattle.mum_users.specs.Fault.{named_cause};
 
+use crate::edit::{UserChange, change_row, crowds_one, listens_to_too_many};
 use crate::fault::UserFault;
 use crate::flags::FlagChange;
-use crate::listening::{
-    CHANNEL_LISTENERS, LISTENED_CHANNELS, ListenerPair, channels_of, is_listening, listeners_of,
-    put_pair, take_listener, take_pair,
-};
+use crate::listeners::Listeners;
+use crate::listening::{CHANNEL_LISTENERS, ChannelSet, LISTENED_CHANNELS, ListenerPair};
 use crate::sessions::{
-    copy_of_users, free_slot, index_of, is_here, name_in_use, row_at, row_of, take_user,
+    copy_of_users, free_slot, has_member, index_of, is_here, name_in_use, row_at, row_of, take_user,
 };
 use crate::target::{
-    LAST_TARGET, Target, TargetRow, copy_of_target, copy_of_targets, is_oversize, put_target,
-    row_of_target, take_target, take_targets,
+    LAST_TARGET, Target, TargetRow, copy_of_targets, put_target, row_of_target, take_target,
+    take_targets,
 };
 use crate::user::{
     SESSIONS, User, change_flags, change_texts, copy_of_octets, copy_of_text, copy_of_texts,
     joining_user,
 };
-use mum_base::{AccountId, ChannelId, Octets, OutOfMemory, SessionId, Slot, Text};
+use mum_base::{AccountId, ChannelId, OutOfMemory, SessionId, Slot, Text};
 use std::alloc::Global;
 use std::marker::Model;
 
@@ -31,8 +32,7 @@ pub struct Roster {
     alloc: Global,
     // By their slots.
     users: Vec<User>,
-    // By their sessions, then their channels.
-    listeners: Vec<ListenerPair>,
+    listeners: Listeners,
     // By their sessions, then their numbers.
     targets: Vec<TargetRow>,
     last: u32,
@@ -41,39 +41,42 @@ pub struct Roster {
 impl Model for Roster {
     ghost use Rattle.mum_users.specs.State.{RosterState};
     ghost use Rattle.mum_users.specs.Proper.{IsProper};
+    ghost use Rattle.mum_users.specs.declared.user.TheConstants.{SESSIONS};
 
     ghost Value = { RosterState };
 
     ghost view = { λ r. record {
       sessions = r.users.items;
-      listeners = r.listeners.items;
+      listeners = r.listeners;
       targets = r.targets.items;
       last = r.last;
     } };
 
-    ghost invariant = { λ r. IsProper (record {
+    ghost invariant = { λ r. IsProper SESSIONS (record {
       sessions = r.users.items;
-      listeners = r.listeners.items;
+      listeners = r.listeners;
       targets = r.targets.items;
       last = r.last;
     }) };
 }
 
 impl Roster {
-    ghost use Rattle.mum_users.specs.State.{empty_roster};
+    ghost use Rattle.mum_users.specs.State.{empty_roster, is_in};
     ghost use Rattle.mum_users.specs.Proper.{IsProper};
-    ghost use Rattle.mum_users.specs.Sessions.{absent_fault, join_fault, joined, left, next_join, next_number, placed, session_at, session_of, with_flags, with_texts, with_tokens, IsLeastFree};
-    ghost use Rattle.mum_users.specs.Listeners.{listen_fault, listening, listens, not_listening};
+    ghost use Rattle.mum_users.specs.Sessions.{absent_fault, join_fault, joined, left, next_join, next_number, placed, session_at, session_of, suppressed, with_flags, with_texts, with_tokens, IsLeastFree};
+    ghost use Rattle.mum_users.specs.Listeners.{listen_fault, listeners_of, listening, listens, pairs_of, without_channels};
+    ghost use Rattle.mum_users.specs.Edit.{edit_fault, edited, not_listening, change_of};
     ghost use Rattle.mum_users.specs.Targets.{target_fault, target_of, targeted};
 
     /// No session is here, and none was.
     pub fn new(alloc: Global) -> Result<Roster, OutOfMemory>
-        ensures { IfOk result (λ roster. roster ≡ empty_roster) }
+        ensures empty { IfOk result (λ roster. roster ≡ empty_roster) }
+        ensures proper { IfOk result (λ roster. IsProper SESSIONS roster) }
     {
         Ok(Roster {
             alloc,
             users: Vec::with_capacity(alloc, SESSIONS)?,
-            listeners: Vec::new(alloc),
+            listeners: Listeners::new(alloc),
             targets: Vec::new(alloc),
             last: 0,
         })
@@ -82,7 +85,7 @@ impl Roster {
     /// The row of a session, in one pass.
     pub fn session(&self, session: SessionId) -> Option<&User>
         ensures row { option_copied result ≡ session_of self.now session }
-        ensures proper { IsProper self.now }
+        ensures proper { IsProper SESSIONS self.now }
     {
         row_of(self.users.as_slice(), session)
     }
@@ -91,17 +94,31 @@ impl Roster {
     /// number of sessions.
     pub fn at(&self, slot: Slot) -> Option<&User>
         ensures row { option_copied result ≡ session_at self.now slot }
-        ensures proper { IsProper self.now }
+        ensures proper { IsProper SESSIONS self.now }
     {
         row_at(self.users.as_slice(), slot)
+    }
+
+    /// The sessions that are here, by their slots.
+    pub fn users(&self) -> &[User]
+        ensures { result.now ≡ self.now.sessions }
+    {
+        self.users.as_slice()
+    }
+
+    /// Whether a session is in the channel.
+    pub fn has_member(&self, channel: ChannelId) -> bool
+        ensures { result ≡ list_any (is_in channel) self.now.sessions }
+    {
+        has_member(self.users.as_slice(), channel)
     }
 
     /// The number and the slot that the next join takes; `None` where 128 sessions are here or the
     /// number 4,294,967,295 was given.
     pub fn next_join(&self) -> Option<(SessionId, Slot)>
-        ensures next { result ≡ next_join self.now }
+        ensures next { result ≡ next_join SESSIONS self.now }
         ensures least { IfSome result (λ next. IsLeastFree self.now.sessions next.1.0) }
-        ensures proper { IsProper self.now }
+        ensures proper { IsProper SESSIONS self.now }
     {
         if self.users.len() >= SESSIONS || self.last == u32::MAX {
             return None;
@@ -120,8 +137,9 @@ impl Roster {
         account: Option<AccountId>,
         tokens: &[Text],
     ) -> Result<SessionId, UserFault>
-        ensures { Settles (join_fault self.old name.now) (next_number self.old)
+        ensures outcome { Gives named_cause (join_fault SESSIONS self.old name.now) (next_number self.old)
             (joined self.old name.now account tokens.now) self.old result self.new }
+        ensures proper { IsProper SESSIONS self.new }
     {
         if name_in_use(self.users.as_slice(), name) {
             return Err(UserFault::NameInUse);
@@ -143,22 +161,24 @@ impl Roster {
     /// Takes a session out, with its listening and its targets. Refused as `NoSession` where it is not
     /// here.
     pub fn leave(&mut self, session: SessionId) -> Result<(), UserFault>
-        ensures { SettlesInPlace (absent_fault self.old session) (left self.old session)
+        ensures outcome { SettlesInPlace (absent_fault self.old session) (left self.old session)
             self.old result self.new }
+        ensures proper { IsProper SESSIONS self.new }
     {
         if !is_here(self.users.as_slice(), session) {
             return Err(UserFault::NoSession);
         }
         take_user(&mut self.users, session);
-        take_listener(&mut self.listeners, session);
+        self.listeners.leave_all(session);
         take_targets(&mut self.targets, session);
         Ok(())
     }
 
     /// Puts a session into a channel. Refused as `NoSession` where it is not here.
     pub fn place(&mut self, session: SessionId, channel: ChannelId) -> Result<(), UserFault>
-        ensures { SettlesInPlace (absent_fault self.old session) (placed self.old session channel)
+        ensures outcome { SettlesInPlace (absent_fault self.old session) (placed self.old session channel)
             self.old result self.new }
+        ensures proper { IsProper SESSIONS self.new }
     {
         match index_of(self.users.as_slice(), session) {
             None => Err(UserFault::NoSession),
@@ -170,10 +190,27 @@ impl Roster {
         }
     }
 
+    /// Whether a session may not speak where it is. Refused as `NoSession` where it is not here.
+    pub fn suppress(&mut self, session: SessionId, on: bool) -> Result<(), UserFault>
+        ensures outcome { SettlesInPlace (absent_fault self.old session) (suppressed self.old session on)
+            self.old result self.new }
+        ensures proper { IsProper SESSIONS self.new }
+    {
+        match index_of(self.users.as_slice(), session) {
+            None => Err(UserFault::NoSession),
+            Some(index) => {
+                let user = &mut self.users[index];
+                user.suppress = on;
+                Ok(())
+            }
+        }
+    }
+
     /// Changes the flags of a session. Refused as `NoSession` where it is not here.
     pub fn set_flags(&mut self, session: SessionId, change: FlagChange) -> Result<(), UserFault>
-        ensures { SettlesInPlace (absent_fault self.old session) (with_flags self.old session change)
+        ensures outcome { SettlesInPlace (absent_fault self.old session) (with_flags self.old session change)
             self.old result self.new }
+        ensures proper { IsProper SESSIONS self.new }
     {
         match index_of(self.users.as_slice(), session) {
             None => Err(UserFault::NoSession),
@@ -186,8 +223,9 @@ impl Roster {
 
     /// Sets the tokens of a session anew. Refused as `NoSession` where it is not here.
     pub fn set_tokens(&mut self, session: SessionId, tokens: &[Text]) -> Result<(), UserFault>
-        ensures { Settles (absent_fault self.old session) tt
+        ensures outcome { Settles named_cause (absent_fault self.old session)
             (with_tokens self.old session tokens.now) self.old result self.new }
+        ensures proper { IsProper SESSIONS self.new }
     {
         match index_of(self.users.as_slice(), session) {
             None => Err(UserFault::NoSession),
@@ -208,9 +246,10 @@ impl Roster {
         comment: Option<&str>,
         context: Option<&[u8]>,
     ) -> Result<(), UserFault>
-        ensures { Settles (absent_fault self.old session) tt
+        ensures outcome { Settles named_cause (absent_fault self.old session)
             (with_texts self.old session (option_copied comment.entry) (option_copied context.entry))
             self.old result self.new }
+        ensures proper { IsProper SESSIONS self.new }
     {
         match index_of(self.users.as_slice(), session) {
             None => Err(UserFault::NoSession),
@@ -227,7 +266,7 @@ impl Roster {
     pub fn listens(&self, session: SessionId, channel: ChannelId) -> bool
         ensures { result ≡ listens self.now session channel }
     {
-        is_listening(self.listeners.as_slice(), session, channel)
+        self.listeners.has(session, channel)
     }
 
     /// Lets a session listen to a channel. If it does already, nothing changes.
@@ -236,36 +275,90 @@ impl Roster {
     /// `ListenerLimit` where 64 sessions listen to the channel, and `UserListenerLimit` where the
     /// session listens to 32 channels.
     pub fn listen(&mut self, session: SessionId, channel: ChannelId) -> Result<(), UserFault>
-        ensures { Settles (listen_fault self.old session channel) tt
+        ensures outcome { Settles named_cause (listen_fault self.old session channel)
             (listening self.old session channel) self.old result self.new }
+        ensures proper { IsProper SESSIONS self.new }
     {
         if !is_here(self.users.as_slice(), session) {
             return Err(UserFault::NoSession);
         }
-        if is_listening(self.listeners.as_slice(), session, channel) {
+        if self.listeners.has(session, channel) {
             return Ok(());
         }
-        if listeners_of(self.listeners.as_slice(), channel) >= CHANNEL_LISTENERS {
+        if self.listeners.session_count(channel) >= CHANNEL_LISTENERS {
             return Err(UserFault::ListenerLimit);
         }
-        if channels_of(self.listeners.as_slice(), session) >= LISTENED_CHANNELS {
+        if self.listeners.channel_count(session) >= LISTENED_CHANNELS {
             return Err(UserFault::UserListenerLimit);
         }
-        put_pair(&mut self.listeners, ListenerPair { session, channel })?;
+        self.listeners.put(ListenerPair { session, channel })?;
         Ok(())
     }
 
     /// Ends a session's listening to a channel, if it listens. Refused as `NoSession` where it is not
     /// here.
     pub fn unlisten(&mut self, session: SessionId, channel: ChannelId) -> Result<(), UserFault>
-        ensures { SettlesInPlace (absent_fault self.old session)
+        ensures outcome { SettlesInPlace (absent_fault self.old session)
             (not_listening self.old session channel) self.old result self.new }
+        ensures proper { IsProper SESSIONS self.new }
     {
         if !is_here(self.users.as_slice(), session) {
             return Err(UserFault::NoSession);
         }
-        take_pair(&mut self.listeners, session, channel);
+        self.listeners.leave(session, &[channel]);
         Ok(())
+    }
+
+    /// The pairs of a session and the channels that it listens to, by the channels. The first is found by
+    /// halving.
+    pub fn pairs_of(&self, session: SessionId) -> &[ListenerPair]
+        ensures { result.now ≡ pairs_of self.now session }
+    {
+        self.listeners.of_session(session)
+    }
+
+    /// The pairs of a channel and the sessions that listen to it, by the sessions. The first is found by
+    /// halving.
+    pub fn listeners_of(&self, channel: ChannelId) -> &[ListenerPair]
+        ensures { result.now ≡ listeners_of self.now channel }
+    {
+        self.listeners.of_channel(channel)
+    }
+
+    /// Changes several parts of a session at once, or, if it is refused, none.
+    ///
+    /// Refused in this order: `NoSession` where it is not here; `ListenerLimit` where more than 64
+    /// sessions would listen to one of the channels; `UserListenerLimit` where the session would listen
+    /// to more than 32. The limits are those of the roster after the change, so a session that listens
+    /// to 32 channels may leave one for another.
+    pub fn edit(&mut self, session: SessionId, change: &UserChange) -> Result<(), UserFault>
+        ensures outcome { Settles named_cause (edit_fault self.old session (change_of change.now))
+            (edited self.old session (change_of change.now)) self.old result self.new }
+        ensures proper { IsProper SESSIONS self.new }
+    {
+        let Some(index) = index_of(self.users.as_slice(), session) else {
+            return Err(UserFault::NoSession);
+        };
+        if crowds_one(&self.listeners, session, change) {
+            return Err(UserFault::ListenerLimit);
+        }
+        if listens_to_too_many(&self.listeners, session, change) {
+            return Err(UserFault::UserListenerLimit);
+        }
+        let comment = copy_of_text(self.alloc, change.comment)?;
+        let context = copy_of_octets(self.alloc, change.context)?;
+        self.listeners
+            .change(session, change.listen, change.unlisten)?;
+        change_row(&mut self.users[index], change, comment, context);
+        Ok(())
+    }
+
+    /// Ends all listening to channels that go.
+    pub fn close<G: ChannelSet>(&mut self, gone: &G)
+        ensures outcome { self.new ≡ without_channels self.old (G.has_channel gone.now) }
+        ensures proper { IsProper SESSIONS self.new }
+    {
+        self.listeners.close(gone);
     }
 
     /// The voice target of a session under a number, in a number of steps that grows as the logarithm
@@ -290,8 +383,9 @@ impl Roster {
         id: u8,
         target: &Target,
     ) -> Result<(), UserFault>
-        ensures { Settles (target_fault self.old session id target.now) tt
+        ensures outcome { Settles named_cause (target_fault self.old session id target.now)
             (targeted self.old session id target.now) self.old result self.new }
+        ensures proper { IsProper SESSIONS self.new }
     {
         if !is_here(self.users.as_slice(), session) {
             return Err(UserFault::NoSession);
@@ -299,14 +393,14 @@ impl Roster {
         if id == 0 || id > LAST_TARGET {
             return Err(UserFault::TargetId);
         }
-        if is_oversize(target) {
+        if target.is_oversize() {
             return Err(UserFault::TargetSize);
         }
         if target.items.as_slice().is_empty() {
             take_target(&mut self.targets, session, id);
             return Ok(());
         }
-        let target = copy_of_target(self.alloc, target)?;
+        let target = target.copy(self.alloc)?;
         put_target(
             &mut self.targets,
             TargetRow {
@@ -320,17 +414,15 @@ impl Roster {
 
     /// An equal roster, with its slots and the last session number that was given.
     pub fn copy(&self, alloc: Global) -> Result<Roster, OutOfMemory>
-        ensures { IfOk result (λ copy. copy ≡ self.now) }
+        ensures equal { IfOk result (λ copy. copy ≡ self.now) }
+        ensures proper { IfOk result (λ copy. IsProper SESSIONS copy) }
     {
         Ok(Roster {
             alloc,
             users: copy_of_users(alloc, self.users.as_slice())?,
-            listeners: Vec::from_slice(alloc, self.listeners.as_slice())?,
+            listeners: self.listeners.copy(alloc)?,
             targets: copy_of_targets(alloc, self.targets.as_slice())?,
             last: self.last,
         })
     }
 }
-
-#[cfg(test)]
-mod tests;

@@ -4,11 +4,11 @@ ghost use Rattle.std.specs.Prelude.{◌≡◌, ◌≤◌, not, IfOk, filter, fin
 ghost use Rattle.std.specs.List.{list_any};
 ghost use Rattle.std.specs.Option.{option_copied};
 ghost use Rattle.mum_users.specs.Sessions.{free_slot_from};
-ghost use Rattle.mum_users.specs.State.{has_name, has_number, has_slot};
+ghost use Rattle.mum_users.specs.State.{has_name, has_number, has_slot, is_in};
 ghost use Rattle.mum_users.specs.Proper.{SlotsRise};
 
-use crate::user::{SESSIONS, User, copy_of_user};
-use mum_base::{OutOfMemory, SessionId, Slot};
+use crate::user::{SESSIONS, User};
+use mum_base::{ChannelId, OutOfMemory, SessionId, Slot};
 use std::alloc::Global;
 
 pub(crate) fn is_here(users: &[User], session: SessionId) -> bool
@@ -35,6 +35,13 @@ pub(crate) fn row_of(users: &[User], session: SessionId) -> Option<&User>
     users.iter().find(|user| user.session == session)
 }
 
+/// Whether a session is in the channel.
+pub(crate) fn has_member(users: &[User], channel: ChannelId) -> bool
+    ensures { result ≡ list_any (is_in channel) users.now }
+{
+    users.iter().any(|user| user.channel == channel)
+}
+
 /// Takes the row of a session out.
 pub(crate) fn take_user(users: &mut Vec<User>, session: SessionId)
     ensures { users.new.items ≡ filter (λ user. not (has_number session user)) users.old.items }
@@ -48,14 +55,14 @@ pub(crate) fn copy_of_users(alloc: Global, users: &[User]) -> Result<Vec<User>, 
 {
     let mut copies = Vec::with_capacity(alloc, SESSIONS.max(users.len()))?;
     for user in users {
-        copies.push(copy_of_user(alloc, user)?)?;
+        copies.push(user.copy(alloc)?)?;
     }
     Ok(copies)
 }
 
 /// The row in a slot, found by halving.
 pub(crate) fn row_at(users: &[User], slot: Slot) -> Option<&User>
-    requires { SlotsRise 0 users.now }
+    requires { SlotsRise SESSIONS 0 users.now }
     ensures { option_copied result ≡ find (has_slot slot) users.now }
 {
     match users.binary_search_by_key(&slot.0, |user| user.slot.0) {

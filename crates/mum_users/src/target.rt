@@ -4,9 +4,10 @@ ghost use Rattle.std.specs.Prelude.{◌≡◌, ◌<◌, ◌≤◌, nat_lt, not, 
 ghost use Rattle.mum_users.specs.declared.target.TargetRow.{TargetRow};
 ghost use Rattle.std.specs.List.{list_any, position_or_len};
 ghost use Rattle.std.specs.Option.{option_copied};
-ghost use Rattle.mum_users.specs.Proper.{row_below, Rises};
+ghost use Rattle.mum_users.specs.Order.{Rises};
+ghost use Rattle.mum_users.specs.Proper.{row_below};
 ghost use Rattle.mum_users.specs.State.{is_of, is_target};
-ghost use Rattle.mum_users.specs.Targets.{is_oversize, target_below, with_target};
+ghost use Rattle.mum_users.specs.Targets.{target_below, with_target};
 
 use mum_base::{ChannelId, Items, OutOfMemory, SessionId, Text};
 use std::alloc::Global;
@@ -51,29 +52,45 @@ pub struct TargetRow {
     pub target: Target,
 }
 
-fn copy_of_item(alloc: Global, item: &TargetItem) -> Result<TargetItem, OutOfMemory>
-    ensures { IfOk result (λ copy. copy ≡ item.now) }
-{
-    Ok(TargetItem {
-        sessions: Items::from_vec(Vec::from_slice(alloc, item.sessions.as_slice())?),
-        channel: item.channel,
-        group: Text::of(alloc, item.group.as_str())?,
-        links: item.links,
-        children: item.children,
-    })
+impl TargetItem {
+    /// An item of its own that is equal.
+    pub fn copy(&self, alloc: Global) -> Result<TargetItem, OutOfMemory>
+        ensures { IfOk result (λ copy. copy ≡ self.now) }
+    {
+        Ok(TargetItem {
+            sessions: Items::from_vec(Vec::from_slice(alloc, self.sessions.as_slice())?),
+            channel: self.channel,
+            group: self.group.copy(alloc)?,
+            links: self.links,
+            children: self.children,
+        })
+    }
 }
 
-/// An equal target.
-pub(crate) fn copy_of_target(alloc: Global, target: &Target) -> Result<Target, OutOfMemory>
-    ensures { IfOk result (λ copy. copy ≡ target.now) }
-{
-    let mut items = Vec::with_capacity(alloc, target.items.as_slice().len())?;
-    for item in target.items.as_slice() {
-        items.push(copy_of_item(alloc, item)?)?;
+impl Target {
+    ghost use Rattle.mum_users.specs.Targets.{is_oversize};
+
+    /// A target of its own that is equal.
+    pub fn copy(&self, alloc: Global) -> Result<Target, OutOfMemory>
+        ensures { IfOk result (λ copy. copy ≡ self.now) }
+    {
+        let mut items = Vec::with_capacity(alloc, self.items.as_slice().len())?;
+        for item in self.items.as_slice() {
+            items.push(item.copy(alloc)?)?;
+        }
+        Ok(Target {
+            items: Items::from_vec(items),
+        })
     }
-    Ok(Target {
-        items: Items::from_vec(items),
-    })
+
+    /// Whether it has more than 16 items, names more than 128 sessions over all of them together, or
+    /// names a group of more than 128 bytes.
+    pub fn is_oversize(&self) -> bool
+        ensures { result ≡ is_oversize self.now }
+    {
+        let items = self.items.as_slice();
+        items.len() > TARGET_ITEMS || names_too_many(items) || has_long_group(items)
+    }
 }
 
 /// Equal rows in the same order.
@@ -88,7 +105,7 @@ pub(crate) fn copy_of_targets(
         copies.push(TargetRow {
             session: row.session,
             id: row.id,
-            target: copy_of_target(alloc, &row.target)?,
+            target: row.target.copy(alloc)?,
         })?;
     }
     Ok(copies)
@@ -115,14 +132,6 @@ fn has_long_group(items: &[TargetItem]) -> bool
     items
         .iter()
         .any(|item| item.group.as_slice().len() > GROUP_BYTES)
-}
-
-/// Whether a target is above one of its limits.
-pub(crate) fn is_oversize(target: &Target) -> bool
-    ensures { result ≡ is_oversize target.now }
-{
-    let items = target.items.as_slice();
-    items.len() > TARGET_ITEMS || names_too_many(items) || has_long_group(items)
 }
 
 fn is_below(row: &TargetRow, session: SessionId, id: u8) -> bool

@@ -1,8 +1,9 @@
 //! The row of a session.
 
 ghost use Rattle.std.specs.Prelude.{◌≡◌, IfOk, unwrap_or};
+ghost use Rattle.std.specs.List.{list_any};
 ghost use Rattle.std.specs.Option.{option_copied};
-ghost use Rattle.mum_users.specs.State.{joining};
+ghost use Rattle.mum_users.specs.State.{are_tokens, is_context, is_long_token, joining};
 ghost use Rattle.mum_users.specs.Flags.{flagged};
 
 use crate::flags::{FlagChange, Silence, silence_changed};
@@ -11,6 +12,37 @@ use std::alloc::Global;
 
 /// The most sessions at a time. Slots are below this number.
 pub const SESSIONS: usize = 128;
+
+/// The most access tokens of a session.
+pub const TOKENS: usize = 64;
+
+/// The most bytes of an access token.
+pub const TOKEN_BYTES: usize = 128;
+
+/// The most bytes of a plugin context.
+pub const CONTEXT_BYTES: usize = 1024;
+
+/// Whether these are as many access tokens as a session may have, none of them too long.
+pub fn are_tokens(tokens: &[Text]) -> bool
+    ensures { result ≡ are_tokens tokens.now }
+{
+    tokens.len() <= TOKENS && !has_long(tokens)
+}
+
+fn has_long(tokens: &[Text]) -> bool
+    ensures { result ≡ list_any is_long_token tokens.now }
+{
+    tokens
+        .iter()
+        .any(|token| token.as_slice().len() > TOKEN_BYTES)
+}
+
+/// Whether these bytes are a plugin context, which is not too long.
+pub fn is_context(bytes: &[u8]) -> bool
+    ensures { result ≡ is_context bytes.now }
+{
+    bytes.len() <= CONTEXT_BYTES
+}
 
 /// A session: a client that is logged in.
 #[derive(Debug, Drop)]
@@ -64,7 +96,7 @@ pub(crate) fn joining_user(
         slot,
         name: Text::of(alloc, name)?,
         account,
-        channel: ChannelId(0),
+        channel: ChannelId::ROOT,
         mute: false,
         deaf: false,
         suppress: false,
@@ -78,27 +110,29 @@ pub(crate) fn joining_user(
     })
 }
 
-/// An equal row.
-pub(crate) fn copy_of_user(alloc: Global, user: &User) -> Result<User, OutOfMemory>
-    ensures { IfOk result (λ copy. copy ≡ user.now) }
-{
-    Ok(User {
-        session: user.session,
-        slot: user.slot,
-        name: Text::of(alloc, user.name.as_str())?,
-        account: user.account,
-        channel: user.channel,
-        mute: user.mute,
-        deaf: user.deaf,
-        suppress: user.suppress,
-        self_mute: user.self_mute,
-        self_deaf: user.self_deaf,
-        priority: user.priority,
-        recording: user.recording,
-        tokens: copy_of_texts(alloc, user.tokens.as_slice())?,
-        comment: Text::of(alloc, user.comment.as_str())?,
-        context: Octets::of(alloc, user.context.as_slice())?,
-    })
+impl User {
+    /// A row of its own that is equal.
+    pub fn copy(&self, alloc: Global) -> Result<User, OutOfMemory>
+        ensures { IfOk result (λ copy. copy ≡ self.now) }
+    {
+        Ok(User {
+            session: self.session,
+            slot: self.slot,
+            name: self.name.copy(alloc)?,
+            account: self.account,
+            channel: self.channel,
+            mute: self.mute,
+            deaf: self.deaf,
+            suppress: self.suppress,
+            self_mute: self.self_mute,
+            self_deaf: self.self_deaf,
+            priority: self.priority,
+            recording: self.recording,
+            tokens: copy_of_texts(alloc, self.tokens.as_slice())?,
+            comment: self.comment.copy(alloc)?,
+            context: self.context.copy(alloc)?,
+        })
+    }
 }
 
 /// A copy of a text, if there is one.

@@ -4,9 +4,9 @@ use Rattle.std.specs.Option.{option_map}
 use Rattle.std.proofs.lemmas.Bool.{cases_lt, le-ltb, lt-ltb, ne_eqb}
 use Rattle.std.proofs.lemmas.List.{drop_at, length-append, length-take, length-drop, drop-drop}
 use Rattle.std.proofs.Math.Seq.{drop-cons, take-add}
-use Rattle.mum_voice.specs.Varint.{BeginsWith, varint_at}
-use Rattle.mum_voice.specs.Packet.{IsOpus, AreSegments, IsAudio, is_kind, opus_len_by, opus_len, segments_len_within, segments_len, audio_len}
-use Rattle.mum_voice.proofs.Spelling.{IsBytes, IsBytes-rest, IsBytes-drop, varint_at-spelled, varint_at-found}
+use Rattle.mum_voice.specs.Varint.{BeginsWith, word_at}
+use Rattle.mum_voice.specs.Packet.{IsOpus, AreSegments, IsAudio, is_audio_kind, opus_len_by, opus_len, segments_len_within, segments_len, audio_len}
+use Rattle.mum_voice.proofs.Spelling.{IsBytes, IsBytes-rest, IsBytes-drop, word_at-spelled, word_at-found}
 
 -- ---- segments
 
@@ -156,7 +156,7 @@ opus_len-spelled : {audio : List ℕ} → IsOpus audio → (rest : List ℕ) →
 unfolding opus_len
 opus_len-spelled {audio} o rest =
     let whole : audio ++ rest ≡ o.header ++ (o.sound ++ rest) = ap (λ (a : List ℕ). a ++ rest) o.bytes ∙ append_assoc o.header o.sound rest in
-    let read : varint_at (audio ++ rest) ≡ Some (o.number, length o.header) = ap varint_at whole ∙ varint_at-spelled o.spelled (o.sound ++ rest) in
+    let read : word_at (audio ++ rest) ≡ Some (o.number, length o.header) = ap word_at whole ∙ word_at-spelled o.spelled (o.sound ++ rest) in
     let len : length audio ≡ length o.header + o.number % 0x2000 = omega (arith, ap length o.bytes, length-append o.header o.sound, o.len) in
     ap (opus_len_by (audio ++ rest)) read ∙ opus_some (audio ++ rest) o.number (length o.header) o.fits (omega (arith, length-append audio rest)) ∙ ap (λ (n : ℕ). Some n) (sym len)
 
@@ -173,13 +173,13 @@ opus_found bytes number header len begins e =
       ]
     ]
 
-opus_found_by : (bytes : List ℕ) (read : Option (ℕ × ℕ)) (len : ℕ) → IsBytes bytes → varint_at bytes ≡ read → opus_len_by bytes read ≡ Some len → (len ≤ length bytes) × IsOpus (take len bytes)
+opus_found_by : (bytes : List ℕ) (read : Option (ℕ × ℕ)) (len : ℕ) → IsBytes bytes → word_at bytes ≡ read → opus_len_by bytes read ≡ Some len → (len ≤ length bytes) × IsOpus (take len bytes)
 opus_found_by bytes None len fits is e = absurd cc
-opus_found_by bytes (Some found) len fits is e = opus_found bytes found.0 found.1 len (varint_at-found bytes found.0 found.1 fits is) e
+opus_found_by bytes (Some found) len fits is e = opus_found bytes found.0 found.1 len (word_at-found bytes found.0 found.1 fits is) e
 
 opus_len-found : (bytes : List ℕ) (len : ℕ) → IsBytes bytes → opus_len bytes ≡ Some len → (len ≤ length bytes) × IsOpus (take len bytes)
 unfolding opus_len
-opus_len-found bytes len fits e = opus_found_by bytes (varint_at bytes) len fits refl e
+opus_len-found bytes len fits e = opus_found_by bytes (word_at bytes) len fits refl e
 
 -- ---- every kind
 
@@ -190,19 +190,19 @@ audio_len-spelled (IsAudio.speex audio s) rest = segments_len-spelled s rest
 audio_len-spelled (IsAudio.celt_beta audio s) rest = segments_len-spelled s rest
 audio_len-spelled (IsAudio.opus audio o) rest = opus_len-spelled o rest
 
-is_kind-above : (kind : ℕ) → 4 < kind → is_kind kind ≡ false
-is_kind-above kind lt = rw (ne_eqb kind 0 (omega arith), ne_eqb kind 2 (omega arith), ne_eqb kind 3 (omega arith), ne_eqb kind 4 (omega arith)) refl
+is_audio_kind-above : (kind : ℕ) → 4 < kind → is_audio_kind kind ≡ false
+is_audio_kind-above kind lt = rw (ne_eqb kind 0 (omega arith), ne_eqb kind 2 (omega arith), ne_eqb kind 3 (omega arith), ne_eqb kind 4 (omega arith)) refl
 
-pub audio_len-found : (kind : ℕ) (bytes : List ℕ) (len : ℕ) → is_kind kind ≡ true → IsBytes bytes → audio_len kind bytes ≡ Some len → (len ≤ length bytes) × IsAudio kind (take len bytes)
+pub audio_len-found : (kind : ℕ) (bytes : List ℕ) (len : ℕ) → is_audio_kind kind ≡ true → IsBytes bytes → audio_len kind bytes ≡ Some len → (len ≤ length bytes) × IsAudio kind (take len bytes)
 unfolding audio_len
 audio_len-found zero bytes len known fits e = let s = segments_len-found bytes len fits e in (s.0, IsAudio.celt_alpha (take len bytes) s.1)
 audio_len-found (suc zero) bytes len known fits e = absurd cc
 audio_len-found (suc (suc zero)) bytes len known fits e = let s = segments_len-found bytes len fits e in (s.0, IsAudio.speex (take len bytes) s.1)
 audio_len-found (suc (suc (suc zero))) bytes len known fits e = let s = segments_len-found bytes len fits e in (s.0, IsAudio.celt_beta (take len bytes) s.1)
 audio_len-found (suc (suc (suc (suc zero)))) bytes len known fits e = let s = opus_len-found bytes len fits e in (s.0, IsAudio.opus (take len bytes) s.1)
-audio_len-found (suc (suc (suc (suc (suc kind))))) bytes len known fits e = absurd (let none = is_kind-above (suc (suc (suc (suc (suc kind))))) (omega arith) in cc)
+audio_len-found (suc (suc (suc (suc (suc kind))))) bytes len known fits e = absurd (let none = is_audio_kind-above (suc (suc (suc (suc (suc kind))))) (omega arith) in cc)
 
-pub kind-known : {kind : ℕ} {audio : List ℕ} → IsAudio kind audio → (is_kind kind ≡ true) × (kind ≤ 4)
+pub kind-known : {kind : ℕ} {audio : List ℕ} → IsAudio kind audio → (is_audio_kind kind ≡ true) × (kind ≤ 4)
 kind-known (IsAudio.celt_alpha audio s) = (refl, lit≤ tt)
 kind-known (IsAudio.speex audio s) = (refl, lit≤ tt)
 kind-known (IsAudio.celt_beta audio s) = (refl, lit≤ tt)

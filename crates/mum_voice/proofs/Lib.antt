@@ -3,3 +3,4 @@ pub mod Spelling
 pub mod Shortest
 pub mod AudioLength
 pub mod Parsing
+pub mod Clear

@@ -5,22 +5,23 @@ use Rattle.std.proofs.lemmas.Bool.{cases_lt, le-ltb, lt-ltb}
 use Rattle.std.proofs.lemmas.List.{take_at, drop_at, take-append-drop}
 use Rattle.mum_voice.specs.declared.fault.BadVoice.{BadVoice}
 use Rattle.mum_voice.specs.declared.packet.Packet.{Packet}
-use Rattle.mum_voice.specs.Varint.{BeginsWith, BeginsWithNone, varint_at}
-use Rattle.mum_voice.specs.Packet.{Parts, parts, answer, IsAudio, IsPacket, client_bytes, packet_limit, bad_length, bad_type, bad_varint, bad_audio, is_kind, IsHeader, HasNoAudio, HasFault, audio_len, packet_by_audio, packet_by_sequence, packet}
-use Rattle.mum_voice.proofs.Spelling.{IsBytes, IsBytes-rest, IsBytes-drop, varint_at-spelled, varint_at-found, varint_at-begins, begins_none, none_begins}
+use Rattle.mum_voice.specs.Varint.{BeginsWith, BeginsWithNone, word_at}
+use Rattle.mum_voice.specs.declared.packet.TheConstants.{PACKET_LIMIT}
+use Rattle.mum_voice.specs.Packet.{Parts, plain_parts, parsed, IsAudio, IsPacket, client_bytes, bad_length, bad_type, bad_varint, bad_audio, is_audio_kind, IsHeader, HasNoAudio, HasVoiceFault, audio_len, packet_by_audio, packet_by_sequence, packet}
+use Rattle.mum_voice.proofs.Spelling.{IsBytes, IsBytes-rest, IsBytes-drop, word_at-spelled, word_at-found, word_at-begins, begins_none, none_begins}
 use Rattle.mum_voice.proofs.AudioLength.{audio_len-spelled, audio_len-found, kind-known}
 
 -- ---- the first tests
 
-packet_long : (header : ℕ) (bytes : List ℕ) → packet_limit < length bytes + 1 → packet (header ∷ bytes) ≡ Err bad_length
+packet_long : (header : ℕ) (bytes : List ℕ) → PACKET_LIMIT < length bytes + 1 → packet (header ∷ bytes) ≡ Err bad_length
 unfolding packet
 packet_long header bytes lt = rw (lt-ltb _ _ lt) refl
 
-packet_unknown : (header : ℕ) (bytes : List ℕ) → length bytes + 1 ≤ packet_limit → is_kind (header / 2 ^ 5) ≡ false → packet (header ∷ bytes) ≡ Err bad_type
+packet_unknown : (header : ℕ) (bytes : List ℕ) → length bytes + 1 ≤ PACKET_LIMIT → is_audio_kind (header / 2 ^ 5) ≡ false → packet (header ∷ bytes) ≡ Err bad_type
 unfolding packet
 packet_unknown header bytes le unknown = rw (le-ltb _ _ le, unknown) refl
 
-packet_known : (header : ℕ) (bytes : List ℕ) → length bytes + 1 ≤ packet_limit → is_kind (header / 2 ^ 5) ≡ true → packet (header ∷ bytes) ≡ packet_by_sequence header bytes (varint_at bytes)
+packet_known : (header : ℕ) (bytes : List ℕ) → length bytes + 1 ≤ PACKET_LIMIT → is_audio_kind (header / 2 ^ 5) ≡ true → packet (header ∷ bytes) ≡ packet_by_sequence header bytes (word_at bytes)
 unfolding packet
 packet_known header bytes le known = rw (le-ltb _ _ le, known) refl
 
@@ -55,8 +56,8 @@ packet-spelled p is =
     let k : (p.kind * 2 ^ 5 + p.target) / 2 ^ 5 ≡ p.kind = omega arith in
     let t : (p.kind * 2 ^ 5 + p.target) % 2 ^ 5 ≡ p.target = omega arith in
     let whole : (p.sequence ++ p.audio) ++ p.position ≡ p.sequence ++ (p.audio ++ p.position) = append_assoc p.sequence p.audio p.position in
-    let known : is_kind (header / 2 ^ 5) ≡ true = rw k (kind-known is.audio).0 in
-    let read : varint_at ((p.sequence ++ p.audio) ++ p.position) ≡ Some (is.number, length p.sequence) = ap varint_at whole ∙ varint_at-spelled is.sequence (p.audio ++ p.position) in
+    let known : is_audio_kind (header / 2 ^ 5) ≡ true = rw k (kind-known is.audio).0 in
+    let read : word_at ((p.sequence ++ p.audio) ++ p.position) ≡ Some (is.number, length p.sequence) = ap word_at whole ∙ word_at-spelled is.sequence (p.audio ++ p.position) in
     packet_known header ((p.sequence ++ p.audio) ++ p.position) (omega (arith, is.fits)) known
     ∙ ap (packet_by_sequence header ((p.sequence ++ p.audio) ++ p.position)) read
     ∙ ap (λ (bytes : List ℕ). packet_by_sequence header bytes (Some (is.number, length p.sequence))) whole
@@ -64,7 +65,7 @@ packet-spelled p is =
 
 -- ---- what is read is in the grammar
 
-found_by_audio : (header number len : ℕ) (bytes : List ℕ) (p : Parts) (read : Option ℕ) → length bytes + 1 ≤ packet_limit → is_kind (header / 2 ^ 5) ≡ true → IsBytes bytes
+found_by_audio : (header number len : ℕ) (bytes : List ℕ) (p : Parts) (read : Option ℕ) → length bytes + 1 ≤ PACKET_LIMIT → is_audio_kind (header / 2 ^ 5) ≡ true → IsBytes bytes
     → BeginsWith bytes number len → audio_len (header / 2 ^ 5) (drop len bytes) ≡ read → packet_by_audio header (take len bytes) (drop len bytes) read ≡ Ok p → IsPacket p × (header ∷ bytes ≡ client_bytes p)
 found_by_audio header number len bytes p None le known fits begins is e = absurd cc
 found_by_audio header number len bytes p (Some k) le known fits begins is e =
@@ -77,85 +78,85 @@ found_by_audio header number len bytes p (Some k) le known fits begins is e =
     let fine : IsPacket q = record { target = omega arith; number = number; sequence = begins.spelled; audio = found.1; fits = omega (arith, ap length whole) } in
     subst (λ (r : Parts). IsPacket r × (header ∷ bytes ≡ client_bytes r)) (ok_is q p e) (fine, whole)
 
-found_by_sequence : (header : ℕ) (bytes : List ℕ) (p : Parts) (read : Option (ℕ × ℕ)) → length bytes + 1 ≤ packet_limit → is_kind (header / 2 ^ 5) ≡ true → IsBytes bytes
-    → varint_at bytes ≡ read → packet_by_sequence header bytes read ≡ Ok p → IsPacket p × (header ∷ bytes ≡ client_bytes p)
+found_by_sequence : (header : ℕ) (bytes : List ℕ) (p : Parts) (read : Option (ℕ × ℕ)) → length bytes + 1 ≤ PACKET_LIMIT → is_audio_kind (header / 2 ^ 5) ≡ true → IsBytes bytes
+    → word_at bytes ≡ read → packet_by_sequence header bytes read ≡ Ok p → IsPacket p × (header ∷ bytes ≡ client_bytes p)
 found_by_sequence header bytes p None le known fits is e = absurd cc
 found_by_sequence header bytes p (Some found) le known fits is e =
-    found_by_audio header found.0 found.1 bytes p (audio_len (header / 2 ^ 5) (drop found.1 bytes)) le known fits (varint_at-found bytes found.0 found.1 fits is) refl e
+    found_by_audio header found.0 found.1 bytes p (audio_len (header / 2 ^ 5) (drop found.1 bytes)) le known fits (word_at-found bytes found.0 found.1 fits is) refl e
 
-found_by_kind : (header : ℕ) (bytes : List ℕ) (p : Parts) (known : Bool) → length bytes + 1 ≤ packet_limit → is_kind (header / 2 ^ 5) ≡ known → IsBytes bytes
+found_by_kind : (header : ℕ) (bytes : List ℕ) (p : Parts) (known : Bool) → length bytes + 1 ≤ PACKET_LIMIT → is_audio_kind (header / 2 ^ 5) ≡ known → IsBytes bytes
     → packet (header ∷ bytes) ≡ Ok p → IsPacket p × (header ∷ bytes ≡ client_bytes p)
-found_by_kind header bytes p true le is fits e = found_by_sequence header bytes p (varint_at bytes) le is fits refl (sym (packet_known header bytes le is) ∙ e)
+found_by_kind header bytes p true le is fits e = found_by_sequence header bytes p (word_at bytes) le is fits refl (sym (packet_known header bytes le is) ∙ e)
 found_by_kind header bytes p false le is fits e = absurd (let unknown = packet_unknown header bytes le is in cc)
 
 pub packet-found : (bytes : List ℕ) (p : Parts) → IsBytes bytes → packet bytes ≡ Ok p → IsPacket p × (bytes ≡ client_bytes p)
 unfolding packet
 packet-found [] p fits e = absurd cc
 packet-found (header ∷ bytes) p fits e =
-    elim (cases_lt packet_limit (length bytes + 1)) [
+    elim (cases_lt PACKET_LIMIT (length bytes + 1)) [
       | inl lt ↦ absurd (let long = packet_long header bytes lt in cc)
-      | inr le ↦ found_by_kind header bytes p (is_kind (header / 2 ^ 5)) le refl (IsBytes-rest header bytes fits) e
+      | inr le ↦ found_by_kind header bytes p (is_audio_kind (header / 2 ^ 5)) le refl (IsBytes-rest header bytes fits) e
     ]
 
 -- ---- a fault that is answered is there
 
 fault_by_audio : (header number len : ℕ) (bytes : List ℕ) (fault : BadVoice) (read : Option ℕ) → IsHeader header bytes → BeginsWith bytes number len
-    → audio_len (header / 2 ^ 5) (drop len bytes) ≡ read → packet_by_audio header (take len bytes) (drop len bytes) read ≡ Err fault → HasFault (header ∷ bytes) fault
+    → audio_len (header / 2 ^ 5) (drop len bytes) ≡ read → packet_by_audio header (take len bytes) (drop len bytes) read ≡ Err fault → HasVoiceFault (header ∷ bytes) fault
 fault_by_audio header number len bytes fault None is begins none e =
-    subst (λ (f : BadVoice). HasFault (header ∷ bytes) f) (err_is bad_audio fault e) (HasFault.no_audio header number len bytes is begins (λ audio position a same. absurd (let some = ap (audio_len (header / 2 ^ 5)) same ∙ audio_len-spelled a position in cc)))
+    subst (λ (f : BadVoice). HasVoiceFault (header ∷ bytes) f) (err_is bad_audio fault e) (HasVoiceFault.no_audio header number len bytes is begins (λ audio position a same. absurd (let some = ap (audio_len (header / 2 ^ 5)) same ∙ audio_len-spelled a position in cc)))
 fault_by_audio header number len bytes fault (Some k) is begins some e = absurd cc
 
 fault_by_sequence : (header : ℕ) (bytes : List ℕ) (fault : BadVoice) (read : Option (ℕ × ℕ)) → IsHeader header bytes → IsBytes bytes
-    → varint_at bytes ≡ read → packet_by_sequence header bytes read ≡ Err fault → HasFault (header ∷ bytes) fault
+    → word_at bytes ≡ read → packet_by_sequence header bytes read ≡ Err fault → HasVoiceFault (header ∷ bytes) fault
 fault_by_sequence header bytes fault None is fits none e =
-    subst (λ (f : BadVoice). HasFault (header ∷ bytes) f) (err_is bad_varint fault e) (HasFault.no_sequence header bytes is (begins_none bytes None none refl))
+    subst (λ (f : BadVoice). HasVoiceFault (header ∷ bytes) f) (err_is bad_varint fault e) (HasVoiceFault.no_sequence header bytes is (begins_none bytes None none refl))
 fault_by_sequence header bytes fault (Some found) is fits some e =
-    fault_by_audio header found.0 found.1 bytes fault (audio_len (header / 2 ^ 5) (drop found.1 bytes)) is (varint_at-found bytes found.0 found.1 fits some) refl e
+    fault_by_audio header found.0 found.1 bytes fault (audio_len (header / 2 ^ 5) (drop found.1 bytes)) is (word_at-found bytes found.0 found.1 fits some) refl e
 
-fault_by_kind : (header : ℕ) (bytes : List ℕ) (fault : BadVoice) (known : Bool) → length bytes + 1 ≤ packet_limit → is_kind (header / 2 ^ 5) ≡ known → IsBytes bytes
-    → packet (header ∷ bytes) ≡ Err fault → HasFault (header ∷ bytes) fault
-fault_by_kind header bytes fault true le is fits e = fault_by_sequence header bytes fault (varint_at bytes) (record { fits = le; known = is }) fits refl (sym (packet_known header bytes le is) ∙ e)
+fault_by_kind : (header : ℕ) (bytes : List ℕ) (fault : BadVoice) (known : Bool) → length bytes + 1 ≤ PACKET_LIMIT → is_audio_kind (header / 2 ^ 5) ≡ known → IsBytes bytes
+    → packet (header ∷ bytes) ≡ Err fault → HasVoiceFault (header ∷ bytes) fault
+fault_by_kind header bytes fault true le is fits e = fault_by_sequence header bytes fault (word_at bytes) (record { fits = le; known = is }) fits refl (sym (packet_known header bytes le is) ∙ e)
 fault_by_kind header bytes fault false le is fits e =
-    subst (λ (f : BadVoice). HasFault (header ∷ bytes) f) (err_is bad_type fault (sym (packet_unknown header bytes le is) ∙ e)) (HasFault.unknown_kind header bytes le is)
+    subst (λ (f : BadVoice). HasVoiceFault (header ∷ bytes) f) (err_is bad_type fault (sym (packet_unknown header bytes le is) ∙ e)) (HasVoiceFault.unknown_kind header bytes le is)
 
-pub fault-found : (bytes : List ℕ) (fault : BadVoice) → IsBytes bytes → packet bytes ≡ Err fault → HasFault bytes fault
+pub fault-found : (bytes : List ℕ) (fault : BadVoice) → IsBytes bytes → packet bytes ≡ Err fault → HasVoiceFault bytes fault
 unfolding packet
-fault-found [] fault fits e = subst (λ (f : BadVoice). HasFault [] f) (err_is bad_length fault e) HasFault.empty
+fault-found [] fault fits e = subst (λ (f : BadVoice). HasVoiceFault [] f) (err_is bad_length fault e) HasVoiceFault.empty
 fault-found (header ∷ bytes) fault fits e =
-    elim (cases_lt packet_limit (length bytes + 1)) [
-      | inl lt ↦ subst (λ (f : BadVoice). HasFault (header ∷ bytes) f) (err_is bad_length fault (sym (packet_long header bytes lt) ∙ e)) (HasFault.too_long (header ∷ bytes) (omega arith))
-      | inr le ↦ fault_by_kind header bytes fault (is_kind (header / 2 ^ 5)) le refl (IsBytes-rest header bytes fits) e
+    elim (cases_lt PACKET_LIMIT (length bytes + 1)) [
+      | inl lt ↦ subst (λ (f : BadVoice). HasVoiceFault (header ∷ bytes) f) (err_is bad_length fault (sym (packet_long header bytes lt) ∙ e)) (HasVoiceFault.too_long (header ∷ bytes) (omega arith))
+      | inr le ↦ fault_by_kind header bytes fault (is_audio_kind (header / 2 ^ 5)) le refl (IsBytes-rest header bytes fits) e
     ]
 
 -- ---- a fault that is there is answered
 
-nothing_read : (bytes : List ℕ) → IsBytes bytes → BeginsWithNone bytes → varint_at bytes ≡ None
-nothing_read bytes fits none = is_nothing (varint_at bytes) (none_begins bytes (varint_at bytes) fits refl none)
+nothing_read : (bytes : List ℕ) → IsBytes bytes → BeginsWithNone bytes → word_at bytes ≡ None
+nothing_read bytes fits none = is_nothing (word_at bytes) (none_begins bytes (word_at bytes) fits refl none)
   where
     is_nothing : (read : Option (ℕ × ℕ)) → IsNone read → read ≡ None
     is_nothing None none = refl
     is_nothing (Some found) none = absurd cc
 
-no_audio_read : (kind : ℕ) (bytes : List ℕ) (read : Option ℕ) → is_kind kind ≡ true → IsBytes bytes → audio_len kind bytes ≡ read → HasNoAudio kind bytes → read ≡ None
+no_audio_read : (kind : ℕ) (bytes : List ℕ) (read : Option ℕ) → is_audio_kind kind ≡ true → IsBytes bytes → audio_len kind bytes ≡ read → HasNoAudio kind bytes → read ≡ None
 no_audio_read kind bytes None known fits is none = refl
 no_audio_read kind bytes (Some len) known fits is none =
     let found = audio_len-found kind bytes len known fits is in
     absurd (none (take len bytes) (drop len bytes) found.1 (sym (take-append-drop len bytes)))
 
-pub fault-there : {bytes : List ℕ} {fault : BadVoice} → IsBytes bytes → HasFault bytes fault → packet bytes ≡ Err fault
+pub fault-there : {bytes : List ℕ} {fault : BadVoice} → IsBytes bytes → HasVoiceFault bytes fault → packet bytes ≡ Err fault
 unfolding packet
-fault-there fits HasFault.empty = refl
-fault-there fits (HasFault.too_long [] lt) = absurd (omega arith)
-fault-there fits (HasFault.too_long (header ∷ bytes) lt) = packet_long header bytes (omega arith)
-fault-there fits (HasFault.unknown_kind header bytes le unknown) = packet_unknown header bytes le unknown
-fault-there fits (HasFault.no_sequence header bytes is none) =
+fault-there fits HasVoiceFault.empty = refl
+fault-there fits (HasVoiceFault.too_long [] lt) = absurd (omega arith)
+fault-there fits (HasVoiceFault.too_long (header ∷ bytes) lt) = packet_long header bytes (omega arith)
+fault-there fits (HasVoiceFault.unknown_kind header bytes le unknown) = packet_unknown header bytes le unknown
+fault-there fits (HasVoiceFault.no_sequence header bytes is none) =
     packet_known header bytes is.fits is.known ∙ ap (packet_by_sequence header bytes) (nothing_read bytes (IsBytes-rest header bytes fits) none)
-fault-there fits (HasFault.no_audio header number len bytes is begins none) =
+fault-there fits (HasVoiceFault.no_audio header number len bytes is begins none) =
     packet_known header bytes is.fits is.known
-    ∙ ap (packet_by_sequence header bytes) (varint_at-begins bytes number len begins)
+    ∙ ap (packet_by_sequence header bytes) (word_at-begins bytes number len begins)
     ∙ ap (packet_by_audio header (take len bytes) (drop len bytes))
     (no_audio_read (header / 2 ^ 5) (drop len bytes) (audio_len (header / 2 ^ 5) (drop len bytes)) is.known (IsBytes-drop len bytes (IsBytes-rest header bytes fits)) refl none)
 
-pub is_proper : (bytes : List ℕ) (r : Result Packet BadVoice) → IsBytes bytes → answer r ≡ packet bytes → IfOk r (λ p. IsPacket (parts p))
-is_proper bytes (Ok p) fits is = (packet-found bytes (parts p) fits (sym is)).0
+pub is_proper : (bytes : List ℕ) (r : Result Packet BadVoice) → IsBytes bytes → parsed r ≡ packet bytes → IfOk r (λ p. IsPacket (plain_parts p))
+is_proper bytes (Ok p) fits is = (packet-found bytes (plain_parts p) fits (sym is)).0
 is_proper bytes (Err e) fits is = tt

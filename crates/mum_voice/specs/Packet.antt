@@ -3,7 +3,9 @@ use Rattle.std.specs.Prelude.{ℕ, zero, suc, ◌≡◌, ◌+◌, ◌*◌, ◌/�
 use Rattle.std.specs.Option.{option_map}
 use Rattle.mum_voice.specs.declared.fault.BadVoice.{BadVoice}
 use Rattle.mum_voice.specs.declared.packet.Packet.{Packet}
-use Rattle.mum_voice.specs.Varint.{Spells, BeginsWith, BeginsWithNone, varint_at, shortest}
+use Rattle.mum_voice.specs.declared.packet.TheConstants.{PACKET_LIMIT}
+use Rattle.mum_voice.specs.declared.audio.TheConstants.{CELT_ALPHA, SPEEX, CELT_BETA, OPUS}
+use Rattle.mum_voice.specs.Varint.{SpellsWord, BeginsWith, BeginsWithNone, word_at, shortest_word}
 
 -- a packet as lists, without where its bytes lie in memory
 pub record Parts : Type 0 where
@@ -13,12 +15,8 @@ pub record Parts : Type 0 where
   pub audio : List ℕ
   pub position : List ℕ
 
-abbrev pub parts : Packet → Parts
-parts p = record { kind = p.kind; target = p.target; sequence = p.sequence.now; audio = p.audio.now; position = p.position.now }
-
--- the most bytes of a client's packet
-abbrev pub packet_limit : ℕ
-packet_limit = 1020
+abbrev pub plain_parts : Packet → Parts
+plain_parts p = record { kind = p.kind; target = p.target; sequence = p.sequence.now; audio = p.audio.now; position = p.position.now }
 
 -- ---- the grammar
 
@@ -27,7 +25,7 @@ pub record IsOpus (audio : List ℕ) : Type 0 where
   pub number : ℕ
   pub header : List ℕ
   pub sound : List ℕ
-  pub spelled : Spells header number
+  pub spelled : SpellsWord header number
   pub fits : number ≤ 0x3FFF
   pub len : length sound ≡ number % 0x2000
   pub bytes : audio ≡ header ++ sound
@@ -40,10 +38,10 @@ pub data AreSegments : List ℕ → Type 0 where
 
 -- the audio of the kinds 0 CELT Alpha, 2 Speex, 3 CELT Beta and 4 Opus
 pub data IsAudio : ℕ → List ℕ → Type 0 where
-  celt_alpha : (audio : List ℕ) → AreSegments audio → IsAudio 0 audio
-  speex : (audio : List ℕ) → AreSegments audio → IsAudio 2 audio
-  celt_beta : (audio : List ℕ) → AreSegments audio → IsAudio 3 audio
-  opus : (audio : List ℕ) → IsOpus audio → IsAudio 4 audio
+  celt_alpha : (audio : List ℕ) → AreSegments audio → IsAudio CELT_ALPHA audio
+  speex : (audio : List ℕ) → AreSegments audio → IsAudio SPEEX audio
+  celt_beta : (audio : List ℕ) → AreSegments audio → IsAudio CELT_BETA audio
+  opus : (audio : List ℕ) → IsOpus audio → IsAudio OPUS audio
 
 -- the header, the sequence, the audio, and all that follows, which is the position
 abbrev pub client_bytes : Parts → List ℕ
@@ -52,9 +50,9 @@ client_bytes p = (p.kind * 2 ^ 5 + p.target) ∷ p.sequence ++ p.audio ++ p.posi
 pub record IsPacket (p : Parts) : Type 0 where
   pub target : p.target < 2 ^ 5
   pub number : ℕ
-  pub sequence : Spells p.sequence number
+  pub sequence : SpellsWord p.sequence number
   pub audio : IsAudio p.kind p.audio
-  pub fits : length (client_bytes p) ≤ packet_limit
+  pub fits : length (client_bytes p) ≤ PACKET_LIMIT
 
 -- ---- the faults
 
@@ -70,25 +68,25 @@ bad_varint = record { code = 22 }
 abbrev pub bad_audio : BadVoice
 bad_audio = record { code = 23 }
 
-abbrev pub is_kind : ℕ → Bool
-is_kind kind = (kind == 0) || (kind == 2) || (kind == 3) || (kind == 4)
+abbrev pub is_audio_kind : ℕ → Bool
+is_audio_kind kind = (kind == CELT_ALPHA) || (kind == SPEEX) || (kind == CELT_BETA) || (kind == OPUS)
 
 -- a header that no fault of length or kind stands before
 pub record IsHeader (header : ℕ) (bytes : List ℕ) : Type 0 where
-  pub fits : length bytes + 1 ≤ packet_limit
-  pub known : IsTrue (is_kind (header / 2 ^ 5))
+  pub fits : length bytes + 1 ≤ PACKET_LIMIT
+  pub known : IsTrue (is_audio_kind (header / 2 ^ 5))
 
 -- no audio of this kind begins the bytes
 abbrev pub HasNoAudio : ℕ → List ℕ → Type 0
 HasNoAudio kind bytes = (audio position : List ℕ) → IsAudio kind audio → bytes ≡ audio ++ position → ⊥
 
 -- the first fault: of the length, then of the kind, the sequence and the audio
-pub data HasFault : List ℕ → BadVoice → Type 0 where
-  empty : HasFault [] bad_length
-  too_long : (bytes : List ℕ) → packet_limit < length bytes → HasFault bytes bad_length
-  unknown_kind : (header : ℕ) (bytes : List ℕ) → length bytes + 1 ≤ packet_limit → is_kind (header / 2 ^ 5) ≡ false → HasFault (header ∷ bytes) bad_type
-  no_sequence : (header : ℕ) (bytes : List ℕ) → IsHeader header bytes → BeginsWithNone bytes → HasFault (header ∷ bytes) bad_varint
-  no_audio : (header number len : ℕ) (bytes : List ℕ) → IsHeader header bytes → BeginsWith bytes number len → HasNoAudio (header / 2 ^ 5) (drop len bytes) → HasFault (header ∷ bytes) bad_audio
+pub data HasVoiceFault : List ℕ → BadVoice → Type 0 where
+  empty : HasVoiceFault [] bad_length
+  too_long : (bytes : List ℕ) → PACKET_LIMIT < length bytes → HasVoiceFault bytes bad_length
+  unknown_kind : (header : ℕ) (bytes : List ℕ) → length bytes + 1 ≤ PACKET_LIMIT → is_audio_kind (header / 2 ^ 5) ≡ false → HasVoiceFault (header ∷ bytes) bad_type
+  no_sequence : (header : ℕ) (bytes : List ℕ) → IsHeader header bytes → BeginsWithNone bytes → HasVoiceFault (header ∷ bytes) bad_varint
+  no_audio : (header number len : ℕ) (bytes : List ℕ) → IsHeader header bytes → BeginsWith bytes number len → HasNoAudio (header / 2 ^ 5) (drop len bytes) → HasVoiceFault (header ∷ bytes) bad_audio
 
 -- ---- reading, as a function: the parts, or the first fault
 
@@ -101,7 +99,7 @@ opus_len_by bytes (Some (number, header_len)) =
     else Some (header_len + number % 0x2000)
 
 unfoldable pub opus_len : List ℕ → Option ℕ
-opus_len bytes = opus_len_by bytes (varint_at bytes)
+opus_len bytes = opus_len_by bytes (word_at bytes)
 
 -- how many bytes the segments take, where there are no more than count of them
 unfoldable pub segments_len_within : ℕ → List ℕ → Option ℕ
@@ -117,7 +115,7 @@ unfoldable pub segments_len : List ℕ → Option ℕ
 segments_len bytes = segments_len_within (length bytes) bytes
 
 unfoldable pub audio_len : ℕ → List ℕ → Option ℕ
-audio_len kind bytes = if kind == 4 then opus_len bytes else segments_len bytes
+audio_len kind bytes = if kind == OPUS then opus_len bytes else segments_len bytes
 
 -- the packet of this header and sequence, by the length of the audio that begins the rest
 abbrev pub packet_by_audio : ℕ → List ℕ → List ℕ → Option ℕ → Result Parts BadVoice
@@ -134,18 +132,18 @@ packet_by_sequence header bytes (Some (number, len)) =
 unfoldable pub packet : List ℕ → Result Parts BadVoice
 packet [] = Err bad_length
 packet (header ∷ bytes) =
-    if nat_lt packet_limit (length bytes + 1) then Err bad_length
-    else if is_kind (header / 2 ^ 5) then packet_by_sequence header bytes (varint_at bytes)
+    if nat_lt PACKET_LIMIT (length bytes + 1) then Err bad_length
+    else if is_audio_kind (header / 2 ^ 5) then packet_by_sequence header bytes (word_at bytes)
     else Err bad_type
 
 -- what parsing answered, as lists
-abbrev pub answer : Result Packet BadVoice → Result Parts BadVoice
-answer (Ok p) = Ok (parts p)
-answer (Err fault) = Err fault
+abbrev pub parsed : Result Packet BadVoice → Result Parts BadVoice
+parsed (Ok p) = Ok (plain_parts p)
+parsed (Err fault) = Err fault
 
 -- ---- the server's copy
 
 -- the kind and the context, the sender's session, and the parts as they came
 abbrev pub copy : Parts → ℕ → ℕ → Bool → List ℕ
 copy p session context with_position =
-    (p.kind * 2 ^ 5 + context) ∷ shortest session ++ p.sequence ++ p.audio ++ (if with_position then p.position else [])
+    (p.kind * 2 ^ 5 + context) ∷ shortest_word session ++ p.sequence ++ p.audio ++ (if with_position then p.position else [])

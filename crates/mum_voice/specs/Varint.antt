@@ -1,15 +1,15 @@
 -- Which bytes spell which 64-bit word: the section "Variable length integer encoding" of the Mumble
 -- protocol documentation, a rule for each row of its table.
-use Rattle.std.specs.Prelude.{ℕ, zero, suc, ◌+◌, ◌-◌, ◌*◌, ◌^◌, ◌<◌, ◌≤◌, List, [], ◌∷◌, length, take, drop, Option, Some, None, nat_lt, if◌then◌else◌}
+use Rattle.std.specs.Prelude.{ℕ, ◌≡◌, ◌%◌, zero, suc, ◌+◌, ◌-◌, ◌*◌, ◌^◌, ◌<◌, ◌≤◌, List, [], ◌∷◌, length, take, drop, Option, Some, None, nat_lt, if◌then◌else◌}
 use Rattle.std.specs.Option.{option_map}
 use Rattle.std.specs.Int.{w16, w32, w64, to_be_bytes, bit_not}
 
 -- exactly this many bytes
-abbrev pub AreBytes : ℕ → List ℕ → Type 0
-AreBytes zero [] = Unit {0}
-AreBytes zero (b ∷ bytes) = ⊥
-AreBytes (suc count) [] = ⊥
-AreBytes (suc count) (b ∷ bytes) = (b < 2 ^ 8) × AreBytes count bytes
+abbrev pub AreSoManyBytes : ℕ → List ℕ → Type 0
+AreSoManyBytes zero [] = Unit {0}
+AreSoManyBytes zero (b ∷ bytes) = ⊥
+AreSoManyBytes (suc count) [] = ⊥
+AreSoManyBytes (suc count) (b ∷ bytes) = (b < 2 ^ 8) × AreSoManyBytes count bytes
 
 -- the number that these bytes are, the highest first
 abbrev pub big_endian : List ℕ → ℕ
@@ -25,28 +25,38 @@ pub data SpellsNumber : List ℕ → ℕ → Type 0 where
   -- 0xxxxxxx
   bits_7 : (x : ℕ) → x < 2 ^ 7 → SpellsNumber (x ∷ []) x
   -- 10xxxxxx and 1 byte
-  bits_14 : (x : ℕ) (more : List ℕ) → x < 2 ^ 6 → AreBytes 1 more → SpellsNumber ((0x80 + x) ∷ more) (x * 2 ^ 8 + big_endian more)
+  bits_14 : (x : ℕ) (more : List ℕ) → x < 2 ^ 6 → AreSoManyBytes 1 more → SpellsNumber ((0x80 + x) ∷ more) (x * 2 ^ 8 + big_endian more)
   -- 110xxxxx and 2 bytes
-  bits_21 : (x : ℕ) (more : List ℕ) → x < 2 ^ 5 → AreBytes 2 more → SpellsNumber ((0xC0 + x) ∷ more) (x * 2 ^ 16 + big_endian more)
+  bits_21 : (x : ℕ) (more : List ℕ) → x < 2 ^ 5 → AreSoManyBytes 2 more → SpellsNumber ((0xC0 + x) ∷ more) (x * 2 ^ 16 + big_endian more)
   -- 1110xxxx and 3 bytes
-  bits_28 : (x : ℕ) (more : List ℕ) → x < 2 ^ 4 → AreBytes 3 more → SpellsNumber ((0xE0 + x) ∷ more) (x * 2 ^ 24 + big_endian more)
+  bits_28 : (x : ℕ) (more : List ℕ) → x < 2 ^ 4 → AreSoManyBytes 3 more → SpellsNumber ((0xE0 + x) ∷ more) (x * 2 ^ 24 + big_endian more)
   -- 111100xx and 4 bytes
-  bits_32 : (x : ℕ) (more : List ℕ) → x < 2 ^ 2 → AreBytes 4 more → SpellsNumber ((0xF0 + x) ∷ more) (big_endian more)
+  bits_32 : (x : ℕ) (more : List ℕ) → x < 2 ^ 2 → AreSoManyBytes 4 more → SpellsNumber ((0xF0 + x) ∷ more) (big_endian more)
   -- 111101xx and 8 bytes
-  bits_64 : (x : ℕ) (more : List ℕ) → x < 2 ^ 2 → AreBytes 8 more → SpellsNumber ((0xF4 + x) ∷ more) (big_endian more)
+  bits_64 : (x : ℕ) (more : List ℕ) → x < 2 ^ 2 → AreSoManyBytes 8 more → SpellsNumber ((0xF4 + x) ∷ more) (big_endian more)
 
 -- All eight rows. What is inverted is a positive number, and no inverse again.
-pub data Spells : List ℕ → ℕ → Type 0 where
-  positive : (bytes : List ℕ) (number : ℕ) → SpellsNumber bytes number → Spells bytes number
+pub data SpellsWord : List ℕ → ℕ → Type 0 where
+  positive : (bytes : List ℕ) (number : ℕ) → SpellsNumber bytes number → SpellsWord bytes number
   -- 111110xx and a positive number
-  inverted : (x : ℕ) (bytes : List ℕ) (number : ℕ) → x < 2 ^ 2 → SpellsNumber bytes number → Spells ((0xF8 + x) ∷ bytes) (inverse number)
+  inverted : (x : ℕ) (bytes : List ℕ) (number : ℕ) → x < 2 ^ 2 → SpellsNumber bytes number → SpellsWord ((0xF8 + x) ∷ bytes) (inverse number)
   -- 111111nn
-  inverted_small : (n : ℕ) → n < 2 ^ 2 → Spells ((0xFC + n) ∷ []) (inverse n)
+  inverted_small : (n : ℕ) → n < 2 ^ 2 → SpellsWord ((0xFC + n) ∷ []) (inverse n)
+
+-- the bits that a reader ignores in the spelling of a positive number are 0
+abbrev pub IsClearNumber : List ℕ → Type 0
+IsClearNumber [] = Unit {0}
+IsClearNumber (first ∷ bytes) = 0xF0 ≤ first → first % 2 ^ 2 ≡ 0
+
+-- the same of any spelling: its own ignored bits, and those of the number that it inverts
+abbrev pub IsClear : List ℕ → Type 0
+IsClear [] = Unit {0}
+IsClear (first ∷ bytes) = (0xF0 ≤ first → first < 0xFC → first % 2 ^ 2 ≡ 0) × (0xF8 ≤ first → IsClearNumber bytes)
 
 -- the first len of the bytes spell the word
 pub record BeginsWith (bytes : List ℕ) (word len : ℕ) : Type 0 where
   pub within : len ≤ length bytes
-  pub spelled : Spells (take len bytes) word
+  pub spelled : SpellsWord (take len bytes) word
 
 -- no spelling begins the bytes
 abbrev pub BeginsWithNone : List ℕ → Type 0
@@ -55,29 +65,29 @@ BeginsWithNone bytes = (word len : ℕ) → BeginsWith bytes word len → ⊥
 -- ---- reading, as a function: the word that begins the bytes, and how many of them spell it
 
 -- the number of these high bits and so many bytes, where they are there
-abbrev pub number_of : ℕ → ℕ → List ℕ → Option (ℕ × ℕ)
-number_of high count bytes =
+abbrev pub number_from : ℕ → ℕ → List ℕ → Option (ℕ × ℕ)
+number_from high count bytes =
     if nat_lt (length bytes) count then None
     else Some (high * 2 ^ (8 * count) + big_endian (take count bytes), count + 1)
 
 -- the positive number of this first byte and the bytes after it
 abbrev pub number_by : ℕ → List ℕ → Option (ℕ × ℕ)
 number_by first bytes =
-    if nat_lt first 0x80 then number_of first 0 bytes
-    else if nat_lt first 0xC0 then number_of (first - 0x80) 1 bytes
-    else if nat_lt first 0xE0 then number_of (first - 0xC0) 2 bytes
-    else if nat_lt first 0xF0 then number_of (first - 0xE0) 3 bytes
-    else if nat_lt first 0xF4 then number_of 0 4 bytes
-    else if nat_lt first 0xF8 then number_of 0 8 bytes
+    if nat_lt first 0x80 then number_from first 0 bytes
+    else if nat_lt first 0xC0 then number_from (first - 0x80) 1 bytes
+    else if nat_lt first 0xE0 then number_from (first - 0xC0) 2 bytes
+    else if nat_lt first 0xF0 then number_from (first - 0xE0) 3 bytes
+    else if nat_lt first 0xF4 then number_from 0 4 bytes
+    else if nat_lt first 0xF8 then number_from 0 8 bytes
     else None
 
 unfoldable pub number_at : List ℕ → Option (ℕ × ℕ)
 number_at [] = None
 number_at (first ∷ bytes) = number_by first bytes
 
-unfoldable pub varint_at : List ℕ → Option (ℕ × ℕ)
-varint_at [] = None
-varint_at (first ∷ bytes) =
+unfoldable pub word_at : List ℕ → Option (ℕ × ℕ)
+word_at [] = None
+word_at (first ∷ bytes) =
     if nat_lt first 0xF8 then number_by first bytes
     else if nat_lt first 0xFC then option_map (λ number. (inverse number.0, number.1 + 1)) (number_at bytes)
     else Some (inverse (first - 0xFC), 1)
@@ -94,9 +104,9 @@ shortest_number number =
     else 0xF4 ∷ to_be_bytes w64 number
 
 -- A word below 2 ^ 32 takes at most five bytes as it is. Above that its number takes nine, and its
--- inverse is shorter exactly where that is below 2 ^ 32: no word has two spellings of the least length.
-unfoldable pub shortest : ℕ → List ℕ
-shortest word =
+-- inverse is shorter exactly where that is below 2 ^ 32.
+unfoldable pub shortest_word : ℕ → List ℕ
+shortest_word word =
     if nat_lt (inverse word) (2 ^ 2) then (0xFC + inverse word) ∷ []
     else if nat_lt (inverse word) (2 ^ 32) then 0xF8 ∷ shortest_number (inverse word)
     else shortest_number word

@@ -1,7 +1,7 @@
 //! How much of a packet its audio takes.
 
 ghost use Rattle.std.specs.Prelude.{◌≡◌, ◌≤◌, length, IfSome};
-ghost use Rattle.mum_voice.specs.Packet.{is_kind, opus_len, segments_len, audio_len};
+ghost use Rattle.mum_voice.specs.Packet.{is_audio_kind, opus_len, segments_len, audio_len};
 
 use crate::varint::read_varint;
 
@@ -20,7 +20,7 @@ pub const OPUS: u8 = 4;
 
 /// Whether there is such a kind of audio.
 pub fn is_known(kind: u8) -> bool
-    ensures { result ≡ is_kind kind }
+    ensures { result ≡ is_audio_kind kind }
 {
     matches!(kind, CELT_ALPHA | SPEEX | CELT_BETA | OPUS)
 }

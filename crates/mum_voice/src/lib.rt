@@ -11,6 +11,3 @@ pub use audio::{CELT_ALPHA, CELT_BETA, OPUS, SPEEX};
 pub use fault::BadVoice;
 pub use packet::{COPY_LIMIT, PACKET_LIMIT, Packet};
 pub use varint::{VARINT_LIMIT, read_varint, shortest_is_least, write_varint};
-
-#[cfg(test)]
-mod tests;

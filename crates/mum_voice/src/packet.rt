@@ -4,11 +4,11 @@
 ghost use Rattle.std.specs.Prelude.{◌≡◌, ◌+◌, ◌<◌, ◌≤◌, ◌↔◌, ◌++◌, length, IfOk, Ok, Err};
 ghost use Rattle.mum_voice.specs.declared.fault.BadVoice.{BadVoice};
 ghost use Rattle.arrayvec.specs.ArrayVec.{array_vec_len};
-ghost use Rattle.mum_voice.specs.Packet.{Parts, parts, answer, IsPacket, HasFault, client_bytes, packet, copy};
+ghost use Rattle.mum_voice.specs.Packet.{Parts, plain_parts, parsed, IsPacket, HasVoiceFault, client_bytes, packet, copy};
 
-use crate::audio::{audio_length, is_known};
+use crate::audio::{CELT_ALPHA, CELT_BETA, OPUS, SPEEX, audio_length, is_known};
 use crate::fault::BadVoice;
-use crate::varint::{read_varint, write_varint};
+use crate::varint::{VARINT_LIMIT, read_varint, write_varint};
 use arrayvec::ArrayVec;
 use mum_base::SessionId;
 
@@ -17,6 +17,18 @@ pub const PACKET_LIMIT: usize = 1020;
 
 /// The most bytes of a copy, which has a session of up to five bytes more.
 pub const COPY_LIMIT: usize = 1025;
+
+/// The numbers for which the names of limits and kinds stand. The limits are those of the server; the
+/// kinds are the documentation's.
+pub fn limits()
+    ensures packet { PACKET_LIMIT ≡ 1020 }
+    ensures copy { COPY_LIMIT ≡ 1025 }
+    ensures varint { VARINT_LIMIT ≡ 9 }
+    ensures celt_alpha { CELT_ALPHA ≡ 0 }
+    ensures speex { SPEEX ≡ 2 }
+    ensures celt_beta { CELT_BETA ≡ 3 }
+    ensures opus { OPUS ≡ 4 }
+{}
 
 /// The parts of a voice packet, as views of its bytes.
 #[derive(Clone, Copy, Debug, PartialEq, Eq)]
@@ -36,7 +48,7 @@ pub struct Packet<'a> {
 // The parts of a packet, or the first fault.
 #[tactic(auto, unfolding(crate::specs::Packet::packet))]
 fn parts_of(bytes: &[u8]) -> Result<Packet<'_>, BadVoice>
-    ensures { answer result ≡ packet bytes.now }
+    ensures { parsed result ≡ packet bytes.now }
 {
     if bytes.is_empty() || bytes.len() > PACKET_LIMIT {
         return Err(BadVoice::LENGTH);
@@ -77,12 +89,12 @@ impl<'a> Packet<'a> {
     /// The parts of a client's packet, or the first fault: its length, its kind, its sequence, its audio.
     pub fn parse(bytes: &'a [u8]) -> Result<Packet<'a>, BadVoice>
         // Which bytes are a packet, and of which parts.
-        ensures grammar { (p : Parts) → (answer result ≡ Ok p) ↔ (IsPacket p × (bytes.now ≡ client_bytes p)) }
+        ensures grammar { (p : Parts) → (parsed result ≡ Ok p) ↔ (IsPacket p × (bytes.now ≡ client_bytes p)) }
         // Which fault stands first in bytes that are none.
-        ensures faults { (fault : BadVoice) → (answer result ≡ Err fault) ↔ HasFault bytes.now fault }
-        ensures proper { IfOk result (λ p. IsPacket (parts p)) }
+        ensures faults { (fault : BadVoice) → (parsed result ≡ Err fault) ↔ HasVoiceFault bytes.now fault }
+        ensures proper { IfOk result (λ p. IsPacket (plain_parts p)) }
         // The same as a function.
-        ensures exact { answer result ≡ packet bytes.now }
+        ensures exact { parsed result ≡ packet bytes.now }
     {
         parts_of(bytes)
     }
@@ -97,8 +109,8 @@ impl<'a> Packet<'a> {
         with_position: bool,
     ) -> ArrayVec<u8, COPY_LIMIT>
         requires context { context < 4 }
-        requires packet { IsPacket (parts self.now) }
-        ensures { result.items ≡ copy (parts self.now) session.0 context with_position }
+        requires packet { IsPacket (plain_parts self.now) }
+        ensures { result.items ≡ copy (plain_parts self.now) session.0 context with_position }
     {
         let mut bytes = ArrayVec::new();
         bytes.push((self.kind << 5) + context);

@@ -3,7 +3,7 @@
 
 ghost use Rattle.std.specs.Prelude.{◌≡◌, ℕ, ◌+◌, ◌<◌, ◌≤◌, ◌^◌, ◌↔◌, ◌++◌, List, length, IsNone, IfSome, Some, None};
 ghost use Rattle.arrayvec.specs.ArrayVec.{array_vec_len};
-ghost use Rattle.mum_voice.specs.Varint.{BeginsWith, BeginsWithNone, Spells, number_by, number_at, varint_at, shortest_number, shortest};
+ghost use Rattle.mum_voice.specs.Varint.{BeginsWith, BeginsWithNone, IsClear, SpellsWord, number_by, number_at, word_at, shortest_number, shortest_word};
 
 use arrayvec::ArrayVec;
 
@@ -64,9 +64,9 @@ fn read_number(bytes: &[u8]) -> Option<(u64, usize)>
 }
 
 // The word at the front, and how many bytes it takes.
-#[tactic(auto, unfolding(crate::specs::Varint::varint_at))]
+#[tactic(auto, unfolding(crate::specs::Varint::word_at))]
 fn read_word(bytes: &[u8]) -> Option<(u64, usize)>
-    ensures { result ≡ varint_at bytes.now }
+    ensures { result ≡ word_at bytes.now }
 {
     let [first, rest @ ..] = bytes else {
         return None;
@@ -87,7 +87,7 @@ pub fn read_varint(bytes: &[u8]) -> Option<(u64, usize)>
     ensures read { (word len : ℕ) → (result ≡ Some (word, len)) ↔ BeginsWith bytes.now word len }
     ensures none { IsNone result ↔ BeginsWithNone bytes.now }
     // The same as a function.
-    ensures exact { result ≡ varint_at bytes.now }
+    ensures exact { result ≡ word_at bytes.now }
 {
     read_word(bytes)
 }
@@ -120,11 +120,11 @@ fn push_number(out: &mut ArrayVec<u8, VARINT_LIMIT>, number: u64)
 }
 
 /// The shortest spelling of a word, with the bits that a reader ignores 0.
-#[tactic(auto, unfolding(crate::specs::Varint::shortest))]
+#[tactic(auto, unfolding(crate::specs::Varint::shortest_word))]
 pub fn write_varint(value: u64) -> ArrayVec<u8, VARINT_LIMIT>
-    ensures bytes { result.items ≡ shortest value }
+    ensures bytes { result.items ≡ shortest_word value }
     // What follows does not change its reading.
-    ensures read_again { (rest : List ℕ) → varint_at (result.items ++ rest) ≡ Some (value, length result.items) }
+    ensures read_again { (rest : List ℕ) → word_at (result.items ++ rest) ≡ Some (value, length result.items) }
 {
     let inverse = !value;
     let mut out = ArrayVec::new();
@@ -139,8 +139,13 @@ pub fn write_varint(value: u64) -> ArrayVec<u8, VARINT_LIMIT>
     out
 }
 
-/// What `write_varint` gives is a spelling of the word, and no spelling of it is shorter.
+/// What `write_varint` gives is a spelling of the word, and no spelling of it is shorter. It is the
+/// only one of its length whose ignored bits are 0.
 pub fn shortest_is_least()
-    ensures spelled { (word : ℕ) → word < 2 ^ 64 → Spells (shortest word) word }
-    ensures least { (word : ℕ) (bytes : List ℕ) → Spells bytes word → length (shortest word) ≤ length bytes }
+    ensures spelled { (word : ℕ) → word < 2 ^ 64 → SpellsWord (shortest_word word) word }
+    ensures least { (word : ℕ) (bytes : List ℕ) → SpellsWord bytes word →
+        length (shortest_word word) ≤ length bytes }
+    ensures clear { (word : ℕ) → word < 2 ^ 64 → IsClear (shortest_word word) }
+    ensures only { (word : ℕ) (bytes : List ℕ) → SpellsWord bytes word → IsClear bytes →
+        length bytes ≤ length (shortest_word word) → bytes ≡ shortest_word word }
 {}

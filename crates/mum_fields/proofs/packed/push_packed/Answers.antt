@@ -1,7 +1,8 @@
-use Rattle.std.proofs.Common.{◌≡◌, ◌++◌, ◌∷◌, [], map, refl, sym, ap, ◌∙◌, append_assoc}
+use Rattle.std.proofs.Common.{◌≡◌, ◌++◌, ◌∷◌, [], length, map, refl, sym, ap, ◌∙◌, append_assoc}
 use Rattle.std.proofs.lemmas.List.{append-nil}
 use Rattle.std.proofs.lemmas.Result.{err_from_is_err_and}
 use Rattle.mum_fields.specs.Payload.{packed, ended, first}
+use Rattle.mum_fields.proofs.Walks.{front-of}
 use Rattle.mum_fields.proofs.packed.push_packed.Goals as goal
 
 pub loop-number-init : goal.loop-number-init
@@ -15,7 +16,7 @@ returns-in_err-number-clause-fault g c =
 pub returns-in_err-number-clause-err : goal.returns-in_err-number-clause-err
 returns-in_err-number-clause-err g c =
     let p = err_from_is_err_and c.from_residual.result c.from_residual.ensures.1 in
-    rw p.1 c.loop-number.invariant.part
+    rw (p.1, p.2) (rw append-nil at (sym (ap (λ w. c.loop-number.numbers ++ map g.N.VarintType.value_of w.items) c.in_err-number.ensures.takes) ∙ c.loop-number.invariant.items))
 
 pub loop-number-smaller : goal.loop-number-smaller
 loop-number-smaller g c = rw c.in-Some.is at c.in_ok-number.ensures.shorter
@@ -25,16 +26,17 @@ loop-number-preserved g c =
     let takes : packed c.loop-number.packed ≡ first c.in-Some.number (packed c.next_number.new.self) = rw c.in-Some.is at c.in_ok-number.ensures.takes in
     let part = c.loop-number.invariant.part in
     let value = g.N.VarintType.value_of in
-    rw c.in_ok-push.ensures.items (record {
-      items = rw (append_assoc, c.from_varint.ensures) (sym (ap (λ w. c.loop-number.numbers.items ++ map value w.items) takes) ∙ c.loop-number.invariant.items);
+    rw c.in_ok-push.ensures.ok (record {
+      items = rw (append_assoc, c.from_varint.ensures) (sym (ap (λ w. c.loop-number.numbers ++ map value w.items) takes) ∙ c.loop-number.invariant.items);
       fault = sym (ap (λ w. w.fault) takes) ∙ c.loop-number.invariant.fault;
-      part = (part.0 ++ c.from_varint.result ∷ [], ap (λ x. x ++ c.from_varint.result ∷ []) part.1 ∙ append_assoc c.args.numbers.now.items part.0 (c.from_varint.result ∷ []));
+      part = (part.0 ++ c.from_varint.result ∷ [], ap (λ x. x ++ c.from_varint.result ∷ []) part.1 ∙ append_assoc c.args.numbers.now part.0 (c.from_varint.result ∷ []));
     })
 
 pub returns-in_err-push-clause-err : goal.returns-in_err-push-clause-err
 returns-in_err-push-clause-err g c =
     let p = err_from_is_err_and c.from_residual-in_err-push.result c.from_residual-in_err-push.ensures.1 in
-    rw (p.1, c.in_err-push.ensures.items) c.loop-number.invariant.part
+    let part = c.loop-number.invariant.part in
+    rw (p.1, p.2, c.in_err-push.ensures.err) (length part.0, front-of c.args.numbers.now part.0 _ _ c.loop-number.numbers part.1 c.loop-number.invariant.items)
 
 pub returns-clause-ok : goal.returns-clause-ok
 returns-clause-ok g c =

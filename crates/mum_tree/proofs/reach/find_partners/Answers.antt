@@ -8,7 +8,7 @@ returns-then-link-from-clause-all c = λ to has.
     let (k, within, is) = has in
     ⊎_elim
     (λ (l : k < c.loop-at.at). c.loop-at.invariant.all k to l is)
-    (λ (g : c.loop-at.at ≤ k). absurd (past c.args.links.now c.loop-at.at k c.args.from to _ c.requires.joined.ordered c.loop-at-test.true c.if-link-from.true (c.first_link-at.ensures.after c.loop-at.at _ c.loop-at.auto.at c.loop-at-test.true) g within is))
+    (λ (g : c.loop-at.at ≤ k). absurd (past c.args.links.now c.loop-at.at k c.args.from to _ c.requires.joined.pairs.ordered c.loop-at-test.true c.if-link-from.true (c.first_link-at.ensures.after c.loop-at.at _ c.loop-at.auto.at c.loop-at-test.true) g within is))
     (cases_lt k c.loop-at.at)
 
 pub loop-at-preserved : goal.loop-at-preserved

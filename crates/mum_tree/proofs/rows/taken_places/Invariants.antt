@@ -1,6 +1,6 @@
 use Rattle.std.proofs.Common.{◌≡◌, ◌≢◌, ℕ, ◌<◌, ◌≤◌, true, false, length, get_or}
 use Rattle.std.specs.List.{count_by}
-use Rattle.mum_tree.specs.Rows.{IsFree}
+use Rattle.mum_tree.specs.Places.{IsFree}
 use Rattle.mum_tree.specs.declared.channel.Row.{Row}
 use Rattle.mum_tree.proofs.rows.taken_places.Given as goal
 

@@ -1,8 +1,15 @@
-use Rattle.std.proofs.Common.{sym, ◌∙◌}
-use Rattle.mum_users.proofs.Places.{with_pair-insert}
+use Rattle.std.proofs.Common.{◌∙◌}
+use Rattle.mum_users.proofs.Pairs.{put_stays, put_goes_in}
 use Rattle.mum_users.proofs.listening.put_pair.Goals as goal
 
-pub returns-clause-ok : goal.returns-clause-ok
-returns-clause-ok c =
-    let place = rw c.as_slice.ensures.value at c.place_of-place.ensures.place in
-    c.in_ok-insert.ensures.items ∙ rw place (sym (with_pair-insert c.args.new c.args.pairs.now.items))
+pub returns-then-is_at-clause-items : goal.returns-then-is_at-clause-items
+returns-then-is_at-clause-items c =
+    put_stays c.args.order c.args.new c.args.pairs.now.items c.as_slice.result.now c.as_slice-2.result.now c.place_of-place.result
+    c.as_slice.ensures.value c.as_slice-2.ensures.value c.place_of-place.ensures.place
+    c.args.new c.if-is_at.ensures.within c.if-is_at.ensures.same
+
+pub returns-clause-items : goal.returns-clause-items
+returns-clause-items c =
+    c.in-Ok.ensures.items
+    ∙ put_goes_in c.args.order c.args.new c.args.pairs.now.items c.as_slice.result.now c.as_slice-2.result.now c.place_of-place.result
+    c.as_slice.ensures.value c.as_slice-2.ensures.value c.place_of-place.ensures.place c.if-is_at.ensures.same

@@ -1,13 +1,15 @@
-use Rattle.std.proofs.Common.{rules}
+use Rattle.std.proofs.Common.{[], rules}
 use Rattle.std.proofs.lemmas.List.Sorted.{IsPartitionPoint-from_clause}
+use Rattle.mum_users.specs.declared.target.TargetRow.{TargetRow}
+use Rattle.mum_users.specs.Proper.{row_below}
 use Rattle.mum_users.specs.Targets.{target_below}
-use Rattle.mum_users.proofs.Search.{place_between, rows_parted}
+use Rattle.mum_users.proofs.Search.{below_down, parted, place_between}
 use Rattle.mum_users.proofs.target.place_of.Goals as goal
 
 pub returns-clause-place : goal.returns-clause-place
 returns-clause-place c =
-    let parted =
-    IsPartitionPoint-from_clause (λ row. target_below c.args.session c.args.id row) c.args.rows.now c.partition_point.result
-    c.partition_point.ensures.partitioned (rows_parted c.args.session c.args.id c.args.rows.now c.requires)
-    (λ a r f' called. search rules) in
-    place_between c.args.session c.args.id c.args.rows.now c.partition_point.result c.partition_point.ensures.bound parted
+    let d : TargetRow = record { session = c.args.session; id = c.args.id; target = record { items = [] } } in
+    place_between (target_below c.args.session c.args.id) c.args.rows.now c.partition_point.result d c.partition_point.ensures.bound
+    (IsPartitionPoint-from_clause (target_below c.args.session c.args.id) c.args.rows.now c.partition_point.result
+    c.partition_point.ensures.partitioned (parted row_below (target_below c.args.session c.args.id) (below_down c.args.session c.args.id) c.args.rows.now c.requires)
+    (λ a r f' called. search rules))

@@ -2,6 +2,8 @@ use Rattle.std.proofs.lemmas.Result.{err_from_is_err_and}
 use Rattle.mum_fields.specs.Cursor.{cursor_of}
 use Rattle.mum_fields.specs.Field.{entry_of}
 use Rattle.mum_fields.proofs.Taking.{tested_empty, tested_some, fields-end, fields-item, fields-fault, fields-shorter}
+use Rattle.std.proofs.Common.{Some, None}
+use Rattle.mum_fields.proofs.Stops.{end-no_fault, field-no_fault, fault-is_fault}
 use Rattle.mum_fields.proofs.reader.Reader.next_placed.Goals as goal
 
 pub returns-then-is_empty-clause-takes : goal.returns-then-is_empty-clause-takes
@@ -20,3 +22,19 @@ returns-clause-takes c = rw (← c.self.view_is) (fields-item (cursor_of c.self.
 
 pub returns-clause-shorter : goal.returns-clause-shorter
 returns-clause-shorter c = rw (← c.self.view_is) (fields-shorter (cursor_of c.self.inside.cursor) (cursor_of c.in_ok-placed.after) (entry_of c.in_ok-placed.placed) c.in_ok-placed.ensures)
+
+pub returns-then-is_empty-clause-faults : goal.returns-then-is_empty-clause-faults
+returns-then-is_empty-clause-faults c =
+    let left = cursor_of c.self.inside.cursor in
+    rw (← c.self.view_is) (end-no_fault left None (tested_empty left.rest c.if-is_empty.ensures))
+
+pub returns-in_err-placed-clause-faults : goal.returns-in_err-placed-clause-faults
+returns-in_err-placed-clause-faults c =
+    let p = err_from_is_err_and c.from_residual.result c.from_residual.ensures.1 in
+    let left = cursor_of c.self.inside.cursor in
+    rw (p.1, p.2, ← c.self.view_is) (fault-is_fault left _ (tested_some left.rest c.if-is_empty.ensures) c.in_err-placed.ensures)
+
+pub returns-clause-faults : goal.returns-clause-faults
+returns-clause-faults c =
+    let left = cursor_of c.self.inside.cursor in
+    rw (← c.self.view_is) (field-no_fault left (entry_of c.in_ok-placed.placed, cursor_of c.in_ok-placed.after) (Some c.in_ok-placed.placed) c.in_ok-placed.ensures)

@@ -6,8 +6,8 @@ use Rattle.mum_frame.specs.First.{viewed}
 use Rattle.mum_frame.specs.Stream.{FramerState}
 use Rattle.mum_frame.specs.Frame.{frame_spelling, IsPartial}
 use Rattle.std.proofs.lemmas.List.{length-append, length-drop}
-use Rattle.mum_frame.proofs.Headers.{IsPartial-above_limit, length-spelling_of}
-use Rattle.mum_frame.proofs.Replies.{none_from, none_to, too_long_from, too_long_to, NextGives-out_of_memory}
+use Rattle.mum_frame.proofs.Headers.{length-spelling_of}
+use Rattle.mum_frame.proofs.Replies.{NextGives-out_of_memory}
 use Rattle.mum_frame.proofs.framer.Framer.take_first.Goals as goal
 
 -- what begins with the frame of a view
@@ -21,23 +21,12 @@ length-Begins : (bytes : List ℕ) (view : FrameView) → Begins bytes view → 
 length-Begins bytes view begun =
     omega (arith, ap length begun, length-append (frame_spelling (viewed view)) (drop (HEADER_LENGTH + length view.payload.now) bytes), length-spelling_of view.kind view.payload.now)
 
-pub returns-in_err-frame-in-Whole-clause-answer : goal.returns-in_err-frame-in-Whole-clause-answer
-returns-in_err-frame-in-Whole-clause-answer c =
+pub returns-in_err-frame-in-Whole : goal.returns-in_err-frame-in-Whole
+returns-in_err-frame-in-Whole c =
     let p = err_from_is_err_and c.from_residual.result c.from_residual.ensures.1 in
     let begun = Begins-kept c.kept.result.now c.args.self.now.kept c.in-Whole.view c.kept.ensures c.in-Whole.ensures.1 in
     let whole : IsPartial c.args.self.now.kept → ⊥ = λ partial. partial (viewed c.in-Whole.view) _ c.in-Whole.ensures.0 begun in
     NextGives-out_of_memory c.args.self.now.kept c.from_residual.result (p.1 ∙ ap Err p.2) whole
-
-pub returns-in_err-frame-in-Whole-clause-none : goal.returns-in_err-frame-in-Whole-clause-none
-returns-in_err-frame-in-Whole-clause-none c =
-    let is = returns-in_err-frame-in-Whole-clause-answer c in
-    (none_from _ _ _ is, none_to _ _ _ is)
-
-pub returns-in_err-frame-in-Whole-clause-too_long :
-    goal.returns-in_err-frame-in-Whole-clause-too_long
-returns-in_err-frame-in-Whole-clause-too_long c =
-    let is = returns-in_err-frame-in-Whole-clause-answer c in
-    (λ e. (too_long_from _ _ _ _ is e).0, too_long_to _ _ _ is)
 
 pub invariant_of-self : goal.invariant_of-self
 invariant_of-self c =
@@ -46,9 +35,3 @@ invariant_of-self c =
     let behind = length-drop c.self.inside.start c.self.inside.buffer.items in
     let same = ap (λ (state : FramerState). length state.kept) c.self.view_is in
     omega arith
-
-pub returns-in_ok-frame-in-Whole-clause-too_long :
-    goal.returns-in_ok-frame-in-Whole-clause-too_long
-returns-in_ok-frame-in-Whole-clause-too_long c =
-    let begun = Begins-kept c.kept.result.now c.args.self.now.kept c.in-Whole.view c.kept.ensures c.in-Whole.ensures.1 in
-    (λ e. cc, λ above. absurd (IsPartial-above_limit c.args.self.now.kept above (viewed c.in-Whole.view) _ c.in-Whole.ensures.0 begun))

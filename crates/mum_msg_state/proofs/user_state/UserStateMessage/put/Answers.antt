@@ -5,7 +5,7 @@ use Rattle.mum_msg_state.proofs.user_state.UserStateMessage.put.Goals as goal
 
 pub returns-clause-ok : goal.returns-clause-ok
 returns-clause-ok c =
-    fields-added (layout user_state) (parts user_state c.args.self.now) c.args.writer.now
+    fields-added (layout user_state) (parts user_state c.args.self.now) c.args.writer
     _ c.in_ok-put_number.ensures.ok
     _ c.in_ok-put_number-2.ensures.ok
     _ c.in_ok-put_text.ensures.ok

@@ -1,7 +1,8 @@
-use Rattle.std.proofs.Common.{◌≡◌, ◌<◌, List, ◌∙◌, sym, subst, None}
+use Rattle.std.proofs.Common.{◌≡◌, ◌<◌, ◌∙◌, List, ap, sym, subst, None}
 use Rattle.mum_tree.specs.declared.channel.Row.{Row}
-use Rattle.mum_tree.specs.Calls.{fault_of_add}
-use Rattle.mum_tree.specs.Rows.{IsFree}
+use Rattle.mum_tree.specs.declared.channel.TheConstants.{CHANNEL_LIMIT}
+use Rattle.mum_tree.specs.Refusals.{fault_of_add}
+use Rattle.mum_tree.specs.Places.{least_place}
 use Rattle.mum_tree.specs.State.{TreeState}
 use Rattle.mum_tree.proofs.Edits.{added_proper}
 use Rattle.mum_tree.proofs.tree.Tree.add.Goals as goal
@@ -10,7 +11,16 @@ pub invariant_of-self-2 : goal.invariant_of-self-2
 invariant_of-self-2 c =
     let tree : TreeState = record { channels = c.self.inside.rows.items; links = c.self.inside.links.items; greatest = c.self.inside.greatest } in
     let above = subst (λ (t : TreeState). t.greatest < c.args.id.0) (sym c.self.view_is) c.requires in
-    let allowed = subst (λ (t : TreeState). fault_of_add t c.args.id c.args.parent c.args.name.now ≡ None) (sym c.self.view_is) (sym c.cause_against_adding.ensures ∙ c.in_default.is) in
-    let free = subst (λ (rows : List Row). IsFree rows c.least_free_place-place.result) c.deref.ensures.value c.least_free_place-place.ensures.least.0 in
-    rw (c.in_ok-push.ensures {u = tt}).items
-    (added_proper tree c.least_free_place-place.result c.args.id c.args.parent c.args.name.now c.in_ok-of.field-0 c.args.temporary c.in_ok-plain_channel_info.field-0 c.self.invariant above allowed c.in_ok-of.ensures free c.least_free_place-place.ensures.within)
+    let allowed = subst (λ (t : TreeState). fault_of_add CHANNEL_LIMIT t c.args.id c.args.parent c.args.name.now ≡ None) (sym c.self.view_is) (sym c.cause_against_adding.ensures ∙ c.in_default.is) in
+    let least = c.least_free_place-place.ensures.least ∙ ap (λ (rows : List Row). least_place rows) c.deref.ensures.value in
+    let done = added_proper tree c.least_free_place-place.result c.args.id c.args.parent c.args.name.now c.in_ok-of.field-0 c.args.temporary c.in_ok-plain_channel_info.field-0 c.self.invariant above allowed c.in_ok-of.ensures c.in_ok-plain_channel_info.ensures least in
+    rw (c.in_ok-push.ensures {u = tt}).items (rw done.0 done.1)
+
+pub returns-clause-proper : goal.returns-clause-proper
+returns-clause-proper c =
+    let tree : TreeState = record { channels = c.self.inside.rows.items; links = c.self.inside.links.items; greatest = c.self.inside.greatest } in
+    let above = subst (λ (t : TreeState). t.greatest < c.args.id.0) (sym c.self.view_is) c.requires in
+    let allowed = subst (λ (t : TreeState). fault_of_add CHANNEL_LIMIT t c.args.id c.args.parent c.args.name.now ≡ None) (sym c.self.view_is) (sym c.cause_against_adding.ensures ∙ c.in_default.is) in
+    let least = c.least_free_place-place.ensures.least ∙ ap (λ (rows : List Row). least_place rows) c.deref.ensures.value in
+    let done = added_proper tree c.least_free_place-place.result c.args.id c.args.parent c.args.name.now c.in_ok-of.field-0 c.args.temporary c.in_ok-plain_channel_info.field-0 c.self.invariant above allowed c.in_ok-of.ensures c.in_ok-plain_channel_info.ensures least in
+    rw (c.in_ok-push.ensures {u = tt}).items (rw done.0 done.1)

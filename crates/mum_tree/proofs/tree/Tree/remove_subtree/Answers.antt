@@ -3,7 +3,7 @@ use Rattle.std.specs.List.{All, filter}
 use Rattle.std.proofs.lemmas.Fn.{filter_same}
 use Rattle.std.proofs.lemmas.List.Kept.{AllPairs-filter}
 use Rattle.mum_tree.specs.declared.channel.Row.{Row}
-use Rattle.mum_tree.specs.Calls.{fault_of_remove}
+use Rattle.mum_tree.specs.Refusals.{fault_of_remove}
 use Rattle.mum_tree.specs.Rows.{is_below, is_there, number, Rise}
 use Rattle.mum_tree.specs.State.{Pair, TreeState, without_rows, without_subtree}
 use Rattle.mum_tree.proofs.Shrunk.{filter_agree_at, remove_allowed, shrunk_proper, stays}
@@ -27,8 +27,8 @@ invariant_of-self c =
     let left = subst (λ (seen : List Row). c.keep_ends.new.links.items ≡ filter (λ (pair : Pair). is_there seen pair.0 && is_there seen pair.1) tree.links) (c.deref-3.ensures.value ∙ kept ∙ same) c.keep_ends.ensures in
     rw (kept ∙ same) (shrunk_proper tree c.args.id c.keep_ends.new.links.items c.self.invariant c.if-id.false left)
 
-pub returns : goal.returns
-returns c =
+pub returns-clause-made : goal.returns-clause-made
+returns-clause-made c =
     let rows = c.self.inside.rows.items in
     let tree : TreeState = record { channels = rows; links = c.self.inside.links.items; greatest = c.self.inside.greatest } in
     let keeps : Row → Bool = λ row. not (get_or c.places_below-gone.result row.place false) in
@@ -42,3 +42,14 @@ returns c =
       subst (λ (t : TreeState). fault_of_remove t c.args.id ≡ None) c.self.view_is (remove_allowed tree c.args.id there c.if-id.false),
       subst (λ (t : TreeState). left ≡ without_subtree t c.args.id) c.self.view_is (done ∙ ap (without_rows tree) (kept ∙ same)),
     )
+
+pub returns-clause-proper : goal.returns-clause-proper
+returns-clause-proper c =
+    let rows = c.self.inside.rows.items in
+    let tree : TreeState = record { channels = rows; links = c.self.inside.links.items; greatest = c.self.inside.greatest } in
+    let keeps : Row → Bool = λ row. not (get_or c.places_below-gone.result row.place false) in
+    let kept = filter_same _ keeps _ (λ x b f k. search rules) rows c.retain.new.self.items c.retain.ensures.filtered in
+    let marks = subst (λ (seen : List Row). All (λ row. get_or c.places_below-gone.result row.place false ≡ is_below seen c.args.id row.channel.id) seen) c.deref-2.ensures.value c.places_below-gone.ensures.value in
+    let same = filter_agree_at keeps (stays rows c.args.id) rows (λ k d within. ap not (marks k d within)) in
+    let left = subst (λ (seen : List Row). c.keep_ends.new.links.items ≡ filter (λ (pair : Pair). is_there seen pair.0 && is_there seen pair.1) tree.links) (c.deref-3.ensures.value ∙ kept ∙ same) c.keep_ends.ensures in
+    rw (kept ∙ same) (shrunk_proper tree c.args.id c.keep_ends.new.links.items c.self.invariant c.if-id.false left)

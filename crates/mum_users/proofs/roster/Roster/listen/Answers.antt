@@ -1,13 +1,29 @@
 use Rattle.std.proofs.Common.{sym}
-use Rattle.mum_users.proofs.Rosters.{IsProper-listening}
+use Rattle.mum_users.proofs.Rosters.{IsProper-listening, listed_already}
 use Rattle.mum_users.proofs.roster.Roster.listen.Goals as goal
+
+pub returns-then-has-clause-outcome : goal.returns-then-has-clause-outcome
+returns-then-has-clause-outcome c =
+    let here = rw c.as_slice.ensures.value at c.if-not-is_here.ensures in
+    let listed = c.if-has.ensures in
+    listed_already _ _ c.args.session c.args.channel c.self.view_is c.self.invariant (sym here) (sym listed)
 
 pub invariant_of-self-2 : goal.invariant_of-self-2
 invariant_of-self-2 c =
     let here = rw c.as_slice.ensures.value at c.if-not-is_here.ensures in
-    let absent = rw c.as_slice-2.ensures.value at c.if-is_listening.ensures in
-    let listeners = rw c.as_slice-3.ensures.value at c.listeners_of.ensures in
-    let channels = rw c.as_slice-4.ensures.value at c.channels_of.ensures in
-    rw c.in_ok-put_pair.ensures.ok (
+    let absent = c.if-has.ensures in
+    let listeners = c.session_count.ensures in
+    let channels = c.channel_count.ensures in
+    rw c.in_ok-put.ensures.ok (
     IsProper-listening _ c.args.session c.args.channel c.self.invariant (sym here) (sym absent)
-    (rw (← listeners) c.if-listeners_of-ge-CHANNEL_LISTENERS.false) (rw (← channels) c.if-channels_of-ge-LISTENED_CHANNELS.false))
+    (rw (← listeners) c.if-session_count-ge-CHANNEL_LISTENERS.false) (rw (← channels) c.if-channel_count-ge-LISTENED_CHANNELS.false))
+
+pub returns-clause-proper : goal.returns-clause-proper
+returns-clause-proper c =
+    let here = rw c.as_slice.ensures.value at c.if-not-is_here.ensures in
+    let absent = c.if-has.ensures in
+    let listeners = c.session_count.ensures in
+    let channels = c.channel_count.ensures in
+    rw c.in_ok-put.ensures.ok (
+    IsProper-listening _ c.args.session c.args.channel c.self.invariant (sym here) (sym absent)
+    (rw (← listeners) c.if-session_count-ge-CHANNEL_LISTENERS.false) (rw (← channels) c.if-channel_count-ge-LISTENED_CHANNELS.false))

@@ -3,8 +3,8 @@ use Rattle.std.proofs.lemmas.Result.{err_from_is_err_and}
 use Rattle.mum_users.proofs.Rosters.{IsProper-set, found, here_from, not_found}
 use Rattle.mum_users.proofs.roster.Roster.set_tokens.Goals as goal
 
-pub returns-in-None : goal.returns-in-None
-returns-in-None c = (not_found _ _ c.args.session _ c.self.view_is c.as_slice.ensures.value c.in-None.ensures, refl)
+pub returns-in-None-clause-outcome : goal.returns-in-None-clause-outcome
+returns-in-None-clause-outcome c = (not_found _ _ c.args.session _ c.self.view_is c.as_slice.ensures.value c.in-None.ensures, refl)
 
 pub invariant_of-self : goal.invariant_of-self
 invariant_of-self c =
@@ -13,14 +13,21 @@ invariant_of-self c =
     (record { session = λ _. refl; slot = λ _. refl; name = λ _. refl })
     c.self.invariant c.as_slice.ensures.value c.in-Some.ensures c.index_mut-user.ensures.value)
 
-pub returns-in_ok-tokens-in-Some : goal.returns-in_ok-tokens-in-Some
-returns-in_ok-tokens-in-Some c =
+pub returns-in_ok-tokens-in-Some-clause-outcome : goal.returns-in_ok-tokens-in-Some-clause-outcome
+returns-in_ok-tokens-in-Some-clause-outcome c =
     let changed =
     found _ _ c.args.session (λ user. record user { tokens = c.args.tokens.now }) _ _ c.index_mut-user.result.now
     c.self.view_is c.self.invariant c.as_slice.ensures.value c.in-Some.ensures c.index_mut-user.ensures.value in
-    rw c.in_ok-tokens-in-Some.ensures (changed.0, refl, changed.1)
+    rw c.in_ok-tokens-in-Some.ensures changed
 
-pub returns-in_err-tokens-in-Some : goal.returns-in_err-tokens-in-Some
-returns-in_err-tokens-in-Some c =
+pub returns-in_err-tokens-in-Some-clause-outcome : goal.returns-in_err-tokens-in-Some-clause-outcome
+returns-in_err-tokens-in-Some-clause-outcome c =
     let p = err_from_is_err_and c.from_residual.result c.from_residual.ensures.1 in
     rw (p.1, p.2) (here_from _ _ c.args.session _ _ c.self.view_is c.as_slice.ensures.value c.in-Some.ensures, refl)
+
+pub returns-in_ok-tokens-in-Some-clause-proper : goal.returns-in_ok-tokens-in-Some-clause-proper
+returns-in_ok-tokens-in-Some-clause-proper c =
+    rw c.in_ok-tokens-in-Some.ensures (
+    IsProper-set _ c.args.session (λ user. record user { tokens = c.args.tokens.now }) _ _ c.index_mut-user.result.now
+    (record { session = λ _. refl; slot = λ _. refl; name = λ _. refl })
+    c.self.invariant c.as_slice.ensures.value c.in-Some.ensures c.index_mut-user.ensures.value)

@@ -1,0 +1,118 @@
+//! The calls that change a roster, as the table `roster` spells them.
+
+use crate::readers::{fault_text, flags_text};
+use crate::targets::target_of;
+use crate::words::{behind, channel, flags, numbers, small, texts, word_of};
+use anyhow::{Context, Result, bail};
+use mum_base::{AccountId, ChannelId, SessionId, Text};
+use mum_cases::number;
+use mum_users::{Roster, UserFault};
+use std::alloc::Global;
+
+/// What a call on a roster answers.
+type Done = std::result::Result<(), UserFault>;
+
+fn listen_to(roster: &mut Roster, session: SessionId, word: &str) -> Result<Done> {
+    for number in numbers(word)? {
+        if let Err(fault) = roster.listen(session, ChannelId(number)) {
+            return Ok(Err(fault));
+        }
+    }
+    Ok(Ok(()))
+}
+
+fn set_texts(roster: &mut Roster, session: SessionId, words: &str) -> Done {
+    let context = behind(words, "context").map(|text| text.as_bytes());
+    roster.set_texts(session, behind(words, "comment"), context)
+}
+
+fn set_target(alloc: Global, roster: &mut Roster, session: SessionId, rest: &str) -> Result<Done> {
+    let (id, items) = word_of(rest);
+    let target = target_of(alloc, items)?;
+    Ok(roster.set_target(session, small(id)?, &target))
+}
+
+/// One call for one session.
+fn change(
+    alloc: Global,
+    roster: &mut Roster,
+    word: &str,
+    session: SessionId,
+    rest: &str,
+) -> Result<Done> {
+    match word {
+        "leave" => Ok(roster.leave(session)),
+        "place" => Ok(roster.place(session, channel(rest)?)),
+        "flags" => Ok(roster.set_flags(session, flags(rest)?)),
+        "tokens" => Ok(roster.set_tokens(session, texts(alloc, rest)?.as_slice())),
+        "texts" => Ok(set_texts(roster, session, rest)),
+        "listen" => listen_to(roster, session, rest),
+        "unlisten" => Ok(roster.unlisten(session, channel(rest)?)),
+        "target" => set_target(alloc, roster, session, rest),
+        _ => bail!("no call: {word}"),
+    }
+}
+
+/// Lets so many sessions join.
+fn join_many(alloc: Global, roster: &mut Roster, count: u64) -> Result<()> {
+    for place in 0..count {
+        let name = format!(in alloc; "user{}", place.wrapping_add(1))?;
+        roster.join(name.as_str(), None, &[])?;
+    }
+    Ok(())
+}
+
+/// `NAME account 7 tokens one two`
+fn join(alloc: Global, roster: &mut Roster, text: &str) -> Result<String> {
+    let (text, words) = text.split_once(" tokens ").unwrap_or((text, ""));
+    let (name, account) = match text.split_once(" account ") {
+        Some((name, word)) => (name, Some(AccountId(u32::try_from(number(word)?)?))),
+        None => (text, None),
+    };
+    match roster.join(name, account, texts(alloc, words)?.as_slice()) {
+        Ok(session) => Ok(format!(in alloc; "{}", session.0)?),
+        Err(fault) => fault_text(alloc, fault),
+    }
+}
+
+/// The flags of a session where the call set them, else that it went well.
+fn done_text(alloc: Global, roster: &Roster, word: &str, session: SessionId) -> Result<String> {
+    if word == "flags" {
+        let user = roster.session(session).context("it is here")?;
+        return flags_text(alloc, user);
+    }
+    Ok(String::from_str(alloc, "ok")?)
+}
+
+fn change_each(
+    alloc: Global,
+    roster: &mut Roster,
+    word: &str,
+    sessions: &str,
+    rest: &str,
+) -> Result<String> {
+    let mut text = String::from_str(alloc, "no session")?;
+    for number in numbers(sessions)? {
+        let session = SessionId(number);
+        text = match change(alloc, roster, word, session, rest)? {
+            Ok(()) => done_text(alloc, roster, word, session)?,
+            Err(fault) => return fault_text(alloc, fault),
+        };
+    }
+    Ok(text)
+}
+
+/// What a change answers: `ok`, the flags after it, the number of who joined, or the fault.
+pub fn answer(alloc: Global, roster: &mut Roster, word: &str, rest: &str) -> Result<String> {
+    match word {
+        "joins" => {
+            join_many(alloc, roster, number(rest)?)?;
+            Ok(String::from_str(alloc, "ok")?)
+        }
+        "join" => join(alloc, roster, rest),
+        _ => {
+            let (sessions, rest) = word_of(rest);
+            change_each(alloc, roster, word, sessions, rest)
+        }
+    }
+}

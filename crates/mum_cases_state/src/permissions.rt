@@ -1,0 +1,52 @@
+//! The table `permissions`.
+
+ghost use Rattle.std.specs.Prelude.{◌≡◌, ◌<◌};
+
+use crate::path::{Lists, asker_of, begins_at_root, path_of};
+use crate::perms::set_text;
+use anyhow::{Context, Result};
+use mum_base::{ChannelId, Perm, Steps};
+use mum_cases::Table;
+use mum_policy::{Who, permissions};
+use std::alloc::Global;
+use std::marker::Brand;
+use std::sync::ledger::{Blank, Ledger};
+
+pub struct Walks;
+
+/// What the session may do in the last channel, over a counter of the caller's choice.
+fn counted<L: Ledger>(blank: Blank, lists: &Lists, path: &[ChannelId], who: &Who) -> Perm
+    requires name { blank.name ≡ L.name }
+    requires parts { blank.parts ≡ L.parts }
+    requires some { 0 < blank.parts }
+{
+    let mut steps = Steps::<L>::new(blank);
+    if !begins_at_root(path) {
+        return Perm::NONE;
+    }
+    permissions(lists, path, who, &mut steps)
+}
+
+fn set_in(lists: &Lists, path: &[ChannelId], who: &Who) -> Perm {
+    counted::<Brand>(Blank::new(1), lists, path, who)
+}
+
+impl Table for Walks {
+    const NAME: &'static str = "permissions";
+
+    fn answer(alloc: Global, question: &str) -> Result<String> {
+        let (channels, who) = question.split_once(" | ").context("nobody asks")?;
+        let lists = path_of(alloc, channels)?;
+        let asker = asker_of(alloc, &lists, who)?;
+        let path = lists.path(alloc)?;
+        let mut text = String::new(alloc);
+        for end in 0..path.len() {
+            let set = set_in(&lists, &path[..end + 1], &asker.who());
+            if end > 0 {
+                text.push_str("; ")?;
+            }
+            text.push_str(set_text(alloc, set)?.as_str())?;
+        }
+        Ok(text)
+    }
+}

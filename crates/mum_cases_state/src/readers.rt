@@ -1,0 +1,157 @@
+//! What the readers of a roster answer, as the table `roster` spells it.
+
+use crate::targets::target_text;
+use crate::words::{channel, session, small, word_of};
+use anyhow::{Context, Result, bail};
+use mum_base::{SessionId, Slot, Text};
+use mum_users::{Roster, User, UserFault};
+use std::alloc::Global;
+
+/// The names of the flags that are set, or `no flag`.
+pub fn flags_text(alloc: Global, user: &User) -> Result<String> {
+    let flags = [
+        ("mute ", user.mute),
+        ("deaf ", user.deaf),
+        ("suppress ", user.suppress),
+        ("self_mute ", user.self_mute),
+        ("self_deaf ", user.self_deaf),
+        ("priority ", user.priority),
+        ("recording ", user.recording),
+    ];
+    let mut text = String::new(alloc);
+    for (name, on) in flags {
+        if on {
+            text.push_str(name)?;
+        }
+    }
+    if text.is_empty() {
+        text.push_str("no flag")?;
+    }
+    Ok(String::from_str(alloc, text.as_str().trim())?)
+}
+
+fn is_flagged(user: &User) -> bool {
+    user.mute
+        || user.deaf
+        || user.suppress
+        || user.self_mute
+        || user.self_deaf
+        || user.priority
+        || user.recording
+}
+
+fn add_tokens(text: &mut String, tokens: &[Text]) -> Result<()> {
+    for (place, token) in tokens.iter().enumerate() {
+        text.push_str(if place == 0 { ", tokens " } else { " " })?;
+        text.push_str(token.as_str())?;
+    }
+    Ok(())
+}
+
+fn add_text(text: &mut String, name: &str, bytes: &[u8]) -> Result<()> {
+    if !bytes.is_empty() {
+        text.push_str(name)?;
+        text.push_str(str::from_utf8(bytes)?)?;
+    }
+    Ok(())
+}
+
+/// `ann account 7 slot 0 in 3, mute deaf, tokens key, comment hello, context game`
+pub fn row_text(alloc: Global, user: &User) -> Result<String> {
+    let mut text = String::from_str(alloc, user.name.as_str())?;
+    if let Some(account) = user.account {
+        text.push_str(format!(in alloc; " account {}", account.0)?.as_str())?;
+    }
+    let place = format!(in alloc; " slot {} in {}", user.slot.0, user.channel.0)?;
+    text.push_str(place.as_str())?;
+    if is_flagged(user) {
+        text.push_str(", ")?;
+        text.push_str(flags_text(alloc, user)?.as_str())?;
+    }
+    add_tokens(&mut text, user.tokens.as_slice())?;
+    add_text(&mut text, ", comment ", user.comment.as_slice())?;
+    add_text(&mut text, ", context ", user.context.as_slice())?;
+    Ok(text)
+}
+
+/// `43 ListenerLimit`
+pub fn fault_text(alloc: Global, fault: UserFault) -> Result<String> {
+    match fault.code() {
+        Some(code) => Ok(format!(in alloc; "{code} {fault:?}")?),
+        None => Ok(format!(in alloc; "{fault:?}")?),
+    }
+}
+
+const FAULTS: [UserFault; 9] = [
+    UserFault::NameInUse,
+    UserFault::Full,
+    UserFault::NoSession,
+    UserFault::ListenerLimit,
+    UserFault::UserListenerLimit,
+    UserFault::TargetId,
+    UserFault::TargetSize,
+    UserFault::SessionsUsedUp,
+    UserFault::OutOfMemory,
+];
+
+/// The number of the fault of this name.
+fn code_text(alloc: Global, name: &str) -> Result<String> {
+    for fault in FAULTS {
+        if format!(in alloc; "{fault:?}")?.as_str() == name {
+            return match fault.code() {
+                Some(code) => Ok(format!(in alloc; "{code}")?),
+                None => Ok(String::from_str(alloc, "no number")?),
+            };
+        }
+    }
+    bail!("no fault: {name}")
+}
+
+fn row_of(alloc: Global, roster: &Roster, id: SessionId) -> Result<String> {
+    match roster.session(id) {
+        Some(user) => row_text(alloc, user),
+        None => Ok(String::from_str(alloc, "none")?),
+    }
+}
+
+fn session_in(alloc: Global, roster: &Roster, slot: Slot) -> Result<String> {
+    match roster.at(slot) {
+        Some(user) => Ok(format!(in alloc; "{}", user.session.0)?),
+        None => Ok(String::from_str(alloc, "none")?),
+    }
+}
+
+fn next_text(alloc: Global, roster: &Roster) -> Result<String> {
+    match roster.next_join() {
+        Some((session, slot)) => Ok(format!(in alloc; "session {} slot {}", session.0, slot.0)?),
+        None => Ok(String::from_str(alloc, "none")?),
+    }
+}
+
+fn listens_text(alloc: Global, roster: &Roster, words: &str) -> Result<String> {
+    let (who, what) = word_of(words);
+    let listens = roster.listens(session(who)?, channel(what)?);
+    Ok(String::from_str(alloc, if listens { "yes" } else { "no" })?)
+}
+
+fn target_in(alloc: Global, roster: &Roster, words: &str) -> Result<String> {
+    let (who, id) = word_of(words);
+    match roster.target(session(who)?, small(id)?) {
+        Some(target) => target_text(alloc, target),
+        None => Ok(String::from_str(alloc, "none")?),
+    }
+}
+
+/// What a reader answers; none where the word is no reader's.
+pub fn read(alloc: Global, roster: &Roster, word: &str, rest: &str) -> Result<Option<String>> {
+    let text = match word {
+        "next" => next_text(alloc, roster)?,
+        "row" => row_of(alloc, roster, session(rest)?)?,
+        "slot" => session_in(alloc, roster, Slot(small(rest)?))?,
+        "listens" => listens_text(alloc, roster, rest)?,
+        "target-of" => target_in(alloc, roster, rest)?,
+        "code" => code_text(alloc, rest)?,
+        _ => return Ok(None),
+    };
+    Ok(Some(text))
+}

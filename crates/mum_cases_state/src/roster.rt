@@ -1,0 +1,71 @@
+//! The table `roster`.
+
+use crate::changes;
+use crate::readers::read;
+use crate::words::word_of;
+use anyhow::{Context, Result, ensure};
+use mum_cases::Table;
+use mum_users::Roster;
+use std::alloc::Global;
+use std::mem;
+
+pub struct Calls;
+
+/// The roster that is spoken of, and one that was set aside.
+#[derive(Drop)]
+struct Two {
+    now: Roster,
+    aside: Roster,
+}
+
+impl Two {
+    fn answer(&mut self, alloc: Global, call: &str) -> Result<String> {
+        let (word, rest) = word_of(call);
+        if word == "copy" {
+            self.aside = self.now.copy(alloc)?;
+            return Ok(String::from_str(alloc, "ok")?);
+        }
+        if word == "swap" {
+            mem::swap(&mut self.now, &mut self.aside);
+            return Ok(String::from_str(alloc, "ok")?);
+        }
+        if let Some(text) = read(alloc, &self.now, word, rest)? {
+            return Ok(text);
+        }
+        changes::answer(alloc, &mut self.now, word, rest)
+    }
+
+    /// Calls that must go well.
+    fn prepare(&mut self, alloc: Global, calls: &str) -> Result<()> {
+        for call in calls.split("; ") {
+            let text = self.answer(alloc, call)?;
+            let begins_with_fault = text.as_str().starts_with('4') && text.as_str().contains(' ');
+            ensure!(!begins_with_fault, "{call}: {text}");
+        }
+        Ok(())
+    }
+}
+
+impl Table for Calls {
+    const NAME: &'static str = "roster";
+
+    fn answer(alloc: Global, question: &str) -> Result<String> {
+        let mut two = Two {
+            now: Roster::new(alloc)?,
+            aside: Roster::new(alloc)?,
+        };
+        let mut asked = question;
+        if let Some((before, calls)) = question.split_once(" | ") {
+            two.prepare(alloc, before)?;
+            asked = calls;
+        }
+        let mut text = String::new(alloc);
+        for call in asked.split("; ") {
+            if !text.is_empty() {
+                text.push_str("; ")?;
+            }
+            text.push_str(two.answer(alloc, call)?.as_str())?;
+        }
+        Ok(text)
+    }
+}

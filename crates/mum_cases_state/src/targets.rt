@@ -1,0 +1,135 @@
+//! Voice targets as the table `roster` spells them: `channel 3 links children group admin session 4`,
+//! items parted by `/`, `16*` before an item or a session to repeat it.
+
+use crate::words::{channel, session, word_of};
+use anyhow::{Context, Result, bail};
+use mum_base::{ChannelId, Items, SessionId, Text};
+use mum_cases::number;
+use mum_users::{Target, TargetItem};
+use std::alloc::Global;
+
+/// How often, and what: `16* ..`, or once.
+fn repeated(text: &str) -> Result<(u64, &str)> {
+    match text.split_once('*') {
+        Some((times, rest)) => match times.parse::<u64>() {
+            Ok(times) => Ok((times, rest)),
+            Err(_) => Ok((1, text)),
+        },
+        None => Ok((1, text)),
+    }
+}
+
+/// `admin`, or `128*g`.
+fn group_of(alloc: Global, word: &str) -> Result<Text> {
+    let (times, unit) = repeated(word)?;
+    let mut group = String::new(alloc);
+    for _ in 0..times {
+        group.push_str(unit)?;
+    }
+    Ok(Text::from_string(group))
+}
+
+/// What the next word of an item says.
+#[derive(Clone, Copy)]
+enum Key {
+    Field,
+    Channel,
+    Group,
+    Sessions(u64),
+}
+
+/// What follows a word that begins a field.
+fn key_of(item: &mut TargetItem, word: &str) -> Result<Key> {
+    let (times, name) = repeated(word)?;
+    match name {
+        "links" => item.links = true,
+        "children" => item.children = true,
+        "channel" => return Ok(Key::Channel),
+        "group" => return Ok(Key::Group),
+        "session" => return Ok(Key::Sessions(times)),
+        _ => bail!("no part of an item: {word}"),
+    }
+    Ok(Key::Field)
+}
+
+fn add_sessions(item: &mut TargetItem, times: u64, id: SessionId) -> Result<()> {
+    for _ in 0..times {
+        item.sessions.push(id)?;
+    }
+    Ok(())
+}
+
+fn item_of(alloc: Global, text: &str) -> Result<TargetItem> {
+    let mut item = TargetItem {
+        sessions: Items::new(alloc),
+        channel: None,
+        group: Text::of(alloc, "")?,
+        links: false,
+        children: false,
+    };
+    let mut key = Key::Field;
+    for word in text.split_whitespace() {
+        match key {
+            Key::Field => {
+                key = key_of(&mut item, word)?;
+                continue;
+            }
+            Key::Channel => item.channel = Some(channel(word)?),
+            Key::Group => item.group = group_of(alloc, word)?,
+            Key::Sessions(times) => add_sessions(&mut item, times, session(word)?)?,
+        }
+        key = Key::Field;
+    }
+    Ok(item)
+}
+
+pub fn target_of(alloc: Global, text: &str) -> Result<Target> {
+    let mut items = Items::new(alloc);
+    if text.is_empty() {
+        return Ok(Target { items });
+    }
+    for part in text.split('/') {
+        let part = part.trim();
+        let (times, item) = if part.contains("* ") || part.ends_with('*') {
+            repeated(part)?
+        } else {
+            (1, part)
+        };
+        for _ in 0..times {
+            items.push(item_of(alloc, item)?)?;
+        }
+    }
+    Ok(Target { items })
+}
+
+fn item_text(alloc: Global, item: &TargetItem) -> Result<String> {
+    let mut text = String::new(alloc);
+    if let Some(channel) = item.channel {
+        text.push_str(format!(in alloc; " channel {}", channel.0)?.as_str())?;
+    }
+    if item.links {
+        text.push_str(" links")?;
+    }
+    if item.children {
+        text.push_str(" children")?;
+    }
+    if !item.group.as_str().is_empty() {
+        text.push_str(" group ")?;
+        text.push_str(item.group.as_str())?;
+    }
+    for session in item.sessions.as_slice() {
+        text.push_str(format!(in alloc; " session {}", session.0)?.as_str())?;
+    }
+    Ok(text)
+}
+
+pub fn target_text(alloc: Global, target: &Target) -> Result<String> {
+    let mut text = String::new(alloc);
+    for item in target.items.as_slice() {
+        if !text.is_empty() {
+            text.push_str(" /")?;
+        }
+        text.push_str(item_text(alloc, item)?.as_str())?;
+    }
+    Ok(String::from_str(alloc, text.as_str().trim())?)
+}

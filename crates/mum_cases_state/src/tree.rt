@@ -1,0 +1,367 @@
+//! The table `tree`. A line is a sequence of calls; its words stand at the head of the table.
+
+use anyhow::{Result, bail};
+use mum_base::{ChannelId, Text};
+use mum_cases::{Table, number};
+use mum_tree::{Channel, ChannelInfo, Scratch, Tree, TreeFault};
+use std::alloc::Global;
+use std::mem::swap;
+
+pub struct Trees;
+
+/// Marks are asked for of the channels from 0 to this one.
+const LAST_ASKED: u32 = 1100;
+
+/// What a line speaks of: the tree that its calls go to, another beside it, room to mark channels
+/// in, the channel that was added last, and what its calls have said.
+#[derive(Drop)]
+struct Bench {
+    alloc: Global,
+    tree: Tree,
+    other: Tree,
+    scratch: Scratch,
+    last: ChannelId,
+    said: String,
+}
+
+/// The first word of a text, and what follows it.
+fn first_word(text: &str) -> (&str, &str) {
+    match text.split_once(' ') {
+        Some(parts) => parts,
+        None => (text, ""),
+    }
+}
+
+fn channel_number(word: &str) -> Result<ChannelId> {
+    match u32::try_from(number(word)?) {
+        Ok(id) => Ok(ChannelId(id)),
+        Err(_) => bail!("no channel: {word}"),
+    }
+}
+
+fn place_number(word: &str) -> Result<usize> {
+    Ok(number(word)? as usize)
+}
+
+fn position_of(word: &str) -> Result<i32> {
+    match word.parse::<i32>() {
+        Ok(position) => Ok(position),
+        Err(_) => bail!("no position: {word}"),
+    }
+}
+
+/// A number, or `none`.
+fn shown(alloc: Global, found: Option<u32>) -> Result<String> {
+    match found {
+        Some(number) => Ok(format!(in alloc; "{number}")?),
+        None => Ok(String::from_str(alloc, "none")?),
+    }
+}
+
+fn kind_of(channel: &Channel) -> &'static str {
+    if channel.temporary { " temporary" } else { "" }
+}
+
+fn row_of(alloc: Global, channel: &Channel) -> Result<String> {
+    let name = channel.name.as_str();
+    let kind = kind_of(channel);
+    let info = &channel.info;
+    let text = info.description.as_str();
+    let seat = format!(in alloc; "{name} under {}{kind}", channel.parent.0)?;
+    Ok(format!(in alloc;
+        "{seat} position {} users {} \"{text}\"",
+        info.position, info.max_users
+    )?)
+}
+
+/// One number more in a list that is parted by spaces.
+fn add_number(alloc: Global, list: &mut String, number: u32) -> Result<()> {
+    if !list.is_empty() {
+        list.push_str(" ")?;
+    }
+    let digits = format!(in alloc; "{number}")?;
+    list.push_str(digits.as_str())?;
+    Ok(())
+}
+
+impl Bench {
+    fn new(alloc: Global) -> Result<Bench> {
+        Ok(Bench {
+            alloc,
+            tree: Tree::new(alloc)?,
+            other: Tree::new(alloc)?,
+            scratch: Scratch::new(alloc)?,
+            last: ChannelId::ROOT,
+            said: String::new(alloc),
+        })
+    }
+
+    /// What one call says more.
+    fn say(&mut self, text: &str) -> Result<()> {
+        if !self.said.is_empty() {
+            self.said.push_str("; ")?;
+        }
+        self.said.push_str(text)?;
+        Ok(())
+    }
+
+    fn say_number(&mut self, found: Option<u32>) -> Result<()> {
+        let text = shown(self.alloc, found)?;
+        self.say(text.as_str())
+    }
+
+    /// A refusal is said by its name and number, and of what was done nothing.
+    fn settle(&mut self, outcome: Result<(), TreeFault>) -> Result<()> {
+        let Err(fault) = outcome else {
+            return Ok(());
+        };
+        let code = shown(self.alloc, fault.code().map(u32::from))?;
+        let text = format!(in self.alloc; "{fault:?} {code}")?;
+        self.say(text.as_str())
+    }
+
+    /// The channel that a word names in the round of a call that is done several times.
+    fn channel(&self, word: &str, round: u32) -> Result<ChannelId> {
+        match word {
+            "last" => Ok(self.last),
+            "round" => Ok(ChannelId(round)),
+            "round+1" => Ok(ChannelId(round.saturating_add(1))),
+            "next" => match self.tree.next_id() {
+                Some(id) => Ok(id),
+                None => bail!("no number is left"),
+            },
+            _ => channel_number(word),
+        }
+    }
+
+    /// `ID under PARENT`, a name or none, and `temporary` or not.
+    fn add(&mut self, words: &str, round: u32) -> Result<()> {
+        let (id, rest) = first_word(words);
+        let (_under, rest) = first_word(rest);
+        let (parent, rest) = first_word(rest);
+        let (name, kind) = first_word(rest);
+        let id = self.channel(id, round)?;
+        let parent = self.channel(parent, round)?;
+        let own = format!(in self.alloc; "{}", id.0)?;
+        let name = if name.is_empty() { own.as_str() } else { name };
+        let Some(next) = self.tree.next_id() else {
+            bail!("no number is left");
+        };
+        if id.0 < next.0 {
+            bail!("the number was used");
+        }
+        let outcome = self.tree.add(id, parent, name, kind == "temporary");
+        if outcome.is_ok() {
+            self.last = id;
+        }
+        self.settle(outcome)
+    }
+
+    /// `ID POSITION USERS TEXT`.
+    fn describe(&mut self, words: &str, round: u32) -> Result<()> {
+        let (id, rest) = first_word(words);
+        let (position, rest) = first_word(rest);
+        let (users, text) = first_word(rest);
+        let id = self.channel(id, round)?;
+        let info = ChannelInfo {
+            description: Text::of(self.alloc, text)?,
+            position: position_of(position)?,
+            max_users: channel_number(users)?.0,
+        };
+        let outcome = self.tree.set_info(id, info);
+        self.settle(outcome)
+    }
+
+    /// `A B` of a call on two channels.
+    fn two(&mut self, call: &str, words: &str, round: u32) -> Result<()> {
+        let (a, b) = first_word(words);
+        let a = self.channel(a, round)?;
+        let b = self.channel(b, round)?;
+        let outcome = match call {
+            "link" => self.tree.link(a, b),
+            _ => self.tree.unlink(a, b),
+        };
+        self.settle(outcome)
+    }
+
+    /// `ID under PARENT`.
+    fn move_under(&mut self, words: &str, round: u32) -> Result<()> {
+        let Some((id, parent)) = words.split_once(" under ") else {
+            bail!("no move: {words}");
+        };
+        let id = self.channel(id, round)?;
+        let parent = self.channel(parent, round)?;
+        let outcome = self.tree.move_under(id, parent);
+        self.settle(outcome)
+    }
+
+    fn rename(&mut self, words: &str, round: u32) -> Result<()> {
+        let (id, name) = first_word(words);
+        let id = self.channel(id, round)?;
+        let outcome = self.tree.rename(id, name);
+        self.settle(outcome)
+    }
+
+    fn remove(&mut self, word: &str, round: u32) -> Result<()> {
+        let id = self.channel(word, round)?;
+        let outcome = self.tree.remove_subtree(id);
+        self.settle(outcome)
+    }
+
+    /// A call that changes the tree, or else one that reads it.
+    fn call(&mut self, call: &str, round: u32) -> Result<()> {
+        let (word, rest) = first_word(call);
+        match word {
+            "add" => self.add(rest, round),
+            "rename" => self.rename(rest, round),
+            "describe" => self.describe(rest, round),
+            "move" => self.move_under(rest, round),
+            "remove" => self.remove(rest, round),
+            "link" | "unlink" => self.two(word, rest, round),
+            "copy" => self.copy(),
+            "other" => {
+                swap(&mut self.tree, &mut self.other);
+                Ok(())
+            }
+            _ => self.tell(word, rest, round),
+        }
+    }
+
+    /// From here on the calls go to an equal tree.
+    fn copy(&mut self) -> Result<()> {
+        let copy = self.tree.copy(self.alloc)?;
+        self.other = copy;
+        swap(&mut self.tree, &mut self.other);
+        Ok(())
+    }
+
+    /// The number that a question about one is answered by.
+    fn asked(&self, word: &str, rest: &str, round: u32) -> Result<Option<u32>> {
+        match word {
+            "next" => Ok(self.tree.next_id().map(|id| id.0)),
+            "nth" => Ok(self.tree.nth(place_number(rest)?).map(|id| id.0)),
+            _ => Ok(self.tree.place(self.channel(rest, round)?).map(u32::from)),
+        }
+    }
+
+    fn tell(&mut self, word: &str, rest: &str, round: u32) -> Result<()> {
+        match word {
+            "next" | "nth" | "place" => {
+                let found = self.asked(word, rest, round)?;
+                self.say_number(found)
+            }
+            "full" => {
+                let full = self.tree.full();
+                self.say(if full { "full" } else { "not full" })
+            }
+            "channel" => self.tell_channel(rest, round),
+            "channels" => self.tell_channels(),
+            "path" => self.tell_path(rest, round),
+            "links" => self.tell_links(rest, round),
+            "marked" => self.tell_marked(),
+            "subtree" | "linked" => self.mark(word, rest, round),
+            _ => bail!("no call: {word}"),
+        }
+    }
+
+    fn tell_channel(&mut self, word: &str, round: u32) -> Result<()> {
+        let id = self.channel(word, round)?;
+        let row = match self.tree.channel(id) {
+            Some(channel) => row_of(self.alloc, channel)?,
+            None => String::from_str(self.alloc, "none")?,
+        };
+        self.say(row.as_str())
+    }
+
+    fn tell_channels(&mut self) -> Result<()> {
+        let mut list = String::new(self.alloc);
+        for i in 0..LAST_ASKED {
+            let Some(id) = self.tree.nth(i as usize) else {
+                break;
+            };
+            add_number(self.alloc, &mut list, id.0)?;
+        }
+        self.say(list.as_str())
+    }
+
+    fn tell_path(&mut self, word: &str, round: u32) -> Result<()> {
+        let id = self.channel(word, round)?;
+        let Some(path) = self.tree.path(id) else {
+            return self.say("none");
+        };
+        let mut list = String::new(self.alloc);
+        for id in path.as_slice() {
+            add_number(self.alloc, &mut list, id.0)?;
+        }
+        self.say(list.as_str())
+    }
+
+    fn tell_links(&mut self, word: &str, round: u32) -> Result<()> {
+        let id = self.channel(word, round)?;
+        let mut list = String::new(self.alloc);
+        for i in 0..LAST_ASKED {
+            let Some(partner) = self.tree.link_at(id, i as usize) else {
+                break;
+            };
+            add_number(self.alloc, &mut list, partner.0)?;
+        }
+        if list.is_empty() {
+            return self.say("none");
+        }
+        self.say(list.as_str())
+    }
+
+    fn tell_marked(&mut self) -> Result<()> {
+        let mut list = String::new(self.alloc);
+        for number in 0..LAST_ASKED {
+            if self.scratch.marked(ChannelId(number)) {
+                add_number(self.alloc, &mut list, number)?;
+            }
+        }
+        if list.is_empty() {
+            return self.say("none");
+        }
+        self.say(list.as_str())
+    }
+
+    fn mark(&mut self, call: &str, word: &str, round: u32) -> Result<()> {
+        let id = self.channel(word, round)?;
+        if self.tree.place(id).is_none() {
+            bail!("no channel to mark from");
+        }
+        match call {
+            "subtree" => self.tree.subtree(id, &mut self.scratch),
+            _ => self.tree.linked(id, &mut self.scratch),
+        }
+        self.tell_marked()
+    }
+
+    /// One call, or `N times` the calls that are joined by ` and `.
+    fn calls(&mut self, text: &str) -> Result<()> {
+        let Some((times, calls)) = text.split_once(" times ") else {
+            return self.call(text, 0);
+        };
+        let times = channel_number(times)?.0;
+        for round in 0..times {
+            for call in calls.split(" and ") {
+                self.call(call, round.saturating_add(1))?;
+            }
+        }
+        Ok(())
+    }
+}
+
+impl Table for Trees {
+    const NAME: &'static str = "tree";
+
+    fn answer(alloc: Global, question: &str) -> Result<String> {
+        let mut bench = Bench::new(alloc)?;
+        for call in question.split("; ") {
+            bench.calls(call)?;
+        }
+        if bench.said.is_empty() {
+            bench.say("done")?;
+        }
+        Ok(bench.said)
+    }
+}

@@ -1,0 +1,80 @@
+//! The table `list`.
+
+use crate::words::{add, bytes_or_text};
+use anyhow::{Result, bail};
+use mum_base::{Items, Octets, Text};
+use mum_cases::{Table, hex_of, number};
+use std::alloc::Global;
+
+pub struct Lists;
+
+fn text_in(alloc: Global, word: &str) -> Result<Text> {
+    let bytes = bytes_or_text(alloc, word)?;
+    Ok(Text::of(alloc, str::from_utf8(&bytes)?)?)
+}
+
+/// A text and its bytes.
+fn shown(alloc: Global, text: &Text) -> Result<String> {
+    let bytes = hex_of(alloc, text.as_slice())?;
+    Ok(format!(in alloc; "{} {bytes}", text.as_str())?)
+}
+
+fn octets(alloc: Global, way: &str, word: &str) -> Result<String> {
+    let bytes = bytes_or_text(alloc, word)?;
+    let octets = match way {
+        "of" => Octets::of(alloc, &bytes)?,
+        "from" => Octets::from_vec(bytes),
+        "copy" => Octets::of(alloc, &bytes)?.copy(alloc)?,
+        _ => bail!("no way to make octets: {way}"),
+    };
+    hex_of(alloc, octets.as_slice())
+}
+
+fn text(alloc: Global, way: &str, word: &str) -> Result<String> {
+    let text = text_in(alloc, word)?;
+    match way {
+        "of" => shown(alloc, &text),
+        "from" => {
+            let string = String::from_str(alloc, text.as_str())?;
+            shown(alloc, &Text::from_string(string))
+        }
+        "copy" => shown(alloc, &text.copy(alloc)?),
+        _ => bail!("no way to make a text: {way}"),
+    }
+}
+
+fn items(alloc: Global, way: &str, words: &str) -> Result<String> {
+    let mut items = match way {
+        "new" => Items::new(alloc),
+        "from" => Items::from_vec(Vec::from_slice(alloc, &[0, 1])?),
+        _ => bail!("no way to make items: {way}"),
+    };
+    for word in words.split(' ') {
+        items.push(number(word)?)?;
+    }
+    let mut answer = String::new(alloc);
+    for item in items.as_slice() {
+        let word = format!(in alloc; "{item}")?;
+        add(&mut answer, " ", word.as_str())?;
+    }
+    Ok(answer)
+}
+
+impl Table for Lists {
+    const NAME: &'static str = "list";
+
+    fn answer(alloc: Global, question: &str) -> Result<String> {
+        let Some((list, rest)) = question.split_once(' ') else {
+            bail!("no list: {question}");
+        };
+        let Some((way, words)) = rest.split_once(' ') else {
+            bail!("no way to make a list: {question}");
+        };
+        match list {
+            "octets" => octets(alloc, way, words),
+            "text" => text(alloc, way, words),
+            "items" => items(alloc, way, words),
+            _ => bail!("no list: {list}"),
+        }
+    }
+}

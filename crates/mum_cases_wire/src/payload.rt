@@ -1,0 +1,145 @@
+//! Payloads as a person writes them: a word for each field.
+
+use anyhow::{Context, Result, bail, ensure};
+use mum_cases::{bytes_of, number};
+use std::alloc::Global;
+
+/// A payload that is being put together, and the block in it that is open.
+#[derive(Drop)]
+struct Parts {
+    outer: Vec<u8>,
+    block: Vec<u8>,
+    number: Option<u64>,
+}
+
+/// Adds the bytes of a base-128 varint.
+pub fn push_varint(bytes: &mut Vec<u8>, number: u64) -> Result<()> {
+    let mut rest = number;
+    for _ in 0..9 {
+        if rest < 128 {
+            break;
+        }
+        bytes.push((rest % 128) as u8 + 128)?;
+        rest /= 128;
+    }
+    bytes.push((rest % 128) as u8)?;
+    Ok(())
+}
+
+fn push_key(bytes: &mut Vec<u8>, number: u64, wire_type: u64) -> Result<()> {
+    let Some(key) = number.checked_mul(8) else {
+        bail!("no such number of a field: {number}");
+    };
+    push_varint(bytes, key | wire_type)
+}
+
+/// Adds a block under a number.
+pub fn push_block(bytes: &mut Vec<u8>, number: u64, block: &[u8]) -> Result<()> {
+    push_key(bytes, number, 2)?;
+    push_varint(bytes, block.len() as u64)?;
+    bytes.extend_from_slice(block)?;
+    Ok(())
+}
+
+/// A number, or the two's complement of a negative one.
+fn varint_of(word: &str) -> Result<u64> {
+    if word.starts_with('-') {
+        let number = word.parse::<i64>().context("a number")?;
+        return Ok(number.cast_unsigned());
+    }
+    number(word)
+}
+
+fn packed(alloc: Global, list: &str) -> Result<Vec<u8>> {
+    let mut block = Vec::new(alloc);
+    for word in list.split(',') {
+        push_varint(&mut block, varint_of(word)?)?;
+    }
+    Ok(block)
+}
+
+/// What stands behind `NUMBER=`: `"TEXT"` or bytes.
+fn block_of(alloc: Global, value: &str) -> Result<Vec<u8>> {
+    let text = value
+        .strip_prefix('"')
+        .and_then(|rest| rest.strip_suffix('"'));
+    match text {
+        Some(text) => Ok(Vec::from_slice(alloc, text.as_bytes())?),
+        None => bytes_of(alloc, value),
+    }
+}
+
+/// A field whose number stands before one of the marks.
+fn push_field(alloc: Global, bytes: &mut Vec<u8>, word: &str) -> Result<()> {
+    if let Some((number, value)) = word.split_once(':') {
+        push_key(bytes, varint_of(number)?, 0)?;
+        return push_varint(bytes, varint_of(value)?);
+    }
+    if let Some((number, value)) = word.split_once('=') {
+        let block = block_of(alloc, value)?;
+        return push_block(bytes, varint_of(number)?, block.as_slice());
+    }
+    if let Some((number, list)) = word.split_once('[') {
+        let block = packed(alloc, list.trim_end_matches(']'))?;
+        return push_block(bytes, varint_of(number)?, block.as_slice());
+    }
+    let Some((number, digits)) = word.split_once('.') else {
+        bail!("no field: {word}");
+    };
+    let fixed = bytes_of(alloc, digits)?;
+    push_key(
+        bytes,
+        varint_of(number)?,
+        if fixed.len() == 4 { 5 } else { 1 },
+    )?;
+    bytes.extend_from_slice(fixed.as_slice())?;
+    Ok(())
+}
+
+/// Bytes, or a field.
+fn push_word(alloc: Global, bytes: &mut Vec<u8>, word: &str) -> Result<()> {
+    match word.strip_prefix('x') {
+        Some(digits) => {
+            bytes.extend_from_slice(bytes_of(alloc, digits)?.as_slice())?;
+            Ok(())
+        }
+        None => push_field(alloc, bytes, word),
+    }
+}
+
+impl Parts {
+    fn put(&mut self, alloc: Global, word: &str) -> Result<()> {
+        if let Some(number) = word.strip_suffix('{') {
+            self.number = Some(varint_of(number)?);
+            return Ok(());
+        }
+        let Some(number) = self.number else {
+            return push_word(alloc, &mut self.outer, word);
+        };
+        if word != "}" {
+            return push_word(alloc, &mut self.block, word);
+        }
+        push_block(&mut self.outer, number, self.block.as_slice())?;
+        self.block.clear();
+        self.number = None;
+        Ok(())
+    }
+}
+
+/// The bytes of a payload. Its words are `NUMBER:VARINT`, `NUMBER="TEXT"`, `NUMBER=BYTES`,
+/// `NUMBER[N,N,..]` for packed numbers, `NUMBER.HEX` for a fixed number of four or
+/// eight bytes, `NUMBER{ WORD .. }` for a message in a block, and `xBYTES` for bytes as they are.
+pub fn payload(alloc: Global, text: &str) -> Result<Vec<u8>> {
+    let mut parts = Parts {
+        outer: Vec::new(alloc),
+        block: Vec::new(alloc),
+        number: None,
+    };
+    for word in text.split(' ') {
+        if !word.is_empty() {
+            parts.put(alloc, word)?;
+        }
+    }
+    ensure!(parts.number.is_none(), "a block has no end");
+    Ok(parts.outer)
+}

@@ -1,0 +1,14 @@
+use Rattle.std.proofs.Common.{◌≡◌, ◌++◌, take, map}
+use Rattle.std.specs.List.{All}
+use Rattle.mum_fields.specs.Written.{written}
+use Rattle.mum_fields.specs.Typed.{IsBytes, AreTyped}
+use Rattle.mum_fields.specs.Table.{layout, parts, items, each_message}
+use Rattle.mum_fields.proofs.writer.Writer.put_each_message.Given as goal
+
+abbrev pub invariant-loop-message : goal.invariant-loop-message
+invariant-loop-message g l =
+    let rows = g.M.Message.rows in
+    record {
+      ok : l.self ≡ l.fn.self ++ written (each_message (items (layout rows)) l.number (map (parts rows) (take l.message-index l.list)));
+      typed : All (λ x. AreTyped (layout rows) x × IsBytes (written (items (layout rows) x))) (map (parts rows) (take l.message-index l.list));
+    }

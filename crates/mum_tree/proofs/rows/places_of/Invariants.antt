@@ -1,0 +1,10 @@
+use Rattle.std.proofs.Common.{◌≡◌, false, length, get_or, take}
+use Rattle.std.specs.List.{All}
+use Rattle.mum_tree.specs.Change.{is_among}
+use Rattle.mum_tree.proofs.rows.places_of.Given as goal
+
+abbrev pub invariant-loop-id : goal.invariant-loop-id
+invariant-loop-id l = record {
+  whole : length l.marks ≡ 1024;
+  done : All (λ row. get_or l.marks row.place false ≡ is_among (take l.id-index l.ids) row.channel.id) l.rows;
+}

@@ -1,0 +1,41 @@
+//! A change of a channel in several parts.
+
+ghost use Rattle.std.specs.Prelude.{◌≡◌, IfOk};
+ghost use Rattle.std.specs.Option.{option_map};
+ghost use Rattle.mum_tree.specs.Change.{given_or};
+
+use mum_base::{ChannelId, OutOfMemory, Text};
+use std::alloc::Global;
+
+/// What becomes another of a channel, as far as it is given, and the links that come and go
+/// (Mumble.proto, `ChannelState`). A channel in both lists is linked first, and then parted; the
+/// channel's own number in them means nothing.
+#[derive(Clone, Copy, Debug)]
+pub struct ChannelChange<'a> {
+    pub name: Option<&'a str>,
+    pub parent: Option<ChannelId>,
+    pub description: Option<&'a str>,
+    pub position: Option<i32>,
+    pub max_users: Option<u32>,
+    pub links_add: &'a [ChannelId],
+    pub links_remove: &'a [ChannelId],
+}
+
+/// A copy of a text, if one is given.
+pub(crate) fn copied(alloc: Global, given: Option<&str>) -> Result<Option<Text>, OutOfMemory>
+    ensures { IfOk result (λ copy. copy ≡ option_map (λ text. text.now) given.entry) }
+{
+    match given {
+        Some(text) => Ok(Some(Text::of(alloc, text)?)),
+        None => Ok(None),
+    }
+}
+
+/// Sets what is given.
+pub(crate) fn give<T: Drop>(place: &mut T, given: Option<T>)
+    ensures { place.new ≡ given_or given place.old }
+{
+    if let Some(value) = given {
+        *place = value;
+    }
+}

@@ -1,0 +1,10 @@
+use Rattle.std.proofs.Common.{◌&&◌, not}
+use Rattle.mum_users.specs.Edit.{is_among}
+use Rattle.mum_users.specs.State.{is_of_session}
+use Rattle.mum_users.proofs.Indexes.{IsIndexed-filter}
+use Rattle.mum_users.proofs.listeners.Listeners.leave.Goals as goal
+
+pub invariant_of-self : goal.invariant_of-self
+invariant_of-self c =
+    rw (c.drop_channels.ensures.items, c.drop_channels-2.ensures.items) (
+    IsIndexed-filter (λ pair. not (is_of_session c.args.session pair && is_among c.args.left.now pair.channel)) _ _ c.self.invariant)

@@ -12,6 +12,7 @@ pub mod Outbox
 pub mod steps
 pub mod Built
 pub mod Step
+pub mod Laws
 pub mod Kept
 pub mod Reads
 pub mod Replay

@@ -7,3 +7,4 @@ pub mod Answered
 pub mod Longer
 pub mod Underway
 pub mod Ends
+pub mod RunLaws

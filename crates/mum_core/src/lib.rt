@@ -7,6 +7,7 @@ mod built;
 mod connection;
 mod edit;
 mod end;
+pub mod laws;
 mod machine;
 mod outbox;
 mod payload;

@@ -455,15 +455,15 @@ fits_back tree id change rise are here adds fit =
     let q : Row → Bool = λ row. linked_in after x row.channel.id in
     let back : linked_in after x id ≡ true = linked_back after id x fit.pairs.both (own_after tree id change x ∙ partner) in
     let unlinked : linked_in tree.links x id ≡ false = ⊎_elim
-        (λ (was : linked_in tree.links x id ≡ true). absurd (both_ways (not (linked_in tree.links id x)) (ap not (linked_back tree.links x id are.pairs.both was)) old))
-        (λ (off : linked_in tree.links x id ≡ false). off)
-        (cases_Bool (linked_in tree.links x id)) in
+    (λ (was : linked_in tree.links x id ≡ true). absurd (both_ways (not (linked_in tree.links id x)) (ap not (linked_back tree.links x id are.pairs.both was)) old))
+    (λ (off : linked_in tree.links x id ≡ false). off)
+    (cases_Bool (linked_in tree.links x id)) in
     let more : count_by p rows < count_by q rows = count_less p q rows
-        (λ row was. ⊎_elim
-        (λ (e : number row ≡ id.0). ap (linked_in after x) (ap (λ n. record { 0 = n }) e) ∙ back)
-        (λ (off : number row ≡ id.0 → ⊥). other_after tree id change x row.channel.id other (ne_eqb (number row) id.0 off) ∙ was)
-        (cases_eq (number row) id.0))
-        (any_there (λ y. linked_in after x y && not (linked_in tree.links x y)) rows id here (and_from (linked_in after x id) (not (linked_in tree.links x id)) back (ap not unlinked))) in
+    (λ row was. ⊎_elim
+    (λ (e : number row ≡ id.0). ap (linked_in after x) (ap (λ n. record { 0 = n }) e) ∙ back)
+    (λ (off : number row ≡ id.0 → ⊥). other_after tree id change x row.channel.id other (ne_eqb (number row) id.0 off) ∙ was)
+    (cases_eq (number row) id.0))
+    (any_there (λ y. linked_in after x y && not (linked_in tree.links x y)) rows id here (and_from (linked_in after x id) (not (linked_in tree.links x id)) back (ap not unlinked))) in
     let many : 64 ≤ length (partners tree x) = full_from (length (partners tree x)) full in
     absurd (omega (arith, more, many, counted rows after x rise fit.pairs, fit.few_each x, counted rows tree.links x rise are.pairs, length-filter (starts_at x) tree.links, length-map (filter (starts_at x) tree.links) (λ pair. pair.1))))
     (λ (off : fresh (get_or rows k d) ≡ false). off)

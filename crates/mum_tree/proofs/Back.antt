@@ -1,9 +1,9 @@
 -- What a change leaves is a tree only where nothing stands against it.
-use Rattle.std.proofs.Common.{◌≡◌, ◌≢◌, ℕ, zero, suc, ◌<◌, ◌≤◌, ◌+◌, ◌&&◌, Bool, true, false, not, cond, eqb, leb, List, [], ◌∷◌, ◌++◌, length, get_or, Option, Some, None, refl, arith, ap, sym, ◌∙◌, subst, ⊎_elim, length-append}
+use Rattle.std.proofs.Common.{◌≡◌, ◌≢◌, ℕ, zero, suc, ◌<◌, ◌≤◌, ◌+◌, ◌&&◌, Bool, true, false, not, cond, eqb, leb, List, [], ◌∷◌, ◌++◌, length, get_or, Some, None, refl, arith, ap, sym, ◌∙◌, subst, ⊎_elim, length-append}
 use Rattle.std.specs.Prelude.{◌↔◌}
-use Rattle.std.specs.List.{AllPairs, Contains, filter, list_any}
+use Rattle.std.specs.List.{Contains, filter, list_any}
 use Rattle.std.specs.Option.{is_some}
-use Rattle.std.proofs.lemmas.Bool.{and_parts, both_ways, cases_Bool, eq-eqb, eqb-true, false≢true, ne_eqb}
+use Rattle.std.proofs.lemmas.Bool.{and_parts, both_ways, cases_Bool, eq-eqb, eqb-true, ne_eqb}
 use Rattle.std.proofs.lemmas.Bool.Decides.{nat_tests}
 use Rattle.std.proofs.lemmas.List.{get_or_append_left, get_or-append-add, length-reverse}
 use Rattle.std.proofs.lemmas.List.Folds.{list_any_none}
@@ -18,7 +18,7 @@ use Rattle.mum_tree.specs.Refusals.{fault_of_add, fault_of_remove, is_full}
 use Rattle.mum_tree.specs.Rows.{number, row_of, is_there, is_temporary, is_below, is_taken, has_name_beside, path, upward}
 use Rattle.mum_tree.specs.State.{TreeState, new_row, plain_info, with_new, without_subtree}
 use Rattle.mum_tree.proofs.Changed.{number_found}
-use Rattle.mum_tree.proofs.Edits.{added_proper, none_stands, some_row}
+use Rattle.mum_tree.proofs.Edits.{added_proper, none_stands}
 use Rattle.mum_tree.proofs.Find.{row_of_none}
 use Rattle.mum_tree.proofs.Grown.{kind_kept, none_is_some, old_parents, row_of_last}
 use Rattle.mum_tree.proofs.Shrunk.{is_top, links_left, list_any-reverse, shrunk_proper, stays, there_after}

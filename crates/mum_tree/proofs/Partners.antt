@@ -1,9 +1,9 @@
 -- The links that a change of a channel leaves.
-use Rattle.std.proofs.Common.{◌≡◌, ◌≢◌, ℕ, zero, suc, ◌<◌, ◌≤◌, ◌+◌, ◌&&◌, ◌||◌, ◌⊎◌, inl, inr, Bool, true, false, not, cond, eqb, leb, ltb, List, [], ◌∷◌, length, get_or, map, Some, refl, arith, ap, sym, ◌∙◌, subst, ⊎_elim}
+use Rattle.std.proofs.Common.{◌≡◌, ◌≢◌, ℕ, zero, suc, ◌<◌, ◌≤◌, ◌+◌, ◌&&◌, ◌||◌, ◌⊎◌, inl, inr, Bool, true, false, not, cond, eqb, leb, ltb, List, [], ◌∷◌, length, get_or, map, refl, arith, ap, sym, ◌∙◌, subst, ⊎_elim}
 use Rattle.std.specs.Bool.{IsTrue}
 use Rattle.std.specs.Prelude.{◌↔◌}
-use Rattle.std.specs.List.{All, AllPairs, Contains, count_by, filter, list_all, list_any}
-use Rattle.std.proofs.lemmas.Bool.{and_from, and_parts, and_right, both_ways, cases_Bool, cases_eq, cond_both, eq-eqb, eqb-true, ne_eqb, or_from, or_parts, ltb-false, leb-false}
+use Rattle.std.specs.List.{AllPairs, Contains, count_by, filter, list_all, list_any}
+use Rattle.std.proofs.lemmas.Bool.{and_from, and_parts, both_ways, cases_Bool, cases_eq, cond_both, eq-eqb, eqb-true, ne_eqb, or_from, or_parts, ltb-false}
 use Rattle.std.proofs.lemmas.Bool.Decides.{nat_tests}
 use Rattle.std.proofs.lemmas.List.{get_or_default, length-map}
 use Rattle.std.proofs.lemmas.List.Elements.{All-contains, filter_passes}
@@ -15,7 +15,7 @@ use Rattle.mum_tree.specs.declared.channel.Row.{Row}
 use Rattle.mum_tree.specs.Change.{Change, is_among, is_new_partner, is_partner_after, overlinks, pairs_with_all, pairs_without_all}
 use Rattle.mum_tree.specs.Proper.{AreBothWays, AreLinks, ArePairs, IsBetween, IsProper}
 use Rattle.mum_tree.specs.Rows.{number, row_of, is_there, Rise}
-use Rattle.mum_tree.specs.State.{Pair, Ordered, TreeState, ends_from, is_above, is_pair, pairs_with, pairs_without, partners, starts_at, with_pair}
+use Rattle.mum_tree.specs.State.{Pair, Ordered, TreeState, is_above, is_pair, pairs_with, pairs_without, partners, starts_at, with_pair}
 use Rattle.mum_tree.proofs.Changed.{AllPairs-map, none_passes, number_found}
 use Rattle.mum_tree.proofs.Closure.{any_from, any_has, any_there, count_le_at, count_less, row_stands, same_number, worth}
 use Rattle.mum_tree.proofs.Edits.{some_row}

@@ -5,6 +5,7 @@
 mod acl;
 mod frames;
 mod messages;
+mod roster;
 mod tree;
 mod voice;
 
@@ -20,12 +21,14 @@ fn checksum(alloc: Global, words: &[String]) -> Result<u64> {
     match words {
         [word, kind, length, count] => match word.as_str() {
             "acl" => acl::walks(alloc, kind.as_str(), number(length)?, number(count)?),
+            "roster" => roster::work(alloc, kind.as_str(), number(length)?, number(count)?),
             "tree" => tree::work(alloc, kind.as_str(), number(length)?, number(count)?),
             _ => bail!("no such workload"),
         },
         [word, piece, size] => match word.as_str() {
             "frames" => frames::small(alloc, number(piece)?, number(size)?),
             "copy" => frames::copied(alloc, number(piece)?, number(size)?),
+            "copy-roster" => roster::copied(alloc, number(piece)?, number(size)?),
             "copy-tree" => tree::copied(alloc, number(piece)?, number(size)?),
             "messages" => messages::work(alloc, piece.as_str(), number(size)?),
             "copy-messages" => messages::copied(alloc, piece.as_str(), number(size)?),

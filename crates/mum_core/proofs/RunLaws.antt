@@ -55,7 +55,7 @@ frame_keeps core c (Echo frame) = (refl, refl)
 frame_keeps core c (Keep number) = (refl, refl)
 frame_keeps core c (Ignore why) = (refl, refl)
 
-notes_keep : (core : CoreState) (w : ℕ) (note : Option ℕ) → Keeps core (tell_step.notes w note core)
+notes_keep : (core : CoreState) (w : ℕ) (revision : Option ℕ) → Keeps core (tell_step.notes w revision core)
 notes_keep core w None = (refl, refl)
 notes_keep core w (Some revision) = (refl, refl)
 
@@ -87,7 +87,7 @@ grown core (Open c w) = stayed core (does core (Open c w)) refl
 grown core (Frame c kind payload) = stayed core (does core (Frame c kind payload)) (frame_keeps core c (action (connection_at core c).seat kind payload)).0
 grown core (steps.Edit c) = (edit_step.edits_of (edit_step.seat_for core) (connection_at core c).waiting, refl)
 grown core Publish = stayed core (does core Publish) refl
-grown core (Tell c note) = stayed core (does core (Tell c note)) (notes_keep (told_core core c) (connection_at core c).worker note).0
+grown core (Tell c revision) = stayed core (does core (Tell c revision)) (notes_keep (told_core core c) (connection_at core c).worker revision).0
 grown core (Look w revision) = stayed core (does core (Look w revision)) refl
 grown core (Offer w) = stayed core (does core (Offer w)) (puts_keep (taken_core core w) (offer_step.next_copy core w)).0
 grown core (Drain c) = stayed core (does core (Drain c)) (drain_keeps core (connection_at core c).seat).0
@@ -111,7 +111,7 @@ within core (Open c w) h = h
 within core (Frame c kind payload) h = within_by core (does core (Frame c kind payload)) (frame_keeps core c (action (connection_at core c).seat kind payload)) h
 within core (steps.Edit c) h = simp length-append (omega arith)
 within core Publish h = omega arith
-within core (Tell c note) h = within_by core (does core (Tell c note)) (notes_keep (told_core core c) (connection_at core c).worker note) h
+within core (Tell c revision) h = within_by core (does core (Tell c revision)) (notes_keep (told_core core c) (connection_at core c).worker revision) h
 within core (Look w revision) h = h
 within core (Offer w) h = within_by core (does core (Offer w)) (puts_keep (taken_core core w) (offer_step.next_copy core w)) h
 within core (Drain c) h = within_by core (does core (Drain c)) (drain_keeps core (connection_at core c).seat) h
@@ -181,7 +181,7 @@ frame_goes_on core c w (Echo frame) = same_worker (worker_at core w)
 frame_goes_on core c w (Keep number) = same_worker (worker_at core w)
 frame_goes_on core c w (Ignore why) = same_worker (worker_at core w)
 
-notes_go_on : (core : CoreState) (v w : ℕ) (note : Option ℕ) → Further (worker_at core w) (worker_at (tell_step.notes v note core) w)
+notes_go_on : (core : CoreState) (v w : ℕ) (revision : Option ℕ) → Further (worker_at core w) (worker_at (tell_step.notes v revision core) w)
 notes_go_on core v w None = same_worker (worker_at core w)
 notes_go_on core v w (Some revision) = changed-at core.workers v w _ (λ x at. (omega arith, omega arith))
 
@@ -206,7 +206,7 @@ goes_on core (Open c v) w h = same_worker (worker_at core w)
 goes_on core (Frame c kind payload) w h = frame_goes_on core c w (action (connection_at core c).seat kind payload)
 goes_on core (steps.Edit c) w h = same_worker (worker_at core w)
 goes_on core Publish w h = same_worker (worker_at core w)
-goes_on core (Tell c note) w h = notes_go_on (told_core core c) (connection_at core c).worker w note
+goes_on core (Tell c revision) w h = notes_go_on (told_core core c) (connection_at core c).worker w revision
 goes_on core (Look v revision) w h =
     let bounds = looks_are_bounded core v revision h in
     changed-at core.workers v w _ (λ x at.

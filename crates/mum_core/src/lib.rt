@@ -20,4 +20,4 @@ mod worker;
 pub use built::is_built;
 pub use edit::{Edit, Session};
 pub use machine::{Core, Effects, StepFault};
-pub use program::murmur;
+pub use program::{murmur, out_of_memory};

@@ -6,3 +6,5 @@
 mod program;
 #[cfg(test)]
 mod tree;
+#[cfg(test)]
+mod users;

@@ -8,3 +8,4 @@ pub mod Longer
 pub mod Underway
 pub mod Ends
 pub mod RunLaws
+pub mod Counts

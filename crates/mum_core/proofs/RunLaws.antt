@@ -76,10 +76,10 @@ drain_keeps core None = (refl, refl)
 drain_keeps core (Some seat) = takes_keep core seat (slice_get (outbox_at core seat.slot.0) 0)
 
 -- the core of a tell before its note, and that of an offer before its outbox
-abbrev told_core : CoreState → ℕ → CoreState
+abbrev pub told_core : CoreState → ℕ → CoreState
 told_core core c = at_connection c (λ connection. record connection { seat = seat_given connection.decided; decided = None }) core
 
-abbrev taken_core : CoreState → ℕ → CoreState
+abbrev pub taken_core : CoreState → ℕ → CoreState
 taken_core core w = at_worker w (λ worker. record worker { copies = drop 1 worker.copies }) core
 
 grown : (core : CoreState) (step : BuiltStep) → Grown core (does core step)
@@ -152,7 +152,7 @@ changed-at workers i w change h = from (slice_get workers i) refl
           rw there (same_worker (get_or workers w idle))
     ]
 
-none_stands : {A : Type 0} (b : Bool) (x : A) (rest : Option A) → cond b (Some x) rest ≡ None → (b ≡ false) × (rest ≡ None)
+pub none_stands : {A : Type 0} (b : Bool) (x : A) (rest : Option A) → cond b (Some x) rest ≡ None → (b ≡ false) × (rest ≡ None)
 none_stands true x rest h = cc
 none_stands false x rest h = (refl, h)
 
@@ -248,12 +248,12 @@ pub nobody_hears_itself : (state : State) (speaker target : ℕ) → AllByRecurs
 nobody_hears_itself state speaker target =
     cond_all (target == 0) _ _ (cond_all (list_any (is_session speaker) state.sessions) _ _ (others_of speaker state.sessions))
 
-not_false : (b : Bool) → not b ≡ false → b ≡ true
+pub not_false : (b : Bool) → not b ≡ false → b ≡ true
 not_false true h = refl
 not_false false h = cc
 
 -- a worker that is there and changes
-changed_here : (workers : List WorkerState) (w : ℕ) (change : WorkerState → WorkerState) → w < length workers
+pub changed_here : (workers : List WorkerState) (w : ℕ) (change : WorkerState → WorkerState) → w < length workers
     → slice_index_or (changed_at w change workers) w idle ≡ change (slice_index_or workers w idle)
 changed_here workers w change within =
     let read : slice_get workers w ≡ Some (get_or workers w idle) = slice_get-get_or workers w idle within in
@@ -267,7 +267,7 @@ copies_are_the_route core w revision held h holds =
     let within : w < length core.workers = ltb-true w (length core.workers) (not_false (nat_lt w (length core.workers)) first.0) in
     ap (λ (x : WorkerState). x.copies) (changed_here core.workers w _ within) ∙ ap (look_step.copies (state_at core revision)) holds
 
-puts_workers : (core : CoreState) (next : Option Outgoing) → (offer_step.puts core next).workers ≡ core.workers
+pub puts_workers : (core : CoreState) (next : Option Outgoing) → (offer_step.puts core next).workers ≡ core.workers
 puts_workers core None = refl
 puts_workers core (Some next) = from (offer_step.has_room core next.slot.0)
   where
@@ -276,7 +276,7 @@ puts_workers core (Some next) = from (offer_step.has_room core next.slot.0)
     from true = refl
     from false = refl
 
-first_of : (copies : List Outgoing) → is_none (slice_get copies 0) ≡ false → (copy : Outgoing) × (copies ≡ copy ∷ drop 1 copies)
+pub first_of : (copies : List Outgoing) → is_none (slice_get copies 0) ≡ false → (copy : Outgoing) × (copies ≡ copy ∷ drop 1 copies)
 first_of [] h = cc
 first_of (copy ∷ copies) h = (copy, refl)
 

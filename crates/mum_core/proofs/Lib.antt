@@ -9,3 +9,4 @@ pub mod Underway
 pub mod Ends
 pub mod RunLaws
 pub mod Counts
+pub mod Numbering

@@ -41,21 +41,21 @@ stayed old new same = ([], same ∙ sym (append-nil old.accepted))
 
 -- ---- what the accepted edits and the published count become
 
-abbrev Keeps : CoreState → CoreState → Type 0
+abbrev pub Keeps : CoreState → CoreState → Type 0
 Keeps old new = (new.accepted ≡ old.accepted) × (new.published ≡ old.published)
 
 hears_keeps : (core : CoreState) (w : ℕ) (speaker : SessionId) (read : Result Parts BadVoice) → Keeps core (frame_step.hears core w speaker read)
 hears_keeps core w speaker (Ok parts) = (refl, refl)
 hears_keeps core w speaker (Err fault) = (refl, refl)
 
-frame_keeps : (core : CoreState) (c : ℕ) (a : Action) → Keeps core (frame_step.does core c a)
+pub frame_keeps : (core : CoreState) (c : ℕ) (a : Action) → Keeps core (frame_step.does core c a)
 frame_keeps core c (Ask name) = (refl, refl)
 frame_keeps core c (Voice speaker payload) = hears_keeps core (connection_at core c).worker speaker (packet payload)
 frame_keeps core c (Echo frame) = (refl, refl)
 frame_keeps core c (Keep number) = (refl, refl)
 frame_keeps core c (Ignore why) = (refl, refl)
 
-notes_keep : (core : CoreState) (w : ℕ) (revision : Option ℕ) → Keeps core (tell_step.notes w revision core)
+pub notes_keep : (core : CoreState) (w : ℕ) (revision : Option ℕ) → Keeps core (tell_step.notes w revision core)
 notes_keep core w None = (refl, refl)
 notes_keep core w (Some revision) = (refl, refl)
 
@@ -63,7 +63,7 @@ cond_keeps : (b : Bool) (core x y : CoreState) → Keeps core x → Keeps core y
 cond_keeps true core x y hx hy = hx
 cond_keeps false core x y hx hy = hy
 
-puts_keep : (core : CoreState) (next : Option Outgoing) → Keeps core (offer_step.puts core next)
+pub puts_keep : (core : CoreState) (next : Option Outgoing) → Keeps core (offer_step.puts core next)
 puts_keep core None = (refl, refl)
 puts_keep core (Some next) = cond_keeps (offer_step.has_room core next.slot.0) core _ _ (refl, refl) (refl, refl)
 
@@ -71,7 +71,7 @@ takes_keep : (core : CoreState) (seat : Seat) (front : Option Parcel) → Keeps 
 takes_keep core seat None = (refl, refl)
 takes_keep core seat (Some front) = cond_keeps (drain_step.is_for front seat) core _ _ (refl, refl) (refl, refl)
 
-drain_keeps : (core : CoreState) (seat : Option Seat) → Keeps core (drain_step.does_from core seat)
+pub drain_keeps : (core : CoreState) (seat : Option Seat) → Keeps core (drain_step.does_from core seat)
 drain_keeps core None = (refl, refl)
 drain_keeps core (Some seat) = takes_keep core seat (slice_get (outbox_at core seat.slot.0) 0)
 

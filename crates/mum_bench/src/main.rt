@@ -4,6 +4,8 @@
 
 mod acl;
 mod frames;
+mod messages;
+mod roster;
 mod tree;
 mod voice;
 
@@ -19,13 +21,17 @@ fn checksum(alloc: Global, words: &[String]) -> Result<u64> {
     match words {
         [word, kind, length, count] => match word.as_str() {
             "acl" => acl::walks(alloc, kind.as_str(), number(length)?, number(count)?),
+            "roster" => roster::work(alloc, kind.as_str(), number(length)?, number(count)?),
             "tree" => tree::work(alloc, kind.as_str(), number(length)?, number(count)?),
             _ => bail!("no such workload"),
         },
         [word, piece, size] => match word.as_str() {
             "frames" => frames::small(alloc, number(piece)?, number(size)?),
             "copy" => frames::copied(alloc, number(piece)?, number(size)?),
+            "copy-roster" => roster::copied(alloc, number(piece)?, number(size)?),
             "copy-tree" => tree::copied(alloc, number(piece)?, number(size)?),
+            "messages" => messages::work(alloc, piece.as_str(), number(size)?),
+            "copy-messages" => messages::copied(alloc, piece.as_str(), number(size)?),
             _ => bail!("no such workload"),
         },
         [word, size] => match word.as_str() {
@@ -33,6 +39,8 @@ fn checksum(alloc: Global, words: &[String]) -> Result<u64> {
             "voice" => voice::copies(false, number(size)?),
             "voice-position" => voice::copies(true, number(size)?),
             "copy-packets" => voice::copied_packets(number(size)?),
+            "hostile" => messages::hostile(alloc, number(size)?),
+            "copy-blocks" => messages::copied_blocks(alloc, number(size)?),
             _ => bail!("no such workload"),
         },
         _ => bail!("mum_bench WORKLOAD [KIND] [PIECE] SIZE"),

@@ -3,7 +3,7 @@
 use anyhow::{Result, bail};
 use mum_base::{ChannelId, Text};
 use mum_cases::{Table, number};
-use mum_tree::{Channel, ChannelInfo, Scratch, Tree, TreeFault};
+use mum_tree::{Channel, ChannelChange, ChannelInfo, Scratch, Tree, TreeFault};
 use std::alloc::Global;
 use std::mem::swap;
 
@@ -47,6 +47,56 @@ fn position_of(word: &str) -> Result<i32> {
     match word.parse::<i32>() {
         Ok(position) => Ok(position),
         Err(_) => bail!("no position: {word}"),
+    }
+}
+
+/// The parts of a change, as far as a line gives them.
+#[derive(Drop)]
+struct Parts<'a> {
+    name: Option<&'a str>,
+    parent: Option<ChannelId>,
+    description: Option<&'a str>,
+    position: Option<i32>,
+    max_users: Option<u32>,
+    links: Vec<ChannelId>,
+    unlinks: Vec<ChannelId>,
+}
+
+/// The channels of a list that is parted by spaces.
+fn channel_list(alloc: Global, words: &str) -> Result<Vec<ChannelId>> {
+    let mut list = Vec::new(alloc);
+    for word in words.split(' ') {
+        list.push(channel_number(word)?)?;
+    }
+    Ok(list)
+}
+
+impl<'a> Parts<'a> {
+    fn none(alloc: Global) -> Parts<'a> {
+        Parts {
+            name: None,
+            parent: None,
+            description: None,
+            position: None,
+            max_users: None,
+            links: Vec::new(alloc),
+            unlinks: Vec::new(alloc),
+        }
+    }
+
+    fn set(&mut self, alloc: Global, part: &'a str) -> Result<()> {
+        let (word, value) = first_word(part);
+        match word {
+            "name" => self.name = Some(value),
+            "parent" => self.parent = Some(channel_number(value)?),
+            "text" => self.description = Some(value),
+            "position" => self.position = Some(position_of(value)?),
+            "users" => self.max_users = Some(channel_number(value)?.0),
+            "links" => self.links = channel_list(alloc, value)?,
+            "unlinks" => self.unlinks = channel_list(alloc, value)?,
+            _ => bail!("no part of a change: {part}"),
+        }
+        Ok(())
     }
 }
 
@@ -184,6 +234,30 @@ impl Bench {
         self.settle(outcome)
     }
 
+    /// `ID` and the parts, each after a comma.
+    fn edit(&mut self, words: &str, round: u32) -> Result<()> {
+        let mut parts = Parts::none(self.alloc);
+        let mut id = words;
+        if let Some((first, rest)) = words.split_once(", ") {
+            id = first;
+            for part in rest.split(", ") {
+                parts.set(self.alloc, part)?;
+            }
+        }
+        let id = self.channel(id, round)?;
+        let change = ChannelChange {
+            name: parts.name,
+            parent: parts.parent,
+            description: parts.description,
+            position: parts.position,
+            max_users: parts.max_users,
+            links_add: parts.links.as_slice(),
+            links_remove: parts.unlinks.as_slice(),
+        };
+        let outcome = self.tree.edit(id, &change);
+        self.settle(outcome)
+    }
+
     /// `ID under PARENT`.
     fn move_under(&mut self, words: &str, round: u32) -> Result<()> {
         let Some((id, parent)) = words.split_once(" under ") else {
@@ -213,6 +287,7 @@ impl Bench {
         let (word, rest) = first_word(call);
         match word {
             "add" => self.add(rest, round),
+            "edit" => self.edit(rest, round),
             "rename" => self.rename(rest, round),
             "describe" => self.describe(rest, round),
             "move" => self.move_under(rest, round),
@@ -254,6 +329,7 @@ impl Bench {
                 let full = self.tree.full();
                 self.say(if full { "full" } else { "not full" })
             }
+            "below" => self.tell_below(rest, round),
             "channel" => self.tell_channel(rest, round),
             "channels" => self.tell_channels(),
             "path" => self.tell_path(rest, round),
@@ -264,10 +340,19 @@ impl Bench {
         }
     }
 
+    /// `ID TOP`: whether the channel is the top or below it.
+    fn tell_below(&mut self, words: &str, round: u32) -> Result<()> {
+        let (id, top) = first_word(words);
+        let id = self.channel(id, round)?;
+        let top = self.channel(top, round)?;
+        let below = self.tree.is_below(top, id);
+        self.say(if below { "below" } else { "not below" })
+    }
+
     fn tell_channel(&mut self, word: &str, round: u32) -> Result<()> {
         let id = self.channel(word, round)?;
         let row = match self.tree.channel(id) {
-            Some(channel) => row_of(self.alloc, channel)?,
+            Some(channel) => row_of(self.alloc, &channel.copy(self.alloc)?)?,
             None => String::from_str(self.alloc, "none")?,
         };
         self.say(row.as_str())

@@ -7,7 +7,7 @@ use mum_base::{Octets, SessionId};
 use mum_cases::{FileTable, bytes_of, number};
 use mum_frame::kind::UDP_TUNNEL;
 use mum_frame::{Frame, Framer};
-use mum_voice::Packet;
+use mum_voice::{OPUS, Packet, read_varint};
 use std::alloc::Global;
 
 pub struct Clients;
@@ -127,6 +127,52 @@ fn copies(alloc: Global, text: &str, session: SessionId, spelling: &[u8]) -> Res
     Ok(format!(in alloc; "{packets} packets with the session put in")?)
 }
 
+/// Counts of voice packets: all, those to a target, and those that end a transmission.
+#[derive(Default, Drop)]
+struct VoiceCounts {
+    packets: u64,
+    targeted: u64,
+    last: u64,
+}
+
+impl VoiceCounts {
+    /// Counts a packet, which must be Opus without a position. Bit 13 of its number ends a transmission.
+    fn count(&mut self, bytes: &[u8]) -> Result<()> {
+        let packet = match Packet::parse(bytes) {
+            Ok(packet) => packet,
+            Err(fault) => bail!("{fault}"),
+        };
+        let Some((number, _)) = read_varint(packet.audio) else {
+            bail!("no number");
+        };
+        if packet.kind != OPUS || !packet.position.is_empty() {
+            bail!("no Opus, or a position");
+        }
+        self.packets = self.packets.saturating_add(1);
+        if packet.target > 0 {
+            self.targeted = self.targeted.saturating_add(1);
+        }
+        if number & 0x2000 > 0 {
+            self.last = self.last.saturating_add(1);
+        }
+        Ok(())
+    }
+}
+
+/// What the voice packets of a conversation are.
+fn spoken(alloc: Global, text: &str) -> Result<String> {
+    let mut spoken = VoiceCounts::default();
+    for frame in &sent(alloc, text)? {
+        if frame.kind == UDP_TUNNEL {
+            spoken.count(frame.payload.as_slice())?;
+        }
+    }
+    let (all, to_target, last) = (spoken.packets, spoken.targeted, spoken.last);
+    Ok(format!(in alloc;
+        "{all} packets of Opus, {to_target} to a target, {last} end a transmission"
+    )?)
+}
+
 impl FileTable for Clients {
     const NAME: &'static str = "client";
 
@@ -136,6 +182,9 @@ impl FileTable for Clients {
         }
         if question == "in one piece" {
             return frames_in_pieces(alloc, text, usize::MAX);
+        }
+        if question == "spoken" {
+            return spoken(alloc, text);
         }
         let Some(rest) = question.strip_prefix("copied from ") else {
             bail!("no question: {question}");

@@ -110,11 +110,14 @@ value_fault rule e = fault_in rule e.place e.content
 abbrev pub only : ℕ → Rule → ℕ → Rule
 only number rule n = if n == number then rule else any_block
 
+-- a field's own fault, by the rule of its number
+abbrev pub entry_fault : (ℕ → Rule) → Entry → Option FieldFault
+entry_fault rules e = value_fault (rules e.number) e
 
 -- the first from left to right, in a value or behind the last field that is whole
 abbrev pub first_fault : (ℕ → Rule) → List Entry → Option FieldFault → Option FieldFault
 first_fault rules [] end = end
-first_fault rules (e ∷ es) end = or_else (value_fault (rules e.number) e) (first_fault rules es end)
+first_fault rules (e ∷ es) end = or_else (entry_fault rules e) (first_fault rules es end)
 
 -- a message in a message; its places are those of the whole payload
 abbrev pub message : (ℕ → Rule) → Rule

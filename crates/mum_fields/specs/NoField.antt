@@ -34,7 +34,8 @@ pub data IsNoWireType : ℕ → Type 0 where
 pub data HasFieldFault : Cursor → FieldFault → Type 0 where
   no_key : (c : Cursor) (kind : FaultKind) → 0 < length c.rest → HasNoVarint c.rest kind → HasFieldFault c (fault kind c.place)
   no_number : (c after : Cursor) (key : ℕ) → BeginsWithVarint c key after → (IsNumber (key / 8) → ⊥) → HasFieldFault c (fault BadWireType c.place)
-  no_wire_type : (c after : Cursor) (number wire : ℕ) → BeginsWithKey c number wire after → IsNoWireType wire → HasFieldFault c (fault BadWireType c.place)
+  no_wire_type : (c after : Cursor) (number wire : ℕ) → BeginsWithKey c number wire after → IsNoWireType wire
+      → HasFieldFault c (fault BadWireType c.place)
   no_varint : (c after : Cursor) (number : ℕ) (kind : FaultKind) → BeginsWithKey c number 0 after → HasNoVarint after.rest kind
       → HasFieldFault c (fault kind after.place)
   cut_fixed8 : (c after : Cursor) (number : ℕ) → BeginsWithKey c number 1 after → length after.rest < 8 → HasFieldFault c (fault Truncated after.place)

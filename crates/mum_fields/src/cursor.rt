@@ -46,7 +46,8 @@ impl<'a> Cursor<'a> {
     /// So many bytes from the front. Where they are not left, that is this fault.
     #[tactic(auto, unfolding(crate::specs::Field::bytes_at))]
     fn bytes(self, missing: FaultKind, count: usize) -> Result<(&'a [u8], Cursor<'a>), FieldFault>
-        ensures reads { IsRead (λ x. (x.0.now, cursor_of x.1)) result (bytes_at missing count (cursor_of self.entry)) }
+        ensures reads { IsRead (λ x. (x.0.now, cursor_of x.1)) result
+            (bytes_at missing count (cursor_of self.entry)) }
         ensures count { IfOk result (λ x. length x.0.now ≡ count) }
         ensures fits { IfOk result (λ x. self.entry.place + length x.0.now < 2 ^ 64) }
     {
@@ -82,7 +83,8 @@ impl<'a> Cursor<'a> {
         number: u32,
         wire_type: u64,
     ) -> Result<(Placed<'a>, Cursor<'a>), FieldFault>
-        ensures { IsRead (λ x. (entry_of x.0, cursor_of x.1)) result (value_at key number wire_type (cursor_of self.entry)) }
+        ensures { IsRead (λ x. (entry_of x.0, cursor_of x.1)) result
+            (value_at key number wire_type (cursor_of self.entry)) }
     {
         match wire_type {
             0 => {

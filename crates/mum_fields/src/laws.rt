@@ -22,13 +22,15 @@ pub fn fields_are_the_grammar()
 /// What is written is read as what was put, field by field.
 pub fn written_is_read()
     ensures { (items : List Item) (place : ℕ) → AllByRecursion Fits items
-        → fields (record { place = place; rest = written items }) ≡ record { items = placed_from place items; fault = None } }
+        → fields (record { place = place; rest = written items })
+        ≡ record { items = placed_from place items; fault = None } }
 {}
 
 /// What is written for a number is a varint of it, and none has fewer bytes.
 pub fn shortest_is_least()
     ensures varint { (n : ℕ) → n < 2 ^ 64 → IsVarint (shortest n) n }
-    ensures least { (n : ℕ) (bytes : List ℕ) → AreOctets bytes → IsVarint bytes n → length (shortest n) ≤ length bytes }
+    ensures least { (n : ℕ) (bytes : List ℕ) → AreOctets bytes → IsVarint bytes n
+        → length (shortest n) ≤ length bytes }
 {}
 
 /// There is no varint at the front exactly where the bytes end inside it, before a tenth, or where

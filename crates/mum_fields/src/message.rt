@@ -4,7 +4,7 @@
 ghost use Rattle.std.specs.Prelude.{◌≡◌, ◌∷◌, [], ◌++◌, map, OnOk, OnErr, IfOk, IfErr, None, Some, true, is_some, if◌then◌else◌};
 ghost use Rattle.mum_fields.specs.Field.{entry_of};
 ghost use Rattle.mum_fields.specs.Payload.{fields};
-ghost use Rattle.mum_fields.specs.Message.{Decodes, longer, message, messages_of, only, value_fault, IsFaultOf};
+ghost use Rattle.mum_fields.specs.Message.{Decodes, longer, message, messages_of, only, entry_fault, IsFaultOf};
 ghost use Rattle.mum_fields.specs.Written.{written};
 ghost use Rattle.mum_fields.specs.Table.{Table, ReadsAs, layout, parts, items, rising, rules, no_values, values_after, gathered, lesser, least, missing, decoded, spelled};
 ghost use Rattle.mum_fields.specs.Typed.{AreTyped};
@@ -77,12 +77,14 @@ pub trait Message: Drop {
     fn take(&mut self, alloc: Global, placed: &Placed<'_>) -> Result<(), MessageFault>
         ensures ok { OnOk result (parts rows self.new
             ≡ values_after (layout rows) (parts rows self.old) (entry_of placed.now ∷ [])) }
-        ensures clean { OnOk result (value_fault (rules (layout rows) placed.now.field.number) (entry_of placed.now) ≡ None) }
-        ensures fault { IfErr result (λ e. IsFaultOf e (value_fault (rules (layout rows) placed.now.field.number) (entry_of placed.now))) };
+        ensures clean { OnOk result (entry_fault (rules (layout rows)) (entry_of placed.now) ≡ None) }
+        ensures fault { IfErr result (λ e. IsFaultOf e
+            (entry_fault (rules (layout rows)) (entry_of placed.now))) };
 
     /// Adds each field that is set to a payload, in the order of the numbers.
     fn put(&self, writer: Writer) -> Result<Writer, OutOfMemory>
-        ensures ok { IfOk result (λ more. more ≡ writer ++ written (items (layout rows) (parts rows self.now))) }
+        ensures ok { IfOk result (λ more. more
+            ≡ writer ++ written (items (layout rows) (parts rows self.now))) }
         ensures typed { OnOk result (AreTyped (layout rows) (parts rows self.now)) };
 
     /// The least required number that is not set, in the message or in a block of it.
@@ -140,9 +142,12 @@ pub fn add_message<M: Message>(
     placed: &Placed<'_>,
 ) -> Result<(), MessageFault>
     ensures ok { OnOk result (map (parts M.rows) list.new
-        ≡ longer (messages_of (values_after (layout M.rows) (no_values (layout M.rows)))) number (map (parts M.rows) list.old) (entry_of placed.now)) }
-    ensures clean { OnOk result (value_fault (only number (message (rules (layout M.rows))) placed.now.field.number) (entry_of placed.now) ≡ None) }
-    ensures fault { IfErr result (λ e. IsFaultOf e (value_fault (only number (message (rules (layout M.rows))) placed.now.field.number) (entry_of placed.now))) }
+        ≡ longer (messages_of (values_after (layout M.rows) (no_values (layout M.rows)))) number
+        (map (parts M.rows) list.old) (entry_of placed.now)) }
+    ensures clean { OnOk result
+        (entry_fault (only number (message (rules (layout M.rows)))) (entry_of placed.now) ≡ None) }
+    ensures fault { IfErr result (λ e. IsFaultOf e
+        (entry_fault (only number (message (rules (layout M.rows)))) (entry_of placed.now))) }
     ensures err { OnErr result (list.new ≡ list.old) }
 {
     if placed.field.number == number {

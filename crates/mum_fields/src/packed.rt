@@ -44,7 +44,8 @@ impl<'a> Packed<'a> {
     /// byte, at this call and at each later one.
     pub fn next_number(&mut self) -> Result<Option<u64>, FieldFault>
         ensures end { (result ≡ Ok None) ↔ (self.old.rest ≡ []) }
-        ensures number { IfOk result (λ found. IfSome found (λ n. varint_in_front self.old ≡ Ok (n, self.new))) }
+        ensures number { IfOk result (λ found. IfSome found (λ n.
+            varint_in_front self.old ≡ Ok (n, self.new))) }
         ensures fault { IfErr result (λ fault. varint_in_front self.old ≡ Err fault) }
         ensures takes { TakesFirst (λ n. n) (packed_left self.old) result (packed_left self.new) }
         ensures shorter { IfOk result (λ found. OnSome found (length self.new.rest < length self.old.rest)) }
@@ -67,7 +68,8 @@ fn push_packed<N: VarintType>(
     ensures ok { OnOk result (numbers.new ≡ numbers.old ++ map N.value_of (packed_left packed.entry).items) }
     ensures whole { OnOk result ((packed_left packed.entry).fault ≡ None) }
     ensures fault { IfErr result (λ e. IsFaultOf e (packed_left packed.entry).fault) }
-    ensures err { IfErr result (λ e. KeepsFront e numbers.old (map N.value_of (packed_left packed.entry).items) numbers.new) }
+    ensures err { IfErr result (λ e. KeepsFront e numbers.old
+        (map N.value_of (packed_left packed.entry).items) numbers.new) }
 {
     while let Some(number) = packed.next_number()? {
         numbers.push(N::from_varint(number))?;
@@ -85,7 +87,8 @@ pub fn push_numbers<N: VarintType>(
     ensures ok { OnOk result (numbers.new ≡ numbers.old ++ numbers_of N.value_of (entry_of placed.now)) }
     ensures whole { OnOk result (value_fault packed_numbers (entry_of placed.now) ≡ None) }
     ensures fault { IfErr result (λ e. IsFaultOf e (value_fault packed_numbers (entry_of placed.now))) }
-    ensures err { IfErr result (λ e. KeepsFront e numbers.old (numbers_of N.value_of (entry_of placed.now)) numbers.new) }
+    ensures err { IfErr result (λ e. KeepsFront e numbers.old
+        (numbers_of N.value_of (entry_of placed.now)) numbers.new) }
 {
     match placed.field.value {
         Value::Varint(number) => {

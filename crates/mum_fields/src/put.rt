@@ -108,7 +108,8 @@ impl Writer {
             ++ written (each_message (items (layout M.rows)) number (map (parts M.rows) list.now))) }
         ensures typed { OnOk result (AreTypedBlocks (layout M.rows) (map (parts M.rows) list.now)) }
         ensures err { OnErr result ((count : ℕ) × (self.new ≡ self.old
-            ++ written (each_message (items (layout M.rows)) number (map (parts M.rows) (take count list.now))))) }
+            ++ written (each_message (items (layout M.rows)) number
+            (map (parts M.rows) (take count list.now))))) }
     {
         for message in list.as_slice() {
             let block = message.put(self.fresh())?;

@@ -56,7 +56,14 @@ impl<'a> Reader<'a> {
     pub fn next_field(&mut self) -> Result<Option<Field<'a>>, FieldFault>
         ensures end { (result ≡ Ok None) ↔ (self.old.rest ≡ []) }
         ensures field { IfOk result (λ found. IfSome found (λ field. (place : ℕ)
-            × (field_at self.old ≡ Ok (record { number = field.number; content = content_of field.value; place = place }, self.new)))) }
+            × (field_at self.old ≡ Ok (
+              record {
+                number = field.number;
+                content = content_of field.value;
+                place = place;
+              },
+              self.new,
+            )))) }
         ensures faults { (fault : FieldFault) → (result ≡ Err fault) ↔ HasFieldFault self.old fault }
         ensures kept { (result ≡ Ok None) → self.new ≡ self.old }
         ensures err { OnErr result (self.new ≡ self.old) }
@@ -71,7 +78,8 @@ impl<'a> Reader<'a> {
     /// call answers it again.
     pub fn next_placed(&mut self) -> Result<Option<Placed<'a>>, FieldFault>
         ensures end { (result ≡ Ok None) ↔ (self.old.rest ≡ []) }
-        ensures field { IfOk result (λ found. IfSome found (λ placed. field_at self.old ≡ Ok (entry_of placed, self.new))) }
+        ensures field { IfOk result (λ found. IfSome found (λ placed.
+            field_at self.old ≡ Ok (entry_of placed, self.new))) }
         ensures faults { (fault : FieldFault) → (result ≡ Err fault) ↔ HasFieldFault self.old fault }
         ensures takes { TakesFirst entry_of (fields self.old) result (fields self.new) }
         ensures shorter { IfOk result (λ found. OnSome found (length self.new.rest < length self.old.rest)) }

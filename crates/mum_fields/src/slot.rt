@@ -5,7 +5,7 @@
 
 ghost use Rattle.std.specs.Prelude.{◌≡◌, OnOk, OnErr, IfOk, IfErr, None};
 ghost use Rattle.mum_fields.specs.Field.{entry_of};
-ghost use Rattle.mum_fields.specs.Message.{newer, longer, varint_of, block_of, blocks_of, numbers_of, only, text, packed_numbers, value_fault, IsFaultOf, KeepsFront};
+ghost use Rattle.mum_fields.specs.Message.{newer, longer, varint_of, block_of, blocks_of, numbers_of, only, text, packed_numbers, entry_fault, IsFaultOf, KeepsFront};
 
 use crate::field::{Placed, Value};
 use crate::message::MessageFault;
@@ -63,8 +63,9 @@ pub fn set_text(
     placed: &Placed<'_>,
 ) -> Result<(), MessageFault>
     ensures ok { OnOk result (slot.new ≡ newer block_of number slot.old (entry_of placed.now)) }
-    ensures clean { OnOk result (value_fault (only number text placed.now.field.number) (entry_of placed.now) ≡ None) }
-    ensures fault { IfErr result (λ e. IsFaultOf e (value_fault (only number text placed.now.field.number) (entry_of placed.now))) }
+    ensures clean { OnOk result (entry_fault (only number text) (entry_of placed.now) ≡ None) }
+    ensures fault { IfErr result (λ e. IsFaultOf e
+        (entry_fault (only number text) (entry_of placed.now))) }
     ensures err { OnErr result (slot.new ≡ slot.old) }
 {
     if placed.field.number == number {
@@ -83,8 +84,9 @@ pub fn add_text(
     placed: &Placed<'_>,
 ) -> Result<(), MessageFault>
     ensures ok { OnOk result (list.new ≡ longer blocks_of number list.old (entry_of placed.now)) }
-    ensures clean { OnOk result (value_fault (only number text placed.now.field.number) (entry_of placed.now) ≡ None) }
-    ensures fault { IfErr result (λ e. IsFaultOf e (value_fault (only number text placed.now.field.number) (entry_of placed.now))) }
+    ensures clean { OnOk result (entry_fault (only number text) (entry_of placed.now) ≡ None) }
+    ensures fault { IfErr result (λ e. IsFaultOf e
+        (entry_fault (only number text) (entry_of placed.now))) }
     ensures err { OnErr result (list.new ≡ list.old) }
 {
     if placed.field.number == number {
@@ -102,10 +104,13 @@ pub fn add_numbers<N: VarintType>(
     number: u32,
     placed: &Placed<'_>,
 ) -> Result<(), MessageFault>
-    ensures ok { OnOk result (list.new ≡ longer (numbers_of N.value_of) number list.old (entry_of placed.now)) }
-    ensures clean { OnOk result (value_fault (only number packed_numbers placed.now.field.number) (entry_of placed.now) ≡ None) }
-    ensures fault { IfErr result (λ e. IsFaultOf e (value_fault (only number packed_numbers placed.now.field.number) (entry_of placed.now))) }
-    ensures err { IfErr result (λ e. KeepsFront e list.old (numbers_of N.value_of (entry_of placed.now)) list.new) }
+    ensures ok { OnOk result (list.new
+        ≡ longer (numbers_of N.value_of) number list.old (entry_of placed.now)) }
+    ensures clean { OnOk result (entry_fault (only number packed_numbers) (entry_of placed.now) ≡ None) }
+    ensures fault { IfErr result (λ e. IsFaultOf e
+        (entry_fault (only number packed_numbers) (entry_of placed.now))) }
+    ensures err { IfErr result (λ e. KeepsFront e list.old
+        (numbers_of N.value_of (entry_of placed.now)) list.new) }
 {
     if placed.field.number == number {
         return push_numbers(list, placed);

@@ -10,10 +10,10 @@ use Rattle.mum_frame.specs.declared.frame.Frame.{Frame}
 use Rattle.mum_frame.specs.declared.framer.FrameFault.{FrameFault}
 use Rattle.mum_frame.specs.declared.framer.FrameFault.TheVariants.{FrameTooLong, OutOfMemory}
 use Rattle.mum_frame.specs.Calls.{Call, fed, asked, Leads, bytes_fed, frames_given}
-use Rattle.mum_frame.specs.Frame.{frame_spelling, IsFrame, IsPartial, TooLong, named_length}
+use Rattle.mum_frame.specs.Frame.{frame_spelling, IsFrame, HasNoFrame, TooLong, named_length}
 use Rattle.mum_frame.specs.Stream.{NextGives, IsFront, Splits}
 use Rattle.mum_frame.proofs.Replies.{none_from, none_to, too_long_from, too_long_to}
-use Rattle.mum_frame.proofs.Headers.{IsPartial-above_limit}
+use Rattle.mum_frame.proofs.Headers.{HasNoFrame-above_limit}
 use Rattle.mum_frame.proofs.Streams.{joined, joined-cons, longest-Splits}
 
 -- what was kept and what was fed is what was given and what is kept
@@ -52,12 +52,12 @@ given_prefix calls kept rest frames leads splits =
     longest-Splits (bytes_fed calls) rest kept frames (frames_given calls) splits
     (All-from_recursion IsFrame (frames_given calls) (Leads-each [] calls kept leads)) (Leads-joined [] calls kept leads)
 
--- where what is kept is partial, all were given
-given_all : (calls : List Call) (kept : List ℕ) → Leads [] calls kept → IsPartial kept → Splits (bytes_fed calls) (frames_given calls) kept
-given_all calls kept leads partial = record {
+-- where no frame begins what is kept, all were given
+given_all : (calls : List Call) (kept : List ℕ) → Leads [] calls kept → HasNoFrame kept → Splits (bytes_fed calls) (frames_given calls) kept
+given_all calls kept leads none = record {
   whole = Leads-joined [] calls kept leads;
   each = All-from_recursion IsFrame (frames_given calls) (Leads-each [] calls kept leads);
-  partial = partial;
+  no_frame = none;
 }
 
 pub given_none : (calls : List Call) (kept new : List ℕ) (answer : Result (Option Frame) FrameFault) → Leads [] calls kept → NextGives kept answer new
@@ -65,7 +65,7 @@ pub given_none : (calls : List Call) (kept new : List ℕ) (answer : Result (Opt
     × (Splits (bytes_fed calls) (frames_given calls) kept × (TooLong kept → ⊥) → answer ≡ Ok None)
 given_none calls kept new answer leads gives = (
   λ e. let stuck = none_from kept answer new gives e in (given_all calls kept leads stuck.0, stuck.1),
-  λ all. none_to kept answer new gives (all.0.partial, all.1),
+  λ all. none_to kept answer new gives (all.0.no_frame, all.1),
 )
 
 pub given_too_long : (calls : List Call) (kept new : List ℕ) (answer : Result (Option Frame) FrameFault) → Leads [] calls kept → NextGives kept answer new
@@ -74,7 +74,7 @@ pub given_too_long : (calls : List Call) (kept new : List ℕ) (answer : Result 
 given_too_long calls kept new answer leads gives = (
   λ e.
       let above = (too_long_from kept answer new (named_length kept) gives e).0 in
-      (given_all calls kept leads (IsPartial-above_limit kept above), above),
+      (given_all calls kept leads (HasNoFrame-above_limit kept above), above),
   λ all. too_long_to kept answer new gives all.1,
 )
 
@@ -106,10 +106,10 @@ refused_for_good old (fed piece (Err e) ∷ calls) later new answer above (kept,
     refused_for_good kept calls later new answer (subst TooLong (sym is) above) leads gives
     ∙ ap (λ (bytes : List ℕ). Err (FrameTooLong (named_length bytes))) is
 refused_for_good old (asked (Ok (Some frame)) ∷ calls) later new answer above (kept, (is, leads)) gives =
-    absurd (IsPartial-above_limit old above frame kept is.0 is.1)
+    absurd (HasNoFrame-above_limit old above frame kept is.0 is.1)
 refused_for_good old (asked (Ok None) ∷ calls) later new answer above (kept, (is, leads)) gives = absurd (is.1 above)
 refused_for_good old (asked (Err (FrameTooLong named)) ∷ calls) later new answer above (kept, (is, leads)) gives =
     refused_for_good kept calls later new answer (subst TooLong (sym is.2) above) leads gives
     ∙ ap (λ (bytes : List ℕ). Err (FrameTooLong (named_length bytes))) is.2
 refused_for_good old (asked (Err OutOfMemory) ∷ calls) later new answer above (kept, (is, leads)) gives =
-    absurd (is.0 (IsPartial-above_limit old above))
+    absurd (is.0 (HasNoFrame-above_limit old above))

@@ -1,11 +1,11 @@
--- What a header says of the bytes behind it, and that a frame is read back from its frame_spelling.
+-- What a header says of the bytes behind it, and that a frame is read back from its spelling.
 use Rattle.std.proofs.Common.{◌≡◌, ℕ, ◌+◌, ◌*◌, ◌/◌, ◌%◌, ◌^◌, ◌-◌, ◌<◌, ◌≤◌, List, [], ◌∷◌, ◌++◌, length, take, drop, get_or, refl, sym, ap, ◌∙◌, arith, length-append, length-drop}
 use Rattle.std.proofs.lemmas.List.{drop_at, take_at, take-append-drop, drop-drop, length-take-le, take_rest}
 use Rattle.byteorder.specs.Endian.{big_bytes, big_number}
 use Rattle.byteorder.specs.Numbers.{big_number-reads_back}
 use Rattle.mum_frame.specs.declared.frame.TheConstants.{HEADER_LENGTH, PAYLOAD_LIMIT}
 use Rattle.mum_frame.specs.declared.frame.Frame.{Frame}
-use Rattle.mum_frame.specs.Frame.{frame_spelling, spelling_of, IsFrame, named_length, TooLong, IsPartial}
+use Rattle.mum_frame.specs.Frame.{frame_spelling, spelling_of, IsFrame, named_length, TooLong, HasNoFrame}
 
 -- the header of a frame, in front of what follows it
 pub spelling_of-parts : (kind : ℕ) (payload rest : List ℕ)
@@ -47,20 +47,20 @@ begun_has_room bytes frame rest is e =
     record { header = omega arith; within_limit = omega arith; payload = omega arith }
 
 -- a length above the limit begins no frame
-pub IsPartial-above_limit : (bytes : List ℕ) → TooLong bytes → IsPartial bytes
-IsPartial-above_limit bytes above frame rest is e =
+pub HasNoFrame-above_limit : (bytes : List ℕ) → TooLong bytes → HasNoFrame bytes
+HasNoFrame-above_limit bytes above frame rest is e =
     let room = begun_has_room bytes frame rest is e in
     let named = above.above in
     omega arith
 
 -- nor does less than a header
-pub IsPartial-no_header : (bytes : List ℕ) → length bytes < HEADER_LENGTH → IsPartial bytes
-IsPartial-no_header bytes short frame rest is e =
+pub HasNoFrame-no_header : (bytes : List ℕ) → length bytes < HEADER_LENGTH → HasNoFrame bytes
+HasNoFrame-no_header bytes short frame rest is e =
     let room = begun_has_room bytes frame rest is e in omega arith
 
 -- nor does less than the named payload
-pub IsPartial-cut : (bytes : List ℕ) → length bytes < HEADER_LENGTH + named_length bytes → IsPartial bytes
-IsPartial-cut bytes short frame rest is e =
+pub HasNoFrame-cut : (bytes : List ℕ) → length bytes < HEADER_LENGTH + named_length bytes → HasNoFrame bytes
+HasNoFrame-cut bytes short frame rest is e =
     let room = begun_has_room bytes frame rest is e in omega arith
 
 -- two frames that begin the same bytes are one, and the same follows them
@@ -94,7 +94,7 @@ four_bytes-is a b c d rest ha hb hc hd =
     let at_d : (a * 16777216 + (b * 65536 + (c * 256 + (d * 1 + 0)))) % 256 ≡ d = omega arith in
     cc
 
--- bytes are the frame_spelling of what their header names, and what follows
+-- bytes are the spelling of what their header names, and what follows
 pub header_is : (bytes : List ℕ) → ((k : ℕ) → get_or bytes k 0 < 256) → HEADER_LENGTH ≤ length bytes
     → bytes ≡ big_bytes 2 (big_number 2 bytes) ++ (big_bytes 4 (named_length bytes) ++ drop HEADER_LENGTH bytes)
 unfolding named_length

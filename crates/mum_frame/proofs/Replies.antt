@@ -3,21 +3,21 @@ use Rattle.std.proofs.Common.{◌≡◌, ℕ, List, Option, Some, None, Result, 
 use Rattle.mum_frame.specs.declared.frame.Frame.{Frame}
 use Rattle.mum_frame.specs.declared.framer.FrameFault.{FrameFault}
 use Rattle.mum_frame.specs.declared.framer.FrameFault.TheVariants.{FrameTooLong, OutOfMemory}
-use Rattle.mum_frame.specs.Frame.{IsPartial, TooLong, named_length}
+use Rattle.mum_frame.specs.Frame.{HasNoFrame, TooLong, named_length}
 use Rattle.mum_frame.specs.Stream.{NextGives}
-use Rattle.mum_frame.proofs.Headers.{IsPartial-above_limit}
+use Rattle.mum_frame.proofs.Headers.{HasNoFrame-above_limit}
 
--- None comes of what is partial and not too long
+-- None comes where no frame begins and no length is too great
 pub none_from : (old : List ℕ) (answer : Result (Option Frame) FrameFault) (new : List ℕ) → NextGives old answer new
-    → answer ≡ Ok None → IsPartial old × (TooLong old → ⊥)
+    → answer ≡ Ok None → HasNoFrame old × (TooLong old → ⊥)
 none_from old (Ok None) new is e = (is.0, is.1)
 none_from old (Ok (Some frame)) new is e = cc
 none_from old (Err (FrameTooLong length)) new is e = cc
 none_from old (Err OutOfMemory) new is e = cc
 
--- and what is partial and not too long gives None
+-- and there it does come
 pub none_to : (old : List ℕ) (answer : Result (Option Frame) FrameFault) (new : List ℕ) → NextGives old answer new
-    → IsPartial old × (TooLong old → ⊥) → answer ≡ Ok None
+    → HasNoFrame old × (TooLong old → ⊥) → answer ≡ Ok None
 none_to old (Ok None) new is stuck = refl
 none_to old (Ok (Some frame)) new is stuck = absurd (stuck.0 frame new is.0 is.1)
 none_to old (Err (FrameTooLong length)) new is stuck = absurd (stuck.1 is.0)
@@ -37,10 +37,10 @@ too_long_from old (Err OutOfMemory) new length is e = cc
 pub too_long_to : (old : List ℕ) (answer : Result (Option Frame) FrameFault) (new : List ℕ) → NextGives old answer new
     → TooLong old → answer ≡ Err (FrameTooLong (named_length old))
 too_long_to old (Ok None) new is above = absurd (is.1 above)
-too_long_to old (Ok (Some frame)) new is above = absurd (IsPartial-above_limit old above frame new is.0 is.1)
+too_long_to old (Ok (Some frame)) new is above = absurd (HasNoFrame-above_limit old above frame new is.0 is.1)
 too_long_to old (Err (FrameTooLong length)) new is above = ap (λ (n : ℕ). Err (FrameTooLong n)) is.1
-too_long_to old (Err OutOfMemory) new is above = absurd (is.0 (IsPartial-above_limit old above))
+too_long_to old (Err OutOfMemory) new is above = absurd (is.0 (HasNoFrame-above_limit old above))
 
 -- want of memory where a frame begins
-pub NextGives-out_of_memory : (old : List ℕ) (answer : Result (Option Frame) FrameFault) → answer ≡ Err OutOfMemory → (IsPartial old → ⊥) → NextGives old answer old
+pub NextGives-out_of_memory : (old : List ℕ) (answer : Result (Option Frame) FrameFault) → answer ≡ Err OutOfMemory → (HasNoFrame old → ⊥) → NextGives old answer old
 NextGives-out_of_memory old answer e whole = rw e (whole, refl)

@@ -8,9 +8,9 @@ use Rattle.byteorder.specs.Endian.{big_number}
 use Rattle.byteorder.specs.Numbers.{big_from-lt}
 use Rattle.mum_frame.specs.declared.frame.TheConstants.{HEADER_LENGTH, PAYLOAD_LIMIT}
 use Rattle.mum_frame.specs.declared.frame.Frame.{Frame}
-use Rattle.mum_frame.specs.Frame.{frame_spelling, IsFrame, IsPartial, named_length}
+use Rattle.mum_frame.specs.Frame.{frame_spelling, IsFrame, HasNoFrame, named_length}
 use Rattle.mum_frame.specs.Stream.{IsFront, Splits}
-use Rattle.mum_frame.proofs.Headers.{spelling-injective, IsPartial-above_limit, IsPartial-no_header, IsPartial-cut, frame_is}
+use Rattle.mum_frame.proofs.Headers.{spelling-injective, HasNoFrame-above_limit, HasNoFrame-no_header, HasNoFrame-cut, frame_is}
 
 -- these frames, and then these bytes
 abbrev pub joined : List Frame → List ℕ → List ℕ
@@ -20,25 +20,25 @@ pub joined-cons : (frame : Frame) (frames : List Frame) (rest : List ℕ) → jo
 joined-cons frame frames rest = append_assoc (frame_spelling frame) (flat_map frame_spelling frames) rest
 
 -- frames that begin a stream begin the longest list of them
-longest : (front frames : List Frame) (behind rest : List ℕ) → Each IsFrame front → Each IsFrame frames → IsPartial rest
+longest : (front frames : List Frame) (behind rest : List ℕ) → Each IsFrame front → Each IsFrame frames → HasNoFrame rest
     → joined front behind ≡ joined frames rest → IsFront front frames
-longest [] frames behind rest is_front is_frames partial e = (frames, refl)
-longest (f ∷ front) [] behind rest is_front is_frames partial e =
-    absurd (partial f (joined front behind) is_front.0 (sym e ∙ joined-cons f front behind))
-longest (f ∷ front) (g ∷ frames) behind rest is_front is_frames partial e =
+longest [] frames behind rest is_front is_frames none e = (frames, refl)
+longest (f ∷ front) [] behind rest is_front is_frames none e =
+    absurd (none f (joined front behind) is_front.0 (sym e ∙ joined-cons f front behind))
+longest (f ∷ front) (g ∷ frames) behind rest is_front is_frames none e =
     let same = spelling-injective f g (joined front behind) (joined frames rest) is_front.0 is_frames.0
     (sym (joined-cons f front behind) ∙ e ∙ joined-cons g frames rest) in
-    let more = longest front frames behind rest is_front.1 is_frames.1 partial same.1 in
+    let more = longest front frames behind rest is_front.1 is_frames.1 none same.1 in
     (more.0, ap (λ (h : Frame). h ∷ frames) (sym same.0) ∙ ap (λ (xs : List Frame). f ∷ xs) more.1)
 
 pub longest-Splits : (stream rest behind : List ℕ) (frames front : List Frame) → Splits stream frames rest → All IsFrame front
     → stream ≡ joined front behind → IsFront front frames
 longest-Splits stream rest behind frames front is is_front e =
-    longest front frames behind rest (recursion_from_All IsFrame front is_front) (recursion_from_All IsFrame frames is.each) is.partial
+    longest front frames behind rest (recursion_from_All IsFrame front is_front) (recursion_from_All IsFrame frames is.each) is.no_frame
     (sym e ∙ is.whole)
 
 -- two longest lists are one
-same_reading : (frames others : List Frame) (rest other : List ℕ) → Each IsFrame frames → Each IsFrame others → IsPartial rest → IsPartial other
+same_reading : (frames others : List Frame) (rest other : List ℕ) → Each IsFrame frames → Each IsFrame others → HasNoFrame rest → HasNoFrame other
     → joined frames rest ≡ joined others other → (frames ≡ others) × (rest ≡ other)
 same_reading [] [] rest other is_frames is_others stuck other_stuck e = (refl, e)
 same_reading [] (g ∷ others) rest other is_frames is_others stuck other_stuck e =
@@ -55,22 +55,22 @@ pub one_reading : (stream rest other : List ℕ) (frames others : List Frame) �
     → (frames ≡ others) × (rest ≡ other)
 one_reading stream rest other frames others is is_other =
     same_reading frames others rest other (recursion_from_All IsFrame frames is.each) (recursion_from_All IsFrame others is_other.each)
-    is.partial is_other.partial (sym is.whole ∙ is_other.whole)
+    is.no_frame is_other.no_frame (sym is.whole ∙ is_other.whole)
 
 -- a reading, found from the front
 abbrev Reading : List ℕ → Type 0
-Reading stream = (frames : List Frame) × ((rest : List ℕ) × ((stream ≡ joined frames rest) × Each IsFrame frames × IsPartial rest))
+Reading stream = (frames : List Frame) × ((rest : List ℕ) × ((stream ≡ joined frames rest) × Each IsFrame frames × HasNoFrame rest))
 
 reading_of : (fuel : ℕ) (bytes : List ℕ) → length bytes < fuel → ((k : ℕ) → get_or bytes k 0 < 256) → Reading bytes
 reading_of zero bytes fuel_left small = absurd (omega arith)
 reading_of (suc fuel) bytes fuel_left small =
-    let stuck : IsPartial bytes → Reading bytes = λ partial. ([], (bytes, (refl, tt, partial))) in
+    let stuck : HasNoFrame bytes → Reading bytes = λ none. ([], (bytes, (refl, tt, none))) in
     elim (cases_lt (length bytes) HEADER_LENGTH) [
-      | inl short ↦ stuck (IsPartial-no_header bytes short)
+      | inl short ↦ stuck (HasNoFrame-no_header bytes short)
       | inr header ↦ elim (cases_lt PAYLOAD_LIMIT (named_length bytes)) [
-        | inl above ↦ stuck (IsPartial-above_limit bytes (record { header = header; above = above }))
+        | inl above ↦ stuck (HasNoFrame-above_limit bytes (record { header = header; above = above }))
         | inr within ↦ elim (cases_lt (length bytes) (HEADER_LENGTH + named_length bytes)) [
-          | inl cut ↦ stuck (IsPartial-cut bytes cut)
+          | inl cut ↦ stuck (HasNoFrame-cut bytes cut)
           | inr room ↦
               let payload : List ℕ = take (named_length bytes) (drop HEADER_LENGTH bytes) in
               let frame : Frame = record { kind = big_number 2 bytes; payload = payload } in
@@ -101,7 +101,7 @@ some_reading stream bytes =
         record {
           whole = found.1.1.0;
           each = All-from_recursion IsFrame found.0 found.1.1.1;
-          partial = found.1.1.2;
+          no_frame = found.1.1.2;
         },
       ),
     )

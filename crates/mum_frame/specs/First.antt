@@ -5,7 +5,7 @@ use Rattle.mum_frame.specs.declared.frame.Frame.{Frame}
 use Rattle.mum_frame.specs.declared.frame.FrameView.{FrameView}
 use Rattle.mum_frame.specs.declared.frame.FirstFrame.{FirstFrame}
 use Rattle.mum_frame.specs.declared.frame.FirstFrame.TheVariants.{Whole, Partial, AboveLimit}
-use Rattle.mum_frame.specs.Frame.{frame_spelling, IsFrame, IsPartial, TooLong, named_length}
+use Rattle.mum_frame.specs.Frame.{frame_spelling, IsFrame, HasNoFrame, TooLong, named_length}
 
 -- the frame that a view shows
 abbrev pub viewed : FrameView → Frame
@@ -15,5 +15,5 @@ viewed view = record { kind = view.kind; payload = view.payload.now }
 abbrev pub IsFirst : List ℕ → FirstFrame → Type 0
 IsFirst bytes (Whole view) =
     IsFrame (viewed view) × (bytes ≡ frame_spelling (viewed view) ++ drop (HEADER_LENGTH + length view.payload.now) bytes)
-IsFirst bytes Partial = IsPartial bytes × ¬ TooLong bytes
+IsFirst bytes Partial = HasNoFrame bytes × ¬ TooLong bytes
 IsFirst bytes (AboveLimit length) = TooLong bytes × (length ≡ named_length bytes)

@@ -42,5 +42,5 @@ pub record TooLong (bytes : List ℕ) : Type 0 where
   pub above : PAYLOAD_LIMIT < named_length bytes
 
 -- no frame within the limit begins the bytes
-abbrev pub IsPartial : List ℕ → Type 0
-IsPartial bytes = (frame : Frame) (rest : List ℕ) → IsFrame frame → bytes ≢ frame_spelling frame ++ rest
+abbrev pub HasNoFrame : List ℕ → Type 0
+HasNoFrame bytes = (frame : Frame) (rest : List ℕ) → IsFrame frame → bytes ≢ frame_spelling frame ++ rest

@@ -5,13 +5,13 @@ use Rattle.std.specs.declared.alloc.AllocError.{AllocError}
 use Rattle.mum_frame.specs.declared.frame.Frame.{Frame}
 use Rattle.mum_frame.specs.declared.framer.FrameFault.{FrameFault}
 use Rattle.mum_frame.specs.declared.framer.FrameFault.TheVariants.{FrameTooLong, OutOfMemory}
-use Rattle.mum_frame.specs.Frame.{frame_spelling, IsFrame, IsPartial, TooLong, named_length}
+use Rattle.mum_frame.specs.Frame.{frame_spelling, IsFrame, HasNoFrame, TooLong, named_length}
 
 -- the stream is these frames, and then what no frame within the limit begins
 pub record Splits (stream : List ℕ) (frames : List Frame) (rest : List ℕ) : Type 0 where
   pub whole : stream ≡ flat_map frame_spelling frames ++ rest
   pub each : All IsFrame frames
-  pub partial : IsPartial rest
+  pub no_frame : HasNoFrame rest
 
 -- the second list begins with the first
 abbrev pub IsFront : List Frame → List Frame → Type 0
@@ -30,6 +30,6 @@ FeedKeeps old piece (Err e) new = new ≡ old
 -- what `next` answers, and does to the bytes that are kept
 abbrev pub NextGives : List ℕ → Result (Option Frame) FrameFault → List ℕ → Type 0
 NextGives old (Ok (Some frame)) new = IsFrame frame × (old ≡ frame_spelling frame ++ new)
-NextGives old (Ok None) new = IsPartial old × (¬ TooLong old) × (new ≡ old)
+NextGives old (Ok None) new = HasNoFrame old × (¬ TooLong old) × (new ≡ old)
 NextGives old (Err (FrameTooLong length)) new = TooLong old × (length ≡ named_length old) × (new ≡ old)
-NextGives old (Err OutOfMemory) new = (¬ IsPartial old) × (new ≡ old)
+NextGives old (Err OutOfMemory) new = (¬ HasNoFrame old) × (new ≡ old)

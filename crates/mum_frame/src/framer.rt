@@ -2,7 +2,7 @@
 
 ghost use Rattle.std.specs.Prelude.{◌≡◌, ◌+◌, ◌≤◌, ◌↔◌, [], drop, None};
 ghost use Rattle.std.specs.Vec.{vec_len};
-ghost use Rattle.mum_frame.specs.Frame.{IsPartial, TooLong, named_length};
+ghost use Rattle.mum_frame.specs.Frame.{HasNoFrame, TooLong, named_length};
 ghost use Rattle.mum_frame.specs.Stream.{FeedKeeps, NextGives};
 
 use crate::frame::{FirstFrame, Frame, HEADER_LENGTH, first_frame};
@@ -115,7 +115,7 @@ impl Framer {
     /// is fed. The room that a great frame took is given back.
     pub fn next(&mut self) -> Result<Option<Frame>, FrameFault>
         ensures answer { NextGives self.old.kept result self.new.kept }
-        ensures none { (result ≡ Ok None) ↔ (IsPartial self.old.kept × ¬ TooLong self.old.kept) }
+        ensures none { (result ≡ Ok None) ↔ (HasNoFrame self.old.kept × ¬ TooLong self.old.kept) }
         ensures too_long { (result ≡ Err (FrameFault.FrameTooLong (named_length self.old.kept)))
             ↔ TooLong self.old.kept }
         ensures room { self.new.kept ≡ [] → self.new.room ≤ ROOM_LIMIT }

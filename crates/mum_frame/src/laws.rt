@@ -38,17 +38,20 @@ pub fn limits_and_types()
     ensures codec_version { CODEC_VERSION ≡ 21 }
 {}
 
-/// A frame is known by its frame_spelling, and by the front of any bytes that begin with it.
+/// A frame is known by its spelling, and by the front of any bytes that begin with it.
 pub fn a_spelling_is_of_one_frame()
     ensures one { (frame other : Frame) (rest behind : List ℕ) → IsFrame frame → IsFrame other →
-        frame_spelling frame ++ rest ≡ frame_spelling other ++ behind → (frame ≡ other) × (rest ≡ behind) }
-    ensures length { (frame : Frame) → length (frame_spelling frame) ≡ HEADER_LENGTH + length frame.payload }
+        frame_spelling frame ++ rest ≡ frame_spelling other ++ behind →
+        (frame ≡ other) × (rest ≡ behind) }
+    ensures length { (frame : Frame) →
+        length (frame_spelling frame) ≡ HEADER_LENGTH + length frame.payload }
 {}
 
 /// Bytes that are one frame name its type and hold its payload.
 pub fn a_frame_stands_alone()
     ensures parts { (frame : Frame) → IsFrame frame →
-        (kind_of (frame_spelling frame) ≡ frame.kind) × (payload_of (frame_spelling frame) ≡ frame.payload) }
+        (kind_of (frame_spelling frame) ≡ frame.kind) ×
+        (payload_of (frame_spelling frame) ≡ frame.payload) }
     ensures tested { (bytes : List ℕ) → All (λ byte. byte < 256) bytes →
         (IsTrue (is_one_frame bytes) ↔ IsOneFrame bytes) }
 {}
@@ -58,10 +61,12 @@ pub fn a_stream_has_one_reading()
     ensures some { (stream : List ℕ) → All (λ byte. byte < 256) stream →
         (frames : List Frame) × ((rest : List ℕ) × Splits stream frames rest) }
     ensures one { (stream rest other : List ℕ) (frames others : List Frame) →
-        Splits stream frames rest → Splits stream others other → (frames ≡ others) × (rest ≡ other) }
+        Splits stream frames rest → Splits stream others other →
+        (frames ≡ others) × (rest ≡ other) }
     // It is the longest: whatever frames begin the stream, these begin with them.
     ensures longest { (stream rest behind : List ℕ) (frames front : List Frame) →
-        Splits stream frames rest → All IsFrame front → stream ≡ flat_map frame_spelling front ++ behind →
+        Splits stream frames rest → All IsFrame front →
+        stream ≡ flat_map frame_spelling front ++ behind →
         IsFront front frames }
 {}
 
@@ -74,18 +79,23 @@ pub fn frames_come_in_any_pieces()
         All IsFrame (frames_given calls) }
     // The frames given so far begin the frames of all bytes fed.
     ensures prefix { (calls : List Call) (kept rest : List ℕ) (frames : List Frame) →
-        Leads [] calls kept → Splits (bytes_fed calls) frames rest → IsFront (frames_given calls) frames }
+        Leads [] calls kept → Splits (bytes_fed calls) frames rest →
+        IsFront (frames_given calls) frames }
     // None comes exactly where they are all of these frames, and no length is too great.
-    ensures none { (calls : List Call) (kept new : List ℕ) (answer : Result (Option Frame) FrameFault) →
+    ensures none { (calls : List Call) (kept new : List ℕ)
+        (answer : Result (Option Frame) FrameFault) →
         Leads [] calls kept → NextGives kept answer new →
-        ((answer ≡ Ok None) ↔ (Splits (bytes_fed calls) (frames_given calls) kept × ¬ TooLong kept)) }
+        ((answer ≡ Ok None) ↔
+        (Splits (bytes_fed calls) (frames_given calls) kept × ¬ TooLong kept)) }
     // A length is refused exactly where they are all of these frames, and it stands behind them.
-    ensures too_long { (calls : List Call) (kept new : List ℕ) (answer : Result (Option Frame) FrameFault) →
+    ensures too_long { (calls : List Call) (kept new : List ℕ)
+        (answer : Result (Option Frame) FrameFault) →
         Leads [] calls kept → NextGives kept answer new →
         ((answer ≡ Err (FrameTooLong (named_length kept))) ↔
         (Splits (bytes_fed calls) (frames_given calls) kept × TooLong kept)) }
     // And then each later call refuses it again, whatever is fed in between.
-    ensures for_good { (calls : List Call) (kept later new : List ℕ) (answer : Result (Option Frame) FrameFault) →
+    ensures for_good { (calls : List Call) (kept later new : List ℕ)
+        (answer : Result (Option Frame) FrameFault) →
         TooLong kept → Leads kept calls later → NextGives later answer new →
         answer ≡ Err (FrameTooLong (named_length kept)) }
 {}

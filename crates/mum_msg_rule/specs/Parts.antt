@@ -15,7 +15,11 @@ use Rattle.mum_msg_rule.specs.Messages.{text_message, permission_denied, acl_gro
 
 text_message_of : Values (layout text_message) → TextMessage
 text_message_of v = record {
-  actor = v.0; session = v.1.0; channel_id = v.1.1.0; tree_id = v.1.1.1.0; message = v.1.1.1.1.0
+  actor = v.0;
+  session = v.1.0;
+  channel_id = v.1.1.0;
+  tree_id = v.1.1.1.0;
+  message = v.1.1.1.1.0;
 }
 
 pub text_message_told : (m n : TextMessage) → parts text_message m ≡ parts text_message n → m ≡ n
@@ -24,8 +28,12 @@ text_message_told m n h = ap text_message_of h
 
 permission_denied_of : Values (layout permission_denied) → PermissionDenied
 permission_denied_of v = record {
-  permission = v.0; channel_id = v.1.0; session = v.1.1.0; reason = v.1.1.1.0; kind = v.1.1.1.1.0;
-  name = v.1.1.1.1.1.0
+  permission = v.0;
+  channel_id = v.1.0;
+  session = v.1.1.0;
+  reason = v.1.1.1.0;
+  kind = v.1.1.1.1.0;
+  name = v.1.1.1.1.1.0;
 }
 
 pub permission_denied_told : (m n : PermissionDenied) → parts permission_denied m ≡ parts permission_denied n → m ≡ n
@@ -34,8 +42,13 @@ permission_denied_told m n h = ap permission_denied_of h
 
 acl_group_of : Values (layout acl_group) → AclGroup
 acl_group_of v = record {
-  name = v.0; inherited = v.1.0; inherit = v.1.1.0; inheritable = v.1.1.1.0; add = v.1.1.1.1.0;
-  remove = v.1.1.1.1.1.0; inherited_members = v.1.1.1.1.1.1.0
+  name = v.0;
+  inherited = v.1.0;
+  inherit = v.1.1.0;
+  inheritable = v.1.1.1.0;
+  add = v.1.1.1.1.0;
+  remove = v.1.1.1.1.1.0;
+  inherited_members = v.1.1.1.1.1.1.0;
 }
 
 pub acl_group_told : (m n : AclGroup) → parts acl_group m ≡ parts acl_group n → m ≡ n
@@ -44,8 +57,13 @@ acl_group_told m n h = ap acl_group_of h
 
 acl_line_of : Values (layout acl_line) → AclLine
 acl_line_of v = record {
-  apply_here = v.0; apply_subs = v.1.0; inherited = v.1.1.0; user_id = v.1.1.1.0;
-  group = v.1.1.1.1.0; grant = v.1.1.1.1.1.0; deny = v.1.1.1.1.1.1.0
+  apply_here = v.0;
+  apply_subs = v.1.0;
+  inherited = v.1.1.0;
+  user_id = v.1.1.1.0;
+  group = v.1.1.1.1.0;
+  grant = v.1.1.1.1.1.0;
+  deny = v.1.1.1.1.1.1.0;
 }
 
 pub acl_line_told : (m n : AclLine) → parts acl_line m ≡ parts acl_line n → m ≡ n
@@ -54,7 +72,11 @@ acl_line_told m n h = ap acl_line_of h
 
 acl_of : Values (layout acl) → List AclGroup → List AclLine → Acl
 acl_of v groups acls = record {
-  channel_id = v.0; inherit_acls = v.1.0; groups = groups; acls = acls; query = v.1.1.1.1.0
+  channel_id = v.0;
+  inherit_acls = v.1.0;
+  groups = groups;
+  acls = acls;
+  query = v.1.1.1.1.0;
 }
 
 pub acl_told : (m n : Acl) → parts acl m ≡ parts acl n → m ≡ n
@@ -66,7 +88,11 @@ acl_told m n h =
 
 target_block_of : Values (layout target_block) → TargetBlock
 target_block_of v = record {
-  session = v.0; channel_id = v.1.0; group = v.1.1.0; links = v.1.1.1.0; children = v.1.1.1.1.0
+  session = v.0;
+  channel_id = v.1.0;
+  group = v.1.1.0;
+  links = v.1.1.1.0;
+  children = v.1.1.1.1.0;
 }
 
 pub target_block_told : (m n : TargetBlock) → parts target_block m ≡ parts target_block n → m ≡ n

@@ -29,7 +29,11 @@ version_told m n h = ap version_of h
 
 authenticate_of : Values (layout authenticate) → Authenticate
 authenticate_of v = record {
-  username = v.0; password = v.1.0; tokens = v.1.1.0; celt_versions = v.1.1.1.0; opus = v.1.1.1.1.0
+  username = v.0;
+  password = v.1.0;
+  tokens = v.1.1.0;
+  celt_versions = v.1.1.1.0;
+  opus = v.1.1.1.1.0;
 }
 
 pub authenticate_told : (m n : Authenticate) → parts authenticate m ≡ parts authenticate n → m ≡ n
@@ -45,7 +49,10 @@ reject_told m n h = ap reject_of h
 
 server_sync_of : Values (layout server_sync) → ServerSync
 server_sync_of v = record {
-  session = v.0; max_bandwidth = v.1.0; welcome_text = v.1.1.0; permissions = v.1.1.1.0
+  session = v.0;
+  max_bandwidth = v.1.0;
+  welcome_text = v.1.1.0;
+  permissions = v.1.1.1.0;
 }
 
 pub server_sync_told : (m n : ServerSync) → parts server_sync m ≡ parts server_sync n → m ≡ n
@@ -75,9 +82,16 @@ user_remove_told m n h = ap user_remove_of h
 
 channel_state_of : Values (layout channel_state) → ChannelState
 channel_state_of v = record {
-  channel_id = v.0; parent = v.1.0; name = v.1.1.0; links = v.1.1.1.0; description = v.1.1.1.1.0;
-  links_add = v.1.1.1.1.1.0; links_remove = v.1.1.1.1.1.1.0; temporary = v.1.1.1.1.1.1.1.0;
-  position = v.1.1.1.1.1.1.1.1.0; max_users = v.1.1.1.1.1.1.1.1.1.0
+  channel_id = v.0;
+  parent = v.1.0;
+  name = v.1.1.0;
+  links = v.1.1.1.0;
+  description = v.1.1.1.1.0;
+  links_add = v.1.1.1.1.1.0;
+  links_remove = v.1.1.1.1.1.1.0;
+  temporary = v.1.1.1.1.1.1.1.0;
+  position = v.1.1.1.1.1.1.1.1.0;
+  max_users = v.1.1.1.1.1.1.1.1.1.0;
 }
 
 pub channel_state_told : (m n : ChannelState) → parts channel_state m ≡ parts channel_state n → m ≡ n
@@ -86,15 +100,24 @@ channel_state_told m n h = ap channel_state_of h
 
 user_state_of : Values (layout user_state) → UserState
 user_state_of v = record {
-  session = v.0; actor = v.1.0; name = v.1.1.0; user_id = v.1.1.1.0; channel_id = v.1.1.1.1.0;
-  mute = v.1.1.1.1.1.0; deaf = v.1.1.1.1.1.1.0; suppress = v.1.1.1.1.1.1.1.0;
-  self_mute = v.1.1.1.1.1.1.1.1.0; self_deaf = v.1.1.1.1.1.1.1.1.1.0;
-  plugin_context = v.1.1.1.1.1.1.1.1.1.1.0; plugin_identity = v.1.1.1.1.1.1.1.1.1.1.1.0;
-  comment = v.1.1.1.1.1.1.1.1.1.1.1.1.0; priority_speaker = v.1.1.1.1.1.1.1.1.1.1.1.1.1.0;
+  session = v.0;
+  actor = v.1.0;
+  name = v.1.1.0;
+  user_id = v.1.1.1.0;
+  channel_id = v.1.1.1.1.0;
+  mute = v.1.1.1.1.1.0;
+  deaf = v.1.1.1.1.1.1.0;
+  suppress = v.1.1.1.1.1.1.1.0;
+  self_mute = v.1.1.1.1.1.1.1.1.0;
+  self_deaf = v.1.1.1.1.1.1.1.1.1.0;
+  plugin_context = v.1.1.1.1.1.1.1.1.1.1.0;
+  plugin_identity = v.1.1.1.1.1.1.1.1.1.1.1.0;
+  comment = v.1.1.1.1.1.1.1.1.1.1.1.1.0;
+  priority_speaker = v.1.1.1.1.1.1.1.1.1.1.1.1.1.0;
   recording = v.1.1.1.1.1.1.1.1.1.1.1.1.1.1.0;
   temporary_access_tokens = v.1.1.1.1.1.1.1.1.1.1.1.1.1.1.1.0;
   listening_channel_add = v.1.1.1.1.1.1.1.1.1.1.1.1.1.1.1.1.0;
-  listening_channel_remove = v.1.1.1.1.1.1.1.1.1.1.1.1.1.1.1.1.1.0
+  listening_channel_remove = v.1.1.1.1.1.1.1.1.1.1.1.1.1.1.1.1.1.0;
 }
 
 pub user_state_told : (m n : UserState) → parts user_state m ≡ parts user_state n → m ≡ n

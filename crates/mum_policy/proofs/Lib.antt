@@ -2,3 +2,4 @@ pub mod Reading
 pub mod Members
 pub mod Paths
 pub mod Walks
+pub mod Parts

@@ -1,3 +1,4 @@
 pub mod Name
 pub mod Member
 pub mod Walk
+pub mod Limits

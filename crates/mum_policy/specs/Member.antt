@@ -1,5 +1,5 @@
 -- Which sessions are in a group: "Groups" of the Murmur manual.
-use Rattle.std.specs.Prelude.{ℕ, ◌-◌, ◌+◌, ◌==◌, ◌&&◌, Bool, true, false, not, List, [], ◌∷◌, ◌++◌, length, map, take, filter, find, reverse, Option, Some, None, is_some, if◌then◌else◌}
+use Rattle.std.specs.Prelude.{◌≡◌, ℕ, ◌-◌, ◌+◌, ◌<◌, ◌==◌, ◌&&◌, Bool, true, false, not, List, [], ◌∷◌, ◌++◌, length, map, take, filter, find, reverse, slice_index_or, Option, Some, None, is_some, if◌then◌else◌}
 use Rattle.std.specs.List.{list_any}
 use Rattle.std.specs.Str.{bytes_eq, str_eq_ignore_ascii_case}
 use Rattle.mum_base.specs.declared.number.AccountId.{AccountId}
@@ -55,6 +55,11 @@ members (nearest ∷ further) = without nearest.remove (members further ++ neare
 unfoldable pub is_listed : List Group → Option AccountId → Bool
 is_listed groups None = false
 is_listed groups (Some account) = lists (members groups) account
+
+-- these are the policies of the first channels of a path
+abbrev pub IsFound : PolicyMap → List ChannelId → List (Option ChannelPolicy) → Type 0
+IsFound policies path found =
+    (i : ℕ) (d : ChannelId) → i < length path → i < length found → slice_index_or found i None ≡ policies (slice_index_or path i d)
 
 -- ---- who asks
 

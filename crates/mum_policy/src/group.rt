@@ -1,11 +1,12 @@
 //! Which sessions are in a group.
 
-ghost use Rattle.std.specs.Prelude.{◌≡◌, ◌<◌, length, map, reverse, true, false, if◌then◌else◌};
+ghost use Rattle.std.specs.Prelude.{◌≡◌, ◌<◌, None, length, map, reverse, slice_index_or, true, false, if◌then◌else◌};
 ghost use Rattle.std.specs.Option.{option_copied};
 ghost use Rattle.std.specs.Str.{str_eq_ignore_ascii_case};
 ghost use Rattle.mum_policy.specs.Name.{asks_of};
-ghost use Rattle.mum_policy.specs.Member.{asker_of, definition, definitions, has_token, is_in, is_listed, lists, meets, member, upwards};
+ghost use Rattle.mum_policy.specs.Member.{IsFound, asker_of, definition, definitions, has_token, is_in, is_listed, lists, meets, member, upwards};
 
+use crate::found::policy_at;
 use crate::name::{Asked, understand};
 use crate::policy::{ChannelPolicy, Group, Policies, Who};
 use mum_base::{AccountId, ChannelId, Text};
@@ -50,16 +51,20 @@ fn decides(group: &Group, account: AccountId) -> Option<bool>
     }
 }
 
-// The definition of a name by a channel.
+// The definition of a name by the channel at a place.
 #[tactic(auto, unfolding(crate::specs::Member::definition))]
 fn definition_of<'a, P: Policies>(
     policies: &'a P,
+    found: &[Option<&'a ChannelPolicy>],
+    place: usize,
     channel: ChannelId,
     name: &[u8],
 ) -> Option<&'a Group>
+    requires { place < length found.now
+        → option_copied (slice_index_or found.now place None) ≡ P.policy_of policies.now channel }
     ensures { option_copied result ≡ definition (P.policy_of policies.now channel) name.now }
 {
-    match policies.policy(channel) {
+    match policy_at(policies, found, place, channel) {
         Some(policy) => named(policy, name),
         None => None,
     }
@@ -67,19 +72,21 @@ fn definition_of<'a, P: Policies>(
 
 // Whether the account is in the group that the channels of the path define, the last of them chosen.
 // The nearest definition that speaks of the account decides.
-fn is_in_defined<P: Policies>(
-    policies: &P,
+fn is_in_defined<'a, P: Policies>(
+    policies: &'a P,
+    found: &[Option<&'a ChannelPolicy>],
     path: &[ChannelId],
     name: &[u8],
     account: AccountId,
 ) -> bool
+    requires { IsFound (P.policy_of policies.now) path.now (map option_copied found.now) }
     ensures { result ≡ is_listed
         (definitions name.now (map (P.policy_of policies.now) (reverse path.now))) (Some account) }
 {
     let mut above = false;
     let mut up = path;
     'upwards: while let Some((channel, rest)) = up.split_last() {
-        if let Some(group) = definition_of(policies, *channel, name) {
+        if let Some(group) = definition_of(policies, found, rest.len(), *channel, name) {
             if above && !group.inheritable {
                 return false;
             }
@@ -98,7 +105,6 @@ fn is_in_defined<P: Policies>(
 
 /// Whether the session is in the group of this name, asked for an entry of the channel at `acl_at` of
 /// the path, in the channel that ends the path. The name may have the prefixes `!`, `~`, `#` and `$`.
-#[tactic(auto, unfolding(crate::specs::Member::member))]
 pub fn is_member<P: Policies>(
     policies: &P,
     path: &[ChannelId],
@@ -109,8 +115,25 @@ pub fn is_member<P: Policies>(
     requires { acl_at < length path.now }
     ensures { result ≡ member (P.policy_of policies.now) path.now acl_at name.now (asker_of who.now) }
 {
+    member_of(policies, &[], path, acl_at, name, who)
+}
+
+/// The same, where these are the policies of the first channels of the path.
+#[tactic(auto, unfolding(crate::specs::Member::member))]
+pub(crate) fn member_of<'a, P: Policies>(
+    policies: &'a P,
+    found: &[Option<&'a ChannelPolicy>],
+    path: &[ChannelId],
+    acl_at: usize,
+    name: &str,
+    who: &Who,
+) -> bool
+    requires within { acl_at < length path.now }
+    requires found { IsFound (P.policy_of policies.now) path.now (map option_copied found.now) }
+    ensures { result ≡ member (P.policy_of policies.now) path.now acl_at name.now (asker_of who.now) }
+{
     let name = understand(name.as_bytes());
-    name.negated != meets_asked(policies, path, acl_at, name.at_acl, who, name.asked)
+    name.negated != meets_asked(policies, found, path, acl_at, name.at_acl, who, name.asked)
 }
 
 // Whether the session is in the channel at a place of the path.
@@ -124,15 +147,17 @@ fn is_in(path: &[ChannelId], place: usize, who: &Who) -> bool
 
 // Whether the session is what is asked. The channel of the ACL is chosen, or the last of the path.
 #[tactic(auto, unfolding(crate::specs::Member::meets, crate::specs::Member::is_listed))]
-fn meets_asked<P: Policies>(
-    policies: &P,
+fn meets_asked<'a, P: Policies>(
+    policies: &'a P,
+    found: &[Option<&'a ChannelPolicy>],
     path: &[ChannelId],
     acl_at: usize,
     at_acl: bool,
     who: &Who,
     asked: Asked,
 ) -> bool
-    requires { acl_at < length path.now }
+    requires within { acl_at < length path.now }
+    requires found { IsFound (P.policy_of policies.now) path.now (map option_copied found.now) }
     ensures { result ≡ meets (P.policy_of policies.now)
         (record { path = path.now; acl_at = acl_at }) at_acl (asker_of who.now) (asks_of asked.entry) }
 {
@@ -145,7 +170,7 @@ fn meets_asked<P: Policies>(
         Asked::Outside => !is_in(path, chosen, who),
         Asked::Token(word) => one_is(who.tokens, word),
         Asked::Defined(name) => match who.account {
-            Some(account) => is_in_defined(policies, &path[..=chosen], name, account),
+            Some(account) => is_in_defined(policies, found, &path[..=chosen], name, account),
             None => false,
         },
     }

@@ -3,6 +3,7 @@
 //! Murmur manual. Nothing here takes memory, and nothing can be refused.
 #![tactic(auto)]
 
+mod found;
 pub mod group;
 pub mod name;
 pub mod policy;
@@ -10,4 +11,4 @@ pub mod walk;
 
 pub use group::is_member;
 pub use policy::{AclEntry, ChannelPolicy, Group, Policies, Who, Whom};
-pub use walk::permissions;
+pub use walk::{permissions, permitted};

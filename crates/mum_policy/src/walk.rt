@@ -1,13 +1,16 @@
 //! The walk over the access control lists from the root to a channel.
 
-ghost use Rattle.std.specs.Prelude.{◌≡◌, ◌+◌, ◌<◌, ◌==◌, All, IsSome, length};
-ghost use Rattle.mum_policy.specs.Member.{asker_of};
+ghost use Rattle.std.specs.Prelude.{◌≡◌, ◌+◌, ◌<◌, ◌==◌, All, IsSome, length, map};
+ghost use Rattle.std.specs.Option.{option_copied};
+ghost use Rattle.mum_policy.specs.Member.{IsFound, asker_of};
 ghost use Rattle.mum_policy.specs.Walk.{BeginsAtRoot, after_match, after_policy, entering, finished, full_set, goes_on, holds, is_account, marked, matches, on_root, perm, visits, walk_start};
 
-use crate::group::is_member;
+use crate::found::{found_on, policy_at};
+use crate::group::member_of;
 use crate::policy::{AclEntry, ChannelPolicy, Policies, Who, Whom};
 use mum_base::{AccountId, ChannelId, Perm, Steps};
-use std::sync::ledger::Ledger;
+use std::marker::Brand;
+use std::sync::ledger::{Blank, Ledger};
 
 /// How far a walk has come.
 #[derive(Clone, Copy, Debug)]
@@ -92,25 +95,28 @@ fn is_of(who: &Who, account: AccountId) -> bool
 
 // Whether an entry of the channel at this place of the path speaks of the session.
 #[tactic(auto, unfolding(crate::specs::Walk::matches))]
-fn speaks_of<P: Policies>(
-    policies: &P,
+fn speaks_of<'a, P: Policies>(
+    policies: &'a P,
+    found: &[Option<&'a ChannelPolicy>],
     path: &[ChannelId],
     who: &Who,
     place: usize,
     entry: &AclEntry,
 ) -> bool
-    requires { place < length path.now }
+    requires within { place < length path.now }
+    requires found { IsFound (P.policy_of policies.now) path.now (map option_copied found.now) }
     ensures { result ≡ matches (P.policy_of policies.now) path.now (asker_of who.now) place entry.now }
 {
     match &entry.whom {
         Whom::Account(account) => is_of(who, *account),
-        Whom::Group(name) => is_member(policies, path, place, name.as_str(), who),
+        Whom::Group(name) => member_of(policies, found, path, place, name.as_str(), who),
     }
 }
 
 // Past the channel at this place of the path, which has this policy. A step is an entry.
-fn pass_channel<P: Policies, L: Ledger>(
-    policies: &P,
+fn pass_channel<'a, P: Policies, L: Ledger>(
+    policies: &'a P,
+    found: &[Option<&'a ChannelPolicy>],
     path: &[ChannelId],
     who: &Who,
     place: usize,
@@ -118,7 +124,8 @@ fn pass_channel<P: Policies, L: Ledger>(
     walk: Walk,
     steps: &mut Steps<L>,
 ) -> Walk
-    requires { place < length path.now }
+    requires within { place < length path.now }
+    requires found { IsFound (P.policy_of policies.now) path.now (map option_copied found.now) }
     ensures walk { result ≡ after_policy (P.policy_of policies.now) path.now (asker_of who.now) place (place + 1 == length path.now) policy.now walk }
     ensures steps { steps.new ≡ steps.old + length policy.now.acls }
 {
@@ -127,7 +134,7 @@ fn pass_channel<P: Policies, L: Ledger>(
     let entries = policy.acls.as_slice();
     'entries: for entry in entries {
         steps.tick();
-        if speaks_of(policies, path, who, place, entry) {
+        if speaks_of(policies, found, path, who, place, entry) {
             walk = walk.pass(entry, asked);
         }
     }
@@ -185,13 +192,41 @@ pub fn permissions<P: Policies, L: Ledger>(
     if is_of(who, AccountId::SUPER_USER) {
         return full_permissions(on_root);
     }
+    let found = found_on(policies, path);
     let mut walk = Walk::start();
     'channels: for (place, channel) in path.iter().enumerate() {
-        let policy = policies.policy(*channel).unwrap();
-        walk = pass_channel(policies, path, who, place, policy, walk, steps);
+        let policy = policy_at(policies, &found, place, *channel).unwrap();
+        walk = pass_channel(policies, &found, path, who, place, policy, walk, steps);
         if !walk.goes_on() {
             return Perm::NONE;
         }
     }
     finish(on_root, walk.set)
+}
+
+// The same over a counter of its own.
+fn counted<P: Policies, L: Ledger>(
+    blank: Blank,
+    policies: &P,
+    path: &[ChannelId],
+    who: &Who,
+) -> Perm
+    requires root { BeginsAtRoot path.now }
+    requires there { All (λ channel. IsSome (P.policy_of policies.now channel)) path.now }
+    requires name { blank.name ≡ L.name }
+    requires parts { blank.parts ≡ L.parts }
+    requires some { 0 < blank.parts }
+    ensures { result.0 ≡ perm (P.policy_of policies.now) path.now (asker_of who.now) }
+{
+    let mut steps = Steps::<L>::new(blank);
+    permissions(policies, path, who, &mut steps)
+}
+
+/// What the session may do in the last channel of the path, for those who count no steps.
+pub fn permitted<P: Policies>(policies: &P, path: &[ChannelId], who: &Who) -> Perm
+    requires root { BeginsAtRoot path.now }
+    requires there { All (λ channel. IsSome (P.policy_of policies.now channel)) path.now }
+    ensures { result.0 ≡ perm (P.policy_of policies.now) path.now (asker_of who.now) }
+{
+    counted::<P, Brand>(Blank::new(1), policies, path, who)
 }

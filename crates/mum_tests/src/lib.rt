@@ -4,3 +4,7 @@
 
 #[cfg(test)]
 mod program;
+#[cfg(test)]
+mod tree;
+#[cfg(test)]
+mod users;

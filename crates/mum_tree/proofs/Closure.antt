@@ -1,8 +1,7 @@
 -- Rounds over links find what links lead to.
-use Rattle.std.proofs.Common.{◌≡◌, ◌≢◌, ℕ, zero, suc, ◌<◌, ◌≤◌, ◌+◌, ◌&&◌, ◌||◌, ◌⊎◌, inl, inr, Bool, true, false, not, cond, eqb, List, [], ◌∷◌, length, get_or, map, Some, None, refl, arith, ap, sym, ◌∙◌, subst, ⊎_elim}
+use Rattle.std.proofs.Common.{◌≡◌, ℕ, zero, suc, ◌<◌, ◌≤◌, ◌&&◌, ◌⊎◌, inl, inr, Bool, true, false, not, cond, eqb, List, [], ◌∷◌, length, get_or, map, Some, refl, arith, ap, sym, ◌∙◌, subst, ⊎_elim}
 use Rattle.std.specs.Prelude.{◌↔◌}
 use Rattle.std.specs.List.{All, Contains, count_by, filter, list_any}
-use Rattle.std.specs.Option.{is_some}
 use Rattle.std.proofs.lemmas.Bool.{and_from, and_parts, both_ways, cases_Bool, eq-eqb, eqb-true, false≢true, or_cases, or_left, or_right, not-true}
 use Rattle.std.proofs.lemmas.List.Elements.{All-contains}
 use Rattle.std.proofs.lemmas.List.{get_or_default}
@@ -14,7 +13,7 @@ use Rattle.mum_tree.specs.Rows.{number, row_of, is_there, Rise}
 use Rattle.mum_tree.specs.Proper.{AreLinks, IsBetween}
 use Rattle.mum_tree.specs.State.{Pair, TreeState}
 use Rattle.mum_tree.specs.Walks.{is_reached, linked, HasRow, LeadTo, Walk}
-use Rattle.mum_tree.proofs.Changed.{none_passes, number_found}
+use Rattle.mum_tree.proofs.Changed.{number_found}
 use Rattle.mum_tree.proofs.Edits.{some_row}
 use Rattle.mum_tree.proofs.Find.{contains_later}
 use Rattle.mum_tree.proofs.Marks.{one_place, passes_from, passes_to}
@@ -151,7 +150,7 @@ row_stands (first ∷ rows) id row found =
     (cases_Bool (eqb (number first) id.0))
 
 -- what holds of a channel that is there holds of its row
-any_there : (p : ChannelId → Bool) (rows : List Row) (id : ChannelId) → is_there rows id ≡ true → p id ≡ true → list_any (λ row. p row.channel.id) rows ≡ true
+pub any_there : (p : ChannelId → Bool) (rows : List Row) (id : ChannelId) → is_there rows id ≡ true → p id ≡ true → list_any (λ row. p row.channel.id) rows ≡ true
 any_there p rows id there on =
     let (row, found) = some_row (row_of rows id) there in
     let (k, within, is) = row_stands rows id row found in

@@ -16,7 +16,7 @@ use Rattle.mum_tree.proofs.Joined.{links_kept}
 use Rattle.mum_tree.proofs.Upward.{the_root, KeepParents, upward_kept, upward_under, lead_parent, there_from_lead, option_cases}
 use Rattle.mum_tree.proofs.Changed.{none_passes, stands_beside}
 
-none_is_some : (row : Row) → None ≡ Some row → ⊥
+pub none_is_some : (row : Row) → None ≡ Some row → ⊥
 none_is_some row e = cc
 
 pub row_of_old : (rows : List Row) (row : Row) (id : ChannelId) (found : Row) → row_of rows id ≡ Some found → row_of (rows ++ row ∷ []) id ≡ Some found
@@ -62,7 +62,7 @@ grown_lead rows row lead lower room id there =
     (option_cases (row_of rows id))
 
 -- what is there is as temporary as it was
-kind_kept : (rows : List Row) (row : Row) (id : ChannelId) (found : Row) → row_of rows id ≡ Some found → is_temporary (rows ++ row ∷ []) id ≡ is_temporary rows id
+pub kind_kept : (rows : List Row) (row : Row) (id : ChannelId) (found : Row) → row_of rows id ≡ Some found → is_temporary (rows ++ row ∷ []) id ≡ is_temporary rows id
 kind_kept rows row id found is = ap (λ (o : Option Row). option_map_or (λ one. one.channel.temporary) o false) (row_of_old rows row id found is ∙ sym is)
 
 grown_lasting : (rows : List Row) (row : Row) (parent : Row) → Rise rows → LeadUp rows → All (IsUnderLasting rows) rows → row_of rows row.channel.parent ≡ Some parent → is_temporary rows row.channel.parent ≡ false → All (IsUnderLasting (rows ++ row ∷ [])) (rows ++ row ∷ [])

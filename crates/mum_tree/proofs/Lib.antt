@@ -1,3 +1,4 @@
+pub mod Back
 pub mod Changed
 pub mod Climb
 pub mod Closure

@@ -1,11 +1,13 @@
 -- The links that a change of a channel leaves.
-use Rattle.std.proofs.Common.{◌≡◌, ◌≢◌, ℕ, zero, suc, ◌<◌, ◌≤◌, ◌+◌, ◌&&◌, ◌||◌, ◌⊎◌, inl, inr, Bool, true, false, not, cond, eqb, leb, ltb, List, [], ◌∷◌, length, get_or, map, Some, refl, arith, ap, sym, ◌∙◌, subst, ⊎_elim}
+use Rattle.std.proofs.Common.{◌≡◌, ◌≢◌, ℕ, zero, suc, ◌<◌, ◌≤◌, ◌+◌, ◌&&◌, ◌||◌, ◌⊎◌, inl, inr, Bool, true, false, not, cond, eqb, leb, ltb, List, [], ◌∷◌, length, get_or, map, refl, arith, ap, sym, ◌∙◌, subst, ⊎_elim}
 use Rattle.std.specs.Bool.{IsTrue}
-use Rattle.std.specs.List.{All, AllPairs, Contains, count_by, filter, list_all, list_any}
-use Rattle.std.proofs.lemmas.Bool.{and_from, and_parts, and_right, both_ways, cases_Bool, cases_eq, cond_both, eq-eqb, eqb-true, ne_eqb, or_from, or_parts, ltb-false, leb-false}
+use Rattle.std.specs.Prelude.{◌↔◌}
+use Rattle.std.specs.List.{AllPairs, Contains, count_by, filter, list_all, list_any}
+use Rattle.std.proofs.lemmas.Bool.{and_from, and_parts, both_ways, cases_Bool, cases_eq, cond_both, eq-eqb, eqb-true, ne_eqb, or_from, or_parts, ltb-false}
 use Rattle.std.proofs.lemmas.Bool.Decides.{nat_tests}
 use Rattle.std.proofs.lemmas.List.{get_or_default, length-map}
 use Rattle.std.proofs.lemmas.List.Elements.{All-contains, filter_passes}
+use Rattle.std.proofs.lemmas.List.Folds.{list_any_none}
 use Rattle.std.proofs.lemmas.List.Kept.{AllPairs-filter}
 use Rattle.std.proofs.lemmas.List.Sums.{length-filter, sum_by-cons}
 use Rattle.mum_base.specs.declared.number.ChannelId.{ChannelId}
@@ -13,9 +15,9 @@ use Rattle.mum_tree.specs.declared.channel.Row.{Row}
 use Rattle.mum_tree.specs.Change.{Change, is_among, is_new_partner, is_partner_after, overlinks, pairs_with_all, pairs_without_all}
 use Rattle.mum_tree.specs.Proper.{AreBothWays, AreLinks, ArePairs, IsBetween, IsProper}
 use Rattle.mum_tree.specs.Rows.{number, row_of, is_there, Rise}
-use Rattle.mum_tree.specs.State.{Pair, Ordered, TreeState, ends_from, is_above, is_pair, pairs_with, pairs_without, partners, starts_at, with_pair}
+use Rattle.mum_tree.specs.State.{Pair, Ordered, TreeState, is_above, is_pair, pairs_with, pairs_without, partners, starts_at, with_pair}
 use Rattle.mum_tree.proofs.Changed.{AllPairs-map, none_passes, number_found}
-use Rattle.mum_tree.proofs.Closure.{any_from, any_has, both_same, count_le_at, row_stands, same_number, worth}
+use Rattle.mum_tree.proofs.Closure.{any_from, any_has, any_there, count_le_at, count_less, row_stands, same_number, worth}
 use Rattle.mum_tree.proofs.Edits.{some_row}
 use Rattle.mum_tree.proofs.Find.{AllPairs-tail}
 use Rattle.mum_tree.proofs.Joined.{pairs_made, pairs_parted}
@@ -205,7 +207,7 @@ other_after tree id change x y one two =
     part_others id x y change.links_remove (pairs_with_all id change.links_add tree.links) one two
     ∙ join_others id x y change.links_add tree.links one two
 
-linked_back : (links : List Pair) (x y : ChannelId) → AreBothWays links → linked_in links x y ≡ true → linked_in links y x ≡ true
+pub linked_back : (links : List Pair) (x y : ChannelId) → AreBothWays links → linked_in links x y ≡ true → linked_in links y x ≡ true
 linked_back links x y both on =
     let (pair, has, is) = any_from (is_pair x y) links on in
     let there : Contains links (y, x) = subst (λ (p : Pair). Contains links (p.1, p.0)) (pair_is x y pair is) (All-contains (λ (p : Pair). Contains links (p.1, p.0)) links pair both has) in
@@ -419,3 +421,57 @@ links_fit tree id change rise are here adds fits =
         let off : fresh row ≡ false = ap fresh (sym (stands row)) ∙ none_passes fresh rows none k row within in
         let off-2 : (is_new_partner tree id change x && leb 64 (length (partners tree x))) ≡ false = ap (λ (y : ChannelId). is_new_partner tree id change y && leb 64 (length (partners tree y))) (sym same) ∙ off in
         sym (ap (λ (b : Bool). b && leb 64 (length (partners tree x))) new) ∙ off-2
+
+not_over : (n : ℕ) → n ≤ 64 → ltb 64 n ≡ false
+not_over n few = grind (arith, nat_tests)
+
+full_from : (n : ℕ) → leb 64 n ≡ true → 64 ≤ n
+full_from n full = grind (arith, nat_tests)
+
+new_is_other : (was among own gone : Bool) → (((was || (among && not own)) && not gone) && not was) ≡ true → own ≡ false
+new_is_other true among own gone on = absurd (both_ways true (ap not (sym (and_false (not gone)) ∙ on)) refl)
+new_is_other false true true gone on = absurd (both_ways false refl on)
+new_is_other false true false gone on = refl
+new_is_other false false own gone on = absurd (both_ways false refl on)
+
+-- links are links after a change only where it leaves no channel too many
+pub fits_back : (tree : TreeState) (id : ChannelId) (change : Change) → Rise tree.channels → AreLinks tree.channels tree.links → is_there tree.channels id ≡ true → list_all (is_there tree.channels) change.links_add ≡ true → AreLinks tree.channels (links_after tree id change) → overlinks tree id change ≡ false
+fits_back tree id change rise are here adds fit =
+    let rows = tree.channels in
+    let after = links_after tree id change in
+    let own : Row → Bool = λ row. is_partner_after tree id change row.channel.id in
+    let fresh : Row → Bool = λ row. is_new_partner tree id change row.channel.id && leb 64 (length (partners tree row.channel.id)) in
+    let mine : Row → Bool = λ row. linked_in after id row.channel.id in
+    let less : count_by own rows ≤ count_by mine rows = count_le_at own mine rows (λ k d within on. own_after tree id change (get_or rows k d).channel.id ∙ on) in
+    or_from (ltb 64 (count_by own rows)) (list_any fresh rows)
+    (not_over (count_by own rows) (omega (arith, counted rows after id rise fit.pairs, fit.few_each id)))
+    (list_any_none fresh rows (λ k d within. ⊎_elim
+    (λ (on : fresh (get_or rows k d) ≡ true).
+    let x = (get_or rows k d).channel.id in
+    let (new, full) = and_parts (is_new_partner tree id change x) (leb 64 (length (partners tree x))) on in
+    let (partner, old) = and_parts (is_partner_after tree id change x) (not (linked_in tree.links id x)) new in
+    let other : eqb x.0 id.0 ≡ false = new_is_other (linked_in tree.links id x) (is_among change.links_add x) (eqb x.0 id.0) (is_among change.links_remove x) new in
+    let p : Row → Bool = λ row. linked_in tree.links x row.channel.id in
+    let q : Row → Bool = λ row. linked_in after x row.channel.id in
+    let back : linked_in after x id ≡ true = linked_back after id x fit.pairs.both (own_after tree id change x ∙ partner) in
+    let unlinked : linked_in tree.links x id ≡ false = ⊎_elim
+    (λ (was : linked_in tree.links x id ≡ true). absurd (both_ways (not (linked_in tree.links id x)) (ap not (linked_back tree.links x id are.pairs.both was)) old))
+    (λ (off : linked_in tree.links x id ≡ false). off)
+    (cases_Bool (linked_in tree.links x id)) in
+    let more : count_by p rows < count_by q rows = count_less p q rows
+    (λ row was. ⊎_elim
+    (λ (e : number row ≡ id.0). ap (linked_in after x) (ap (λ n. record { 0 = n }) e) ∙ back)
+    (λ (off : number row ≡ id.0 → ⊥). other_after tree id change x row.channel.id other (ne_eqb (number row) id.0 off) ∙ was)
+    (cases_eq (number row) id.0))
+    (any_there (λ y. linked_in after x y && not (linked_in tree.links x y)) rows id here (and_from (linked_in after x id) (not (linked_in tree.links x id)) back (ap not unlinked))) in
+    let many : 64 ≤ length (partners tree x) = full_from (length (partners tree x)) full in
+    absurd (omega (arith, more, many, counted rows after x rise fit.pairs, fit.few_each x, counted rows tree.links x rise are.pairs, length-filter (starts_at x) tree.links, length-map (filter (starts_at x) tree.links) (λ pair. pair.1))))
+    (λ (off : fresh (get_or rows k d) ≡ false). off)
+    (cases_Bool (fresh (get_or rows k d)))))
+
+-- after a change of its links a channel has the partners that the definition says, and links are links exactly where none has too many
+pub links_both_ways : (limit : ℕ) (tree : TreeState) (id : ChannelId) (change : Change) → IsProper limit tree → is_there tree.channels id ≡ true → list_all (is_there tree.channels) change.links_add ≡ true → (overlinks tree id change ≡ false) ↔ AreLinks tree.channels (links_after tree id change)
+links_both_ways limit tree id change proper here adds = (
+  links_fit tree id change proper.rise proper.joined here adds,
+  fits_back tree id change proper.rise proper.joined here adds,
+)

@@ -1,6 +1,10 @@
 //! A channel, what describes it, and the place that it keeps.
 
-use mum_base::{ChannelId, Text};
+ghost use Rattle.std.specs.Prelude.{◌≡◌, IfOk};
+ghost use Rattle.mum_tree.specs.State.{plain_info};
+
+use mum_base::{ChannelId, OutOfMemory, Text};
+use std::alloc::Global;
 
 /// The most channels of a tree, with the root. Places are below it.
 pub const CHANNEL_LIMIT: usize = 1024;
@@ -18,6 +22,30 @@ pub struct ChannelInfo {
     pub max_users: u32,
 }
 
+impl ChannelInfo {
+    /// No description, no place among its siblings, no limit of users.
+    pub(crate) fn plain(alloc: Global) -> Result<ChannelInfo, OutOfMemory>
+        ensures { IfOk result (λ info. info ≡ plain_info) }
+    {
+        Ok(ChannelInfo {
+            description: Text::of(alloc, "")?,
+            position: 0,
+            max_users: 0,
+        })
+    }
+
+    /// Info of its own that is equal.
+    pub fn copy(&self, alloc: Global) -> Result<ChannelInfo, OutOfMemory>
+        ensures { IfOk result (λ copy. copy ≡ self.now) }
+    {
+        Ok(ChannelInfo {
+            description: self.description.copy(alloc)?,
+            position: self.position,
+            max_users: self.max_users,
+        })
+    }
+}
+
 /// A channel.
 #[derive(Debug, Drop)]
 pub struct Channel {
@@ -28,6 +56,21 @@ pub struct Channel {
     /// It goes when its last user leaves, and has no sub-channels.
     pub temporary: bool,
     pub info: ChannelInfo,
+}
+
+impl Channel {
+    /// A channel of its own that is equal.
+    pub fn copy(&self, alloc: Global) -> Result<Channel, OutOfMemory>
+        ensures { IfOk result (λ copy. copy ≡ self.now) }
+    {
+        Ok(Channel {
+            id: self.id,
+            parent: self.parent,
+            name: self.name.copy(alloc)?,
+            temporary: self.temporary,
+            info: self.info.copy(alloc)?,
+        })
+    }
 }
 
 /// A channel and its place: a number below 1,024 that no other channel has, kept while the channel

@@ -1,6 +1,13 @@
 //! What holds of trees, as theorems. The functions do nothing: their contracts are what they say.
 
-ghost use Rattle.std.specs.Prelude.{◌≡◌, List};
+ghost use Rattle.std.specs.Prelude.{◌≡◌, ◌<◌, ◌↔◌, ℕ, Bool, false, List, None, IsTrue};
+ghost use Rattle.std.specs.List.{list_all};
+ghost use Rattle.mum_tree.specs.Change.{overlinks, with_change, Change};
+ghost use Rattle.mum_base.specs.declared.number.ChannelId.{ChannelId};
+ghost use Rattle.mum_tree.specs.Proper.{AreLinks, IsProper};
+ghost use Rattle.mum_tree.specs.Refusals.{fault_of_add, fault_of_remove};
+ghost use Rattle.mum_tree.specs.Rows.{is_there};
+ghost use Rattle.mum_tree.specs.State.{TreeState, with_new, without_subtree};
 ghost use Rattle.mum_tree.specs.Places.{least_place, IsLeastFree};
 ghost use Rattle.mum_tree.specs.declared.channel.Row.{Row};
 
@@ -17,4 +24,25 @@ pub fn limits()
 /// A new channel has a place that no channel has, and each lower one is had.
 pub fn places_of_new_channels()
     ensures { (rows : List Row) → IsLeastFree rows (least_place rows) }
+{}
+
+/// With a new channel a tree is a tree exactly where nothing stands against it.
+pub fn new_channels()
+    ensures { (limit : ℕ) (tree : TreeState) (id parent : ChannelId) (name : List ℕ) (temporary : Bool) →
+        IsProper limit tree → tree.greatest < id.0 →
+        (fault_of_add limit tree id parent name ≡ None) ↔ IsProper limit (with_new tree id parent name temporary) }
+{}
+
+/// Without a channel that is there, and all below it, a tree is a tree exactly where nothing stands
+/// against it.
+pub fn removals()
+    ensures { (limit : ℕ) (tree : TreeState) (id : ChannelId) → IsProper limit tree → IsTrue (is_there tree.channels id) →
+        (fault_of_remove tree id ≡ None) ↔ IsProper limit (without_subtree tree id) }
+{}
+
+/// After a change the links are those of a tree exactly where it leaves no channel too many of them.
+pub fn changed_links()
+    ensures { (limit : ℕ) (tree : TreeState) (id : ChannelId) (change : Change) → IsProper limit tree →
+        IsTrue (is_there tree.channels id) → IsTrue (list_all (is_there tree.channels) change.links_add) →
+        (overlinks tree id change ≡ false) ↔ AreLinks tree.channels (with_change tree id change).links }
 {}

@@ -9,9 +9,9 @@ ghost use Rattle.mum_tree.specs.Rows.{row_of, is_temporary, is_there, path, leve
 ghost use Rattle.mum_tree.specs.Proper.{LeadUp};
 ghost use Rattle.mum_tree.specs.declared.channel.Row.{Row};
 
-use crate::channel::{CHANNEL_LIMIT, Channel, ChannelInfo, PATH_LIMIT, Row};
+use crate::channel::{CHANNEL_LIMIT, PATH_LIMIT, Row};
 use arrayvec::ArrayVec;
-use mum_base::{ChannelId, OutOfMemory, Text};
+use mum_base::{ChannelId, OutOfMemory};
 use std::alloc::Global;
 
 /// Where the row of a channel stands.
@@ -227,20 +227,9 @@ pub(crate) fn copy_rows(alloc: Global, rows: &[Row]) -> Result<Vec<Row>, OutOfMe
 {
     let mut copy = Vec::new(alloc);
     for row in rows {
-        let channel = &row.channel;
         copy.push(Row {
             place: row.place,
-            channel: Channel {
-                id: channel.id,
-                parent: channel.parent,
-                name: Text::of(alloc, channel.name.as_str())?,
-                temporary: channel.temporary,
-                info: ChannelInfo {
-                    description: Text::of(alloc, channel.info.description.as_str())?,
-                    position: channel.info.position,
-                    max_users: channel.info.max_users,
-                },
-            },
+            channel: row.channel.copy(alloc)?,
         })?;
     }
     Ok(copy)

@@ -5,7 +5,7 @@ ghost use Rattle.std.specs.List.{list_all, Contains};
 ghost use Rattle.std.specs.Option.{option_copied, option_map};
 ghost use Rattle.mum_base.specs.declared.number.ChannelId.{ChannelId};
 ghost use Rattle.mum_tree.specs.Proper.{IsProper};
-ghost use Rattle.mum_tree.specs.Rows.{row_of, is_there, path, IsWay};
+ghost use Rattle.mum_tree.specs.Rows.{row_of, is_below, is_there, path, IsWay};
 ghost use Rattle.mum_tree.specs.State.{root_alone, next_number, plain_info, partners, below, with_info, with_link, with_name, with_new, with_parent, without_link, without_subtree};
 ghost use Rattle.mum_tree.specs.Walks.{linked, LeadTo};
 ghost use Rattle.mum_tree.specs.Refusals.{is_full, fault_of_add, fault_of_link, fault_of_move, fault_of_remove, fault_of_rename, fault_of_seat, fault_of_set_info, fault_of_unlink};
@@ -54,17 +54,6 @@ impl Model for Tree {
     ghost invariant = { λ t. IsProper CHANNEL_LIMIT (record { channels = t.rows.items; links = t.links.items; greatest = t.greatest }) };
 }
 
-/// No description, no place among its siblings, no limit of users.
-fn plain_channel_info(alloc: Global) -> Result<ChannelInfo, OutOfMemory>
-    ensures { IfOk result (λ info. info ≡ plain_info) }
-{
-    Ok(ChannelInfo {
-        description: Text::of(alloc, "")?,
-        position: 0,
-        max_users: 0,
-    })
-}
-
 /// One if it holds, else nothing.
 fn one_if(holds: bool) -> usize
     ensures { result ≡ (if holds then 1 else 0) }
@@ -86,7 +75,7 @@ impl Tree {
                 parent: ChannelId::ROOT,
                 name: Text::of(alloc, "Root")?,
                 temporary: false,
-                info: plain_channel_info(alloc)?,
+                info: ChannelInfo::plain(alloc)?,
             },
         })?;
         Ok(Tree {
@@ -204,7 +193,7 @@ impl Tree {
             parent,
             name: Text::of(self.alloc, name)?,
             temporary,
-            info: plain_channel_info(self.alloc)?,
+            info: ChannelInfo::plain(self.alloc)?,
         };
         let place = least_free_place(&self.rows);
         self.rows.push(Row { place, channel })?;
@@ -483,6 +472,13 @@ impl Tree {
             links: Vec::from_slice(alloc, &self.links)?,
             greatest: self.greatest,
         })
+    }
+
+    /// Whether a channel is the top, or below it. It takes no memory.
+    pub fn is_below(&self, top: ChannelId, id: ChannelId) -> bool
+        ensures { result ≡ is_below self.now.channels top id }
+    {
+        stands_below(&self.rows, top, id)
     }
 
     /// Marks a channel and all below it. It takes no memory.

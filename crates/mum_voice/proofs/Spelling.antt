@@ -5,7 +5,7 @@ use Rattle.std.specs.Option.{option_map}
 use Rattle.std.proofs.lemmas.Bool.{cases_lt, le-ltb, lt-ltb}
 use Rattle.std.proofs.lemmas.List.{take_at, take-append-drop, length-append, length-take, get_or-drop}
 use Rattle.mum_voice.proofs.Rows.{row_7, row_14, row_21, row_28, row_32, row_64, no_row}
-use Rattle.mum_voice.specs.Varint.{AreSoManyBytes, big_endian, inverse, SpellsNumber, SpellsWord, BeginsWith, BeginsWithNone, number_from, number_by, number_at, word_at}
+use Rattle.mum_voice.specs.Varint.{AreSoManyBytes, big_endian, inverse, SpellsNumber, SpellsWord, BeginsWith, BeginsWithNone, row_number, number_by, number_at, word_at}
 
 -- each element is a byte
 abbrev pub IsBytes : List ℕ → Type 0
@@ -30,8 +30,8 @@ AreSoManyBytes-take (suc count) (b ∷ bytes) fits le = (fits 0, AreSoManyBytes-
 
 -- ---- what is spelled is read, whatever follows
 
-number_from-spelled : (high count : ℕ) (more rest : List ℕ) (n : ℕ) → AreSoManyBytes count more → n ≡ high * 2 ^ (8 * count) + big_endian more → number_from high count (more ++ rest) ≡ Some (n, suc (length more))
-number_from-spelled high count more rest n are e =
+row_number-spelled : (high count : ℕ) (more rest : List ℕ) (n : ℕ) → AreSoManyBytes count more → n ≡ high * 2 ^ (8 * count) + big_endian more → row_number high count (more ++ rest) ≡ Some (n, suc (length more))
+row_number-spelled high count more rest n are e =
     let len = AreSoManyBytes-length count more are in
     let there : ltb (length (more ++ rest)) count ≡ false = le-ltb _ _ (omega (arith, length-append more rest)) in
     let k : count + 1 ≡ suc (length more) = omega arith in
@@ -39,20 +39,20 @@ number_from-spelled high count more rest n are e =
 
 pub number_at-spelled : {bytes : List ℕ} {n : ℕ} → SpellsNumber bytes n → (rest : List ℕ) → number_at (bytes ++ rest) ≡ Some (n, length bytes)
 unfolding number_at
-number_at-spelled (SpellsNumber.bits_7 x lt) rest = row_7 x rest lt ∙ number_from-spelled x 0 [] rest x tt (omega arith)
+number_at-spelled (SpellsNumber.bits_7 x lt) rest = row_7 x rest lt ∙ row_number-spelled x 0 [] rest x tt (omega arith)
 number_at-spelled (SpellsNumber.bits_14 x more lt are) rest =
     let e : (0x80 + x) - 0x80 ≡ x = omega arith in
-    row_14 (0x80 + x) (more ++ rest) (omega arith) (omega arith) ∙ rw e (number_from-spelled x 1 more rest _ are refl)
+    row_14 (0x80 + x) (more ++ rest) (omega arith) (omega arith) ∙ rw e (row_number-spelled x 1 more rest _ are refl)
 number_at-spelled (SpellsNumber.bits_21 x more lt are) rest =
     let e : (0xC0 + x) - 0xC0 ≡ x = omega arith in
-    row_21 (0xC0 + x) (more ++ rest) (omega arith) (omega arith) ∙ rw e (number_from-spelled x 2 more rest _ are refl)
+    row_21 (0xC0 + x) (more ++ rest) (omega arith) (omega arith) ∙ rw e (row_number-spelled x 2 more rest _ are refl)
 number_at-spelled (SpellsNumber.bits_28 x more lt are) rest =
     let e : (0xE0 + x) - 0xE0 ≡ x = omega arith in
-    row_28 (0xE0 + x) (more ++ rest) (omega arith) (omega arith) ∙ rw e (number_from-spelled x 3 more rest _ are refl)
+    row_28 (0xE0 + x) (more ++ rest) (omega arith) (omega arith) ∙ rw e (row_number-spelled x 3 more rest _ are refl)
 number_at-spelled (SpellsNumber.bits_32 x more lt are) rest =
-    row_32 (0xF0 + x) (more ++ rest) (omega arith) (omega arith) ∙ number_from-spelled 0 4 more rest _ are (omega arith)
+    row_32 (0xF0 + x) (more ++ rest) (omega arith) (omega arith) ∙ row_number-spelled 0 4 more rest _ are (omega arith)
 number_at-spelled (SpellsNumber.bits_64 x more lt are) rest =
-    row_64 (0xF4 + x) (more ++ rest) (omega arith) (omega arith) ∙ number_from-spelled 0 8 more rest _ are (omega arith)
+    row_64 (0xF4 + x) (more ++ rest) (omega arith) (omega arith) ∙ row_number-spelled 0 8 more rest _ are (omega arith)
 
 first_below : {bytes : List ℕ} {n : ℕ} → SpellsNumber bytes n → get_or bytes 0 0 < 0xF8
 first_below (SpellsNumber.bits_7 x lt) = omega arith
@@ -101,21 +101,21 @@ some_pair a b c d e =
     let p = same_found (a, b) (c, d) e in
     (ap (λ (q : ℕ × ℕ). q.0) p, ap (λ (q : ℕ × ℕ). q.1) p)
 
-number_from-found : (high count : ℕ) (bytes : List ℕ) (n len : ℕ) → number_from high count bytes ≡ Some (n, len) → (count ≤ length bytes) × (high * 2 ^ (8 * count) + big_endian (take count bytes) ≡ n) × (len ≡ suc count)
-number_from-found high count bytes n len e =
+row_number-found : (high count : ℕ) (bytes : List ℕ) (n len : ℕ) → row_number high count bytes ≡ Some (n, len) → (count ≤ length bytes) × (high * 2 ^ (8 * count) + big_endian (take count bytes) ≡ n) × (len ≡ suc count)
+row_number-found high count bytes n len e =
     elim (cases_lt (length bytes) count) [
-      | inl lt ↦ absurd (let none : number_from high count bytes ≡ None = rw (lt-ltb _ _ lt) refl in cc)
+      | inl lt ↦ absurd (let none : row_number high count bytes ≡ None = rw (lt-ltb _ _ lt) refl in cc)
       | inr le ↦
-          let some : number_from high count bytes ≡ Some (high * 2 ^ (8 * count) + big_endian (take count bytes), count + 1) = rw (le-ltb _ _ le) refl in
+          let some : row_number high count bytes ≡ Some (high * 2 ^ (8 * count) + big_endian (take count bytes), count + 1) = rw (le-ltb _ _ le) refl in
           let both = some_pair (high * 2 ^ (8 * count) + big_endian (take count bytes)) (count + 1) n len (sym some ∙ e) in
           (le, both.0, omega (arith, both.1))
     ]
 
-finished : (first : ℕ) (bytes : List ℕ) (high count n len : ℕ) → number_from high count bytes ≡ Some (n, len) → IsBytes bytes
+finished : (first : ℕ) (bytes : List ℕ) (high count n len : ℕ) → row_number high count bytes ≡ Some (n, len) → IsBytes bytes
     → (AreSoManyBytes count (take count bytes) → SpellsNumber (first ∷ take count bytes) (high * 2 ^ (8 * count) + big_endian (take count bytes)))
     → (len ≤ length (first ∷ bytes)) × SpellsNumber (take len (first ∷ bytes)) n
 finished first bytes high count n len e fits spelled =
-    let f = number_from-found high count bytes n len e in
+    let f = row_number-found high count bytes n len e in
     let s = spelled (AreSoManyBytes-take count bytes fits f.0) in
     (omega arith, rw f.2 (subst (λ (m : ℕ). SpellsNumber (first ∷ take count bytes) m) f.1 s))
 

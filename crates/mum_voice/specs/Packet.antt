@@ -16,7 +16,8 @@ pub record Parts : Type 0 where
   pub position : List ℕ
 
 abbrev pub plain_parts : Packet → Parts
-plain_parts p = record { kind = p.kind; target = p.target; sequence = p.sequence.now; audio = p.audio.now; position = p.position.now }
+plain_parts p =
+    record { kind = p.kind; target = p.target; sequence = p.sequence.now; audio = p.audio.now; position = p.position.now }
 
 -- ---- the grammar
 
@@ -34,7 +35,8 @@ pub record IsOpus (audio : List ℕ) : Type 0 where
 -- bit says that another segment follows.
 pub data AreSegments : List ℕ → Type 0 where
   last : (sound : List ℕ) → length sound < 2 ^ 7 → AreSegments (length sound ∷ sound)
-  another : (sound rest : List ℕ) → length sound < 2 ^ 7 → AreSegments rest → AreSegments ((0x80 + length sound) ∷ sound ++ rest)
+  another : (sound rest : List ℕ) → length sound < 2 ^ 7 → AreSegments rest
+      → AreSegments ((0x80 + length sound) ∷ sound ++ rest)
 
 -- the audio of the kinds 0 CELT Alpha, 2 Speex, 3 CELT Beta and 4 Opus
 pub data IsAudio : ℕ → List ℕ → Type 0 where
@@ -84,9 +86,12 @@ HasNoAudio kind bytes = (audio position : List ℕ) → IsAudio kind audio → b
 pub data HasVoiceFault : List ℕ → BadVoice → Type 0 where
   empty : HasVoiceFault [] bad_length
   too_long : (bytes : List ℕ) → PACKET_LIMIT < length bytes → HasVoiceFault bytes bad_length
-  unknown_kind : (header : ℕ) (bytes : List ℕ) → length bytes + 1 ≤ PACKET_LIMIT → is_audio_kind (header / 2 ^ 5) ≡ false → HasVoiceFault (header ∷ bytes) bad_type
-  no_sequence : (header : ℕ) (bytes : List ℕ) → IsHeader header bytes → BeginsWithNone bytes → HasVoiceFault (header ∷ bytes) bad_varint
-  no_audio : (header number len : ℕ) (bytes : List ℕ) → IsHeader header bytes → BeginsWith bytes number len → HasNoAudio (header / 2 ^ 5) (drop len bytes) → HasVoiceFault (header ∷ bytes) bad_audio
+  unknown_kind : (header : ℕ) (bytes : List ℕ) → length bytes + 1 ≤ PACKET_LIMIT
+      → is_audio_kind (header / 2 ^ 5) ≡ false → HasVoiceFault (header ∷ bytes) bad_type
+  no_sequence : (header : ℕ) (bytes : List ℕ) → IsHeader header bytes → BeginsWithNone bytes
+      → HasVoiceFault (header ∷ bytes) bad_varint
+  no_audio : (header number len : ℕ) (bytes : List ℕ) → IsHeader header bytes → BeginsWith bytes number len
+      → HasNoAudio (header / 2 ^ 5) (drop len bytes) → HasVoiceFault (header ∷ bytes) bad_audio
 
 -- ---- reading, as a function: the parts, or the first fault
 

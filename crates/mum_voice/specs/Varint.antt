@@ -25,21 +25,27 @@ pub data SpellsNumber : List ℕ → ℕ → Type 0 where
   -- 0xxxxxxx
   bits_7 : (x : ℕ) → x < 2 ^ 7 → SpellsNumber (x ∷ []) x
   -- 10xxxxxx and 1 byte
-  bits_14 : (x : ℕ) (more : List ℕ) → x < 2 ^ 6 → AreSoManyBytes 1 more → SpellsNumber ((0x80 + x) ∷ more) (x * 2 ^ 8 + big_endian more)
+  bits_14 : (x : ℕ) (more : List ℕ) → x < 2 ^ 6 → AreSoManyBytes 1 more
+      → SpellsNumber ((0x80 + x) ∷ more) (x * 2 ^ 8 + big_endian more)
   -- 110xxxxx and 2 bytes
-  bits_21 : (x : ℕ) (more : List ℕ) → x < 2 ^ 5 → AreSoManyBytes 2 more → SpellsNumber ((0xC0 + x) ∷ more) (x * 2 ^ 16 + big_endian more)
+  bits_21 : (x : ℕ) (more : List ℕ) → x < 2 ^ 5 → AreSoManyBytes 2 more
+      → SpellsNumber ((0xC0 + x) ∷ more) (x * 2 ^ 16 + big_endian more)
   -- 1110xxxx and 3 bytes
-  bits_28 : (x : ℕ) (more : List ℕ) → x < 2 ^ 4 → AreSoManyBytes 3 more → SpellsNumber ((0xE0 + x) ∷ more) (x * 2 ^ 24 + big_endian more)
+  bits_28 : (x : ℕ) (more : List ℕ) → x < 2 ^ 4 → AreSoManyBytes 3 more
+      → SpellsNumber ((0xE0 + x) ∷ more) (x * 2 ^ 24 + big_endian more)
   -- 111100xx and 4 bytes
-  bits_32 : (x : ℕ) (more : List ℕ) → x < 2 ^ 2 → AreSoManyBytes 4 more → SpellsNumber ((0xF0 + x) ∷ more) (big_endian more)
+  bits_32 : (x : ℕ) (more : List ℕ) → x < 2 ^ 2 → AreSoManyBytes 4 more
+      → SpellsNumber ((0xF0 + x) ∷ more) (big_endian more)
   -- 111101xx and 8 bytes
-  bits_64 : (x : ℕ) (more : List ℕ) → x < 2 ^ 2 → AreSoManyBytes 8 more → SpellsNumber ((0xF4 + x) ∷ more) (big_endian more)
+  bits_64 : (x : ℕ) (more : List ℕ) → x < 2 ^ 2 → AreSoManyBytes 8 more
+      → SpellsNumber ((0xF4 + x) ∷ more) (big_endian more)
 
 -- All eight rows. What is inverted is a positive number, and no inverse again.
 pub data SpellsWord : List ℕ → ℕ → Type 0 where
   positive : (bytes : List ℕ) (number : ℕ) → SpellsNumber bytes number → SpellsWord bytes number
   -- 111110xx and a positive number
-  inverted : (x : ℕ) (bytes : List ℕ) (number : ℕ) → x < 2 ^ 2 → SpellsNumber bytes number → SpellsWord ((0xF8 + x) ∷ bytes) (inverse number)
+  inverted : (x : ℕ) (bytes : List ℕ) (number : ℕ) → x < 2 ^ 2 → SpellsNumber bytes number
+      → SpellsWord ((0xF8 + x) ∷ bytes) (inverse number)
   -- 111111nn
   inverted_small : (n : ℕ) → n < 2 ^ 2 → SpellsWord ((0xFC + n) ∷ []) (inverse n)
 
@@ -51,7 +57,8 @@ IsClearNumber (first ∷ bytes) = 0xF0 ≤ first → first % 2 ^ 2 ≡ 0
 -- the same of any spelling: its own ignored bits, and those of the number that it inverts
 abbrev pub IsClear : List ℕ → Type 0
 IsClear [] = Unit {0}
-IsClear (first ∷ bytes) = (0xF0 ≤ first → first < 0xFC → first % 2 ^ 2 ≡ 0) × (0xF8 ≤ first → IsClearNumber bytes)
+IsClear (first ∷ bytes) =
+    (0xF0 ≤ first → first < 0xFC → first % 2 ^ 2 ≡ 0) × (0xF8 ≤ first → IsClearNumber bytes)
 
 -- the first len of the bytes spell the word
 pub record BeginsWith (bytes : List ℕ) (word len : ℕ) : Type 0 where
@@ -65,20 +72,20 @@ BeginsWithNone bytes = (word len : ℕ) → BeginsWith bytes word len → ⊥
 -- ---- reading, as a function: the word that begins the bytes, and how many of them spell it
 
 -- the number of these high bits and so many bytes, where they are there
-abbrev pub number_from : ℕ → ℕ → List ℕ → Option (ℕ × ℕ)
-number_from high count bytes =
+abbrev pub row_number : ℕ → ℕ → List ℕ → Option (ℕ × ℕ)
+row_number high count bytes =
     if nat_lt (length bytes) count then None
     else Some (high * 2 ^ (8 * count) + big_endian (take count bytes), count + 1)
 
 -- the positive number of this first byte and the bytes after it
 abbrev pub number_by : ℕ → List ℕ → Option (ℕ × ℕ)
 number_by first bytes =
-    if nat_lt first 0x80 then number_from first 0 bytes
-    else if nat_lt first 0xC0 then number_from (first - 0x80) 1 bytes
-    else if nat_lt first 0xE0 then number_from (first - 0xC0) 2 bytes
-    else if nat_lt first 0xF0 then number_from (first - 0xE0) 3 bytes
-    else if nat_lt first 0xF4 then number_from 0 4 bytes
-    else if nat_lt first 0xF8 then number_from 0 8 bytes
+    if nat_lt first 0x80 then row_number first 0 bytes
+    else if nat_lt first 0xC0 then row_number (first - 0x80) 1 bytes
+    else if nat_lt first 0xE0 then row_number (first - 0xC0) 2 bytes
+    else if nat_lt first 0xF0 then row_number (first - 0xE0) 3 bytes
+    else if nat_lt first 0xF4 then row_number 0 4 bytes
+    else if nat_lt first 0xF8 then row_number 0 8 bytes
     else None
 
 unfoldable pub number_at : List ℕ → Option (ℕ × ℕ)

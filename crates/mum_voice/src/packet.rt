@@ -18,8 +18,8 @@ pub const PACKET_LIMIT: usize = 1020;
 /// The most bytes of a copy, which has a session of up to five bytes more.
 pub const COPY_LIMIT: usize = 1025;
 
-/// The numbers for which the names of limits and kinds stand. The limits are those of the server; the
-/// kinds are the documentation's.
+/// The numbers for which the names of limits and kinds stand. The limits are the server's, the kinds
+/// the documentation's.
 pub fn limits()
     ensures packet { PACKET_LIMIT ≡ 1020 }
     ensures copy { COPY_LIMIT ≡ 1025 }
@@ -89,9 +89,11 @@ impl<'a> Packet<'a> {
     /// The parts of a client's packet, or the first fault: its length, its kind, its sequence, its audio.
     pub fn parse(bytes: &'a [u8]) -> Result<Packet<'a>, BadVoice>
         // Which bytes are a packet, and of which parts.
-        ensures grammar { (p : Parts) → (parsed result ≡ Ok p) ↔ (IsPacket p × (bytes.now ≡ client_bytes p)) }
+        ensures grammar { (p : Parts) →
+            (parsed result ≡ Ok p) ↔ (IsPacket p × (bytes.now ≡ client_bytes p)) }
         // Which fault stands first in bytes that are none.
-        ensures faults { (fault : BadVoice) → (parsed result ≡ Err fault) ↔ HasVoiceFault bytes.now fault }
+        ensures faults { (fault : BadVoice) →
+            (parsed result ≡ Err fault) ↔ HasVoiceFault bytes.now fault }
         ensures proper { IfOk result (λ p. IsPacket (plain_parts p)) }
         // The same as a function.
         ensures exact { parsed result ≡ packet bytes.now }

@@ -124,7 +124,8 @@ fn push_number(out: &mut ArrayVec<u8, VARINT_LIMIT>, number: u64)
 pub fn write_varint(value: u64) -> ArrayVec<u8, VARINT_LIMIT>
     ensures bytes { result.items ≡ shortest_word value }
     // What follows does not change its reading.
-    ensures read_again { (rest : List ℕ) → word_at (result.items ++ rest) ≡ Some (value, length result.items) }
+    ensures read_again { (rest : List ℕ) →
+        word_at (result.items ++ rest) ≡ Some (value, length result.items) }
 {
     let inverse = !value;
     let mut out = ArrayVec::new();

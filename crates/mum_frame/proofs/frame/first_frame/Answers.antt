@@ -2,12 +2,12 @@ use Rattle.std.proofs.Common.{ℕ, ◌≡◌, ◌-◌, List, length, take, drop,
 use Rattle.std.proofs.lemmas.List.{length-drop, take_rest}
 use Rattle.mum_frame.specs.declared.frame.TheConstants.{HEADER_LENGTH}
 use Rattle.mum_frame.specs.Frame.{named_length}
-use Rattle.mum_frame.proofs.Headers.{IsPartial-no_header, IsPartial-cut, named_length-rest, whole_is}
+use Rattle.mum_frame.proofs.Headers.{HasNoFrame-no_header, HasNoFrame-cut, named_length-rest, whole_is}
 use Rattle.mum_frame.proofs.frame.first_frame.Goals as goal
 
 pub returns-then-bytes-lt-HEADER_LENGTH : goal.returns-then-bytes-lt-HEADER_LENGTH
 returns-then-bytes-lt-HEADER_LENGTH c =
-    (IsPartial-no_header c.args.bytes.now c.if-bytes-lt-HEADER_LENGTH.true, λ long. let header = long.header in omega arith)
+    (HasNoFrame-no_header c.args.bytes.now c.if-bytes-lt-HEADER_LENGTH.true, λ long. let header = long.header in omega arith)
 
 pub returns-then-length-gt-PAYLOAD_LIMIT : goal.returns-then-length-gt-PAYLOAD_LIMIT
 returns-then-length-gt-PAYLOAD_LIMIT c =
@@ -21,7 +21,7 @@ returns-then-after_header-length c =
     let named : c.read_u32-named.result ≡ named_length bytes = c.read_u32-named.ensures ∙ sym (named_length-rest bytes) in
     let room : length (take (length bytes - HEADER_LENGTH) (drop HEADER_LENGTH bytes)) ≡ length bytes - HEADER_LENGTH =
     ap length (take_rest bytes HEADER_LENGTH) ∙ length-drop HEADER_LENGTH bytes in
-    (IsPartial-cut bytes (omega arith), λ long. let above = long.above in omega arith)
+    (HasNoFrame-cut bytes (omega arith), λ long. let above = long.above in omega arith)
 
 pub returns : goal.returns
 returns c =

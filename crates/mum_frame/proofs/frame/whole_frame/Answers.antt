@@ -4,9 +4,9 @@ use Rattle.mum_frame.specs.declared.frame.FirstFrame.{FirstFrame}
 use Rattle.mum_frame.specs.declared.frame.FirstFrame.TheVariants.{Whole, Partial, AboveLimit}
 use Rattle.mum_frame.specs.declared.frame.FrameView.{FrameView}
 use Rattle.mum_frame.specs.declared.frame.Frame.{Frame}
-use Rattle.mum_frame.specs.Frame.{frame_spelling, IsPartial, kind_of, payload_of}
+use Rattle.mum_frame.specs.Frame.{frame_spelling, HasNoFrame, kind_of, payload_of}
 use Rattle.mum_frame.specs.First.{viewed, IsFirst}
-use Rattle.mum_frame.proofs.Headers.{spelling-injective, length-spelling_of, IsPartial-above_limit}
+use Rattle.mum_frame.proofs.Headers.{spelling-injective, length-spelling_of, HasNoFrame-above_limit}
 use Rattle.mum_frame.proofs.OneFrame.{alone_is, kind_of-spelling, payload_of-spelling}
 use Rattle.mum_frame.proofs.frame.whole_frame.Goals as goal
 use Rattle.mum_frame.proofs.frame.whole_frame.Goals.{in_default-via-in-Whole+else-bytes-view, in_default-via-in_default}
@@ -23,10 +23,10 @@ returns-in-Whole-clause-payload c =
     sym (ap payload_of whole ∙ payload_of-spelling (viewed c.in-Whole.view))
 
 -- where no whole frame was found, none begins the bytes
-not_whole : (bytes : List ℕ) (first : FirstFrame) → IsFirst bytes first → ((view : FrameView) → first ≡ Whole view → ⊥) → IsPartial bytes
+not_whole : (bytes : List ℕ) (first : FirstFrame) → IsFirst bytes first → ((view : FrameView) → first ≡ Whole view → ⊥) → HasNoFrame bytes
 not_whole bytes (Whole view) is not_first = absurd (not_first view refl)
 not_whole bytes Partial is not_first = is.0
-not_whole bytes (AboveLimit n) is not_first = IsPartial-above_limit bytes is.0
+not_whole bytes (AboveLimit n) is not_first = HasNoFrame-above_limit bytes is.0
 
 pub returns-in_default-clause-one : goal.returns-in_default-clause-one
 returns-in_default-clause-one c = (

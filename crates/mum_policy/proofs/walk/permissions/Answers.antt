@@ -11,17 +11,17 @@ returns-then-is_of-clause-steps g c = visits_super _ _ _ _ _ c.is_of.ensures c.i
 
 pub returns-then-not-goes_on-clause-value : goal.returns-then-not-goes_on-clause-value
 returns-then-not-goes_on-clause-value g c =
-    let passed : Passed _ _ _ _ _ _ _ = record { within = c.channels-test.true; default = _; there = ap option_copied (sym c.unwrap-policy.ensures) ∙ c.policy.ensures; after_is = c.pass_channel-walk.ensures.walk } in
+    let passed : Passed _ _ _ _ _ _ _ = record { within = c.channels-test.true; default = _; there = ap option_copied (sym c.unwrap-policy.ensures) ∙ c.policy_at.ensures; after_is = c.pass_channel-walk.ensures.walk } in
     perm_walked _ _ _ _ _ _ c.is_of.ensures c.if-is_of.false c.ends_at_root-on_root.ensures (ended _ passed c.goes_on.ensures c.if-not-goes_on.true c.channels.invariant)
 
 pub returns-then-not-goes_on-clause-steps : goal.returns-then-not-goes_on-clause-steps
 returns-then-not-goes_on-clause-steps g c =
-    let passed : Passed _ _ _ _ _ _ _ = record { within = c.channels-test.true; default = _; there = ap option_copied (sym c.unwrap-policy.ensures) ∙ c.policy.ensures; after_is = c.pass_channel-walk.ensures.walk } in
+    let passed : Passed _ _ _ _ _ _ _ = record { within = c.channels-test.true; default = _; there = ap option_copied (sym c.unwrap-policy.ensures) ∙ c.policy_at.ensures; after_is = c.pass_channel-walk.ensures.walk } in
     visits_walked _ _ _ _ _ _ c.is_of.ensures c.if-is_of.false (ended_visits _ _ passed c.goes_on.ensures c.if-not-goes_on.true c.pass_channel-walk.ensures.steps c.channels.invariant)
 
 pub channels-preserved : goal.channels-preserved
 channels-preserved g c =
-    let passed : Passed _ _ _ _ _ _ _ = record { within = c.channels-test.true; default = _; there = ap option_copied (sym c.unwrap-policy.ensures) ∙ c.policy.ensures; after_is = c.pass_channel-walk.ensures.walk } in
+    let passed : Passed _ _ _ _ _ _ _ = record { within = c.channels-test.true; default = _; there = ap option_copied (sym c.unwrap-policy.ensures) ∙ c.policy_at.ensures; after_is = c.pass_channel-walk.ensures.walk } in
     so_far_next _ _ passed c.goes_on.ensures c.if-not-goes_on.false c.pass_channel-walk.ensures.steps c.channels.invariant
 
 pub returns-clause-value : goal.returns-clause-value

@@ -4,7 +4,7 @@ use Rattle.mum_frame.specs.declared.frame.TheConstants.{HEADER_LENGTH}
 use Rattle.mum_frame.specs.declared.frame.FrameView.{FrameView}
 use Rattle.mum_frame.specs.First.{viewed}
 use Rattle.mum_frame.specs.Stream.{FramerState}
-use Rattle.mum_frame.specs.Frame.{frame_spelling, IsPartial}
+use Rattle.mum_frame.specs.Frame.{frame_spelling, HasNoFrame}
 use Rattle.std.proofs.lemmas.List.{length-append, length-drop}
 use Rattle.mum_frame.proofs.Headers.{length-spelling_of}
 use Rattle.mum_frame.proofs.Replies.{NextGives-out_of_memory}
@@ -25,7 +25,7 @@ pub returns-in_err-frame-in-Whole : goal.returns-in_err-frame-in-Whole
 returns-in_err-frame-in-Whole c =
     let p = err_from_is_err_and c.from_residual.result c.from_residual.ensures.1 in
     let begun = Begins-kept c.kept.result.now c.args.self.now.kept c.in-Whole.view c.kept.ensures c.in-Whole.ensures.1 in
-    let whole : IsPartial c.args.self.now.kept → ⊥ = λ partial. partial (viewed c.in-Whole.view) _ c.in-Whole.ensures.0 begun in
+    let whole : HasNoFrame c.args.self.now.kept → ⊥ = λ none. none (viewed c.in-Whole.view) _ c.in-Whole.ensures.0 begun in
     NextGives-out_of_memory c.args.self.now.kept c.from_residual.result (p.1 ∙ ap Err p.2) whole
 
 pub invariant_of-self : goal.invariant_of-self

@@ -8,3 +8,5 @@ pub mod Longer
 pub mod Underway
 pub mod Ends
 pub mod RunLaws
+pub mod Counts
+pub mod Numbering

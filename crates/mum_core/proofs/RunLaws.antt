@@ -41,21 +41,21 @@ stayed old new same = ([], same ∙ sym (append-nil old.accepted))
 
 -- ---- what the accepted edits and the published count become
 
-abbrev Keeps : CoreState → CoreState → Type 0
+abbrev pub Keeps : CoreState → CoreState → Type 0
 Keeps old new = (new.accepted ≡ old.accepted) × (new.published ≡ old.published)
 
 hears_keeps : (core : CoreState) (w : ℕ) (speaker : SessionId) (read : Result Parts BadVoice) → Keeps core (frame_step.hears core w speaker read)
 hears_keeps core w speaker (Ok parts) = (refl, refl)
 hears_keeps core w speaker (Err fault) = (refl, refl)
 
-frame_keeps : (core : CoreState) (c : ℕ) (a : Action) → Keeps core (frame_step.does core c a)
+pub frame_keeps : (core : CoreState) (c : ℕ) (a : Action) → Keeps core (frame_step.does core c a)
 frame_keeps core c (Ask name) = (refl, refl)
 frame_keeps core c (Voice speaker payload) = hears_keeps core (connection_at core c).worker speaker (packet payload)
 frame_keeps core c (Echo frame) = (refl, refl)
 frame_keeps core c (Keep number) = (refl, refl)
 frame_keeps core c (Ignore why) = (refl, refl)
 
-notes_keep : (core : CoreState) (w : ℕ) (revision : Option ℕ) → Keeps core (tell_step.notes w revision core)
+pub notes_keep : (core : CoreState) (w : ℕ) (revision : Option ℕ) → Keeps core (tell_step.notes w revision core)
 notes_keep core w None = (refl, refl)
 notes_keep core w (Some revision) = (refl, refl)
 
@@ -63,7 +63,7 @@ cond_keeps : (b : Bool) (core x y : CoreState) → Keeps core x → Keeps core y
 cond_keeps true core x y hx hy = hx
 cond_keeps false core x y hx hy = hy
 
-puts_keep : (core : CoreState) (next : Option Outgoing) → Keeps core (offer_step.puts core next)
+pub puts_keep : (core : CoreState) (next : Option Outgoing) → Keeps core (offer_step.puts core next)
 puts_keep core None = (refl, refl)
 puts_keep core (Some next) = cond_keeps (offer_step.has_room core next.slot.0) core _ _ (refl, refl) (refl, refl)
 
@@ -71,15 +71,15 @@ takes_keep : (core : CoreState) (seat : Seat) (front : Option Parcel) → Keeps 
 takes_keep core seat None = (refl, refl)
 takes_keep core seat (Some front) = cond_keeps (drain_step.is_for front seat) core _ _ (refl, refl) (refl, refl)
 
-drain_keeps : (core : CoreState) (seat : Option Seat) → Keeps core (drain_step.does_from core seat)
+pub drain_keeps : (core : CoreState) (seat : Option Seat) → Keeps core (drain_step.does_from core seat)
 drain_keeps core None = (refl, refl)
 drain_keeps core (Some seat) = takes_keep core seat (slice_get (outbox_at core seat.slot.0) 0)
 
 -- the core of a tell before its note, and that of an offer before its outbox
-abbrev told_core : CoreState → ℕ → CoreState
+abbrev pub told_core : CoreState → ℕ → CoreState
 told_core core c = at_connection c (λ connection. record connection { seat = seat_given connection.decided; decided = None }) core
 
-abbrev taken_core : CoreState → ℕ → CoreState
+abbrev pub taken_core : CoreState → ℕ → CoreState
 taken_core core w = at_worker w (λ worker. record worker { copies = drop 1 worker.copies }) core
 
 grown : (core : CoreState) (step : BuiltStep) → Grown core (does core step)
@@ -152,7 +152,7 @@ changed-at workers i w change h = from (slice_get workers i) refl
           rw there (same_worker (get_or workers w idle))
     ]
 
-none_stands : {A : Type 0} (b : Bool) (x : A) (rest : Option A) → cond b (Some x) rest ≡ None → (b ≡ false) × (rest ≡ None)
+pub none_stands : {A : Type 0} (b : Bool) (x : A) (rest : Option A) → cond b (Some x) rest ≡ None → (b ≡ false) × (rest ≡ None)
 none_stands true x rest h = cc
 none_stands false x rest h = (refl, h)
 
@@ -248,12 +248,12 @@ pub nobody_hears_itself : (state : State) (speaker target : ℕ) → AllByRecurs
 nobody_hears_itself state speaker target =
     cond_all (target == 0) _ _ (cond_all (list_any (is_session speaker) state.sessions) _ _ (others_of speaker state.sessions))
 
-not_false : (b : Bool) → not b ≡ false → b ≡ true
+pub not_false : (b : Bool) → not b ≡ false → b ≡ true
 not_false true h = refl
 not_false false h = cc
 
 -- a worker that is there and changes
-changed_here : (workers : List WorkerState) (w : ℕ) (change : WorkerState → WorkerState) → w < length workers
+pub changed_here : (workers : List WorkerState) (w : ℕ) (change : WorkerState → WorkerState) → w < length workers
     → slice_index_or (changed_at w change workers) w idle ≡ change (slice_index_or workers w idle)
 changed_here workers w change within =
     let read : slice_get workers w ≡ Some (get_or workers w idle) = slice_get-get_or workers w idle within in
@@ -267,7 +267,7 @@ copies_are_the_route core w revision held h holds =
     let within : w < length core.workers = ltb-true w (length core.workers) (not_false (nat_lt w (length core.workers)) first.0) in
     ap (λ (x : WorkerState). x.copies) (changed_here core.workers w _ within) ∙ ap (look_step.copies (state_at core revision)) holds
 
-puts_workers : (core : CoreState) (next : Option Outgoing) → (offer_step.puts core next).workers ≡ core.workers
+pub puts_workers : (core : CoreState) (next : Option Outgoing) → (offer_step.puts core next).workers ≡ core.workers
 puts_workers core None = refl
 puts_workers core (Some next) = from (offer_step.has_room core next.slot.0)
   where
@@ -276,7 +276,7 @@ puts_workers core (Some next) = from (offer_step.has_room core next.slot.0)
     from true = refl
     from false = refl
 
-first_of : (copies : List Outgoing) → is_none (slice_get copies 0) ≡ false → (copy : Outgoing) × (copies ≡ copy ∷ drop 1 copies)
+pub first_of : (copies : List Outgoing) → is_none (slice_get copies 0) ≡ false → (copy : Outgoing) × (copies ≡ copy ∷ drop 1 copies)
 first_of [] h = cc
 first_of (copy ∷ copies) h = (copy, refl)
 

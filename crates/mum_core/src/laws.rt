@@ -1,13 +1,13 @@
 //! What follows from the definitions of the steps for every run of them. These functions do nothing:
 //! each contract is a theorem.
 
-ghost use Rattle.std.specs.Prelude.{◌≡◌, ◌≤◌, ◌++◌, ◌∷◌, ℕ, List, length, map, None, Some};
-ghost use Rattle.std.specs.List.{AllByRecursion};
+ghost use Rattle.std.specs.Prelude.{◌≡◌, ◌≤◌, ◌<◌, ◌+◌, ◌-◌, ◌^◌, ◌++◌, ◌∷◌, ℕ, List, length, map, sum_by, None, Some};
+ghost use Rattle.std.specs.List.{AllByRecursion, AllPairs};
 ghost use Rattle.mum_core.specs.declared.edit.Edit.{Edit};
 ghost use Rattle.mum_core.specs.declared.worker.Outgoing.{Outgoing};
 ghost use Rattle.mum_core.specs.Built.{BuiltStep, Look, Offer};
 ghost use Rattle.mum_core.specs.Core.{CoreState, start, state_at, worker_at};
-ghost use Rattle.mum_core.specs.Laws.{IsRun, ran};
+ghost use Rattle.mum_core.specs.Laws.{IsRun, looked, ran};
 ghost use Rattle.mum_core.specs.State.{State, route};
 ghost use Rattle.mum_core.specs.Step.{does, illegal};
 ghost use Rattle.mum_core.specs.Worker.{HeldPacket};
@@ -32,7 +32,8 @@ pub fn looks_go_on()
 {}
 
 /// A look leaves one copy for each member of the route at its revision, in their order, and none for
-/// the speaker; an offer takes the first copy that is left, and no other.
+/// the speaker; the members' numbers rise, so each is there once; an offer takes the first copy that is
+/// left, and no other.
 pub fn copies_are_offered_once()
     ensures route { (core : CoreState) (w revision : ℕ) (held : HeldPacket) →
         illegal core (Look w revision) ≡ None → (worker_at core w).held ≡ Some held →
@@ -40,6 +41,18 @@ pub fn copies_are_offered_once()
         ≡ map (copy_to held) (route (state_at core revision) held.speaker.0 held.parts.target) }
     ensures not_the_speaker { (state : State) (speaker target : ℕ) →
         AllByRecursion (λ m. m.session.0 ≡ speaker → ⊥) (route state speaker target) }
+    ensures each_once { (workers : ℕ) (steps : List BuiltStep) (revision speaker target : ℕ) →
+        AllPairs (λ m other. m.session.0 < other.session.0)
+        (route (state_at (ran (start workers) steps) revision) speaker target) }
     ensures in_order { (core : CoreState) (w : ℕ) → illegal core (Offer w) ≡ None →
         (copy : Outgoing) × ((worker_at core w).copies ≡ copy ∷ (worker_at (does core (Offer w)) w).copies) }
+{}
+
+/// The copies that were sent, those that found their outbox full, and those that workers have left add
+/// up to the audiences that were looked for, until a count stands at the end of its type.
+pub fn each_copy_is_counted()
+    ensures { (workers : ℕ) (steps : List BuiltStep) → IsRun (start workers) steps → length steps < 2 ^ 64 - 1 →
+        let core = ran (start workers) steps in
+        core.totals.copies + core.totals.full + sum_by (λ worker. length worker.copies) core.workers
+        ≡ looked (start workers) steps }
 {}

@@ -16,24 +16,37 @@ const PATH_LENGTH: usize = 33;
 /// The most entries of a channel.
 const ENTRIES: usize = 128;
 
-/// One policy on the root, and one on every other channel.
+/// The channels of a tree.
+const CHANNELS: u32 = 1024;
+
+/// Channels by their numbers, found by halving. The first of them are those of the path.
 #[derive(Drop)]
 struct Lists {
-    root: ChannelPolicy,
-    below: ChannelPolicy,
+    numbers: Vec<u32>,
+    policies: Vec<ChannelPolicy>,
+    none: ChannelPolicy,
+}
+
+/// The place of a number among these, found by halving.
+fn place_of(numbers: &[u32], number: u32) -> usize {
+    numbers.partition_point(|other| *other < number)
 }
 
 impl Policies for Lists {
-    ghost use Rattle.std.specs.Prelude.{Some, ◌==◌, if◌then◌else◌};
+    ghost use Rattle.std.specs.Prelude.{Some, slice_index_or};
 
-    ghost policy_of = { λ lists id. Some (if id.0 == 0 then lists.root else lists.below) };
+    ghost policy_of = { λ lists id. Some (slice_index_or lists.policies.items id.0 lists.none) };
 
     fn policy(&self, id: ChannelId) -> Option<&ChannelPolicy> {
-        if id.0 == 0 {
-            Some(&self.root)
-        } else {
-            Some(&self.below)
+        let place = place_of(self.numbers.as_slice(), id.0);
+        if place < self.policies.len() && place == id.0 as usize {
+            return Some(&self.policies[place]);
         }
+        let direct = id.0 as usize;
+        if direct < self.policies.len() {
+            return Some(&self.policies[direct]);
+        }
+        Some(&self.none)
     }
 }
 
@@ -72,18 +85,35 @@ fn groups(alloc: Global) -> Result<Items<Group>> {
     Ok(Items::from_vec(groups))
 }
 
+fn policy_of(groups: Items<Group>, acls: Items<AclEntry>) -> ChannelPolicy {
+    ChannelPolicy {
+        inherit_acls: true,
+        groups,
+        acls,
+    }
+}
+
 fn lists_of(alloc: Global, kind: &str) -> Result<Lists> {
+    let mut numbers = Vec::new(alloc);
+    let mut policies = Vec::new(alloc);
+    for number in 0..CHANNELS {
+        numbers.push(number)?;
+        let groups = if number == 0 {
+            groups(alloc)?
+        } else {
+            Items::new(alloc)
+        };
+        let acls = if number < PATH_LENGTH as u32 {
+            entries(alloc, kind)?
+        } else {
+            Items::new(alloc)
+        };
+        policies.push(policy_of(groups, acls))?;
+    }
     Ok(Lists {
-        root: ChannelPolicy {
-            inherit_acls: true,
-            groups: groups(alloc)?,
-            acls: entries(alloc, kind)?,
-        },
-        below: ChannelPolicy {
-            inherit_acls: true,
-            groups: Items::from_vec(Vec::new(alloc)),
-            acls: entries(alloc, kind)?,
-        },
+        numbers,
+        policies,
+        none: policy_of(Items::new(alloc), Items::new(alloc)),
     })
 }
 

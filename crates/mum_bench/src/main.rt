@@ -6,6 +6,7 @@ mod acl;
 mod frames;
 mod messages;
 mod outbox;
+mod roster;
 mod tree;
 mod voice;
 
@@ -27,12 +28,14 @@ fn checksum<R: Wait + Threads + Copy + Send + 'static>(
     match words {
         [word, kind, length, count] => match word.as_str() {
             "acl" => acl::walks(alloc, kind.as_str(), number(length)?, number(count)?),
+            "roster" => roster::work(alloc, kind.as_str(), number(length)?, number(count)?),
             "tree" => tree::work(alloc, kind.as_str(), number(length)?, number(count)?),
             _ => bail!("no such workload"),
         },
         [word, piece, size] => match word.as_str() {
             "frames" => frames::small(alloc, number(piece)?, number(size)?),
             "copy" => frames::copied(alloc, number(piece)?, number(size)?),
+            "copy-roster" => roster::copied(alloc, number(piece)?, number(size)?),
             "copy-tree" => tree::copied(alloc, number(piece)?, number(size)?),
             "messages" => messages::work(alloc, piece.as_str(), number(size)?),
             "outbox" => outbox::work(rt, alloc, piece.as_str(), number(size)?),

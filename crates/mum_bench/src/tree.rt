@@ -4,7 +4,7 @@ ghost use Rattle.std.specs.Prelude.{◌<◌, ◌≤◌, IfOk};
 
 use anyhow::{Result, bail, ensure};
 use mum_base::ChannelId;
-use mum_tree::{CHANNEL_LIMIT, Scratch, Tree};
+use mum_tree::{CHANNEL_LIMIT, ChannelChange, Scratch, Tree};
 use std::alloc::Global;
 
 /// How many of those that come next by number, and round to the root, a channel is linked to. With those
@@ -140,9 +140,35 @@ fn builds(alloc: Global, channels: u32, count: usize) -> Result<u64>
     Ok(sum)
 }
 
+/// Changes channels all over the tree so many times: each gets another position, and a link to the channel
+/// half round that goes again by the same change.
+fn edits(alloc: Global, channels: u32, count: usize) -> Result<u64>
+    requires some { 0 < channels }
+    requires few { channels ≤ 1024 }
+{
+    let mut tree = linked(alloc, channels)?;
+    let mut sum = 0;
+    for round in 0..count {
+        let number = (round.wrapping_mul(STRIDE) % channels as usize) as u32;
+        let far = [ChannelId((number + channels / 2) % channels)];
+        let change = ChannelChange {
+            name: None,
+            parent: None,
+            description: None,
+            position: Some((round % 1000) as i32),
+            max_users: None,
+            links_add: &far,
+            links_remove: &far,
+        };
+        tree.edit(ChannelId(number), &change)?;
+        sum = with_channel(sum, tree.link_at(ChannelId(number), round % 64));
+    }
+    Ok(sum)
+}
+
 /// So many times what the word says, of a tree of so many channels: `subtree` and `linked` of the root,
 /// each channel with 64 partners where there are enough, `path` of the last channel, `place` and `nth`
-/// of channels all over the tree, or to `build` it with its links.
+/// of channels all over the tree, to `edit` channels all over it, or to `build` it with its links.
 pub fn work(alloc: Global, kind: &str, channels: usize, count: usize) -> Result<u64> {
     let channels = channel_count(channels)?;
     match kind {
@@ -150,6 +176,7 @@ pub fn work(alloc: Global, kind: &str, channels: usize, count: usize) -> Result<
         "linked" => marks(alloc, Walk::Linked, channels, count),
         "path" => paths(&unlinked(alloc, channels)?, ChannelId(channels - 1), count),
         "place" => places(&unlinked(alloc, channels)?, channels, count),
+        "edit" => edits(alloc, channels, count),
         "build" => builds(alloc, channels, count),
         _ => bail!("no such work on a tree"),
     }

@@ -6,7 +6,7 @@ use crate::words::{behind, channel, flags, numbers, small, texts, word_of};
 use anyhow::{Context, Result, bail};
 use mum_base::{AccountId, ChannelId, SessionId, Text};
 use mum_cases::number;
-use mum_users::{Roster, UserFault};
+use mum_users::{ChannelSet, Roster, UserChange, UserFault};
 use std::alloc::Global;
 
 /// What a call on a roster answers.
@@ -32,6 +32,69 @@ fn set_target(alloc: Global, roster: &mut Roster, session: SessionId, rest: &str
     Ok(roster.set_target(session, small(id)?, &target))
 }
 
+/// `4 5 100..131`
+fn channels(alloc: Global, words: &str) -> Result<Vec<ChannelId>> {
+    let mut channels = Vec::new(alloc);
+    for word in words.split_whitespace() {
+        for number in numbers(word)? {
+            channels.push(ChannelId(number))?;
+        }
+    }
+    Ok(channels)
+}
+
+/// What stands behind a key among parts that are parted by `, `.
+fn part<'a>(parts: &'a str, key: &str) -> Option<&'a str> {
+    for part in parts.split(", ") {
+        let (word, rest) = word_of(part);
+        if word == key {
+            return Some(rest);
+        }
+    }
+    None
+}
+
+fn given_channel(word: Option<&str>) -> Result<Option<ChannelId>> {
+    match word {
+        Some(word) => Ok(Some(channel(word)?)),
+        None => Ok(None),
+    }
+}
+
+fn edit(alloc: Global, roster: &mut Roster, session: SessionId, parts: &str) -> Result<Done> {
+    let listen = channels(alloc, part(parts, "listen").unwrap_or(""))?;
+    let unlisten = channels(alloc, part(parts, "unlisten").unwrap_or(""))?;
+    let change = UserChange {
+        channel: given_channel(part(parts, "channel"))?,
+        flags: flags(part(parts, "flags").unwrap_or(""))?,
+        comment: part(parts, "comment"),
+        context: part(parts, "context").map(|text| text.as_bytes()),
+        listen: listen.as_slice(),
+        unlisten: unlisten.as_slice(),
+    };
+    Ok(roster.edit(session, &change))
+}
+
+/// Channels that go.
+#[derive(Drop)]
+struct Gone {
+    channels: Vec<ChannelId>,
+}
+
+impl ChannelSet for Gone {
+    ghost use Rattle.std.specs.Prelude.{◌==◌};
+    ghost use Rattle.std.specs.List.{list_any};
+
+    ghost has_channel = { λ gone id. list_any (λ channel. channel.0 == id.0) gone.channels.items };
+
+    fn has(&self, id: ChannelId) -> bool {
+        self.channels
+            .as_slice()
+            .iter()
+            .any(|channel| *channel == id)
+    }
+}
+
 /// One call for one session.
 fn change(
     alloc: Global,
@@ -49,6 +112,8 @@ fn change(
         "listen" => listen_to(roster, session, rest),
         "unlisten" => Ok(roster.unlisten(session, channel(rest)?)),
         "target" => set_target(alloc, roster, session, rest),
+        "edit" => edit(alloc, roster, session, rest),
+        "suppress" => Ok(roster.suppress(session, rest == "on")),
         _ => bail!("no call: {word}"),
     }
 }
@@ -110,6 +175,11 @@ pub fn answer(alloc: Global, roster: &mut Roster, word: &str, rest: &str) -> Res
             Ok(String::from_str(alloc, "ok")?)
         }
         "join" => join(alloc, roster, rest),
+        "close" => {
+            let channels = channels(alloc, rest)?;
+            roster.close(&Gone { channels });
+            Ok(String::from_str(alloc, "ok")?)
+        }
         _ => {
             let (sessions, rest) = word_of(rest);
             change_each(alloc, roster, word, sessions, rest)

@@ -8,6 +8,7 @@ mod members;
 mod path;
 mod permissions;
 mod perms;
+mod policy;
 mod readers;
 mod roster;
 mod targets;
@@ -23,6 +24,7 @@ fn main(rt: HostRuntime) -> Result<()> {
     tally.compare::<permissions::Walks, HostRuntime>(&rt)?;
     tally.compare::<member::Names, HostRuntime>(&rt)?;
     tally.compare::<members::Definitions, HostRuntime>(&rt)?;
+    tally.compare::<policy::Sizes, HostRuntime>(&rt)?;
     tally.compare::<roster::Calls, HostRuntime>(&rt)?;
     tally.finish(&rt)
 }

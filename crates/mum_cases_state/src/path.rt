@@ -175,7 +175,7 @@ pub fn path_of(alloc: Global, text: &str) -> Result<Lists> {
     };
     for channel in text.split(';') {
         let (name, parts) = channel.split_once(':').unwrap_or((channel, ""));
-        let policy = policy_of_parts(alloc, parts)?;
+        let policy = policy_of_parts(alloc, parts)?.copy(alloc)?;
         if lists.names.is_empty() {
             lists.root = policy;
         } else {

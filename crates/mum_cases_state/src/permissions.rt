@@ -4,10 +4,10 @@ ghost use Rattle.std.specs.Prelude.{◌≡◌, ◌<◌};
 
 use crate::path::{Lists, asker_of, begins_at_root, path_of};
 use crate::perms::set_text;
-use anyhow::{Context, Result};
+use anyhow::{Context, Result, ensure};
 use mum_base::{ChannelId, Perm, Steps};
 use mum_cases::Table;
-use mum_policy::{Who, permissions};
+use mum_policy::{Who, permissions, permitted};
 use std::alloc::Global;
 use std::marker::Brand;
 use std::sync::ledger::{Blank, Ledger};
@@ -27,6 +27,13 @@ fn counted<L: Ledger>(blank: Blank, lists: &Lists, path: &[ChannelId], who: &Who
     permissions(lists, path, who, &mut steps)
 }
 
+fn uncounted(lists: &Lists, path: &[ChannelId], who: &Who) -> Perm {
+    if !begins_at_root(path) {
+        return Perm::NONE;
+    }
+    permitted(lists, path, who)
+}
+
 fn set_in(lists: &Lists, path: &[ChannelId], who: &Who) -> Perm {
     counted::<Brand>(Blank::new(1), lists, path, who)
 }
@@ -42,6 +49,10 @@ impl Table for Walks {
         let mut text = String::new(alloc);
         for end in 0..path.len() {
             let set = set_in(&lists, &path[..end + 1], &asker.who());
+            ensure!(
+                uncounted(&lists, &path[..end + 1], &asker.who()) == set,
+                "one set"
+            );
             if end > 0 {
                 text.push_str("; ")?;
             }

@@ -3,7 +3,9 @@
 use crate::targets::target_text;
 use crate::words::{channel, session, small, word_of};
 use anyhow::{Context, Result, bail};
-use mum_base::{SessionId, Slot, Text};
+use mum_base::{ChannelId, SessionId, Slot, Text};
+use mum_cases::number;
+use mum_users::user::{are_tokens, is_context};
 use mum_users::{Roster, User, UserFault};
 use std::alloc::Global;
 
@@ -142,6 +144,81 @@ fn target_in(alloc: Global, roster: &Roster, words: &str) -> Result<String> {
     }
 }
 
+/// Numbers parted by spaces, or `none`.
+fn add_number(text: &mut String, alloc: Global, number: u32) -> Result<()> {
+    if !text.is_empty() {
+        text.push_str(" ")?;
+    }
+    text.push_str(format!(in alloc; "{number}")?.as_str())?;
+    Ok(())
+}
+
+fn or_none(alloc: Global, text: String) -> Result<String> {
+    if text.is_empty() {
+        return Ok(String::from_str(alloc, "none")?);
+    }
+    Ok(text)
+}
+
+fn channels_text(alloc: Global, roster: &Roster, id: SessionId) -> Result<String> {
+    let mut text = String::new(alloc);
+    for pair in roster.pairs_of(id) {
+        add_number(&mut text, alloc, pair.channel.0)?;
+    }
+    or_none(alloc, text)
+}
+
+fn listeners_text(alloc: Global, roster: &Roster, id: ChannelId) -> Result<String> {
+    let mut text = String::new(alloc);
+    for pair in roster.listeners_of(id) {
+        add_number(&mut text, alloc, pair.session.0)?;
+    }
+    or_none(alloc, text)
+}
+
+fn members_text(alloc: Global, roster: &Roster, id: ChannelId) -> Result<String> {
+    let mut text = String::new(alloc);
+    for user in roster.users() {
+        if user.channel == id {
+            add_number(&mut text, alloc, user.session.0)?;
+        }
+    }
+    or_none(alloc, text)
+}
+
+fn yes_or_no(alloc: Global, yes: bool) -> Result<String> {
+    Ok(String::from_str(alloc, if yes { "yes" } else { "no" })?)
+}
+
+/// `64 of 128`: so many tokens of so many bytes.
+fn tokens_text(alloc: Global, words: &str) -> Result<String> {
+    let (count, bytes) = words.split_once(" of ").context("so many of so many")?;
+    let mut tokens = Vec::new(alloc);
+    for _ in 0..number(count)? {
+        tokens.push(Text::from_string("t".repeat(alloc, usize::try_from(number(bytes)?)?)?))?;
+    }
+    yes_or_no(alloc, are_tokens(tokens.as_slice()))
+}
+
+fn context_text(alloc: Global, word: &str) -> Result<String> {
+    let bytes = vec![in alloc; 0u8; usize::try_from(number(word)?)?]?;
+    yes_or_no(alloc, is_context(bytes.as_slice()))
+}
+
+/// What a reader answers of who is where and who listens; none where the word is no reader's.
+fn read_lists(alloc: Global, roster: &Roster, word: &str, rest: &str) -> Result<Option<String>> {
+    let text = match word {
+        "channels-of" => channels_text(alloc, roster, session(rest)?)?,
+        "listeners-of" => listeners_text(alloc, roster, channel(rest)?)?,
+        "members-of" => members_text(alloc, roster, channel(rest)?)?,
+        "has-member" => yes_or_no(alloc, roster.has_member(channel(rest)?))?,
+        "good-tokens" => tokens_text(alloc, rest)?,
+        "good-context" => context_text(alloc, rest)?,
+        _ => return Ok(None),
+    };
+    Ok(Some(text))
+}
+
 /// What a reader answers; none where the word is no reader's.
 pub fn read(alloc: Global, roster: &Roster, word: &str, rest: &str) -> Result<Option<String>> {
     let text = match word {
@@ -151,7 +228,7 @@ pub fn read(alloc: Global, roster: &Roster, word: &str, rest: &str) -> Result<Op
         "listens" => listens_text(alloc, roster, rest)?,
         "target-of" => target_in(alloc, roster, rest)?,
         "code" => code_text(alloc, rest)?,
-        _ => return Ok(None),
+        _ => return read_lists(alloc, roster, word, rest),
     };
     Ok(Some(text))
 }

@@ -25,7 +25,7 @@ one_line core (steps.Open c w) = (_, refl)
 one_line core (steps.Frame c kind payload) = (_, refl)
 one_line core (steps.Edit c) = (_, refl)
 one_line core steps.Publish = (_, refl)
-one_line core (steps.Tell c note) = (_, refl)
+one_line core (steps.Tell c revision) = (_, refl)
 one_line core (steps.Look w revision) = (_, refl)
 one_line core (steps.Offer w) = (_, refl)
 one_line core (steps.Drain c) = (_, refl)
@@ -86,8 +86,8 @@ step_goes core new logins after (words.Edit c) line text said more h =
     goes_by core new logins after (words.Edit c) line text (Running new after) (steps.Edit c) said h (going core new logins after (steps.Edit c) h.1 h.2)
 step_goes core new logins after words.Publish line text said more h =
     goes_by core new logins after words.Publish line text (Running new after) steps.Publish said h (going core new logins after steps.Publish h.1 h.2)
-step_goes core new logins after (words.Tell c note) line text said more h =
-    goes_by core new logins after (words.Tell c note) line text (Running new after) (steps.Tell c note) said h (going core new logins after (steps.Tell c note) h.1 h.2)
+step_goes core new logins after (words.Tell c revision) line text said more h =
+    goes_by core new logins after (words.Tell c revision) line text (Running new after) (steps.Tell c revision) said h (going core new logins after (steps.Tell c revision) h.1 h.2)
 step_goes core new logins after (words.Look w revision) line text said more h =
     goes_by core new logins after (words.Look w revision) line text (Running new after) (steps.Look w revision) said h (going core new logins after (steps.Look w revision) h.1 h.2)
 step_goes core new logins after (words.Offer w) line text said more h =
@@ -107,7 +107,7 @@ step_ends core new logins after (words.Open c w) line text said last h = cc
 step_ends core new logins after (words.Frame c bytes) line text said last h = cc
 step_ends core new logins after (words.Edit c) line text said last h = cc
 step_ends core new logins after words.Publish line text said last h = cc
-step_ends core new logins after (words.Tell c note) line text said last h = cc
+step_ends core new logins after (words.Tell c revision) line text said last h = cc
 step_ends core new logins after (words.Look w revision) line text said last h = cc
 step_ends core new logins after (words.Offer w) line text said last h = cc
 step_ends core new logins after (words.Drain c) line text said last h = cc

@@ -7,3 +7,6 @@ pub mod Answered
 pub mod Longer
 pub mod Underway
 pub mod Ends
+pub mod RunLaws
+pub mod Counts
+pub mod Numbering

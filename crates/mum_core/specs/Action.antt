@@ -1,26 +1,16 @@
 -- What the frame of a connection asks for, by its type.
 use Rattle.std.specs.Prelude.{ℕ, ◌==◌, List, [], Option, Some, None, Result, Ok, Err, unwrap_or, if◌then◌else◌}
-use Rattle.mum_base.specs.declared.number.SessionId.{SessionId}
 use Rattle.mum_fields.specs.declared.message.MessageFault.{MessageFault}
 use Rattle.mum_fields.specs.Table.{Table, Values, layout, decoded, items}
 use Rattle.mum_fields.specs.Written.{written}
 use Rattle.mum_frame.specs.Frame.{spelling_of}
 use Rattle.mum_frame.specs.declared.kind.TheConstants.{UDP_TUNNEL, VERSION, PING, AUTHENTICATE}
 use Rattle.mum_msg_state.specs.Messages.{version, authenticate, ping}
+use Rattle.mum_core.specs.declared.action.Action.{Action}
+use Rattle.mum_core.specs.declared.action.Action.TheVariants.{Ask, Voice, Echo, Keep, Ignore}
 use Rattle.mum_core.specs.declared.action.Ignored.{Ignored}
 use Rattle.mum_core.specs.declared.action.Ignored.TheVariants.{NotRead, Malformed, NotLoggedIn}
 use Rattle.mum_core.specs.declared.connection.Seat.{Seat}
-
-pub data Action : Type 0 where
-  -- to enter under a name
-  Ask : (name : List ℕ) → Action
-  -- that others hear a packet of this session
-  Voice : (speaker : SessionId) (payload : List ℕ) → Action
-  -- to be answered by a frame
-  Echo : (frame : List ℕ) → Action
-  -- that the number of its version is kept, where it tells one
-  Keep : (number : Option ℕ) → Action
-  Ignore : (why : Ignored) → Action
 
 -- the number by which the transcript tells why
 abbrev pub ignored_code : Ignored → ℕ

@@ -13,7 +13,7 @@ pub data BuiltStep : Type 0 where
   Frame : (c kind : ℕ) (payload : List ℕ) → BuiltStep
   Edit : (c : ℕ) → BuiltStep
   Publish : BuiltStep
-  Tell : (c : ℕ) (note : Option ℕ) → BuiltStep
+  Tell : (c : ℕ) (revision : Option ℕ) → BuiltStep
   Look : (w revision : ℕ) → BuiltStep
   Offer : (w : ℕ) → BuiltStep
   Drain : (c : ℕ) → BuiltStep
@@ -48,7 +48,7 @@ taken (words.Open c w) = Some (Open c w)
 taken (words.Frame c bytes) = Some (Frame c (kind_of bytes) (payload_of bytes))
 taken (words.Edit c) = Some (Edit c)
 taken words.Publish = Some Publish
-taken (words.Tell c note) = Some (Tell c note)
+taken (words.Tell c revision) = Some (Tell c revision)
 taken (words.Look w revision) = Some (Look w revision)
 taken (words.Offer w) = Some (Offer w)
 taken (words.Drain c) = Some (Drain c)

@@ -1,5 +1,5 @@
 -- When a step is not allowed: its cases, in the order in which they are tested.
-use Rattle.std.specs.Prelude.{◌≡◌, ℕ, Result, Err, not, Bool, List, [], ◌∷◌, length, Option, Some, None, nat_lt, if◌then◌else◌}
+use Rattle.std.specs.Prelude.{Bool, Err, IsSome, List, None, Ok, Option, Result, Some, [], if◌then◌else◌, length, nat_lt, not, ℕ, ⊤, ◌∷◌, ◌≡◌}
 use Rattle.mum_core.specs.declared.machine.StepFault.{StepFault}
 use Rattle.mum_core.specs.declared.machine.StepFault.TheVariants.{Illegal, OutOfMemory}
 use Rattle.mum_core.specs.Core.{CoreState, is_opened}
@@ -19,6 +19,11 @@ first_that_stands (case ∷ cases) = if case.stands then Some (case.given, case.
 abbrev pub named_cause : StepFault → Option (ℕ × ℕ)
 named_cause OutOfMemory = None
 named_cause (Illegal given against) = Some (given, against)
+
+-- a test that lets a step on where none of its cases stands
+abbrev pub Passes : Option (ℕ × ℕ) → Result ⊤ StepFault → Type 0
+Passes cause (Ok done) = cause ≡ None
+Passes cause (Err fault) = IsSome cause × (cause ≡ named_cause fault)
 
 -- memory ran out, and nothing changed
 abbrev pub IsStarved : {A : Type 0} → CoreState → Result A StepFault → CoreState → Type 0

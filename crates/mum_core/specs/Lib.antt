@@ -4,14 +4,12 @@ pub mod Connection
 pub mod Worker
 pub mod Core
 pub mod Case
-pub mod Checks
 pub mod Line
 pub mod Action
-pub mod Asked
-pub mod Outbox
 pub mod steps
 pub mod Built
 pub mod Step
+pub mod Laws
 pub mod Kept
 pub mod Reads
 pub mod Replay

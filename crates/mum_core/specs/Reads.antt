@@ -3,11 +3,6 @@ use Rattle.std.specs.Prelude.{◌≡◌, Option, Some, None, Result, Ok, Err, al
 use Rattle.std.specs.declared.alloc.AllocError.{AllocError}
 use Rattle.mum_fields.specs.declared.message.MessageFault.{MessageFault}
 use Rattle.mum_fields.specs.declared.message.MessageFault.TheVariants.{Field, MissingField, OutOfMemory}
-use Rattle.mum_fields.specs.Table.{Table, Values, layout}
-
--- the values of a message's fields, or what is wrong with its payload
-abbrev pub Decoded : {M : Type 0} → Table M → Type 0
-Decoded rows = Result (Values (layout rows)) MessageFault
 
 -- a message, seen by view, is what a payload decodes to; there is none where that is malformed
 abbrev pub Reads : {M V : Type 0} → (M → V) → Option M → Result V MessageFault → Type 0

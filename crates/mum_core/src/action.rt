@@ -4,14 +4,13 @@ ghost use Rattle.std.specs.Prelude.{◌≡◌, IfOk, Ok};
 ghost use Rattle.mum_fields.specs.Table.{decoded, parts};
 ghost use Rattle.mum_msg_state.specs.Messages.{authenticate, ping, version};
 ghost use Rattle.mum_core.specs.Action.{action, ignored_code, login_action, ping_action, version_action, voice_action};
-ghost use Rattle.mum_core.specs.Asked.{asked};
 
 use crate::connection::Seat;
 use crate::payload::{read_authenticate, read_ping, read_version};
 use mum_base::{Octets, OutOfMemory, SessionId, Text};
 use mum_frame::kind::{AUTHENTICATE, PING, UDP_TUNNEL, VERSION};
 use mum_frame::{FrameView, put_frame};
-use mum_msg_state::Authenticate;
+use mum_msg_state::{Authenticate, Message};
 use std::alloc::Global;
 
 /// Why a frame is ignored.
@@ -40,21 +39,21 @@ impl Ignored {
 
 /// What a frame asks for.
 #[derive(Debug, Drop)]
-pub enum Action<'a> {
+pub enum Action {
     /// To enter under a name.
-    Ask(Text),
+    Ask { name: Text },
     /// That others hear a packet of this session.
-    Voice(SessionId, &'a [u8]),
+    Voice { speaker: SessionId, packet: Octets },
     /// To be answered by a frame.
-    Echo(Octets),
+    Echo { frame: Octets },
     /// That the number of its version is kept, where it tells one.
-    Keep(Option<u32>),
-    Ignore(Ignored),
+    Keep { number: Option<u32> },
+    Ignore { why: Ignored },
 }
 
 /// The name that a login asks for; an empty one where it has none.
 fn name_in(alloc: Global, login: Authenticate) -> Text
-    ensures { login_action (Ok (parts authenticate login)) ≡ asked (Action.Ask result) }
+    ensures { login_action (Ok (parts authenticate login)) ≡ Action.Ask result }
 {
     let Authenticate { username, .. } = login;
     match username {
@@ -63,58 +62,76 @@ fn name_in(alloc: Global, login: Authenticate) -> Text
     }
 }
 
-fn login_action(alloc: Global, payload: &[u8]) -> Result<Action<'_>, OutOfMemory>
-    ensures { IfOk result (λ a. asked a ≡ login_action (decoded authenticate payload.now)) }
+fn login_action(alloc: Global, payload: &[u8]) -> Result<Action, OutOfMemory>
+    ensures { IfOk result (λ a. a ≡ login_action (decoded authenticate payload.now)) }
 {
     match read_authenticate(alloc, payload)? {
-        Some(login) => Ok(Action::Ask(name_in(alloc, login))),
-        None => Ok(Action::Ignore(Ignored::Malformed)),
+        Some(login) => Ok(Action::Ask {
+            name: name_in(alloc, login),
+        }),
+        None => Ok(Action::Ignore {
+            why: Ignored::Malformed,
+        }),
     }
 }
 
-fn version_action(alloc: Global, payload: &[u8]) -> Result<Action<'_>, OutOfMemory>
-    ensures { IfOk result (λ a. asked a ≡ version_action (decoded version payload.now)) }
+fn version_action(alloc: Global, payload: &[u8]) -> Result<Action, OutOfMemory>
+    ensures { IfOk result (λ a. a ≡ version_action (decoded version payload.now)) }
 {
     match read_version(alloc, payload)? {
-        Some(told) => Ok(Action::Keep(told.version)),
-        None => Ok(Action::Ignore(Ignored::Malformed)),
+        Some(told) => Ok(Action::Keep {
+            number: told.version,
+        }),
+        None => Ok(Action::Ignore {
+            why: Ignored::Malformed,
+        }),
     }
 }
 
 /// A Ping is answered by a Ping of its timestamp alone.
-fn ping_action(alloc: Global, payload: &[u8]) -> Result<Action<'_>, OutOfMemory>
-    ensures { IfOk result (λ a. asked a ≡ ping_action (decoded ping payload.now)) }
+fn ping_action(alloc: Global, payload: &[u8]) -> Result<Action, OutOfMemory>
+    ensures { IfOk result (λ a. a ≡ ping_action (decoded ping payload.now)) }
 {
     let Some(told) = read_ping(alloc, payload)? else {
-        return Ok(Action::Ignore(Ignored::Malformed));
+        return Ok(Action::Ignore {
+            why: Ignored::Malformed,
+        });
     };
     let reply = told.encode(alloc)?;
-    Ok(Action::Echo(put_frame(alloc, PING, reply.as_slice())?))
+    let frame = put_frame(alloc, PING, reply.as_slice())?;
+    Ok(Action::Echo { frame })
 }
 
-fn voice_action(seat: Option<Seat>, payload: &[u8]) -> Action<'_>
-    ensures { asked result ≡ voice_action seat payload.now }
+fn voice_action(alloc: Global, seat: Option<Seat>, payload: &[u8]) -> Result<Action, OutOfMemory>
+    ensures { IfOk result (λ a. a ≡ voice_action seat payload.now) }
 {
     match seat {
-        Some(seat) => Action::Voice(seat.session, payload),
-        None => Action::Ignore(Ignored::NotLoggedIn),
+        Some(seat) => Ok(Action::Voice {
+            speaker: seat.session,
+            packet: Octets::of(alloc, payload)?,
+        }),
+        None => Ok(Action::Ignore {
+            why: Ignored::NotLoggedIn,
+        }),
     }
 }
 
 /// What a frame of a connection that has this seat asks for.
 #[tactic(auto, unfolding(crate::specs::Action::action))]
-pub fn action_of<'a>(
+pub fn action_of(
     alloc: Global,
     seat: Option<Seat>,
-    frame: FrameView<'a>,
-) -> Result<Action<'a>, OutOfMemory>
-    ensures { IfOk result (λ a. asked a ≡ action seat frame.entry.kind frame.entry.payload.now) }
+    frame: FrameView<'_>,
+) -> Result<Action, OutOfMemory>
+    ensures { IfOk result (λ a. a ≡ action seat frame.entry.kind frame.entry.payload.now) }
 {
     match frame.kind {
-        UDP_TUNNEL => Ok(voice_action(seat, frame.payload)),
+        UDP_TUNNEL => voice_action(alloc, seat, frame.payload),
         VERSION => version_action(alloc, frame.payload),
         PING => ping_action(alloc, frame.payload),
         AUTHENTICATE => login_action(alloc, frame.payload),
-        _ => Ok(Action::Ignore(Ignored::NotRead)),
+        _ => Ok(Action::Ignore {
+            why: Ignored::NotRead,
+        }),
     }
 }

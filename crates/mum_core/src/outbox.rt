@@ -3,7 +3,6 @@
 ghost use Rattle.std.specs.Prelude.{◌≡◌, ◌≤◌, ◌<◌, [], ◌∷◌, ◌++◌, length, IfOk, nat_lt, slice_get, slice_index_or, drop};
 ghost use Rattle.mum_core.specs.Lists.{changed_at};
 ghost use Rattle.std.specs.Option.{option_copied};
-ghost use Rattle.mum_core.specs.Outbox.{Takes};
 
 use mum_base::{Octets, OutOfMemory, SessionId};
 use mum_voice::COPY_LIMIT;
@@ -56,14 +55,6 @@ pub struct Parcel {
     pub bytes: CopyBytes,
 }
 
-/// What becomes of a parcel that is offered.
-#[derive(Debug, Drop)]
-pub enum Offered {
-    Sent,
-    /// The outbox is full, and the parcel comes back.
-    Full(Parcel),
-}
-
 /// The copies that wait for the connection of one slot, the oldest first.
 #[derive(Debug, Drop)]
 pub struct Outbox {
@@ -100,14 +91,11 @@ impl Outbox {
     }
 
     /// Puts a parcel at the back, where there is room. It takes no memory.
-    pub fn offer(&mut self, parcel: Parcel) -> Offered
-        ensures { Takes self.old parcel result self.new }
+    pub fn put(&mut self, parcel: Parcel)
+        requires { length self.old < OUTBOX_CAPACITY }
+        ensures { self.new ≡ self.old ++ parcel ∷ [] }
     {
-        if !self.has_room() {
-            return Offered::Full(parcel);
-        }
         self.parcels.push_back_reserved(parcel);
-        Offered::Sent
     }
 
     /// The parcel at the front.
@@ -127,12 +115,12 @@ impl Outbox {
 }
 
 /// Puts a parcel at the back of the outbox at a place, which has room for it.
-pub fn offer_at(outboxes: &mut Vec<Outbox>, place: usize, parcel: Parcel)
+pub fn put_at(outboxes: &mut Vec<Outbox>, place: usize, parcel: Parcel)
     requires { length (slice_index_or outboxes.old.items place []) < OUTBOX_CAPACITY }
     ensures { outboxes.new.items ≡ changed_at place (λ parcels. parcels ++ parcel ∷ []) outboxes.old.items }
 {
     if let Some(outbox) = outboxes.get_mut(place) {
-        let _ = outbox.offer(parcel);
+        outbox.put(parcel);
     }
 }
 

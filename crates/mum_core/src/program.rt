@@ -44,14 +44,22 @@ fn say<E: Sink>(errors: &mut E, line: &str)
     let _ = write_all(errors, line.as_bytes());
 }
 
+/// Says that memory ran out, and gives the status of it. It takes no memory.
+pub fn out_of_memory<E: Sink>(errors: &mut E) -> u8
+    ensures status { result ≡ 70 }
+    ensures says { Tells memory_line (E.written errors.old) (E.written errors.new) (Rose (E.faults errors.old) (E.faults errors.new)) }
+{
+    say(errors, MEMORY_LINE);
+    70
+}
+
 /// Says what is wrong with a line, and gives the status of it, or that of want of memory.
 fn report_fault<E: Sink>(alloc: Global, n: u64, fault: LineFault, errors: &mut E) -> u8
     ensures { Reports (End.Faulty n fault) result (E.written errors.old) (E.written errors.new) (Rose (E.faults errors.old) (E.faults errors.new)) }
 {
     let mut text = String::new(alloc);
     if fault.push(alloc, &mut text, n).is_err() {
-        say(errors, MEMORY_LINE);
-        return 70;
+        return out_of_memory(errors);
     }
     say(errors, text.as_str());
     fault.status()
@@ -75,10 +83,7 @@ fn report<E: Sink>(alloc: Global, end: End, errors: &mut E) -> u8
             say(errors, WRITE_FAULT_LINE);
             4
         }
-        End::OutOfMemory => {
-            say(errors, MEMORY_LINE);
-            70
-        }
+        End::OutOfMemory => out_of_memory(errors),
     }
 }
 

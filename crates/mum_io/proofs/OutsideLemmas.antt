@@ -1,22 +1,11 @@
--- A count that rose during a part of a call rose over the whole of it, and what several writes do together.
-use Rattle.std.proofs.Common.{ℕ, ◌+◌, ◌≤◌, List, ◌++◌, length, take, drop, arith, length-append, subst, sym}
+-- What several writes do together.
+use Rattle.std.proofs.Common.{ℕ, ◌+◌, List, ◌++◌, length, take, drop, arith, length-append, subst, sym}
 use Rattle.std.proofs.Math.Seq.{take-append-add, take-add, take-length}
 use Rattle.std.proofs.lemmas.List.{take-append-le}
 use Rattle.std.specs.Prelude.{Option}
 use Rattle.std.proofs.KnownBytes.{Appends-trans}
-use Rattle.mum_io.specs.Outside.{Rose, Appends, AppendsFront}
+use Rattle.mum_io.specs.Outside.{Appends, AppendsFront}
 pub use Rattle.std.proofs.KnownBytes.{Appends-nil, Appends-trans, Appends-kept, Consumes-nil, Consumes-trans, Consumes-kept, Keeps-refl, Keeps-trans}
-
-pub Rose-within : (before old new after : ℕ) → before ≤ old → Rose old new → new ≤ after → Rose before after
-Rose-within before old new after first rose last = grind arith
-
--- the rise comes last
-pub Rose-later : (before old new : ℕ) → before ≤ old → Rose old new → Rose before new
-Rose-later before old new first rose = Rose-within before old new new first rose (omega arith)
-
--- the rise comes first
-pub Rose-earlier : (old new after : ℕ) → Rose old new → new ≤ after → Rose old after
-Rose-earlier old new after rose last = Rose-within old old new after (omega arith) rose last
 
 -- the first done bytes, and then n more of the rest
 pub Appends-more : (a b c : Option (List ℕ)) (done n : ℕ) (bytes : List ℕ) → Appends a b (take done bytes) → Appends b c (take n (drop done bytes))

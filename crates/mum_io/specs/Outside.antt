@@ -54,6 +54,7 @@ AppendsFront old new bytes = (n : ℕ) × (n ≤ length bytes) × Appends old ne
 abbrev pub ConsumesFront : Option (List ℕ) → Option (List ℕ) → Type 0
 ConsumesFront old new = (taken : List ℕ) × Consumes old new taken
 
--- the bytes that were read of those that were left: all of them, or a front of them that is longer than the limit
+-- the bytes that were read of those that were left: all, or a front of them longer than the limit
 abbrev pub IsAllOrLonger : ℕ → List ℕ → List ℕ → Type 0
-IsAllOrLonger limit left bytes = (bytes ≡ left) ⊎ ((rest : List ℕ) × (left ≡ bytes ++ rest) × (limit < length bytes))
+IsAllOrLonger limit left bytes =
+    (bytes ≡ left) ⊎ ((rest : List ℕ) × (left ≡ bytes ++ rest) × (limit < length bytes))

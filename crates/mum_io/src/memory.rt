@@ -64,7 +64,8 @@ impl Source for MemSource {
         ensures bytes { ReadLeaves result (Some self.old.left) (Some self.new.left) buf.new }
 
         ensures fails { (result ≡ ReadEnd.Failed) ↔ IsTrue (next_fails self.old.calls) }
-        ensures whole { (n : ℕ) → result ≡ ReadEnd.Got n → n ≡ min (length buf.old) (length self.old.left) }
+        ensures whole { (n : ℕ) → result ≡ ReadEnd.Got n →
+            n ≡ min (length buf.old) (length self.old.left) }
         ensures state { self.new ≡ after_read self.old result }
     {
         if self.calls.begin() {

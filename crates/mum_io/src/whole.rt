@@ -33,10 +33,12 @@ impl From<AllocError> for ReadFault {
     }
 }
 
-/// Writes all of the bytes, in as many writes as the sink needs. After an error a front of them is written.
+/// Writes all of the bytes, in as many writes as the sink needs. After an error a front of them is
+/// written.
 pub fn write_all<O: Sink>(output: &mut O, bytes: &[u8]) -> Result<(), WriteFault>
     ensures ok { OnOk result (Appends (O.written output.old) (O.written output.new) bytes.now) }
-    ensures front { OnErr result (AppendsFront (O.written output.old) (O.written output.new) bytes.now) }
+    ensures front { OnErr result
+        (AppendsFront (O.written output.old) (O.written output.new) bytes.now) }
     ensures counts { WritesCount result (O.faults output.old) (O.faults output.new) }
 {
     let mut done = 0;
@@ -63,8 +65,10 @@ pub fn read_up_to<I: Source>(
     input: &mut I,
     limit: usize,
 ) -> Result<Vec<u8>, ReadFault>
-    ensures bytes { IfOk result (λ bytes. IfSome (I.left input.old) (λ left. IsAllOrLonger limit left bytes.items)) }
-    ensures none_lost { IfOk result (λ bytes. Consumes (I.left input.old) (I.left input.new) bytes.items) }
+    ensures bytes { IfOk result (λ bytes.
+        IfSome (I.left input.old) (λ left. IsAllOrLonger limit left bytes.items)) }
+    ensures none_lost { IfOk result (λ bytes.
+        Consumes (I.left input.old) (I.left input.new) bytes.items) }
     ensures bounded { IfOk result (λ bytes. vec_len bytes ≤ limit + CHUNK) }
     ensures front { OnErr result (ConsumesFront (I.left input.old) (I.left input.new)) }
     ensures counts { ReadsCount result (I.faults input.old) (I.faults input.new) }

@@ -1,6 +1,7 @@
 -- The rule of a queue: which items are where, whatever threads have offered and taken.
--- A hand is what one pass has done to the queue. Hands are of all passes ever made, each at the port that it was made with.
--- Numbers of passes and places of items stand still at their last value; what is said of items is said of those below it.
+-- A hand is what one pass has done to the queue. Hands are of all passes ever made, each at its port: the place at which
+-- the pass was made. Numbers of passes and places of items stand still at their last value; what is said of an item is
+-- said where both are below it.
 use Rattle.std.specs.Prelude.{◌≡◌, ◌≢◌, ℕ, ◌+◌, ◌-◌, ◌/◌, ◌<◌, ◌≤◌, ◌⊎◌, min, nat_lt, if◌then◌else◌, List, [], ◌++◌, length}
 use Rattle.std.specs.List.{All, AllPairs, Contains}
 use mathlib.Core.Option.{some}
@@ -28,35 +29,45 @@ module _ {I : Type 0} where
 
   -- this holds of the hands of any two passes
   abbrev pub EachTwo : List (Hand I) → (Hand I → Hand I → Type 0) → Type 0
-  EachTwo hands R = (port other : ℕ) (hand second : Hand I) → port ≢ other → StandsAt hands port hand → StandsAt hands other second → R hand second
+  EachTwo hands R = (port other : ℕ) (hand second : Hand I) → port ≢ other
+      → StandsAt hands port hand → StandsAt hands other second → R hand second
 
   -- the item equals the one at its place in what the pass of its number offered
   abbrev pub IsAsOffered : List (Hand I) → Tagged I → Type 0
-  IsAsOffered hands x = IsNumbered x → (port : ℕ) × (hand : Hand I) × StandsAt hands port hand × (hand.number ≡ x.by) × StandsAt hand.offered x.place x.item
+  IsAsOffered hands x = IsNumbered x
+      → (port : ℕ) × (hand : Hand I) × StandsAt hands port hand × (hand.number ≡ x.by) × StandsAt hand.offered x.place x.item
 
   -- the item is in the queue, or a pass has taken it
   abbrev pub IsSomewhere : List (Tagged I) → List (Hand I) → Tagged I → Type 0
-  IsSomewhere items hands x = Contains items x ⊎ ((port : ℕ) × (hand : Hand I) × StandsAt hands port hand × Contains hand.taken x)
+  IsSomewhere items hands x =
+      Contains items x ⊎ ((port : ℕ) × (hand : Hand I) × StandsAt hands port hand × Contains hand.taken x)
 
   -- each item that the pass has offered is in the queue, or a pass has taken it
   abbrev pub LosesNone : List (Tagged I) → List (Hand I) → Hand I → Type 0
-  LosesNone items hands hand = hand.number < LAST → (place : ℕ) → place < length hand.offered → place < LAST → (x : Tagged I) × (x.by ≡ hand.number) × (x.place ≡ place) × IsSomewhere items hands x
+  LosesNone items hands hand = hand.number < LAST
+      → (place : ℕ) → place < length hand.offered → place < LAST
+      → (x : Tagged I) × (x.by ≡ hand.number) × (x.place ≡ place) × IsSomewhere items hands x
 
   -- no item is in what both have taken
   abbrev pub TakeApart : Hand I → Hand I → Type 0
-  TakeApart hand second = (x y : Tagged I) → Contains hand.taken x → Contains second.taken y → IsNumbered x → x.by ≡ y.by → x.place ≢ y.place
+  TakeApart hand second = (x y : Tagged I) → Contains hand.taken x → Contains second.taken y
+      → IsNumbered x → x.by ≡ y.by → x.place ≢ y.place
 
   -- the owner may give this number to a new pass
   abbrev pub MayGive : Hand I → ℕ → Type 0
   MayGive hand number = (hand.low ≤ number) × (number < hand.end)
 
-  -- each pass below the last number has one of its own, which no owner may give, and no two owners may give one number
   pub record HaveOwnNumbers (hands : List (Hand I)) : Type 0 where
+    -- two passes of one number have the last one
     pub apart : EachTwo hands (λ hand second. hand.number ≡ second.number → LAST ≤ hand.number)
+    -- no owner may give the number of a pass
     pub given : EachHand hands (λ owner. EachHand hands (λ hand. ¬ MayGive owner hand.number))
+    -- no two owners may give one number
     pub not_twice : EachTwo hands (λ owner second. (number : ℕ) → MayGive owner number → ¬ MayGive second number)
+    -- an owner may give numbers below the last one
     pub within : EachHand hands (λ owner. owner.end ≤ LAST)
 
+  -- what holds of the items in a queue, front to back, and of the hands of all its passes
   pub record BoxRule (capacity : ℕ) (items : List (Tagged I)) (hands : List (Hand I)) : Type 0 where
     -- the queue holds at most its capacity
     pub bounded : length items ≤ capacity
@@ -70,12 +81,13 @@ module _ {I : Type 0} where
     -- each offered item is in the queue or was taken, and none was taken by two passes
     pub none_lost : EachHand hands (LosesNone items hands)
     pub none_twice : EachTwo hands TakeApart
-    -- the numbers are of one pass each
+    -- each pass has a number of its own
     pub own_numbers : HaveOwnNumbers hands
 
   -- at one moment the queue held these items under the rule, and a pass had done this
   abbrev pub IsMomentOf : ℕ → Hand I → List (Tagged I) → Type 0
-  IsMomentOf capacity hand items = (hands : List (Hand I)) × (port : ℕ) × StandsAt hands port hand × BoxRule capacity items hands
+  IsMomentOf capacity hand items =
+      (hands : List (Hand I)) × (port : ℕ) × StandsAt hands port hand × BoxRule capacity items hands
 
 -- the hand of an owner that may give the numbers from low up to end
 abbrev pub owner_hand : {I : Type 0} → ℕ → ℕ → Hand I

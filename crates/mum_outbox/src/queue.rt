@@ -54,9 +54,16 @@ impl<I, const CAPACITY: usize> Model for Queue<I, CAPACITY> {
 
     ghost use Rattle.mum_outbox.specs.Rule.{owner_hand};
 
-    ghost view = { λ q. record { queue = q.ruled.value.table.shared.table_id; low = q.low; end = q.end } };
+    ghost view = { λ q. record {
+      queue = q.ruled.value.table.shared.table_id;
+      low = q.low;
+      end = q.end;
+    } };
 
-    ghost invariant = { λ q. (ruled_capacity q.ruled.value ≡ CAPACITY) × IsPassOf q.ruled.value q.owner × (hand_of q.owner ≡ owner_hand q.low q.end) × (q.low ≤ q.end) };
+    ghost invariant = { λ q. (ruled_capacity q.ruled.value ≡ CAPACITY)
+        × IsPassOf q.ruled.value q.owner
+        × (hand_of q.owner ≡ owner_hand q.low q.end)
+        × (q.low ≤ q.end) };
 }
 
 impl<I> Model for BoxPass<I> {
@@ -68,13 +75,21 @@ impl<I> Model for BoxPass<I> {
 
     ghost use Rattle.mum_outbox.specs.declared.rule.TheConstants.{LAST};
 
-    ghost view = { λ p. record { queue = p.pass.table_id; number = p.number; offered = (hand_of p.pass).offered; taken = (hand_of p.pass).taken; full = p.full } };
+    ghost view = { λ p. record {
+      queue = p.pass.table_id;
+      number = p.number;
+      offered = (hand_of p.pass).offered;
+      taken = (hand_of p.pass).taken;
+      full = p.full;
+    } };
 
-    ghost invariant = { λ p. (p.pass.me.1 ≡ []) × (hand_of p.pass ≡ hand_of_pass (view p)) × (p.next ≡ min (length (hand_of p.pass).offered) LAST) };
+    ghost invariant = { λ p. (p.pass.me.1 ≡ [])
+        × (hand_of p.pass ≡ hand_of_pass (view p))
+        × (p.next ≡ min (length (hand_of p.pass).offered) LAST) };
 }
 
 impl<I: Drop, const CAPACITY: usize> Queue<I, CAPACITY> {
-    /// A queue that is empty. Its first owner may give every number below the last.
+    /// An empty queue. Its first owner may give new passes every number below the last.
     pub fn new(alloc: Global) -> Result<Self, OutOfMemory>
         requires { 0 < CAPACITY }
         ensures { IfOk result (λ queue. (queue.low ≡ 0) × (queue.end ≡ LAST)) }
@@ -88,7 +103,8 @@ impl<I: Drop, const CAPACITY: usize> Queue<I, CAPACITY> {
         })
     }
 
-    /// Another owner of this queue, which may give the upper half of the numbers.
+    /// Another owner of this queue. It may give the upper half of the numbers that this one had, and
+    /// this one keeps the lower half. Where memory runs out, nothing changes.
     pub fn share(&mut self) -> Result<Self, OutOfMemory>
         ensures { MatchResult result (Halves self.old self.new) (λ _. self.new ≡ self.old) }
     {
@@ -123,7 +139,9 @@ impl<I: Drop, const CAPACITY: usize> Queue<I, CAPACITY> {
         }
     }
 
-    /// Puts the item at the back. It may try again beside other threads.
+    /// Puts the item at the back. It comes back only where the queue held its capacity at one moment
+    /// of the call, and the pass counts that. The call takes no memory, and may try again beside
+    /// other threads.
     pub fn offer_as<R: Wait>(&self, rt: &R, pass: &mut BoxPass<I>, item: I) -> Offered<I>
         requires { pass.old.queue ≡ self.now.queue }
         ensures { Offers CAPACITY pass.old item result pass.new }
@@ -148,7 +166,8 @@ impl<I: Drop, const CAPACITY: usize> Queue<I, CAPACITY> {
         }
     }
 
-    /// Takes the item at the front. It may try again beside other threads.
+    /// Takes the item at the front. There is none only where the queue was empty at one moment of
+    /// the call. The call takes no memory, and may try again beside other threads.
     pub fn take_as<R: Wait>(&self, rt: &R, pass: &mut BoxPass<I>) -> Option<I>
         requires { pass.old.queue ≡ self.now.queue }
         ensures { Takes CAPACITY pass.old result pass.new }
@@ -159,9 +178,9 @@ impl<I: Drop, const CAPACITY: usize> Queue<I, CAPACITY> {
         Some(tagged.item)
     }
 
-    /// What the rule says at one moment of this call: of each pass, what this one has taken lies in
-    /// the order of its offers; and there are items, and hands of passes with this one's among
-    /// them, of which the whole rule holds.
+    /// What the rule says at one moment of this call: the items of each pass lie in what this one
+    /// has taken in the order of their offers; and there are items, and hands of passes with this
+    /// one's among them, of which the whole rule holds. It changes nothing.
     pub fn rule_as(&self, pass: &mut BoxPass<I>)
         requires { pass.old.queue ≡ self.now.queue }
         ensures same { pass.new ≡ pass.old }

@@ -6,3 +6,7 @@
 mod outbox;
 #[cfg(test)]
 mod program;
+#[cfg(test)]
+mod tree;
+#[cfg(test)]
+mod users;

@@ -1,9 +1,9 @@
 -- What a change leaves is a tree only where nothing stands against it.
-use Rattle.std.proofs.Common.{◌≡◌, ◌≢◌, ℕ, zero, suc, ◌<◌, ◌≤◌, ◌+◌, ◌&&◌, Bool, true, false, not, cond, eqb, leb, List, [], ◌∷◌, ◌++◌, length, get_or, Option, Some, None, refl, arith, ap, sym, ◌∙◌, subst, ⊎_elim, length-append}
+use Rattle.std.proofs.Common.{◌≡◌, ◌≢◌, ℕ, zero, suc, ◌<◌, ◌≤◌, ◌+◌, ◌&&◌, Bool, true, false, not, cond, eqb, leb, List, [], ◌∷◌, ◌++◌, length, get_or, Some, None, refl, arith, ap, sym, ◌∙◌, subst, ⊎_elim, length-append}
 use Rattle.std.specs.Prelude.{◌↔◌}
-use Rattle.std.specs.List.{AllPairs, Contains, filter, list_any}
+use Rattle.std.specs.List.{Contains, filter, list_any}
 use Rattle.std.specs.Option.{is_some}
-use Rattle.std.proofs.lemmas.Bool.{and_parts, both_ways, cases_Bool, eq-eqb, eqb-true, false≢true, ne_eqb}
+use Rattle.std.proofs.lemmas.Bool.{and_parts, both_ways, cases_Bool, eq-eqb, eqb-true, ne_eqb}
 use Rattle.std.proofs.lemmas.Bool.Decides.{nat_tests}
 use Rattle.std.proofs.lemmas.List.{get_or_append_left, get_or-append-add, length-reverse}
 use Rattle.std.proofs.lemmas.List.Folds.{list_any_none}
@@ -18,13 +18,15 @@ use Rattle.mum_tree.specs.Refusals.{fault_of_add, fault_of_remove, is_full}
 use Rattle.mum_tree.specs.Rows.{number, row_of, is_there, is_temporary, is_below, is_taken, has_name_beside, path, upward}
 use Rattle.mum_tree.specs.State.{TreeState, new_row, plain_info, with_new, without_subtree}
 use Rattle.mum_tree.proofs.Changed.{number_found}
-use Rattle.mum_tree.proofs.Edits.{added_proper, none_stands, some_row}
+use Rattle.mum_tree.proofs.Depths.{upward_within}
+use Rattle.mum_tree.proofs.Edits.{added_proper, none_stands}
 use Rattle.mum_tree.proofs.Find.{row_of_none}
 use Rattle.mum_tree.proofs.Grown.{kind_kept, none_is_some, old_parents, row_of_last}
 use Rattle.mum_tree.proofs.Shrunk.{is_top, links_left, list_any-reverse, shrunk_proper, stays, there_after}
-use Rattle.mum_tree.proofs.Upward.{the_root, none_contained, option_cases, lead_parent, there_from_lead, upward_at, upward_kept, upward_missing, upward_more, upward_root, upward_zero}
+use Rattle.mum_tree.proofs.Upward.{the_root, none_contained, option_cases, lead_parent, there_from_lead, upward_kept, upward_more, upward_root, upward_zero}
 
-five : (a b c d e : Bool) (f g h i j : TreeFault) → a ≡ false → b ≡ false → c ≡ false → d ≡ false → e ≡ false → cond a (Some f) (cond b (Some g) (cond c (Some h) (cond d (Some i) (cond e (Some j) None)))) ≡ None
+-- where none of five causes stands, none is named
+pub five : (a b c d e : Bool) (f g h i j : TreeFault) → a ≡ false → b ≡ false → c ≡ false → d ≡ false → e ≡ false → cond a (Some f) (cond b (Some g) (cond c (Some h) (cond d (Some i) (cond e (Some j) None)))) ≡ None
 five a b c d e f g h i j p q r s t =
     ap (λ (x : Bool). cond x (Some f) (cond b (Some g) (cond c (Some h) (cond d (Some i) (cond e (Some j) None))))) p
     ∙ ap (λ (x : Bool). cond x (Some g) (cond c (Some h) (cond d (Some i) (cond e (Some j) None)))) q
@@ -38,22 +40,8 @@ own_parent rows id row found under own zero lead = none_contained the_root (subs
 own_parent rows id row found under own (suc steps) lead =
     own_parent rows id row found under own steps (subst (λ (p : ChannelId). Contains (upward rows steps p) the_root) own (lead_parent rows steps id row found under lead))
 
--- a way up of so many steps has at most so many channels
-upward_length : (rows : List Row) (steps : ℕ) (id : ChannelId) → length (upward rows steps id) ≤ steps
-upward_length rows zero id = omega (arith, ap length (upward_zero rows id))
-upward_length rows (suc steps) id =
-    ⊎_elim
-    (λ (none : row_of rows id ≡ None). omega (arith, ap length (upward_missing rows (suc steps) id none)))
-    (λ found.
-    let up = upward_at rows steps id found.0 found.1 in
-    let rest = upward_length rows steps found.0.channel.parent in
-    ⊎_elim
-    (λ (root : eqb id.0 0 ≡ true). omega (arith, ap length (up ∙ ap (λ (b : Bool). id ∷ cond b [] (upward rows steps found.0.channel.parent)) root)))
-    (λ (under : eqb id.0 0 ≡ false). omega (arith, ap length (up ∙ ap (λ (b : Bool). id ∷ cond b [] (upward rows steps found.0.channel.parent)) under)))
-    (cases_Bool (eqb id.0 0)))
-    (option_cases (row_of rows id))
-
-over_limit : (limit n : ℕ) → suc n ≤ limit → leb limit n ≡ false
+-- what is below a limit does not reach it
+pub over_limit : (limit n : ℕ) → suc n ≤ limit → leb limit n ≡ false
 over_limit limit n room = grind (arith, nat_tests)
 
 -- a tree with one channel more has nothing against it
@@ -100,7 +88,7 @@ added_back {limit} tree id parent name temporary proper above after =
     let kept : upward new 33 parent ≡ upward rows 33 parent = upward_kept rows new (old_parents rows row) 33 parent (proper.lead parent stands) in
     let whole : upward new 33 parent ≡ upward new 32 parent = upward_more new 32 parent leads-2 in
     let short : leb 33 (length (path rows parent)) ≡ false =
-    over_limit 33 (length (path rows parent)) (omega (arith, length-reverse (upward rows 33 parent), ap length kept, ap length whole, upward_length new 32 parent)) in
+    over_limit 33 (length (path rows parent)) (omega (arith, length-reverse (upward rows 33 parent), ap length kept, ap length whole, upward_within new 32 parent)) in
     let room : is_full limit tree ≡ false = over_limit limit (length rows) (omega (arith, after.few, length-append rows (row ∷ []))) in
     five (not (is_there rows parent)) (is_taken rows parent id name) (is_temporary rows parent) (leb 33 (length (path rows parent))) (is_full limit tree) NoChannel SameName TemporaryParent Nesting Count (ap not stands) free lasts short room
   where

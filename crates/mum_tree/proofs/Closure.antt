@@ -1,8 +1,7 @@
 -- Rounds over links find what links lead to.
-use Rattle.std.proofs.Common.{◌≡◌, ◌≢◌, ℕ, zero, suc, ◌<◌, ◌≤◌, ◌+◌, ◌&&◌, ◌||◌, ◌⊎◌, inl, inr, Bool, true, false, not, cond, eqb, List, [], ◌∷◌, length, get_or, map, Some, None, refl, arith, ap, sym, ◌∙◌, subst, ⊎_elim}
+use Rattle.std.proofs.Common.{◌≡◌, ℕ, zero, suc, ◌<◌, ◌≤◌, ◌&&◌, ◌⊎◌, inl, inr, Bool, true, false, not, cond, eqb, List, [], ◌∷◌, length, get_or, map, Some, refl, arith, ap, sym, ◌∙◌, subst, ⊎_elim}
 use Rattle.std.specs.Prelude.{◌↔◌}
 use Rattle.std.specs.List.{All, Contains, count_by, filter, list_any}
-use Rattle.std.specs.Option.{is_some}
 use Rattle.std.proofs.lemmas.Bool.{and_from, and_parts, both_ways, cases_Bool, eq-eqb, eqb-true, false≢true, or_cases, or_left, or_right, not-true}
 use Rattle.std.proofs.lemmas.List.Elements.{All-contains}
 use Rattle.std.proofs.lemmas.List.{get_or_default}
@@ -14,7 +13,7 @@ use Rattle.mum_tree.specs.Rows.{number, row_of, is_there, Rise}
 use Rattle.mum_tree.specs.Proper.{AreLinks, IsBetween}
 use Rattle.mum_tree.specs.State.{Pair, TreeState}
 use Rattle.mum_tree.specs.Walks.{is_reached, linked, HasRow, LeadTo, Walk}
-use Rattle.mum_tree.proofs.Changed.{none_passes, number_found}
+use Rattle.mum_tree.proofs.Changed.{number_found}
 use Rattle.mum_tree.proofs.Edits.{some_row}
 use Rattle.mum_tree.proofs.Find.{contains_later}
 use Rattle.mum_tree.proofs.Marks.{one_place, passes_from, passes_to}

@@ -40,7 +40,8 @@ level_under rows top id row lead found other under =
     ap (λ us. option_map (λ k. k + 1) (position (is_top top) us)) (parent_whole rows id row lead found under)
     ∙ sym (climb_on rows top id 33 row (omega arith) found other under)
 
-upward_within : (rows : List Row) (steps : ℕ) (id : ChannelId) → length (upward rows steps id) ≤ steps
+-- a way up of so many steps has at most so many channels
+pub upward_within : (rows : List Row) (steps : ℕ) (id : ChannelId) → length (upward rows steps id) ≤ steps
 upward_within rows zero id = omega (arith, ap length (upward_zero rows id))
 upward_within rows (suc steps) id =
     ⊎_elim

@@ -1,7 +1,7 @@
 -- What a change of a channel in several parts leaves, where nothing stands against it.
-use Rattle.std.proofs.Common.{◌≡◌, ℕ, ℤ, ◌<◌, ◌&&◌, ◌||◌, not, Bool, true, false, cond, eqb, List, [], length, get_or, set, map, Option, Some, None, refl, ap, sym, ◌∙◌, subst, ⊎_elim}
+use Rattle.std.proofs.Common.{◌≡◌, ℕ, ℤ, ◌<◌, ◌&&◌, not, Bool, true, false, cond, eqb, List, [], length, get_or, set, Option, Some, None, refl, ap, sym, ◌∙◌, subst, ⊎_elim}
 use Rattle.std.specs.List.{list_all}
-use Rattle.std.specs.Option.{option_map, option_map_or, is_some}
+use Rattle.std.specs.Option.{option_map_or, is_some}
 use Rattle.std.specs.Str.{bytes_eq}
 use Rattle.std.proofs.lemmas.Bool.{and_parts, cases_Bool, cond_both, eqb-true, not-false, or_parts}
 use Rattle.std.proofs.lemmas.Slice.Eq.{bytes_eq-Decides}
@@ -15,7 +15,7 @@ use Rattle.mum_tree.specs.Proper.{AreLinks, IsProper}
 use Rattle.mum_tree.specs.Refusals.{fault_of_seat, name_of, parent_of}
 use Rattle.mum_tree.specs.Rows.{number, row_of, is_there}
 use Rattle.mum_tree.specs.State.{Pair, TreeState, changed}
-use Rattle.mum_tree.proofs.Changed.{change_row, row_of-map, some_to}
+use Rattle.mum_tree.proofs.Changed.{change_row, row_of-map, some_from, some_to}
 use Rattle.mum_tree.proofs.Edits.{informed, informed_proper, none_stands, row_read, set_row, some_is_none}
 use Rattle.mum_tree.proofs.Joined.{links_kept, relinked}
 use Rattle.mum_tree.proofs.Moved.{placed, reseated_proper, same_change}
@@ -76,6 +76,20 @@ edited_rows {limit} tree at id row change proper within found is allowed =
     subst P (same_change rows at id row (informed seat.info) (with_given change) proper.rise within found is whole) (informed_proper tree id seat.info proper))
     (cases_Bool (reseats tree id change))
 
+-- what is given leaves each row its number
+number_given : (id : ChannelId) (change : Change) (row : Row) → number (change_row id (with_given change) row) ≡ number row
+number_given id change row = cond_both (eqb (number row) id.0) (record row { channel = with_given change row.channel }) row (λ r. number r ≡ number row) (λ e. refl) (λ e. refl)
+
+-- what was there is there with what is given
+pub still_given : (rows : List Row) (id : ChannelId) (change : Change) (x : ChannelId) → is_there rows x ≡ true → is_there (changed id (with_given change) rows) x ≡ true
+still_given rows id change x there =
+    subst (λ (o : Option Row). is_some o ≡ true) (sym (row_of-map (change_row id (with_given change)) (number_given id change) rows x)) (some_to (change_row id (with_given change)) (row_of rows x) there)
+
+-- and what is there was there
+pub was_given : (rows : List Row) (id : ChannelId) (change : Change) (x : ChannelId) → is_there (changed id (with_given change) rows) x ≡ true → is_there rows x ≡ true
+was_given rows id change x there =
+    some_from (change_row id (with_given change)) (row_of rows x) (subst (λ (o : Option Row). is_some o ≡ true) (row_of-map (change_row id (with_given change)) (number_given id change) rows x) there)
+
 -- what the code leaves is what the definition says, and a tree
 pub edited : {limit : ℕ} → (tree : TreeState) (seen : List Row) (at : ℕ) (id : ChannelId) (row : Row) (channel : Channel) (change : Change) (links : List Pair) → IsProper limit tree → seen ≡ tree.channels → (at < length seen) × ((other : Row) → row_of seen id ≡ Some (get_or seen at other)) → row ≡ get_or tree.channels at row → fault_of_edit tree id change ≡ None → channel ≡ with_given change row.channel → links ≡ links_after tree id change → (record { channels = set tree.channels at (record row { channel = channel }); links = links; greatest = tree.greatest } ≡ with_change tree id change) × IsProper limit (with_change tree id change)
 edited {limit} tree seen at id row channel change links proper same located is allowed made linked =
@@ -84,14 +98,11 @@ edited {limit} tree seen at id row channel change links proper same located is a
     let found : row_of rows id ≡ Some row = row_read rows at id row finds is in
     let all = allows tree id change allowed in
     let new = changed id (with_given change) rows in
-    let f = change_row id (with_given change) in
-    let numbers : (one : Row) → number (f one) ≡ number one = λ one. cond_both (eqb (number one) id.0) (record one { channel = with_given change one.channel }) one (λ r. number r ≡ number one) (λ e. refl) (λ e. refl) in
-    let keeps : (x : ChannelId) → is_there rows x ≡ true → is_there new x ≡ true = λ x there. subst (λ (o : Option Row). is_some o ≡ true) (sym (row_of-map f numbers rows x)) (some_to f (row_of rows x) there) in
     let fit : AreLinks rows (links_after tree id change) = links_fit tree id change proper.rise proper.joined all.there all.adds all.links in (
       ap (λ (ps : List Pair). record { channels = set rows at (record row { channel = channel }); links = ps; greatest = tree.greatest }) linked
           ∙ ap (λ (ch : Channel). record { channels = set rows at (record row { channel = ch }); links = links_after tree id change; greatest = tree.greatest }) made
           ∙ ap (λ (rs : List Row). record { channels = rs; links = links_after tree id change; greatest = tree.greatest }) (set_row rows at id row (with_given change) proper.rise within found is),
-      relinked (record { channels = new; links = tree.links; greatest = tree.greatest }) (links_after tree id change) (links_kept rows new (links_after tree id change) keeps fit) (edited_rows tree at id row change proper within found is all),
+      relinked (record { channels = new; links = tree.links; greatest = tree.greatest }) (links_after tree id change) (links_kept rows new (links_after tree id change) (still_given rows id change) fit) (edited_rows tree at id row change proper within found is all),
     )
 
 -- a channel whose parts are set one after the other

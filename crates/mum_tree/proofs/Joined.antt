@@ -103,7 +103,7 @@ ordered_with a b (pair ∷ links) new ordered =
     (λ e. AllPairs-cons R pair (with_pair a b links) (All-with (R pair) a b links (above_other a.0 b.0 pair.0.0 pair.1.0 differ e) later)
     (ordered_with a b links rest (AllPairs-tail R pair links ordered)))
 
-count_with : (q : Pair → Bool) (a b : ChannelId) (links : List Pair) → count_by q (with_pair a b links) ≡ cond (q (a, b)) 1 0 + count_by q links
+pub count_with : (q : Pair → Bool) (a b : ChannelId) (links : List Pair) → count_by q (with_pair a b links) ≡ cond (q (a, b)) 1 0 + count_by q links
 count_with q a b [] = sum_by-cons (λ (y : Pair). cond (q y) 1 0) (a, b) []
 count_with q a b (pair ∷ links) =
     let more = count_with q a b links in

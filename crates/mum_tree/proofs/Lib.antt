@@ -3,11 +3,13 @@ pub mod Changed
 pub mod Climb
 pub mod Closure
 pub mod Depths
+pub mod EditBack
 pub mod Edited
 pub mod Edits
 pub mod Find
 pub mod Grown
 pub mod Joined
+pub mod LinkBack
 pub mod Linking
 pub mod LinkSearch
 pub mod Marks
@@ -16,6 +18,7 @@ pub mod Partners
 pub mod Places
 pub mod Reached
 pub mod Search
+pub mod SeatBack
 pub mod Shrunk
 pub mod Start
 pub mod Upward

@@ -1,16 +1,16 @@
 -- The pairs that links and their removal leave.
-use Rattle.std.proofs.Common.{◌≡◌, ℕ, zero, suc, ◌<◌, ◌≤◌, Bool, true, false, cond, List, [], ◌∷◌, length, get_or, ◌+◌, ◌||◌, ◌&&◌, not, Some, None, eqb, leb, ◌≢◌, drop, map, Result, Ok, refl, arith, ap, sym, ◌∙◌}
+use Rattle.std.proofs.Common.{◌≡◌, ℕ, zero, suc, ◌<◌, ◌≤◌, Bool, true, false, cond, List, [], ◌∷◌, length, get_or, ◌||◌, ◌&&◌, not, Some, None, eqb, leb, ◌≢◌, Result, Ok, refl, arith, ap, sym, ◌∙◌}
 use Rattle.std.specs.List.{count_by, filter, insert}
 use Rattle.std.specs.Result.{is_ok}
 use Rattle.std.proofs.lemmas.Bool.{and_parts, leb-false, ne_eqb, not-false, or_from, or_parts}
-use Rattle.std.proofs.lemmas.List.{drop_more, length-map}
+use Rattle.std.proofs.lemmas.List.{length-map}
 use Rattle.std.proofs.lemmas.List.Sums.{length-filter}
 use Rattle.mum_base.specs.declared.number.ChannelId.{ChannelId}
 use Rattle.mum_tree.specs.declared.fault.TreeFault.TheVariants.{LinkCount, NoChannel}
-use Rattle.mum_tree.specs.Refusals.{fault_of_link, fault_of_unlink}
+use Rattle.mum_tree.specs.Refusals.{fault_of_link}
 use Rattle.mum_tree.specs.Proper.{AreLinks, IsProper}
 use Rattle.mum_tree.specs.Rows.{is_there}
-use Rattle.mum_tree.specs.State.{Pair, TreeState, are_linked, ends_from, partners, is_above, starts_at, with_link, with_pair}
+use Rattle.mum_tree.specs.State.{Pair, TreeState, are_linked, ends_from, partners, is_above, starts_at, with_pair}
 use Rattle.mum_tree.proofs.Edits.{none_stands}
 use Rattle.mum_tree.proofs.Joined.{links_made}
 
@@ -22,17 +22,6 @@ insert_is (pair ∷ pairs) zero from to within before here = sym (ap (λ (b : Bo
 insert_is (pair ∷ pairs) (suc at) from to within before here =
     ap (λ (rest : List Pair). pair ∷ rest) (insert_is pairs at from to (omega arith) (λ k d below. before (suc k) d (omega arith)) (λ d inside. here d (omega arith)))
     ∙ sym (ap (λ (b : Bool). cond b ((from, to) ∷ pair ∷ pairs) (pair ∷ with_pair from to pairs)) (before zero pair (omega arith)))
-
--- a pair of another channel leads nowhere from this one
-pub ends_skip : (pairs : List Pair) (i : ℕ) (d : Pair) (of : ChannelId) → i < length pairs → starts_at of (get_or pairs i d) ≡ false → ends_from of (drop i pairs) ≡ ends_from of (drop (i + 1) pairs)
-ends_skip pairs i d of within other =
-    ap (ends_from of) (drop_more pairs i d within)
-    ∙ ap (λ (b : Bool). map (λ pair. pair.1) (cond b (get_or pairs i d ∷ filter (starts_at of) (drop (i + 1) pairs)) (filter (starts_at of) (drop (i + 1) pairs)))) other
-
-pub ends_take : (pairs : List Pair) (i : ℕ) (d : Pair) (of : ChannelId) → i < length pairs → starts_at of (get_or pairs i d) ≡ true → ends_from of (drop i pairs) ≡ (get_or pairs i d).1 ∷ ends_from of (drop (i + 1) pairs)
-ends_take pairs i d of within own =
-    ap (ends_from of) (drop_more pairs i d within)
-    ∙ ap (λ (b : Bool). map (λ pair. pair.1) (cond b (get_or pairs i d ∷ filter (starts_at of) (drop (i + 1) pairs)) (filter (starts_at of) (drop (i + 1) pairs)))) own
 
 -- the list after an insert that went well
 pub put_in : (links seen one : List Pair) (at : ℕ) (from to : ChannelId) → seen ≡ links → at ≤ length seen → ((k : ℕ) (d : Pair) → k < at → is_above from to (get_or seen k d) ≡ false) → ((d : Pair) → at < length seen → is_above from to (get_or seen at d) ≡ true) → one ≡ insert links at (from, to) → one ≡ with_pair from to links
@@ -49,16 +38,7 @@ joined links seen one seen-2 two at at-2 a b same within before here first same-
 pub left_by_ok : {T E X : Type 0} (answer : Result T E) (done : T) (left chosen other : X) → left ≡ cond (is_ok answer) chosen other → answer ≡ Ok done → left ≡ chosen
 left_by_ok answer done left chosen other is ok = is ∙ ap (λ (b : Bool). cond b chosen other) (ap is_ok ok)
 
--- a new link between two channels
-pub link_made : (tree : TreeState) (a b : ChannelId) (pairs : List Pair) → (a.0 ≡ b.0 → ⊥) → are_linked tree a b ≡ false → pairs ≡ with_pair b a (with_pair a b tree.links) → record { channels = tree.channels; links = pairs; greatest = tree.greatest } ≡ with_link tree a b
-link_made tree a b pairs differ unlinked made =
-    let passed : ((eqb a.0 b.0) || are_linked tree a b) ≡ false = or_from _ _ (ne_eqb a.0 b.0 differ) unlinked in
-    ap (λ (ps : List Pair). record { channels = tree.channels; links = ps; greatest = tree.greatest }) made
-    ∙ sym (ap (λ (x : Bool). record tree { links = cond x tree.links (with_pair b a (with_pair a b tree.links)) }) passed)
-
-pub unlink_allowed : (tree : TreeState) (a b : ChannelId) → (is_there tree.channels a && is_there tree.channels b) ≡ true → fault_of_unlink tree a b ≡ None
-unlink_allowed tree a b there = ap (λ (x : Bool). cond (not x) (Some NoChannel) None) there
-
+-- a channel with fewer partners than it may have has fewer links
 pub room_left : (pairs : List Pair) (of : ChannelId) → leb 64 (length (ends_from of pairs)) ≡ false → count_by (starts_at of) pairs < 64
 room_left pairs of few = omega (arith, leb-false 64 (length (ends_from of pairs)) few, length-filter (starts_at of) pairs, length-map (filter (starts_at of) pairs) (λ pair. pair.1))
 

@@ -10,10 +10,8 @@ use Rattle.mum_base.specs.declared.number.ChannelId.{ChannelId}
 use Rattle.mum_tree.specs.declared.channel.Row.{Row}
 use Rattle.mum_tree.specs.declared.scratch.Seat.{Seat}
 use Rattle.mum_tree.specs.Rows.{number, Rise}
-use Rattle.mum_tree.specs.Walks.{HasRow}
 use Rattle.mum_tree.proofs.Changed.{AllPairs-map}
 use Rattle.mum_tree.proofs.Find.{contains_later}
-use Rattle.mum_tree.proofs.Start.{root_row}
 use Rattle.mum_tree.proofs.Upward.{none_contained}
 
 pub map-filter_of_map : {X Y Z : Type 0} (f : Y → Z) (p : Y → Bool) (g : X → Y) (xs : List X) → map f (filter p (map g xs)) ≡ map (λ x. f (g x)) (filter (λ x. p (g x)) xs)

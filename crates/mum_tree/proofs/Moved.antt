@@ -26,10 +26,11 @@ use Rattle.mum_tree.proofs.Shrunk.{is_top, list_any-reverse, upward_enough}
 abbrev pub placed : Channel → Channel → Channel
 placed seat channel = record channel { name = seat.name; parent = seat.parent; info = seat.info }
 
-abbrev moved_row : ChannelId → Channel → Row → Row
+abbrev pub moved_row : ChannelId → Channel → Row → Row
 moved_row id seat row = change_row id (placed seat) row
 
-same_number : (id : ChannelId) (seat : Channel) (row : Row) → number (moved_row id seat row) ≡ number row
+-- each row keeps its number, its place and its kind
+pub same_number : (id : ChannelId) (seat : Channel) (row : Row) → number (moved_row id seat row) ≡ number row
 same_number id seat row = cond_both (eqb (number row) id.0) (record row { channel = placed seat row.channel }) row (λ r. number r ≡ number row) (λ e. refl) (λ e. refl)
 
 same_place : (id : ChannelId) (seat : Channel) (row : Row) → (moved_row id seat row).place ≡ row.place
@@ -38,20 +39,22 @@ same_place id seat row = cond_both (eqb (number row) id.0) (record row { channel
 same_kind : (id : ChannelId) (seat : Channel) (row : Row) → (moved_row id seat row).channel.temporary ≡ row.channel.temporary
 same_kind id seat row = cond_both (eqb (number row) id.0) (record row { channel = placed seat row.channel }) row (λ r. r.channel.temporary ≡ row.channel.temporary) (λ e. refl) (λ e. refl)
 
-unmoved : (id : ChannelId) (seat : Channel) (row : Row) → eqb (number row) id.0 ≡ false → moved_row id seat row ≡ row
+-- another row stays as it is, and the moved channel's has the seat
+pub unmoved : (id : ChannelId) (seat : Channel) (row : Row) → eqb (number row) id.0 ≡ false → moved_row id seat row ≡ row
 unmoved id seat row e = ap (λ (b : Bool). cond b (record row { channel = placed seat row.channel }) row) e
 
-moved : (id : ChannelId) (seat : Channel) (row : Row) → eqb (number row) id.0 ≡ true → moved_row id seat row ≡ record row { channel = placed seat row.channel }
+pub moved : (id : ChannelId) (seat : Channel) (row : Row) → eqb (number row) id.0 ≡ true → moved_row id seat row ≡ record row { channel = placed seat row.channel }
 moved id seat row e = ap (λ (b : Bool). cond b (record row { channel = placed seat row.channel }) row) e
 
-abbrev all_moved : ChannelId → Channel → List Row → List Row
+abbrev pub all_moved : ChannelId → Channel → List Row → List Row
 all_moved id seat rows = map (moved_row id seat) rows
 
-found_moved : (id : ChannelId) (seat : Channel) (rows : List Row) (x : ChannelId) (row : Row) → row_of rows x ≡ Some row → row_of (all_moved id seat rows) x ≡ Some (moved_row id seat row)
+-- the row of a channel, afterwards
+pub found_moved : (id : ChannelId) (seat : Channel) (rows : List Row) (x : ChannelId) (row : Row) → row_of rows x ≡ Some row → row_of (all_moved id seat rows) x ≡ Some (moved_row id seat row)
 found_moved id seat rows x row found = row_of-map (moved_row id seat) (same_number id seat) rows x ∙ ap (option_map (moved_row id seat)) found
 
 -- a way up without the moved channel stays as it is
-up_off : (rows : List Row) (id : ChannelId) (seat : Channel) (steps : ℕ) (x : ChannelId) → Contains (upward rows steps x) the_root → list_any (is_top id) (upward rows steps x) ≡ false → upward (all_moved id seat rows) steps x ≡ upward rows steps x
+pub up_off : (rows : List Row) (id : ChannelId) (seat : Channel) (steps : ℕ) (x : ChannelId) → Contains (upward rows steps x) the_root → list_any (is_top id) (upward rows steps x) ≡ false → upward (all_moved id seat rows) steps x ≡ upward rows steps x
 up_off rows id seat zero x lead off = upward_zero (all_moved id seat rows) x ∙ sym (upward_zero rows x)
 up_off rows id seat (suc steps) x lead off =
     let (row, found) = there_from_lead rows (suc steps) x lead in
@@ -192,7 +195,8 @@ moved_apart rows id seat row rise apart found free =
     (cases_Bool (eqb (number one) id.0)))
     apart
 
-kinds_kept : (rows : List Row) (id : ChannelId) (seat : Channel) (x : ChannelId) → is_temporary (all_moved id seat rows) x ≡ is_temporary rows x
+-- each channel is as temporary as it was
+pub kinds_kept : (rows : List Row) (id : ChannelId) (seat : Channel) (x : ChannelId) → is_temporary (all_moved id seat rows) x ≡ is_temporary rows x
 kinds_kept rows id seat x =
     ap (λ (o : Option Row). option_map_or (λ r. r.channel.temporary) o false) (row_of-map (moved_row id seat) (same_number id seat) rows x)
     ∙ is_temporary-map (moved_row id seat) (same_kind id seat) (row_of rows x)

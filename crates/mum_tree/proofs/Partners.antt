@@ -1,9 +1,9 @@
 -- The links that a change of a channel leaves.
-use Rattle.std.proofs.Common.{◌≡◌, ◌≢◌, ℕ, zero, suc, ◌<◌, ◌≤◌, ◌+◌, ◌&&◌, ◌||◌, ◌⊎◌, inl, inr, Bool, true, false, not, cond, eqb, leb, ltb, List, [], ◌∷◌, length, get_or, map, Some, refl, arith, ap, sym, ◌∙◌, subst, ⊎_elim}
+use Rattle.std.proofs.Common.{◌≡◌, ◌≢◌, ℕ, zero, suc, ◌<◌, ◌≤◌, ◌+◌, ◌&&◌, ◌||◌, ◌⊎◌, inl, inr, Bool, true, false, not, cond, eqb, leb, ltb, List, [], ◌∷◌, length, get_or, map, refl, arith, ap, sym, ◌∙◌, subst, ⊎_elim}
 use Rattle.std.specs.Bool.{IsTrue}
 use Rattle.std.specs.Prelude.{◌↔◌}
-use Rattle.std.specs.List.{All, AllPairs, Contains, count_by, filter, list_all, list_any}
-use Rattle.std.proofs.lemmas.Bool.{and_from, and_parts, and_right, both_ways, cases_Bool, cases_eq, cond_both, eq-eqb, eqb-true, ne_eqb, or_from, or_parts, ltb-false, leb-false}
+use Rattle.std.specs.List.{AllPairs, Contains, count_by, filter, list_all, list_any}
+use Rattle.std.proofs.lemmas.Bool.{and_from, and_parts, both_ways, cases_Bool, cases_eq, cond_both, eq-eqb, eqb-true, ne_eqb, or_from, or_parts, ltb-false}
 use Rattle.std.proofs.lemmas.Bool.Decides.{nat_tests}
 use Rattle.std.proofs.lemmas.List.{get_or_default, length-map}
 use Rattle.std.proofs.lemmas.List.Elements.{All-contains, filter_passes}
@@ -15,7 +15,7 @@ use Rattle.mum_tree.specs.declared.channel.Row.{Row}
 use Rattle.mum_tree.specs.Change.{Change, is_among, is_new_partner, is_partner_after, overlinks, pairs_with_all, pairs_without_all}
 use Rattle.mum_tree.specs.Proper.{AreBothWays, AreLinks, ArePairs, IsBetween, IsProper}
 use Rattle.mum_tree.specs.Rows.{number, row_of, is_there, Rise}
-use Rattle.mum_tree.specs.State.{Pair, Ordered, TreeState, ends_from, is_above, is_pair, pairs_with, pairs_without, partners, starts_at, with_pair}
+use Rattle.mum_tree.specs.State.{Pair, Ordered, TreeState, is_above, is_pair, pairs_with, pairs_without, partners, starts_at, with_pair}
 use Rattle.mum_tree.proofs.Changed.{AllPairs-map, none_passes, number_found}
 use Rattle.mum_tree.proofs.Closure.{any_from, any_has, any_there, count_le_at, count_less, row_stands, same_number, worth}
 use Rattle.mum_tree.proofs.Edits.{some_row}
@@ -455,15 +455,15 @@ fits_back tree id change rise are here adds fit =
     let q : Row → Bool = λ row. linked_in after x row.channel.id in
     let back : linked_in after x id ≡ true = linked_back after id x fit.pairs.both (own_after tree id change x ∙ partner) in
     let unlinked : linked_in tree.links x id ≡ false = ⊎_elim
-        (λ (was : linked_in tree.links x id ≡ true). absurd (both_ways (not (linked_in tree.links id x)) (ap not (linked_back tree.links x id are.pairs.both was)) old))
-        (λ (off : linked_in tree.links x id ≡ false). off)
-        (cases_Bool (linked_in tree.links x id)) in
+    (λ (was : linked_in tree.links x id ≡ true). absurd (both_ways (not (linked_in tree.links id x)) (ap not (linked_back tree.links x id are.pairs.both was)) old))
+    (λ (off : linked_in tree.links x id ≡ false). off)
+    (cases_Bool (linked_in tree.links x id)) in
     let more : count_by p rows < count_by q rows = count_less p q rows
-        (λ row was. ⊎_elim
-        (λ (e : number row ≡ id.0). ap (linked_in after x) (ap (λ n. record { 0 = n }) e) ∙ back)
-        (λ (off : number row ≡ id.0 → ⊥). other_after tree id change x row.channel.id other (ne_eqb (number row) id.0 off) ∙ was)
-        (cases_eq (number row) id.0))
-        (any_there (λ y. linked_in after x y && not (linked_in tree.links x y)) rows id here (and_from (linked_in after x id) (not (linked_in tree.links x id)) back (ap not unlinked))) in
+    (λ row was. ⊎_elim
+    (λ (e : number row ≡ id.0). ap (linked_in after x) (ap (λ n. record { 0 = n }) e) ∙ back)
+    (λ (off : number row ≡ id.0 → ⊥). other_after tree id change x row.channel.id other (ne_eqb (number row) id.0 off) ∙ was)
+    (cases_eq (number row) id.0))
+    (any_there (λ y. linked_in after x y && not (linked_in tree.links x y)) rows id here (and_from (linked_in after x id) (not (linked_in tree.links x id)) back (ap not unlinked))) in
     let many : 64 ≤ length (partners tree x) = full_from (length (partners tree x)) full in
     absurd (omega (arith, more, many, counted rows after x rise fit.pairs, fit.few_each x, counted rows tree.links x rise are.pairs, length-filter (starts_at x) tree.links, length-map (filter (starts_at x) tree.links) (λ pair. pair.1))))
     (λ (off : fresh (get_or rows k d) ≡ false). off)

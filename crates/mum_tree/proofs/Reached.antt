@@ -117,12 +117,6 @@ partner_linked rows links at place from d within starts named other =
     subst (λ (x : ChannelId). Contains links (x, (get_or rows place other).channel.id)) (same_id pair.0 from starts)
     (subst (λ (x : ChannelId). Contains links (pair.0, x)) (sym (named other)) (Contains-get_or links at d within))
 
--- the first that is found
-pub started : (old new : List ℕ) (number : ℕ) → old ≡ [] → Added old new number → new ≡ number ∷ []
-started old new number none added =
-    ⊎_elim (λ (same : Contains old number × (new ≡ old)). let (k, within, is) = same.0 in absurd (omega (arith, ap length none)))
-    (λ (more : new ≡ old ++ number ∷ []). more ∙ ap (λ (xs : List ℕ). xs ++ number ∷ []) none) added
-
 -- what is found and closed under links holds all that links lead to
 pub all_found : (rows : List Row) (links : List Pair) (found : List ℕ) (id : ChannelId) → HasRow rows found id → ((k : ℕ) (other : Row) (to : ChannelId) → k < length found → Contains links ((get_or rows (get_or found k 0) other).channel.id, to) → HasRow rows found to) → (steps : ℕ) (to : ChannelId) → Walk links steps id to → HasRow rows found to
 all_found rows links found id here closed zero to walk = subst (HasRow rows found) walk here

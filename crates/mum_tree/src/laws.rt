@@ -2,12 +2,14 @@
 
 ghost use Rattle.std.specs.Prelude.{◌≡◌, ◌<◌, ◌↔◌, ℕ, Bool, false, List, None, IsTrue};
 ghost use Rattle.std.specs.List.{list_all};
-ghost use Rattle.mum_tree.specs.Change.{overlinks, with_change, Change};
+ghost use Rattle.mum_tree.specs.Change.{fault_of_edit, names_there, overlinks, with_change, Change};
 ghost use Rattle.mum_base.specs.declared.number.ChannelId.{ChannelId};
 ghost use Rattle.mum_tree.specs.Proper.{AreLinks, IsProper};
-ghost use Rattle.mum_tree.specs.Refusals.{fault_of_add, fault_of_remove};
-ghost use Rattle.mum_tree.specs.Rows.{is_there};
-ghost use Rattle.mum_tree.specs.State.{TreeState, with_new, without_subtree};
+ghost use Rattle.mum_tree.specs.Refusals.{fault_of_add, fault_of_link, fault_of_move};
+ghost use Rattle.mum_tree.specs.Refusals.{fault_of_remove, fault_of_rename};
+ghost use Rattle.mum_tree.specs.Rows.{is_root, is_there};
+ghost use Rattle.mum_tree.specs.State.{TreeState, with_link, with_name, with_new};
+ghost use Rattle.mum_tree.specs.State.{with_parent, without_subtree};
 ghost use Rattle.mum_tree.specs.Places.{least_place, IsLeastFree};
 ghost use Rattle.mum_tree.specs.declared.channel.Row.{Row};
 
@@ -28,21 +30,59 @@ pub fn places_of_new_channels()
 
 /// With a new channel a tree is a tree exactly where nothing stands against it.
 pub fn new_channels()
-    ensures { (limit : ℕ) (tree : TreeState) (id parent : ChannelId) (name : List ℕ) (temporary : Bool) →
-        IsProper limit tree → tree.greatest < id.0 →
-        (fault_of_add limit tree id parent name ≡ None) ↔ IsProper limit (with_new tree id parent name temporary) }
+    ensures { (limit : ℕ) (tree : TreeState) (id parent : ChannelId) (name : List ℕ)
+        (temporary : Bool) → IsProper limit tree → tree.greatest < id.0 →
+        (fault_of_add limit tree id parent name ≡ None) ↔
+        IsProper limit (with_new tree id parent name temporary) }
 {}
 
 /// Without a channel that is there, and all below it, a tree is a tree exactly where nothing stands
 /// against it.
 pub fn removals()
-    ensures { (limit : ℕ) (tree : TreeState) (id : ChannelId) → IsProper limit tree → IsTrue (is_there tree.channels id) →
+    ensures { (limit : ℕ) (tree : TreeState) (id : ChannelId) → IsProper limit tree →
+        IsTrue (is_there tree.channels id) →
         (fault_of_remove tree id ≡ None) ↔ IsProper limit (without_subtree tree id) }
 {}
 
-/// After a change the links are those of a tree exactly where it leaves no channel too many of them.
+/// After a change the links are those of a tree exactly where it leaves no channel too many of
+/// them.
 pub fn changed_links()
-    ensures { (limit : ℕ) (tree : TreeState) (id : ChannelId) (change : Change) → IsProper limit tree →
-        IsTrue (is_there tree.channels id) → IsTrue (list_all (is_there tree.channels) change.links_add) →
-        (overlinks tree id change ≡ false) ↔ AreLinks tree.channels (with_change tree id change).links }
+    ensures { (limit : ℕ) (tree : TreeState) (id : ChannelId) (change : Change) →
+        IsProper limit tree → IsTrue (is_there tree.channels id) →
+        IsTrue (list_all (is_there tree.channels) change.links_add) →
+        (overlinks tree id change ≡ false) ↔
+        AreLinks tree.channels (with_change tree id change).links }
+{}
+
+/// After a change of a channel, in which each channel named is there, a tree is a tree exactly
+/// where nothing stands against it.
+pub fn edits()
+    ensures { (limit : ℕ) (tree : TreeState) (id : ChannelId) (change : Change) →
+        IsProper limit tree → IsTrue (names_there tree id change) →
+        (fault_of_edit tree id change ≡ None) ↔ IsProper limit (with_change tree id change) }
+{}
+
+/// With another name of a channel that is not the root, a tree is a tree exactly where nothing
+/// stands against it.
+pub fn renamings()
+    ensures { (limit : ℕ) (tree : TreeState) (id : ChannelId) (name : List ℕ) →
+        IsProper limit tree → IsTrue (is_there tree.channels id) → is_root id ≡ false →
+        (fault_of_rename tree id name ≡ None) ↔ IsProper limit (with_name tree id name) }
+{}
+
+/// With another parent of a channel that is not the root, a tree is a tree exactly where nothing
+/// stands against it.
+pub fn moves()
+    ensures { (limit : ℕ) (tree : TreeState) (id parent : ChannelId) → IsProper limit tree →
+        IsTrue (is_there tree.channels id) → IsTrue (is_there tree.channels parent) →
+        is_root id ≡ false →
+        (fault_of_move tree id parent ≡ None) ↔ IsProper limit (with_parent tree id parent) }
+{}
+
+/// With a link between two channels that are there, a tree is a tree exactly where nothing stands
+/// against it.
+pub fn new_links()
+    ensures { (limit : ℕ) (tree : TreeState) (a b : ChannelId) → IsProper limit tree →
+        IsTrue (is_there tree.channels a) → IsTrue (is_there tree.channels b) →
+        (fault_of_link tree a b ≡ None) ↔ IsProper limit (with_link tree a b) }
 {}

@@ -14,7 +14,7 @@ use Rattle.mum_users.specs.declared.listening.PairOrder.TheVariants.{BySession}
 use Rattle.mum_users.specs.declared.user.User.{User}
 use Rattle.mum_users.specs.declared.fault.UserFault.TheVariants.{NoSession, ListenerLimit, UserListenerLimit}
 use Rattle.mum_users.specs.Sessions.{changed}
-use Rattle.mum_users.specs.Edit.{Change, changed_user, edit_fault, edited, is_among, is_crowded, pairs_after, staying, with_channels}
+use Rattle.mum_users.specs.Edit.{UserEdit, changed_user, edit_fault, edited, is_among, is_crowded, pairs_after, staying, with_channels}
 use Rattle.mum_users.specs.Listeners.{pair_below, with_pair}
 use Rattle.mum_users.specs.Order.{Rises}
 use Rattle.mum_users.specs.Proper.{IsProper}
@@ -292,7 +292,7 @@ not_crowded pairs (other ∷ channels) channel none there = split (eqb other.0 c
         omega (arith, few, ap (λ (n : ℕ). count_by (λ (pair : ListenerPair). eqb pair.channel.0 n) pairs) (eqb-true _ _ e))
     split false e rest = rest (rw e at there)
 
-pub IsProper-edited : {limit : ℕ} (state : RosterState) (session : SessionId) (change : Change) → IsProper limit state → list_any (has_number session) state.sessions ≡ true
+pub IsProper-edited : {limit : ℕ} (state : RosterState) (session : SessionId) (change : UserEdit) → IsProper limit state → list_any (has_number session) state.sessions ≡ true
     → list_any (is_crowded (pairs_after session change state.listeners)) change.listen ≡ false
     → count_by (is_of_session session) (pairs_after session change state.listeners) ≤ LISTENED_CHANNELS
     → IsProper limit (edited state session change)
@@ -341,7 +341,7 @@ IsProper-edited {limit} state session change proper here uncrowded few =
 
 -- ---- what a call that changes a session answers, as code finds the row
 
-module _ (state now : RosterState) (session : SessionId) (change : Change) (seen : List User) (same : state ≡ now) (e : seen ≡ state.sessions) where
+module _ (state now : RosterState) (session : SessionId) (change : UserEdit) (seen : List User) (same : state ≡ now) (e : seen ≡ state.sessions) where
   pub edit_absent : None ≡ position (has_number session) seen → edit_fault now session change ≡ Some NoSession
   edit_absent none = rw (← same) (rw (absent_from (has_number session) state.sessions (rw e at none)) refl)
 

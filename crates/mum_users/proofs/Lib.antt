@@ -9,3 +9,4 @@ pub mod PairCounts
 pub mod Indexes
 pub mod Rosters
 pub mod Edits
+pub mod Refusals

@@ -17,7 +17,7 @@ use Rattle.mum_users.specs.Sessions.{changed}
 use Rattle.mum_users.specs.State.{RosterState, has_number, is_of_channel, is_of_session}
 
 -- a change of a session as plain data; what is none stays
-pub record Change : Type 0 where
+pub record UserEdit : Type 0 where
   pub channel : Option ChannelId
   pub flags : FlagChange
   pub comment : Option (List ℕ)
@@ -26,8 +26,8 @@ pub record Change : Type 0 where
   pub unlisten : List ChannelId
 
 -- what the code's change says
-abbrev pub change_of : UserChange → Change
-change_of change = record {
+abbrev pub user_edit_of : UserChange → UserEdit
+user_edit_of change = record {
   channel = change.channel;
   flags = change.flags;
   comment = option_copied change.comment;
@@ -37,7 +37,7 @@ change_of change = record {
 }
 
 -- the row of the session
-abbrev pub changed_user : Change → User → User
+abbrev pub changed_user : UserEdit → User → User
 changed_user change user =
     let placed : User = record user { channel = unwrap_or change.channel user.channel } in
     let flags : User = flagged placed change.flags in
@@ -59,7 +59,7 @@ with_channels session left (channel ∷ channels) pairs =
     else with_pair pair_below (record { session = session; channel = channel }) (with_channels session left channels pairs)
 
 -- who listens to what after the change; a channel that is listened to and left is left
-abbrev pub pairs_after : SessionId → Change → List ListenerPair → List ListenerPair
+abbrev pub pairs_after : SessionId → UserEdit → List ListenerPair → List ListenerPair
 pairs_after session change pairs =
     with_channels session change.unlisten change.listen (staying session change.unlisten pairs)
 
@@ -69,7 +69,7 @@ not_listening state session channel =
     record state { listeners = staying session (channel ∷ []) state.listeners }
 
 -- the session's row, and to what it listens
-abbrev pub edited : RosterState → SessionId → Change → RosterState
+abbrev pub edited : RosterState → SessionId → UserEdit → RosterState
 edited state session change =
     record (changed state session (changed_user change)) { listeners = pairs_after session change state.listeners }
 
@@ -78,7 +78,7 @@ abbrev pub is_crowded : List ListenerPair → ChannelId → Bool
 is_crowded pairs channel = nat_lt CHANNEL_LISTENERS (count_by (is_of_channel channel) pairs)
 
 -- the first cause that refuses the change: the limits are those of what it leaves, the channels' first
-abbrev pub edit_fault : RosterState → SessionId → Change → Option UserFault
+abbrev pub edit_fault : RosterState → SessionId → UserEdit → Option UserFault
 edit_fault state session change =
     let pairs : List ListenerPair = pairs_after session change state.listeners in
     if not (list_any (has_number session) state.sessions) then Some NoSession

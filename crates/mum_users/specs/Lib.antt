@@ -7,3 +7,4 @@ pub mod Listeners
 pub mod Edit
 pub mod Targets
 pub mod Proper
+pub mod Laws

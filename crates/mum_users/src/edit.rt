@@ -2,7 +2,7 @@
 
 ghost use Rattle.std.specs.Prelude.{◌≡◌, ◌≤◌, ◌&&◌, not, nat_le, nat_lt, count_by};
 ghost use Rattle.std.specs.List.{list_any};
-ghost use Rattle.mum_users.specs.Edit.{is_among, is_crowded, pairs_after, changed_user, change_of};
+ghost use Rattle.mum_users.specs.Edit.{is_among, is_crowded, pairs_after, changed_user, user_edit_of};
 ghost use Rattle.mum_users.specs.Listeners.{pair_below};
 ghost use Rattle.mum_users.specs.Order.{Rises};
 ghost use Rattle.mum_users.specs.State.{is_of_channel, is_of_session, is_pair};
@@ -73,7 +73,7 @@ pub(crate) fn crowds_one(listeners: &Listeners, session: SessionId, change: &Use
     requires few { (channel : ChannelId) →
         count_by (is_of_channel channel) listeners.now ≤ CHANNEL_LISTENERS }
     requires rise { Rises pair_below listeners.now }
-    ensures { let plain = change_of change.now in
+    ensures { let plain = user_edit_of change.now in
         result ≡ list_any (is_crowded (pairs_after session plain listeners.now)) plain.listen }
 {
     one_crowds(listeners, session, change.listen, change.unlisten)
@@ -112,7 +112,7 @@ pub(crate) fn listens_to_too_many(
 ) -> bool
     requires { Rises pair_below listeners.now }
     ensures { result ≡ nat_lt LISTENED_CHANNELS (count_by (is_of_session session)
-        (pairs_after session (change_of change.now) listeners.now)) }
+        (pairs_after session (user_edit_of change.now) listeners.now)) }
 {
     let left = change.unlisten;
     let channels = change.listen;
@@ -136,9 +136,9 @@ pub(crate) fn change_row(
     comment: Option<Text>,
     context: Option<Octets>,
 )
-    requires comment { comment ≡ (change_of change.now).comment }
-    requires context { context ≡ (change_of change.now).context }
-    ensures { user.new ≡ changed_user (change_of change.now) user.old }
+    requires comment { comment ≡ (user_edit_of change.now).comment }
+    requires context { context ≡ (user_edit_of change.now).context }
+    ensures { user.new ≡ changed_user (user_edit_of change.now) user.old }
 {
     user.channel = change.channel.unwrap_or(user.channel);
     change_flags(user, change.flags);

@@ -6,6 +6,7 @@
 mod edit;
 pub mod fault;
 pub mod flags;
+pub mod laws;
 pub mod limits;
 mod listeners;
 pub mod listening;

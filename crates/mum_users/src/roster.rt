@@ -65,7 +65,7 @@ impl Roster {
     ghost use Rattle.mum_users.specs.Proper.{IsProper};
     ghost use Rattle.mum_users.specs.Sessions.{absent_fault, join_fault, joined, left, next_join, next_number, placed, session_at, session_of, suppressed, with_flags, with_texts, with_tokens, IsLeastFree};
     ghost use Rattle.mum_users.specs.Listeners.{listen_fault, listeners_of, listening, listens, pairs_of, without_channels};
-    ghost use Rattle.mum_users.specs.Edit.{edit_fault, edited, not_listening, change_of};
+    ghost use Rattle.mum_users.specs.Edit.{edit_fault, edited, not_listening, user_edit_of};
     ghost use Rattle.mum_users.specs.Targets.{target_fault, target_of, targeted};
 
     /// No session is here, and none was.
@@ -332,8 +332,8 @@ impl Roster {
     /// to more than 32. The limits are those of the roster after the change, so a session that listens
     /// to 32 channels may leave one for another.
     pub fn edit(&mut self, session: SessionId, change: &UserChange) -> Result<(), UserFault>
-        ensures outcome { Settles named_cause (edit_fault self.old session (change_of change.now))
-            (edited self.old session (change_of change.now)) self.old result self.new }
+        ensures outcome { Settles named_cause (edit_fault self.old session (user_edit_of change.now))
+            (edited self.old session (user_edit_of change.now)) self.old result self.new }
         ensures proper { IsProper SESSIONS self.new }
     {
         let Some(index) = index_of(self.users.as_slice(), session) else {

@@ -4,27 +4,33 @@
 
 mod streams;
 
-use mum_core::murmur;
+use mum_core::{murmur, out_of_memory};
+use std::io::ErrorKind;
 use std::process::ExitCode;
 use std::rt::Env;
 use std::{env, io};
 use streams::{Input, Output};
 
-/// The exit status where the words could not be collected, as where memory ran out.
-const NO_WORDS: u8 = 70;
-
-/// The words of the command line, without the program's name.
+/// The words of the command line, without the program's name. A word that is not UTF-8 is an error of
+/// the kind `InvalidData`.
 fn words_of(rt: &(impl Env + AllocGlobal)) -> io::Result<Vec<String>> {
     Ok(env::args(rt)?.skip(1).collect(rt.alloc())?)
 }
 
 fn main(rt: HostRuntime) -> ExitCode {
-    let Ok(words) = words_of(&rt) else {
-        return ExitCode::from(NO_WORDS);
+    let mut errors = Output::new(rt.stderr());
+    let words = match words_of(&rt) {
+        Ok(words) => words,
+        Err(error) => {
+            if matches!(error.kind(), ErrorKind::OutOfMemory) {
+                return ExitCode::from(out_of_memory(&mut errors));
+            }
+            // such words are no command, as no words are
+            Vec::new(rt.alloc())
+        }
     };
     let mut input = Input::new(rt.stdin());
     let mut output = Output::new(rt.stdout());
-    let mut errors = Output::new(rt.stderr());
     let status = murmur(rt.alloc(), &words, &mut input, &mut output, &mut errors);
     ExitCode::from(status)
 }

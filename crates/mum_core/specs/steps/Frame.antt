@@ -6,7 +6,9 @@ use Rattle.mum_fields.specs.Message.{or_else}
 use Rattle.mum_voice.specs.declared.fault.BadVoice.{BadVoice}
 use Rattle.mum_voice.specs.Packet.{Parts, packet}
 use Rattle.mum_core.specs.declared.connection.Command.TheVariants.{Login}
-use Rattle.mum_core.specs.Action.{Action, Ask, Voice, Echo, Keep, Ignore, ignored_code}
+use Rattle.mum_core.specs.declared.action.Action.{Action}
+use Rattle.mum_core.specs.declared.action.Action.TheVariants.{Ask, Voice, Echo, Keep, Ignore}
+use Rattle.mum_core.specs.Action.{ignored_code}
 use Rattle.mum_core.specs.Case.{Case, not_opened}
 use Rattle.mum_core.specs.Connection.{untold}
 use Rattle.mum_core.specs.Core.{CoreState, connection_at, worker_at, at_connection, at_worker}

@@ -14,11 +14,11 @@ note_cases core accepted (Some revision) =
     ∷ []
 
 abbrev pub forbids : CoreState → ℕ → Option ℕ → List Case
-forbids core c note =
+forbids core c revision =
     let decided = (connection_at core c).decided in
     not_opened core c
     ∷ record { stands = is_none decided; given = c; against = 0 }
-    ∷ note_cases core (edit_number decided) note
+    ∷ note_cases core (edit_number decided) revision
 
 abbrev pub notes : ℕ → Option ℕ → CoreState → CoreState
 notes w None core = core
@@ -26,9 +26,9 @@ notes w (Some revision) core = at_worker w (λ worker. record worker { told = ma
 
 -- the connection knows its seat, and its worker what the note holds
 abbrev pub does : CoreState → ℕ → Option ℕ → CoreState
-does core c note =
-    notes (connection_at core c).worker note
+does core c revision =
+    notes (connection_at core c).worker revision
     (at_connection c (λ connection. record connection { seat = seat_given connection.decided; decided = None }) core)
 
 abbrev pub lines : ℕ → Option ℕ → List (List (List ℕ))
-lines c note = (codes "told" ∷ decimal c ∷ revision_word note ∷ []) ∷ []
+lines c revision = (codes "told" ∷ decimal c ∷ revision_word revision ∷ []) ∷ []

@@ -8,7 +8,6 @@ ghost use Rattle.std.specs.Prelude.{◌∷◌, [], None, true};
 ghost use Rattle.mum_frame.specs.Frame.{IsOneFrame, kind_of, payload_of};
 ghost use Rattle.mum_voice.specs.Packet.{packet};
 ghost use Rattle.mum_core.specs.Action as spec;
-ghost use Rattle.mum_core.specs.Asked.{asked};
 ghost use Rattle.mum_core.specs.Core.{connection_at, is_opened};
 ghost use Rattle.mum_core.specs.steps.Frame.{forbids, does, hears, heard_line, lines};
 
@@ -57,33 +56,33 @@ impl Core {
         &mut self,
         connection: u32,
         worker: u32,
-        action: Action<'_>,
+        action: Action,
         text: &mut String,
     ) -> Result<(), StepFault>
         requires opened { is_opened self.old connection ≡ true }
         requires worker { worker ≡ (connection_at self.old connection).worker }
-        ensures settled { Settles named_cause None (does self.old connection (asked action.entry)) self.old result self.new }
-        ensures told { OnOk result (string_bytes text.new ≡ string_bytes text.old ++ joined (lines connection (asked action.entry))) }
+        ensures settled { Settles named_cause None (does self.old connection action) self.old result self.new }
+        ensures told { OnOk result (string_bytes text.new ≡ string_bytes text.old ++ joined (lines connection action)) }
     {
         let number = Word::Number(u64::from(connection));
         let place = connection as usize - 1;
         match action {
-            Action::Ask(name) => {
+            Action::Ask { name } => {
                 push_line(self.alloc, text, "asked", &[number])?;
                 ask_at(&mut self.connections, place, name);
             }
-            Action::Voice(speaker, payload) => {
-                return self.hear(connection, worker, speaker, payload, text);
+            Action::Voice { speaker, packet } => {
+                return self.hear(connection, worker, speaker, packet, text);
             }
-            Action::Echo(frame) => {
+            Action::Echo { frame } => {
                 let digits = Word::Digits(frame.as_slice());
                 push_line(self.alloc, text, "echo", &[number, digits])?;
             }
-            Action::Keep(version) => {
+            Action::Keep { number: version } => {
                 push_line(self.alloc, text, "kept", &[number])?;
                 keep_version_at(&mut self.connections, place, version);
             }
-            Action::Ignore(why) => {
+            Action::Ignore { why } => {
                 let code = Word::Number(u64::from(why.code()));
                 push_line(self.alloc, text, "ignored", &[number, code])?;
             }
@@ -97,20 +96,20 @@ impl Core {
         connection: u32,
         worker: u32,
         speaker: SessionId,
-        payload: &[u8],
+        payload: Octets,
         text: &mut String,
     ) -> Result<(), StepFault>
-        ensures settled { Settles named_cause None (hears self.old worker speaker (packet payload.now)) self.old result self.new }
-        ensures told { OnOk result (string_bytes text.new ≡ string_bytes text.old ++ joined (heard_line connection (packet payload.now) ∷ [])) }
+        ensures settled { Settles named_cause None (hears self.old worker speaker (packet payload)) self.old result self.new }
+        ensures told { OnOk result (string_bytes text.new ≡ string_bytes text.old ++ joined (heard_line connection (packet payload) ∷ [])) }
     {
         let number = Word::Number(u64::from(connection));
-        if let Err(fault) = Packet::parse(payload) {
+        if let Err(fault) = Packet::parse(payload.as_slice()) {
             let code = Word::Number(u64::from(fault.code));
             push_line(self.alloc, text, "bad", &[number, code])?;
             return Ok(());
         }
         push_line(self.alloc, text, "heard", &[number])?;
-        let held = Held::new(speaker, Octets::of(self.alloc, payload)?);
+        let held = Held::new(speaker, payload);
         hold_at(&mut self.workers, worker as usize, held);
         Ok(())
     }

@@ -7,7 +7,7 @@ ghost use Rattle.mum_core.specs.Line.{joined};
 ghost use Rattle.mum_core.specs.steps.Offer.{forbids, does, lines};
 
 use super::{Core, StepFault, illegal};
-use crate::outbox::{Parcel, offer_at};
+use crate::outbox::{Parcel, put_at};
 use crate::worker::take_copy_at;
 use mum_record::{Word, push_line};
 
@@ -36,7 +36,7 @@ impl Core {
         }
         push_line(self.alloc, text, "sent", &words)?;
         if let Some(copy) = take_copy_at(&mut self.workers, worker as usize) {
-            offer_at(
+            put_at(
                 &mut self.outboxes,
                 slot,
                 Parcel {

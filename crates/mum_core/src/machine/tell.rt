@@ -2,12 +2,11 @@
 
 ghost use Rattle.std.specs.Prelude.{◌≡◌, ◌++◌, OnOk, string_bytes};
 ghost use Rattle.mum_base.specs.Refusal.{Settles};
-ghost use Rattle.mum_core.specs.Case.{first_that_stands, named_cause};
+ghost use Rattle.mum_core.specs.Case.{Passes, first_that_stands, named_cause};
 ghost use Rattle.mum_core.specs.Line.{joined};
 ghost use Rattle.mum_record.specs.Grammar.{revision_word};
 ghost use Rattle.mum_record.specs.Words.{spelled};
 ghost use Rattle.mum_core.specs.steps.Tell.{forbids, does, lines, note_cases};
-ghost use Rattle.mum_core.specs.Checks.{Passes};
 
 use super::{Core, StepFault, illegal};
 use crate::connection::{Verdict, tell_at};

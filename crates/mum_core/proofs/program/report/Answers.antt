@@ -8,4 +8,4 @@ pub returns-in-WriteFault : goal.returns-in-WriteFault
 returns-in-WriteFault g c = rw c.in-WriteFault.is (inl (refl, c.say-in-WriteFault.ensures))
 
 pub returns-in-OutOfMemory : goal.returns-in-OutOfMemory
-returns-in-OutOfMemory g c = rw c.in-OutOfMemory.is (inl (refl, c.say-in-OutOfMemory.ensures))
+returns-in-OutOfMemory g c = rw (c.in-OutOfMemory.is, c.out_of_memory.ensures.status) (inl (refl, c.out_of_memory.ensures.says))

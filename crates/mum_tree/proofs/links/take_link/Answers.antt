@@ -1,7 +1,7 @@
-use Rattle.std.proofs.Common.{◌≡◌, ◌∙◌, ◌||◌, not, Bool, List, ap, sym, subst, rules}
+use Rattle.std.proofs.Common.{◌∙◌, ◌||◌, not, Bool, List, ap, sym, subst, rules}
 use Rattle.std.specs.List.{list_any}
 use Rattle.std.proofs.lemmas.Fn.{filter_same}
-use Rattle.mum_tree.specs.State.{Pair, Ordered, is_pair, pairs_without}
+use Rattle.mum_tree.specs.State.{Pair, Ordered, is_pair}
 use Rattle.mum_tree.specs.Proper.{AreBothWays}
 use Rattle.mum_tree.proofs.Joined.{both_parted, ordered_parted, parted_none}
 use Rattle.mum_tree.proofs.links.take_link.Goals as goal

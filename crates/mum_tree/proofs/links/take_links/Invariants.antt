@@ -1,4 +1,4 @@
-use Rattle.std.proofs.Common.{◌≡◌, ◌+◌, ◌*◌, ◌-◌, ◌≤◌, drop, length, vec_capacity, vec_len}
+use Rattle.std.proofs.Common.{◌≡◌, drop}
 use Rattle.mum_tree.specs.Change.{pairs_without_all}
 use Rattle.mum_tree.specs.Proper.{AreBothWays}
 use Rattle.mum_tree.specs.State.{Ordered}

@@ -1,6 +1,5 @@
-use Rattle.std.proofs.Common.{◌≡◌, ◌<◌, ◌∙◌, true, length, get_or, take, arith, refl, ap, sym, length-set}
+use Rattle.std.proofs.Common.{◌≡◌, ◌<◌, ◌∙◌, true, length, get_or, arith, refl, ap, length-set}
 use Rattle.std.proofs.lemmas.List.{get_or_default, take_all}
-use Rattle.mum_base.specs.declared.number.ChannelId.{ChannelId}
 use Rattle.mum_tree.specs.declared.channel.Row.{Row}
 use Rattle.mum_tree.specs.Change.{is_among}
 use Rattle.mum_tree.proofs.Marks.{mark_more, none_marked}

@@ -1,4 +1,4 @@
-use Rattle.std.proofs.Common.{◌≡◌, ◌∙◌, List, ap, sym, subst, IfSome}
+use Rattle.std.proofs.Common.{List, sym, subst, IfSome}
 use Rattle.mum_tree.specs.declared.channel.Row.{Row}
 use Rattle.mum_tree.specs.Proper.{LeadUp}
 use Rattle.mum_tree.specs.Rows.{IsWay}

@@ -1,0 +1,287 @@
+-- Each copy of a look is sent, or found its outbox full, or is left.
+use Rattle.std.proofs.Common.{◌≡◌, ℕ, zero, suc, ◌+◌, ◌-◌, ◌≤◌, ◌<◌, ◌^◌, min, Bool, true, false, cond, List, [], ◌∷◌, length, drop, get_or, Option, Some, None, Result, Ok, Err, refl, sym, ap, ◌∙◌, arith, inl, inr}
+use Rattle.std.specs.Prelude.{not, is_none, is_some, nat_lt, sum_by, slice_get, slice_index_or, slice_set, replicate, if◌then◌else◌}
+use Rattle.std.proofs.lemmas.Bool.{cases_eq, ltb-false, ltb-true}
+use Rattle.std.proofs.lemmas.List.{length-map, get_or-set_same, get_or-set_other}
+use Rattle.std.proofs.lemmas.List.Sums.{sum_by-set}
+use Rattle.std.proofs.lemmas.Option.{slice_get_within, get_or_from_slice_get, slice_get-get_or}
+use Rattle.mum_base.specs.declared.number.SessionId.{SessionId}
+use Rattle.mum_voice.specs.declared.fault.BadVoice.{BadVoice}
+use Rattle.mum_voice.specs.Packet.{Parts, packet}
+use Rattle.mum_core.specs.declared.connection.Seat.{Seat}
+use Rattle.mum_core.specs.declared.outbox.Parcel.{Parcel}
+use Rattle.mum_core.specs.declared.worker.Outgoing.{Outgoing}
+use Rattle.mum_core.specs.declared.action.Action.{Action}
+use Rattle.mum_core.specs.declared.action.Action.TheVariants.{Ask, Voice, Echo, Keep, Ignore}
+use Rattle.mum_core.specs.Action.{action}
+use Rattle.mum_core.specs.Built as steps
+use Rattle.mum_core.specs.Built.{BuiltStep, Open, Frame, Publish, Tell, Look, Offer, Drain, End}
+use Rattle.mum_core.specs.Connection.{untold}
+use Rattle.mum_core.specs.Core.{CoreState, start, connection_at, worker_at, outbox_at, state_at, is_opened}
+use Rattle.mum_core.specs.Laws.{IsRun, ran, looked}
+use Rattle.mum_core.specs.Lists.{changed_at, with_found}
+use Rattle.mum_core.specs.State.{State}
+use Rattle.mum_core.specs.Step.{does, illegal}
+use Rattle.mum_core.specs.Worker.{WorkerState, HeldPacket, idle, in_hand}
+use Rattle.mum_core.specs.steps.Frame as frame_step
+use Rattle.mum_core.specs.steps.Look as look_step
+use Rattle.mum_core.specs.steps.Offer as offer_step
+use Rattle.mum_core.specs.steps.Drain as drain_step
+use Rattle.mum_core.specs.steps.Tell as tell_step
+use Rattle.mum_core.proofs.RunLaws.{none_stands, not_false, told_core, taken_core, puts_workers, first_of}
+
+-- ---- a worker that holds a packet has no copies
+
+abbrev IsClean : WorkerState → Type 0
+IsClean x = is_some x.held ≡ true → x.copies ≡ []
+
+abbrev AreClean : List WorkerState → Type 0
+AreClean workers = (w : ℕ) → IsClean (slice_index_or workers w idle)
+
+clean-at : (workers : List WorkerState) (i : ℕ) (change : WorkerState → WorkerState)
+    → ((x : WorkerState) → slice_get workers i ≡ Some x → IsClean (change x)) → AreClean workers → AreClean (changed_at i change workers)
+clean-at workers i change h clean w = from (slice_get workers i) refl
+  where
+    from : (o : Option WorkerState) → slice_get workers i ≡ o → IsClean (slice_index_or (with_found workers i change o) w idle)
+    from None e = clean w
+    from (Some x) e = elim (cases_eq w i) [
+      | inl same ↦
+          let there : get_or (slice_set workers i (change x)) w idle ≡ change x = rw same (get_or-set_same workers i (change x) idle (slice_get_within workers i x e)) in
+          rw there (h x e)
+      | inr other ↦
+          let there : get_or (slice_set workers i (change x)) w idle ≡ get_or workers w idle = get_or-set_other workers i w (change x) idle other in
+          rw there (clean w)
+    ]
+
+no_copies : (copies : List Outgoing) → length copies ≤ 0 → copies ≡ []
+no_copies [] h = refl
+no_copies (copy ∷ copies) h = absurd (omega arith)
+
+idle_hands : (held : Option HeldPacket) (copies : List Outgoing) → (if is_some held then 1 else length copies) ≤ 0 → copies ≡ []
+idle_hands None copies h = no_copies copies h
+idle_hands (Some held) copies h = absurd (omega arith)
+
+-- the worker of a frame that is allowed has nothing in hand
+frame_hands : (core : CoreState) (c kind : ℕ) (payload : List ℕ) → illegal core (Frame c kind payload) ≡ None → (worker_at core (connection_at core c).worker).copies ≡ []
+frame_hands core c kind payload h =
+    let worker : WorkerState = worker_at core (connection_at core c).worker in
+    let first = none_stands (not (is_opened core c)) _ _ h in
+    let second = none_stands (nat_lt 0 (untold (connection_at core c))) _ _ first.1 in
+    let third = none_stands (nat_lt 0 (in_hand worker)) _ _ second.1 in
+    idle_hands worker.held worker.copies (ltb-false 0 (in_hand worker) third.0)
+
+clean_hears : (core : CoreState) (w : ℕ) (speaker : SessionId) (read : Result Parts BadVoice) → (worker_at core w).copies ≡ [] → AreClean core.workers → AreClean (frame_step.hears core w speaker read).workers
+clean_hears core w speaker (Ok parts) none clean =
+    clean-at core.workers w (λ worker. record worker { held = Some (record { speaker = speaker; parts = parts }) })
+    (λ x at yes. sym (ap (λ (y : WorkerState). y.copies) (get_or_from_slice_get core.workers w x idle at)) ∙ none) clean
+clean_hears core w speaker (Err fault) none clean = clean
+
+clean_frame : (core : CoreState) (c : ℕ) (a : Action) → (worker_at core (connection_at core c).worker).copies ≡ [] → AreClean core.workers → AreClean (frame_step.does core c a).workers
+clean_frame core c (Ask name) none clean = clean
+clean_frame core c (Voice speaker payload) none clean = clean_hears core (connection_at core c).worker speaker (packet payload) none clean
+clean_frame core c (Echo frame) none clean = clean
+clean_frame core c (Keep number) none clean = clean
+clean_frame core c (Ignore why) none clean = clean
+
+clean_notes : (core : CoreState) (w : ℕ) (revision : Option ℕ) → AreClean core.workers → AreClean (tell_step.notes w revision core).workers
+clean_notes core w None clean = clean
+clean_notes core w (Some revision) clean =
+    clean-at core.workers w _ (λ x at. let here : worker_at core w ≡ x = get_or_from_slice_get core.workers w x idle at in rw here at (clean w)) clean
+
+cond_workers : (b : Bool) (core x y : CoreState) → x.workers ≡ core.workers → y.workers ≡ core.workers → (cond b x y).workers ≡ core.workers
+cond_workers true core x y hx hy = hx
+cond_workers false core x y hx hy = hy
+
+takes_workers : (core : CoreState) (seat : Seat) (front : Option Parcel) → (drain_step.takes core seat front).workers ≡ core.workers
+takes_workers core seat None = refl
+takes_workers core seat (Some front) = cond_workers (drain_step.is_for front seat) core _ _ refl refl
+
+drain_workers : (core : CoreState) (seat : Option Seat) → (drain_step.does_from core seat).workers ≡ core.workers
+drain_workers core None = refl
+drain_workers core (Some seat) = takes_workers core seat (slice_get (outbox_at core seat.slot.0) 0)
+
+clean_by : (old new : List WorkerState) → new ≡ old → AreClean old → AreClean new
+clean_by old new same clean w = rw same (clean w)
+
+clean_step : (core : CoreState) (step : BuiltStep) → illegal core step ≡ None → AreClean core.workers → AreClean (does core step).workers
+clean_step core (Open c w) h clean = clean
+clean_step core (Frame c kind payload) h clean = clean_frame core c (action (connection_at core c).seat kind payload) (frame_hands core c kind payload h) clean
+clean_step core (steps.Edit c) h clean = clean
+clean_step core Publish h clean = clean
+clean_step core (Tell c revision) h clean = clean_notes (told_core core c) (connection_at core c).worker revision clean
+clean_step core (Look w revision) h clean = clean-at core.workers w (λ worker. record worker { seen = revision; held = None; copies = look_step.copies (state_at core revision) (worker_at core w).held }) (λ x at yes. cc) clean
+clean_step core (Offer w) h clean =
+    clean_by (taken_core core w).workers (does core (Offer w)).workers (puts_workers (taken_core core w) (offer_step.next_copy core w))
+    (clean-at core.workers w (λ worker. record worker { copies = drop 1 worker.copies })
+    (λ x at yes.
+    let here : worker_at core w ≡ x = get_or_from_slice_get core.workers w x idle at in
+    let none : IsClean x = rw here at (clean w) in
+    ap (drop 1) (none yes)) clean)
+clean_step core (Drain c) h clean = clean_by core.workers (does core (Drain c)).workers (drain_workers core (connection_at core c).seat) clean
+clean_step core End h clean = clean
+
+clean_start : (workers : ℕ) → AreClean (replicate workers idle)
+clean_start zero w holds = refl
+clean_start (suc n) zero holds = refl
+clean_start (suc n) (suc w) holds = clean_start n w holds
+
+-- ---- the sum
+
+abbrev left : CoreState → ℕ
+left core = sum_by (λ worker. length worker.copies) core.workers
+
+left-found : (workers : List WorkerState) (i : ℕ) (change : WorkerState → WorkerState) (x : WorkerState) → slice_get workers i ≡ Some x
+    → sum_by (λ worker. length worker.copies) (changed_at i change workers) + length x.copies ≡ sum_by (λ worker. length worker.copies) workers + length (change x).copies
+left-found workers i change x e =
+    let here : get_or workers i x ≡ x = get_or_from_slice_get workers i x x e in
+    let sums = sum_by-set (λ (worker : WorkerState). length worker.copies) workers i (change x) x (slice_get_within workers i x e) in
+    rw e (rw here at sums)
+
+left-same : (workers : List WorkerState) (i : ℕ) (change : WorkerState → WorkerState) → ((x : WorkerState) → length (change x).copies ≡ length x.copies)
+    → sum_by (λ worker. length worker.copies) (changed_at i change workers) ≡ sum_by (λ worker. length worker.copies) workers
+left-same workers i change same = from (slice_get workers i) refl
+  where
+    from : (o : Option WorkerState) → slice_get workers i ≡ o → sum_by (λ worker. length worker.copies) (with_found workers i change o) ≡ sum_by (λ worker. length worker.copies) workers
+    from None e = refl
+    from (Some x) e =
+        let here : get_or workers i x ≡ x = get_or_from_slice_get workers i x x e in
+        let sums = sum_by-set (λ (worker : WorkerState). length worker.copies) workers i (change x) x (slice_get_within workers i x e) in
+        let sum : sum_by (λ worker. length worker.copies) (slice_set workers i (change x)) + length x.copies ≡ sum_by (λ worker. length worker.copies) workers + length (change x).copies = rw here at sums in
+        let as_long = same x in
+        omega arith
+
+-- the counts of copies, sent and full, and the copies left are as before
+abbrev Same : CoreState → CoreState → Type 0
+Same old new = (new.totals.copies ≡ old.totals.copies) × (new.totals.full ≡ old.totals.full) × (left new ≡ left old)
+
+hears_same : (core : CoreState) (w : ℕ) (speaker : SessionId) (read : Result Parts BadVoice) → Same core (frame_step.hears core w speaker read)
+hears_same core w speaker (Ok parts) = (refl, refl, left-same core.workers w (λ worker. record worker { held = Some (record { speaker = speaker; parts = parts }) }) (λ x. refl))
+hears_same core w speaker (Err fault) = (refl, refl, refl)
+
+frame_same : (core : CoreState) (c : ℕ) (a : Action) → Same core (frame_step.does core c a)
+frame_same core c (Ask name) = (refl, refl, refl)
+frame_same core c (Voice speaker payload) = hears_same core (connection_at core c).worker speaker (packet payload)
+frame_same core c (Echo frame) = (refl, refl, refl)
+frame_same core c (Keep number) = (refl, refl, refl)
+frame_same core c (Ignore why) = (refl, refl, refl)
+
+notes_same : (core : CoreState) (w : ℕ) (revision : Option ℕ) → Same core (tell_step.notes w revision core)
+notes_same core w None = (refl, refl, refl)
+notes_same core w (Some revision) = (refl, refl, left-same core.workers w _ (λ x. refl))
+
+cond_same : (b : Bool) (core x y : CoreState) → Same core x → Same core y → Same core (cond b x y)
+cond_same true core x y hx hy = hx
+cond_same false core x y hx hy = hy
+
+takes_same : (core : CoreState) (seat : Seat) (front : Option Parcel) → Same core (drain_step.takes core seat front)
+takes_same core seat None = (refl, refl, refl)
+takes_same core seat (Some front) = cond_same (drain_step.is_for front seat) core _ _ (refl, refl, refl) (refl, refl, refl)
+
+drain_same : (core : CoreState) (seat : Option Seat) → Same core (drain_step.does_from core seat)
+drain_same core None = (refl, refl, refl)
+drain_same core (Some seat) = takes_same core seat (slice_get (outbox_at core seat.slot.0) 0)
+
+-- an offer counts its copy once, where no count stands at its end
+abbrev CountsOne : CoreState → CoreState → Type 0
+CountsOne old new = (new.totals.copies + new.totals.full ≡ old.totals.copies + old.totals.full + 1) × (left new ≡ left old)
+
+cond_one : (b : Bool) (core x y : CoreState) → CountsOne core x → CountsOne core y → CountsOne core (cond b x y)
+cond_one true core x y hx hy = hx
+cond_one false core x y hx hy = hy
+
+puts_one : (core : CoreState) (next : Outgoing) → core.totals.copies + core.totals.full < 2 ^ 64 - 1 → CountsOne core (offer_step.puts core (Some next))
+puts_one core next room =
+    let sent : min (core.totals.copies + 1) (2 ^ 64 - 1) + core.totals.full ≡ core.totals.copies + core.totals.full + 1 = omega arith in
+    let full : core.totals.copies + min (core.totals.full + 1) (2 ^ 64 - 1) ≡ core.totals.copies + core.totals.full + 1 = omega arith in
+    cond_one (offer_step.has_room core next.slot.0) core _ _ (sent, refl) (full, refl)
+
+abbrev total : CoreState → ℕ
+total core = core.totals.copies + core.totals.full + left core
+
+abbrev found : CoreState → BuiltStep → ℕ
+found core (Look w revision) = length (look_step.audience (state_at core revision) (worker_at core w).held)
+found core others = 0
+
+pub looked-cons : (core : CoreState) (step : BuiltStep) (run : List BuiltStep) → looked core (step ∷ run) ≡ found core step + looked (does core step) run
+looked-cons core (Open c w) run = omega arith
+looked-cons core (Frame c kind payload) run = omega arith
+looked-cons core (steps.Edit c) run = omega arith
+looked-cons core Publish run = omega arith
+looked-cons core (Tell c revision) run = omega arith
+looked-cons core (Look w revision) run = refl
+looked-cons core (Offer w) run = omega arith
+looked-cons core (Drain c) run = omega arith
+looked-cons core End run = omega arith
+
+length-copies : (state : State) (held : Option HeldPacket) → length (look_step.copies state held) ≡ length (look_step.audience state held)
+length-copies state None = refl
+length-copies state (Some held) = length-map (look_step.audience state (Some held)) (look_step.copy_to held)
+
+-- what a step adds: at most one to the counts, and to the total what its look finds
+pub record Adds (old new : CoreState) (more : ℕ) : Type 0 where
+  pub counted : new.totals.copies + new.totals.full ≤ old.totals.copies + old.totals.full + 1
+  pub total_is : total new ≡ total old + more
+
+adds_none : (old new : CoreState) → Same old new → Adds old new 0
+adds_none old new same = record { counted = omega (arith, same.0, same.1); total_is = omega (arith, same.0, same.1, same.2) }
+
+there_is : (core : CoreState) (w : ℕ) (cases : Option (ℕ × ℕ)) → (if not (nat_lt w (length core.workers)) then Some (w, length core.workers) else cases) ≡ None → slice_get core.workers w ≡ Some (worker_at core w)
+there_is core w cases h =
+    let first = none_stands (not (nat_lt w (length core.workers))) _ _ h in
+    slice_get-get_or core.workers w idle (ltb-true w (length core.workers) (not_false (nat_lt w (length core.workers)) first.0))
+
+held_there : (held : Option HeldPacket) → is_none held ≡ false → is_some held ≡ true
+held_there None h = cc
+held_there (Some x) h = refl
+
+adds : (core : CoreState) (step : BuiltStep) → illegal core step ≡ None → AreClean core.workers → core.totals.copies + core.totals.full < 2 ^ 64 - 1 → Adds core (does core step) (found core step)
+adds core (Open c w) h clean room = adds_none core (does core (Open c w)) (refl, refl, refl)
+adds core (Frame c kind payload) h clean room = adds_none core (does core (Frame c kind payload)) (frame_same core c (action (connection_at core c).seat kind payload))
+adds core (steps.Edit c) h clean room = adds_none core (does core (steps.Edit c)) (refl, refl, refl)
+adds core Publish h clean room = adds_none core (does core Publish) (refl, refl, refl)
+adds core (Tell c revision) h clean room = adds_none core (does core (Tell c revision)) (notes_same (told_core core c) (connection_at core c).worker revision)
+adds core (Look w revision) h clean room =
+    let at = there_is core w _ h in
+    let first = none_stands (not (nat_lt w (length core.workers))) _ _ h in
+    let second = none_stands (is_none (worker_at core w).held) _ _ first.1 in
+    let none : (worker_at core w).copies ≡ [] = clean w (held_there (worker_at core w).held second.0) in
+    let change = λ (worker : WorkerState). record worker { seen = revision; held = None; copies = look_step.copies (state_at core revision) (worker_at core w).held } in
+    let sum = left-found core.workers w change (worker_at core w) at in
+    let before : length (worker_at core w).copies ≡ 0 = ap length none in
+    let after = length-copies (state_at core revision) (worker_at core w).held in
+    record { counted = omega arith; total_is = omega (arith, sum, before, after) }
+adds core (Offer w) h clean room =
+    let at = there_is core w _ h in
+    let first = none_stands (not (nat_lt w (length core.workers))) _ _ h in
+    let second = none_stands (is_none (offer_step.next_copy core w)) _ _ first.1 in
+    let some = first_of (worker_at core w).copies second.0 in
+    let next : offer_step.next_copy core w ≡ Some some.0 = ap (λ (xs : List Outgoing). slice_get xs 0) some.1 in
+    let one = puts_one (taken_core core w) some.0 room in
+    let change = λ (worker : WorkerState). record worker { copies = drop 1 worker.copies } in
+    let sum = left-found core.workers w change (worker_at core w) at in
+    let longer : length (worker_at core w).copies ≡ suc (length (drop 1 (worker_at core w).copies)) = ap length some.1 in
+    rw next (record { counted = omega (arith, one.0); total_is = omega (arith, one.0, one.1, sum, longer) })
+adds core (Drain c) h clean room = adds_none core (does core (Drain c)) (drain_same core (connection_at core c).seat)
+adds core End h clean room = adds_none core (does core End) (refl, refl, refl)
+
+counted_from : (core : CoreState) (run : List BuiltStep) → IsRun core run → AreClean core.workers → core.totals.copies + core.totals.full + length run < 2 ^ 64 - 1
+    → total (ran core run) ≡ total core + looked core run
+counted_from core [] is clean room = omega arith
+counted_from core (step ∷ run) is clean room =
+    let more = adds core step is.0 clean (omega arith) in
+    let count = more.counted in
+    let first = more.total_is in
+    let later = counted_from (does core step) run is.1 (clean_step core step is.0 clean) (omega (arith, count)) in
+    let whole = looked-cons core step run in
+    omega (arith, first, later, whole)
+
+left_start : (workers : ℕ) → sum_by (λ worker. length worker.copies) (replicate workers idle) ≡ 0
+left_start zero = refl
+left_start (suc n) = left_start n
+
+pub copies_are_counted : (workers : ℕ) (run : List BuiltStep) → IsRun (start workers) run → length run < 2 ^ 64 - 1
+    → (ran (start workers) run).totals.copies + (ran (start workers) run).totals.full + left (ran (start workers) run) ≡ looked (start workers) run
+copies_are_counted workers run is room =
+    let begun = left_start workers in
+    let all = counted_from (start workers) run is (clean_start workers) (omega (arith, room)) in
+    omega (arith, begun, all)

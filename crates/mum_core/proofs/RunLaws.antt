@@ -1,0 +1,294 @@
+-- The laws over runs, step by step.
+use Rattle.std.proofs.Common.{◌≡◌, ℕ, ◌≤◌, ◌<◌, max, Bool, true, false, cond, List, [], ◌∷◌, ◌++◌, length, map, drop, get_or, Option, Some, None, Result, Ok, Err, refl, sym, ap, ◌∙◌, arith, inl, inr, append_assoc, length-append}
+use Rattle.std.specs.Prelude.{not, filter, is_none, nat_lt, slice_get, slice_index_or, slice_set, ◌==◌}
+use Rattle.std.specs.List.{AllByRecursion, list_any}
+use Rattle.std.proofs.lemmas.Bool.{cases_eq, ltb-false, ltb-true, eq-eqb}
+use Rattle.std.proofs.lemmas.List.{append-nil, get_or-set_same, get_or-set_other}
+use Rattle.std.proofs.lemmas.Option.{slice_get_within, get_or_from_slice_get, slice_get-get_or}
+use Rattle.mum_base.specs.declared.number.SessionId.{SessionId}
+use Rattle.mum_voice.specs.declared.fault.BadVoice.{BadVoice}
+use Rattle.mum_voice.specs.Packet.{Parts, packet}
+use Rattle.mum_core.specs.declared.connection.Seat.{Seat}
+use Rattle.mum_core.specs.declared.edit.Edit.{Edit}
+use Rattle.mum_core.specs.declared.edit.Session.{Session}
+use Rattle.mum_core.specs.declared.outbox.Parcel.{Parcel}
+use Rattle.mum_core.specs.declared.route.Member.{Member}
+use Rattle.mum_core.specs.declared.worker.Outgoing.{Outgoing}
+use Rattle.mum_core.specs.declared.action.Action.{Action}
+use Rattle.mum_core.specs.declared.action.Action.TheVariants.{Ask, Voice, Echo, Keep, Ignore}
+use Rattle.mum_core.specs.Action.{action}
+use Rattle.mum_core.specs.Built as steps
+use Rattle.mum_core.specs.Built.{BuiltStep, Open, Frame, Publish, Tell, Look, Offer, Drain, End}
+use Rattle.mum_core.specs.Core.{CoreState, start, connection_at, worker_at, outbox_at, state_at, at_outbox, at_connection, at_worker, up}
+use Rattle.mum_core.specs.Connection.{seat_given}
+use Rattle.mum_core.specs.steps.Edit as edit_step
+use Rattle.mum_core.specs.Laws.{IsRun, ran}
+use Rattle.mum_core.specs.Lists.{changed_at, with_found}
+use Rattle.mum_core.specs.State.{State, route, is_session}
+use Rattle.mum_core.specs.Step.{does, illegal}
+use Rattle.mum_core.specs.Worker.{WorkerState, HeldPacket, idle, least_look}
+use Rattle.mum_core.specs.steps.Frame as frame_step
+use Rattle.mum_core.specs.steps.Look as look_step
+use Rattle.mum_core.specs.steps.Offer as offer_step
+use Rattle.mum_core.specs.steps.Drain as drain_step
+use Rattle.mum_core.specs.steps.Tell as tell_step
+
+abbrev Grown : CoreState → CoreState → Type 0
+Grown old new = (more : List Edit) × (new.accepted ≡ old.accepted ++ more)
+
+stayed : (old new : CoreState) → new.accepted ≡ old.accepted → Grown old new
+stayed old new same = ([], same ∙ sym (append-nil old.accepted))
+
+-- ---- what the accepted edits and the published count become
+
+abbrev pub Keeps : CoreState → CoreState → Type 0
+Keeps old new = (new.accepted ≡ old.accepted) × (new.published ≡ old.published)
+
+hears_keeps : (core : CoreState) (w : ℕ) (speaker : SessionId) (read : Result Parts BadVoice) → Keeps core (frame_step.hears core w speaker read)
+hears_keeps core w speaker (Ok parts) = (refl, refl)
+hears_keeps core w speaker (Err fault) = (refl, refl)
+
+pub frame_keeps : (core : CoreState) (c : ℕ) (a : Action) → Keeps core (frame_step.does core c a)
+frame_keeps core c (Ask name) = (refl, refl)
+frame_keeps core c (Voice speaker payload) = hears_keeps core (connection_at core c).worker speaker (packet payload)
+frame_keeps core c (Echo frame) = (refl, refl)
+frame_keeps core c (Keep number) = (refl, refl)
+frame_keeps core c (Ignore why) = (refl, refl)
+
+pub notes_keep : (core : CoreState) (w : ℕ) (revision : Option ℕ) → Keeps core (tell_step.notes w revision core)
+notes_keep core w None = (refl, refl)
+notes_keep core w (Some revision) = (refl, refl)
+
+cond_keeps : (b : Bool) (core x y : CoreState) → Keeps core x → Keeps core y → Keeps core (cond b x y)
+cond_keeps true core x y hx hy = hx
+cond_keeps false core x y hx hy = hy
+
+pub puts_keep : (core : CoreState) (next : Option Outgoing) → Keeps core (offer_step.puts core next)
+puts_keep core None = (refl, refl)
+puts_keep core (Some next) = cond_keeps (offer_step.has_room core next.slot.0) core _ _ (refl, refl) (refl, refl)
+
+takes_keep : (core : CoreState) (seat : Seat) (front : Option Parcel) → Keeps core (drain_step.takes core seat front)
+takes_keep core seat None = (refl, refl)
+takes_keep core seat (Some front) = cond_keeps (drain_step.is_for front seat) core _ _ (refl, refl) (refl, refl)
+
+pub drain_keeps : (core : CoreState) (seat : Option Seat) → Keeps core (drain_step.does_from core seat)
+drain_keeps core None = (refl, refl)
+drain_keeps core (Some seat) = takes_keep core seat (slice_get (outbox_at core seat.slot.0) 0)
+
+-- the core of a tell before its note, and that of an offer before its outbox
+abbrev pub told_core : CoreState → ℕ → CoreState
+told_core core c = at_connection c (λ connection. record connection { seat = seat_given connection.decided; decided = None }) core
+
+abbrev pub taken_core : CoreState → ℕ → CoreState
+taken_core core w = at_worker w (λ worker. record worker { copies = drop 1 worker.copies }) core
+
+grown : (core : CoreState) (step : BuiltStep) → Grown core (does core step)
+grown core (Open c w) = stayed core (does core (Open c w)) refl
+grown core (Frame c kind payload) = stayed core (does core (Frame c kind payload)) (frame_keeps core c (action (connection_at core c).seat kind payload)).0
+grown core (steps.Edit c) = (edit_step.edits_of (edit_step.seat_for core) (connection_at core c).waiting, refl)
+grown core Publish = stayed core (does core Publish) refl
+grown core (Tell c revision) = stayed core (does core (Tell c revision)) (notes_keep (told_core core c) (connection_at core c).worker revision).0
+grown core (Look w revision) = stayed core (does core (Look w revision)) refl
+grown core (Offer w) = stayed core (does core (Offer w)) (puts_keep (taken_core core w) (offer_step.next_copy core w)).0
+grown core (Drain c) = stayed core (does core (Drain c)) (drain_keeps core (connection_at core c).seat).0
+grown core End = stayed core (does core End) refl
+
+pub accepted_grows : (core : CoreState) (run : List BuiltStep) → Grown core (ran core run)
+accepted_grows core [] = stayed core core refl
+accepted_grows core (step ∷ run) =
+    let first = grown core step in
+    let later = accepted_grows (does core step) run in
+    (first.0 ++ later.0, later.1 ∙ ap (λ (xs : List Edit). xs ++ later.0) first.1 ∙ append_assoc core.accepted first.0 later.0)
+
+abbrev IsWithin : CoreState → Type 0
+IsWithin core = core.published ≤ length core.accepted
+
+within_by : (old new : CoreState) → Keeps old new → IsWithin old → IsWithin new
+within_by old new keeps h = rw (keeps.0, keeps.1) h
+
+within : (core : CoreState) (step : BuiltStep) → IsWithin core → IsWithin (does core step)
+within core (Open c w) h = h
+within core (Frame c kind payload) h = within_by core (does core (Frame c kind payload)) (frame_keeps core c (action (connection_at core c).seat kind payload)) h
+within core (steps.Edit c) h = simp length-append (omega arith)
+within core Publish h = omega arith
+within core (Tell c revision) h = within_by core (does core (Tell c revision)) (notes_keep (told_core core c) (connection_at core c).worker revision) h
+within core (Look w revision) h = h
+within core (Offer w) h = within_by core (does core (Offer w)) (puts_keep (taken_core core w) (offer_step.next_copy core w)) h
+within core (Drain c) h = within_by core (does core (Drain c)) (drain_keeps core (connection_at core c).seat) h
+within core End h = h
+
+within_all : (core : CoreState) (run : List BuiltStep) → IsWithin core → IsWithin (ran core run)
+within_all core [] h = h
+within_all core (step ∷ run) h = within_all (does core step) run (within core step h)
+
+pub published_is_accepted : (workers : ℕ) (run : List BuiltStep) → IsWithin (ran (start workers) run)
+published_is_accepted workers run = within_all (start workers) run (omega arith)
+
+-- ---- workers
+
+abbrev Further : WorkerState → WorkerState → Type 0
+Further old new = (old.seen ≤ new.seen) × (old.told ≤ new.told)
+
+same_worker : (w : WorkerState) → Further w w
+same_worker w = (omega arith, omega arith)
+
+further_then : (a b c : WorkerState) → Further a b → Further b c → Further a c
+further_then a b c h k = (omega (arith, h.0, k.0), omega (arith, h.1, k.1))
+
+-- one worker changes
+pub changed-at : (workers : List WorkerState) (i w : ℕ) (change : WorkerState → WorkerState)
+    → ((x : WorkerState) → slice_get workers i ≡ Some x → Further x (change x)) → Further (slice_index_or workers w idle) (slice_index_or (changed_at i change workers) w idle)
+changed-at workers i w change h = from (slice_get workers i) refl
+  where
+    from : (o : Option WorkerState) → slice_get workers i ≡ o → Further (slice_index_or workers w idle) (slice_index_or (with_found workers i change o) w idle)
+    from None e = same_worker (slice_index_or workers w idle)
+    from (Some x) e = elim (cases_eq w i) [
+      | inl same ↦
+          let here : get_or workers w idle ≡ x = rw same (get_or_from_slice_get workers i x idle e) in
+          let there : get_or (slice_set workers i (change x)) w idle ≡ change x = rw same (get_or-set_same workers i (change x) idle (slice_get_within workers i x e)) in
+          rw (here, there) (h x e)
+      | inr other ↦
+          let there : get_or (slice_set workers i (change x)) w idle ≡ get_or workers w idle = get_or-set_other workers i w (change x) idle other in
+          rw there (same_worker (get_or workers w idle))
+    ]
+
+pub none_stands : {A : Type 0} (b : Bool) (x : A) (rest : Option A) → cond b (Some x) rest ≡ None → (b ≡ false) × (rest ≡ None)
+none_stands true x rest h = cc
+none_stands false x rest h = (refl, h)
+
+-- a look is between the bounds
+pub looks_are_bounded : (core : CoreState) (w revision : ℕ) → illegal core (Look w revision) ≡ None
+    → ((worker_at core w).seen ≤ revision) × ((worker_at core w).told ≤ revision) × (revision ≤ core.published)
+looks_are_bounded core w revision h =
+    let worker : WorkerState = worker_at core w in
+    let first = none_stands (not (nat_lt w (length core.workers))) _ _ h in
+    let second = none_stands (is_none worker.held) _ _ first.1 in
+    let third = none_stands (nat_lt revision (least_look worker)) _ _ second.1 in
+    let fourth = none_stands (nat_lt core.published revision) _ _ third.1 in
+    let low : max worker.seen worker.told ≤ revision = ltb-false revision (least_look worker) third.0 in
+    let high : revision ≤ core.published = ltb-false core.published revision fourth.0 in
+    (omega arith, omega arith, high)
+
+-- where no case of a look stands, its revision is not below what was seen
+hears_goes_on : (core : CoreState) (v w : ℕ) (speaker : SessionId) (read : Result Parts BadVoice) → Further (worker_at core w) (worker_at (frame_step.hears core v speaker read) w)
+hears_goes_on core v w speaker (Ok parts) = changed-at core.workers v w _ (λ x at. same_worker x)
+hears_goes_on core v w speaker (Err fault) = same_worker (worker_at core w)
+
+frame_goes_on : (core : CoreState) (c w : ℕ) (a : Action) → Further (worker_at core w) (worker_at (frame_step.does core c a) w)
+frame_goes_on core c w (Ask name) = same_worker (worker_at core w)
+frame_goes_on core c w (Voice speaker payload) = hears_goes_on core (connection_at core c).worker w speaker (packet payload)
+frame_goes_on core c w (Echo frame) = same_worker (worker_at core w)
+frame_goes_on core c w (Keep number) = same_worker (worker_at core w)
+frame_goes_on core c w (Ignore why) = same_worker (worker_at core w)
+
+notes_go_on : (core : CoreState) (v w : ℕ) (revision : Option ℕ) → Further (worker_at core w) (worker_at (tell_step.notes v revision core) w)
+notes_go_on core v w None = same_worker (worker_at core w)
+notes_go_on core v w (Some revision) = changed-at core.workers v w _ (λ x at. (omega arith, omega arith))
+
+cond_goes_on : (b : Bool) (core x y : CoreState) (w : ℕ) → Further (worker_at core w) (worker_at x w) → Further (worker_at core w) (worker_at y w) → Further (worker_at core w) (worker_at (cond b x y) w)
+cond_goes_on true core x y w hx hy = hx
+cond_goes_on false core x y w hx hy = hy
+
+puts_go_on : (core : CoreState) (w : ℕ) (next : Option Outgoing) → Further (worker_at core w) (worker_at (offer_step.puts core next) w)
+puts_go_on core w None = same_worker (worker_at core w)
+puts_go_on core w (Some next) = cond_goes_on (offer_step.has_room core next.slot.0) core _ _ w (same_worker (worker_at core w)) (same_worker (worker_at core w))
+
+takes_go_on : (core : CoreState) (w : ℕ) (seat : Seat) (front : Option Parcel) → Further (worker_at core w) (worker_at (drain_step.takes core seat front) w)
+takes_go_on core w seat None = same_worker (worker_at core w)
+takes_go_on core w seat (Some front) = cond_goes_on (drain_step.is_for front seat) core _ _ w (same_worker (worker_at core w)) (same_worker (worker_at core w))
+
+drain_goes_on : (core : CoreState) (w : ℕ) (seat : Option Seat) → Further (worker_at core w) (worker_at (drain_step.does_from core seat) w)
+drain_goes_on core w None = same_worker (worker_at core w)
+drain_goes_on core w (Some seat) = takes_go_on core w seat (slice_get (outbox_at core seat.slot.0) 0)
+
+goes_on : (core : CoreState) (step : BuiltStep) (w : ℕ) → illegal core step ≡ None → Further (worker_at core w) (worker_at (does core step) w)
+goes_on core (Open c v) w h = same_worker (worker_at core w)
+goes_on core (Frame c kind payload) w h = frame_goes_on core c w (action (connection_at core c).seat kind payload)
+goes_on core (steps.Edit c) w h = same_worker (worker_at core w)
+goes_on core Publish w h = same_worker (worker_at core w)
+goes_on core (Tell c revision) w h = notes_go_on (told_core core c) (connection_at core c).worker w revision
+goes_on core (Look v revision) w h =
+    let bounds = looks_are_bounded core v revision h in
+    changed-at core.workers v w _ (λ x at.
+    let here : worker_at core v ≡ x = get_or_from_slice_get core.workers v x idle at in
+    let seen : x.seen ≤ revision = rw here at bounds.0 in
+    (seen, omega arith))
+goes_on core (Offer v) w h =
+    further_then (worker_at core w) (worker_at (taken_core core v) w) (worker_at (does core (Offer v)) w)
+    (changed-at core.workers v w (λ worker. record worker { copies = drop 1 worker.copies }) (λ x at. same_worker x)) (puts_go_on (taken_core core v) w (offer_step.next_copy core v))
+goes_on core (Drain c) w h = drain_goes_on core w (connection_at core c).seat
+goes_on core End w h = same_worker (worker_at core w)
+
+pub workers_go_on : (core : CoreState) (run : List BuiltStep) (w : ℕ) → IsRun core run → Further (worker_at core w) (worker_at (ran core run) w)
+workers_go_on core [] w h = same_worker (worker_at core w)
+workers_go_on core (step ∷ run) w h =
+    further_then (worker_at core w) (worker_at (does core step) w) (worker_at (ran core (step ∷ run)) w) (goes_on core step w h.0) (workers_go_on (does core step) run w h.1)
+
+-- ---- copies
+
+abbrev member_of : Session → Member
+member_of s = record { session = s.session; slot = s.slot; context = 0 }
+
+other_by : (speaker : ℕ) (s : Session) (b : Bool) (others : List Session) → is_session speaker s ≡ b
+    → AllByRecursion (λ m. m.session.0 ≡ speaker → ⊥) (map member_of others) → AllByRecursion (λ m. m.session.0 ≡ speaker → ⊥) (map member_of (cond (not b) (s ∷ others) others))
+other_by speaker s true others is h = h
+other_by speaker s false others is h = (λ same. let yes : is_session speaker s ≡ true = eq-eqb s.session.0 speaker same in cc, h)
+
+others_of : (speaker : ℕ) (sessions : List Session)
+    → AllByRecursion (λ m. m.session.0 ≡ speaker → ⊥) (map member_of (filter (λ s. not (is_session speaker s)) sessions))
+others_of speaker [] = tt
+others_of speaker (s ∷ sessions) =
+    other_by speaker s (is_session speaker s) (filter (λ s. not (is_session speaker s)) sessions) refl (others_of speaker sessions)
+
+cond_all : (b : Bool) (P : Member → Type 0) (xs : List Member) → AllByRecursion P xs → AllByRecursion P (cond b xs [])
+cond_all true P xs h = h
+cond_all false P xs h = tt
+
+pub nobody_hears_itself : (state : State) (speaker target : ℕ) → AllByRecursion (λ m. m.session.0 ≡ speaker → ⊥) (route state speaker target)
+nobody_hears_itself state speaker target =
+    cond_all (target == 0) _ _ (cond_all (list_any (is_session speaker) state.sessions) _ _ (others_of speaker state.sessions))
+
+pub not_false : (b : Bool) → not b ≡ false → b ≡ true
+not_false true h = refl
+not_false false h = cc
+
+-- a worker that is there and changes
+pub changed_here : (workers : List WorkerState) (w : ℕ) (change : WorkerState → WorkerState) → w < length workers
+    → slice_index_or (changed_at w change workers) w idle ≡ change (slice_index_or workers w idle)
+changed_here workers w change within =
+    let read : slice_get workers w ≡ Some (get_or workers w idle) = slice_get-get_or workers w idle within in
+    let there : get_or (slice_set workers w (change (get_or workers w idle))) w idle ≡ change (get_or workers w idle) = get_or-set_same workers w (change (get_or workers w idle)) idle within in
+    rw read there
+
+pub copies_are_the_route : (core : CoreState) (w revision : ℕ) (held : HeldPacket) → illegal core (Look w revision) ≡ None → (worker_at core w).held ≡ Some held
+    → (worker_at (does core (Look w revision)) w).copies ≡ map (look_step.copy_to held) (route (state_at core revision) held.speaker.0 held.parts.target)
+copies_are_the_route core w revision held h holds =
+    let first = none_stands (not (nat_lt w (length core.workers))) _ _ h in
+    let within : w < length core.workers = ltb-true w (length core.workers) (not_false (nat_lt w (length core.workers)) first.0) in
+    ap (λ (x : WorkerState). x.copies) (changed_here core.workers w _ within) ∙ ap (look_step.copies (state_at core revision)) holds
+
+pub puts_workers : (core : CoreState) (next : Option Outgoing) → (offer_step.puts core next).workers ≡ core.workers
+puts_workers core None = refl
+puts_workers core (Some next) = from (offer_step.has_room core next.slot.0)
+  where
+    from : (b : Bool) → (cond b (record (at_outbox next.slot.0 (λ parcels. parcels ++ record { to = next.to; bytes = next.bytes } ∷ []) core) { totals = record core.totals { copies = up core.totals.copies } })
+        (record core { totals = record core.totals { full = up core.totals.full } })).workers ≡ core.workers
+    from true = refl
+    from false = refl
+
+pub first_of : (copies : List Outgoing) → is_none (slice_get copies 0) ≡ false → (copy : Outgoing) × (copies ≡ copy ∷ drop 1 copies)
+first_of [] h = cc
+first_of (copy ∷ copies) h = (copy, refl)
+
+pub offers_take_the_first : (core : CoreState) (w : ℕ) → illegal core (Offer w) ≡ None
+    → (copy : Outgoing) × ((worker_at core w).copies ≡ copy ∷ (worker_at (does core (Offer w)) w).copies)
+offers_take_the_first core w h =
+    let first = none_stands (not (nat_lt w (length core.workers))) _ _ h in
+    let second = none_stands (is_none (offer_step.next_copy core w)) _ _ first.1 in
+    let within : w < length core.workers = ltb-true w (length core.workers) (not_false (nat_lt w (length core.workers)) first.0) in
+    let some = first_of (worker_at core w).copies second.0 in
+    let taken : CoreState = record core { workers = changed_at w (λ worker. record worker { copies = drop 1 worker.copies }) core.workers } in
+    let after : (worker_at (does core (Offer w)) w).copies ≡ drop 1 (worker_at core w).copies =
+    ap (λ (ws : List WorkerState). (slice_index_or ws w idle).copies) (puts_workers taken (offer_step.next_copy core w))
+    ∙ ap (λ (x : WorkerState). x.copies) (changed_here core.workers w _ within) in
+    (some.0, some.1 ∙ ap (λ (xs : List Outgoing). some.0 ∷ xs) (sym after))

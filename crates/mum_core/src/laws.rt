@@ -1,0 +1,58 @@
+//! What follows from the definitions of the steps for every run of them. These functions do nothing:
+//! each contract is a theorem.
+
+ghost use Rattle.std.specs.Prelude.{◌≡◌, ◌≤◌, ◌<◌, ◌+◌, ◌-◌, ◌^◌, ◌++◌, ◌∷◌, ℕ, List, length, map, sum_by, None, Some};
+ghost use Rattle.std.specs.List.{AllByRecursion, AllPairs};
+ghost use Rattle.mum_core.specs.declared.edit.Edit.{Edit};
+ghost use Rattle.mum_core.specs.declared.worker.Outgoing.{Outgoing};
+ghost use Rattle.mum_core.specs.Built.{BuiltStep, Look, Offer};
+ghost use Rattle.mum_core.specs.Core.{CoreState, start, state_at, worker_at};
+ghost use Rattle.mum_core.specs.Laws.{IsRun, looked, ran};
+ghost use Rattle.mum_core.specs.State.{State, route};
+ghost use Rattle.mum_core.specs.Step.{does, illegal};
+ghost use Rattle.mum_core.specs.Worker.{HeldPacket};
+ghost use Rattle.mum_core.specs.steps.Look.{copy_to};
+
+/// Accepted edits are only added to, at their end, and no more is published than was accepted.
+pub fn accepted_edits_are_one_list()
+    ensures grows { (core : CoreState) (steps : List BuiltStep) →
+        (more : List Edit) × ((ran core steps).accepted ≡ core.accepted ++ more) }
+    ensures published { (workers : ℕ) (steps : List BuiltStep) →
+        (ran (start workers) steps).published ≤ length (ran (start workers) steps).accepted }
+{}
+
+/// What a worker has seen and was told never falls; a look is at a published revision, and not below
+/// what its worker has seen or was told.
+pub fn looks_go_on()
+    ensures never_back { (core : CoreState) (steps : List BuiltStep) (w : ℕ) → IsRun core steps →
+        ((worker_at core w).seen ≤ (worker_at (ran core steps) w).seen)
+        × ((worker_at core w).told ≤ (worker_at (ran core steps) w).told) }
+    ensures bounded { (core : CoreState) (w revision : ℕ) → illegal core (Look w revision) ≡ None →
+        ((worker_at core w).seen ≤ revision) × ((worker_at core w).told ≤ revision) × (revision ≤ core.published) }
+{}
+
+/// A look leaves one copy for each member of the route at its revision, in their order, and none for
+/// the speaker; the members' numbers rise, so each is there once; an offer takes the first copy that is
+/// left, and no other.
+pub fn copies_are_offered_once()
+    ensures route { (core : CoreState) (w revision : ℕ) (held : HeldPacket) →
+        illegal core (Look w revision) ≡ None → (worker_at core w).held ≡ Some held →
+        (worker_at (does core (Look w revision)) w).copies
+        ≡ map (copy_to held) (route (state_at core revision) held.speaker.0 held.parts.target) }
+    ensures not_the_speaker { (state : State) (speaker target : ℕ) →
+        AllByRecursion (λ m. m.session.0 ≡ speaker → ⊥) (route state speaker target) }
+    ensures each_once { (workers : ℕ) (steps : List BuiltStep) (revision speaker target : ℕ) →
+        AllPairs (λ m other. m.session.0 < other.session.0)
+        (route (state_at (ran (start workers) steps) revision) speaker target) }
+    ensures in_order { (core : CoreState) (w : ℕ) → illegal core (Offer w) ≡ None →
+        (copy : Outgoing) × ((worker_at core w).copies ≡ copy ∷ (worker_at (does core (Offer w)) w).copies) }
+{}
+
+/// The copies that were sent, those that found their outbox full, and those that workers have left add
+/// up to the audiences that were looked for, until a count stands at the end of its type.
+pub fn each_copy_is_counted()
+    ensures { (workers : ℕ) (steps : List BuiltStep) → IsRun (start workers) steps → length steps < 2 ^ 64 - 1 →
+        let core = ran (start workers) steps in
+        core.totals.copies + core.totals.full + sum_by (λ worker. length worker.copies) core.workers
+        ≡ looked (start workers) steps }
+{}

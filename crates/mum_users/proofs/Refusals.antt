@@ -1,0 +1,102 @@
+-- A call is refused exactly where it would not leave a proper roster.
+use Rattle.std.proofs.Common.{◌≡◌, ℕ, ◌+◌, ◌-◌, ◌<◌, ◌≤◌, ◌^◌, ◌↔◌, Bool, true, false, cond, leb, ltb, List, [], ◌∷◌, length, Some, None, refl, sym, ap, subst, ◌∙◌, arith}
+use Rattle.std.specs.List.{count_by, list_any}
+use Rattle.std.specs.Str.{bytes_eq}
+use Rattle.std.proofs.lemmas.Bool.{le-ltb, leb-false, ltb-false, lt-leb}
+use Rattle.std.proofs.lemmas.Bool.Decides.{nat_tests}
+use Rattle.std.proofs.lemmas.List.Edits.{length-insert}
+use Rattle.std.proofs.lemmas.Slice.Eq.{bytes_eq-Decides}
+use Rattle.mum_base.specs.declared.number.ChannelId.{ChannelId}
+use Rattle.mum_users.specs.declared.listening.ListenerPair.{ListenerPair}
+use Rattle.mum_users.specs.declared.listening.TheConstants.{CHANNEL_LISTENERS, LISTENED_CHANNELS}
+use Rattle.mum_users.specs.declared.fault.UserFault.TheVariants.{Full, ListenerLimit, NameInUse, SessionsUsedUp, UserListenerLimit}
+use Rattle.mum_users.specs.Edit.{edit_fault, edited, is_crowded, pairs_after}
+use Rattle.mum_users.specs.Laws.{EditsWhereProper, JoinsWhereProper, ListensWhereProper}
+use Rattle.mum_users.specs.Sessions.{free_slot, join_fault, joined, next_number, next_slot}
+use Rattle.mum_users.specs.Listeners.{listen_fault, listening, listens, pair_below, with_pair}
+use Rattle.mum_users.specs.Proper.{IsProper}
+use Rattle.mum_users.specs.State.{has_name, is_of_channel, is_of_session, joining}
+use Rattle.mum_users.proofs.Edits.{IsProper-edited}
+use Rattle.mum_users.proofs.PairCounts.{count-put_new, listed-stays}
+use Rattle.mum_users.proofs.Counts.{count_by-insert, some_from}
+use Rattle.mum_users.proofs.Rosters.{IsProper-joined, IsProper-listening}
+use Rattle.mum_users.proofs.Slots.{SlotsRise-within, free_slot_from-le}
+
+-- ---- several parts at once
+
+none_crowded : (pairs : List ListenerPair) (channels : List ChannelId) → ((channel : ChannelId) → count_by (is_of_channel channel) pairs ≤ CHANNEL_LISTENERS) → list_any (is_crowded pairs) channels ≡ false
+none_crowded pairs [] few = refl
+none_crowded pairs (channel ∷ channels) few = let head : is_crowded pairs channel ≡ false = le-ltb _ _ (few channel) in rw head (none_crowded pairs channels few)
+
+pub edits_where_proper_lem : EditsWhereProper
+edits_where_proper_lem limit state session change proper here = (to _ _ refl refl, from)
+  where
+    to : (crowded many : Bool) → list_any (is_crowded (pairs_after session change state.listeners)) change.listen ≡ crowded → ltb LISTENED_CHANNELS (count_by (is_of_session session) (pairs_after session change state.listeners)) ≡ many → edit_fault state session change ≡ None → IsProper limit (edited state session change)
+    to true many e f none = let refused : edit_fault state session change ≡ Some ListenerLimit = rw (here, e) refl in absurd (cc)
+    to false true e f none = let refused : edit_fault state session change ≡ Some UserListenerLimit = rw (here, e, f) refl in absurd (cc)
+    to false false e f none = IsProper-edited state session change proper here e (ltb-false _ _ f)
+
+    from : IsProper limit (edited state session change) → edit_fault state session change ≡ None
+    from after = rw (here, none_crowded (pairs_after session change state.listeners) change.listen after.few_listeners, le-ltb _ _ (after.few_channels session)) refl
+
+-- ---- listening
+
+pub listens_where_proper_lem : ListensWhereProper
+listens_where_proper_lem limit state session channel proper here = cases (listens state session channel) refl
+  where
+    cases : (b : Bool) → listens state session channel ≡ b → (listen_fault state session channel ≡ None) ↔ IsProper limit (listening state session channel)
+    cases true e = (
+      λ none. subst (λ (ps : List ListenerPair). IsProper limit (record state { listeners = ps })) (sym (listed-stays (record { session = session; channel = channel }) state.listeners proper.listeners_rise e)) proper,
+      λ after. rw (here, e) refl,
+    )
+    cases false e = (to _ _ refl refl, from)
+      where
+        of_channel : is_of_channel channel (record { session = session; channel = channel }) ≡ true
+        of_channel = grind (arith, nat_tests)
+
+        of_session : is_of_session session (record { session = session; channel = channel }) ≡ true
+        of_session = grind (arith, nat_tests)
+
+        to : (full many : Bool) → leb CHANNEL_LISTENERS (count_by (is_of_channel channel) state.listeners) ≡ full → leb LISTENED_CHANNELS (count_by (is_of_session session) state.listeners) ≡ many → listen_fault state session channel ≡ None → IsProper limit (listening state session channel)
+        to true many f g none = let refused : listen_fault state session channel ≡ Some ListenerLimit = rw (here, e, f) refl in absurd (cc)
+        to false true f g none = let refused : listen_fault state session channel ≡ Some UserListenerLimit = rw (here, e, f, g) refl in absurd (cc)
+        to false false f g none = IsProper-listening state session channel proper here e (leb-false _ _ f) (leb-false _ _ g)
+
+        one_more : (p : ListenerPair → Bool) → p (record { session = session; channel = channel }) ≡ true → count_by p (with_pair pair_below (record { session = session; channel = channel }) state.listeners) ≡ count_by p state.listeners + 1
+        one_more p is = count-put_new p (record { session = session; channel = channel }) state.listeners proper.listeners_rise e ∙ ap (λ (b : Bool). count_by p state.listeners + cond b 1 0) is
+
+        from : IsProper limit (listening state session channel) → listen_fault state session channel ≡ None
+        from after =
+            let room : leb CHANNEL_LISTENERS (count_by (is_of_channel channel) state.listeners) ≡ false = below _ _ (omega (arith, one_more (is_of_channel channel) of_channel, after.few_listeners channel)) in
+            let own_room : leb LISTENED_CHANNELS (count_by (is_of_session session) state.listeners) ≡ false = below _ _ (omega (arith, one_more (is_of_session session) of_session, after.few_channels session)) in
+            rw (here, e, room, own_room) refl
+          where
+            below : (n m : ℕ) → m < n → leb n m ≡ false
+            below n m lt = grind (arith, nat_tests)
+
+-- ---- joining
+
+pub joins_where_proper_lem : JoinsWhereProper
+joins_where_proper_lem limit state name account tokens proper = (to _ _ _ refl refl refl, from)
+  where
+    to : (named full used : Bool) → list_any (has_name name) state.sessions ≡ named → leb limit (length state.sessions) ≡ full → leb (2 ^ 32 - 1) state.last ≡ used → join_fault limit state name ≡ None → IsProper limit (joined state name account tokens)
+    to true full used e f g none = let refused : join_fault limit state name ≡ Some NameInUse = rw e refl in absurd (cc)
+    to false true used e f g none = let refused : join_fault limit state name ≡ Some Full = rw (e, f) refl in absurd (cc)
+    to false false true e f g none = let refused : join_fault limit state name ≡ Some SessionsUsedUp = rw (e, f, g) refl in absurd (cc)
+    to false false false e f g none = IsProper-joined limit state name account tokens proper e (leb-false _ _ f) (leb-false _ _ g)
+
+    itself : bytes_eq name name ≡ true
+    itself = (bytes_eq-Decides name name).1 refl
+
+    from : IsProper limit (joined state name account tokens) → join_fault limit state name ≡ None
+    from after =
+        let named_count : count_by (has_name name) (joined state name account tokens).sessions ≡ count_by (has_name name) state.sessions + cond (bytes_eq name name) 1 0 =
+        count_by-insert (has_name name) state.sessions (free_slot state) (joining (next_number state) (next_slot state) name account tokens) in
+        let unnamed : list_any (has_name name) state.sessions ≡ false = unused (list_any (has_name name) state.sessions) refl (omega (arith, named_count, after.names name, ap (λ (b : Bool). cond {A = ℕ} b 1 0) itself)) in
+        let room : leb limit (length state.sessions) ≡ false = lt-leb _ _ (omega (arith, SlotsRise-within limit 0 (joined state name account tokens).sessions after.slots, length-insert state.sessions (free_slot state) (joining (next_number state) (next_slot state) name account tokens) (omega (arith, free_slot_from-le 0 state.sessions)))) in
+        let left : leb (2 ^ 32 - 1) state.last ≡ false = lt-leb _ _ (omega (arith, after.last_fits)) in
+        rw (unnamed, room, left) refl
+      where
+        unused : (b : Bool) → list_any (has_name name) state.sessions ≡ b → count_by (has_name name) state.sessions ≤ 0 → b ≡ false
+        unused true e none = absurd (omega (arith, some_from (has_name name) state.sessions e, none))
+        unused false e none = refl

@@ -10,4 +10,5 @@ pub mod Indexes
 pub mod Numbers
 pub mod Rosters
 pub mod Edits
+pub mod Told
 pub mod Refusals

@@ -5,6 +5,7 @@
 mod acl;
 mod frames;
 mod messages;
+mod outbox;
 mod roster;
 mod tree;
 mod voice;
@@ -12,12 +13,18 @@ mod voice;
 use anyhow::{Context, Result, bail};
 use std::alloc::Global;
 use std::env;
+use std::sync::Wait;
+use std::thread::Threads;
 
 fn number(word: &str) -> Result<usize> {
     word.parse::<usize>().context("a size is a number")
 }
 
-fn checksum(alloc: Global, words: &[String]) -> Result<u64> {
+fn checksum<R: Wait + Threads + Copy + Send + 'static>(
+    rt: R,
+    alloc: Global,
+    words: &[String],
+) -> Result<u64> {
     match words {
         [word, kind, length, count] => match word.as_str() {
             "acl" => acl::walks(alloc, kind.as_str(), number(length)?, number(count)?),
@@ -31,6 +38,7 @@ fn checksum(alloc: Global, words: &[String]) -> Result<u64> {
             "copy-roster" => roster::copied(alloc, number(piece)?, number(size)?),
             "copy-tree" => tree::copied(alloc, number(piece)?, number(size)?),
             "messages" => messages::work(alloc, piece.as_str(), number(size)?),
+            "outbox" => outbox::work(rt, alloc, piece.as_str(), number(size)?),
             "copy-messages" => messages::copied(alloc, piece.as_str(), number(size)?),
             _ => bail!("no such workload"),
         },
@@ -49,7 +57,7 @@ fn checksum(alloc: Global, words: &[String]) -> Result<u64> {
 
 fn main(rt: HostRuntime) -> Result<()> {
     let words: Vec<String> = env::args(&rt)?.skip(1).collect(rt.alloc())?;
-    let sum = checksum(rt.alloc(), &words)?;
+    let sum = checksum(rt, rt.alloc(), &words)?;
     println!(rt; "{sum}")?;
     Ok(())
 }

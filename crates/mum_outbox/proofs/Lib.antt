@@ -1,0 +1,5 @@
+pub mod Hands
+pub mod Numbers
+pub mod Offers
+pub mod Takes
+pub mod Forks

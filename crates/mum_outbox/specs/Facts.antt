@@ -1,0 +1,24 @@
+-- What contracts see of a queue and of a pass, as plain data.
+use Rattle.std.specs.Prelude.{ℕ, List}
+use Rattle.atomic_table.specs.Seated.{TableId}
+use Rattle.mum_outbox.specs.declared.rule.Tagged.{Tagged}
+use Rattle.mum_outbox.specs.declared.rule.Hand.{Hand}
+
+-- an owner of a queue: which queue it is, and the numbers from low up to end that it may give to new passes
+pub record QueueFacts : Type 0 where
+  pub queue : TableId
+  pub low : ℕ
+  pub end : ℕ
+
+-- a pass: its queue, its number, the items that it has offered, those that it has taken, each with its tag, and how
+-- often it found the queue full
+pub record PassFacts (I : Type 0) : Type 0 where
+  pub queue : TableId
+  pub number : ℕ
+  pub offered : List I
+  pub taken : List (Tagged I)
+  pub full : ℕ
+
+-- what the pass has done, as its hand. It may give no number to another pass
+abbrev pub hand_of_pass : {I : Type 0} → PassFacts I → Hand I
+hand_of_pass pass = record { number = pass.number; low = 0; end = 0; offered = pass.offered; taken = pass.taken }

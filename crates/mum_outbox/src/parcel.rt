@@ -1,0 +1,55 @@
+//! What the four kinds of queue hold, and how much.
+
+ghost use Rattle.std.specs.Prelude.{◌≡◌};
+
+use crate::queue::Queue;
+use arrayvec::ArrayVec;
+use mum_base::{Octets, SessionId};
+
+/// The most copies of voice packets that wait for one port.
+pub const VOICE_CAPACITY: usize = 128;
+
+/// The most control frames that wait for one port.
+pub const POST_CAPACITY: usize = 8192;
+
+/// The most commands that wait for the control owner.
+pub const DESK_CAPACITY: usize = 1024;
+
+/// The most replies that wait for one worker.
+pub const BELL_CAPACITY: usize = 1024;
+
+/// A copy of a voice packet for one session: at most 1,025 bytes, the header and the sender among
+/// them.
+#[derive(Drop)]
+pub struct VoiceParcel {
+    pub to: SessionId,
+    pub bytes: ArrayVec<u8, 1025>,
+}
+
+/// A control frame for one session. After the last one the port closes.
+#[derive(Drop)]
+pub struct PostParcel {
+    pub to: SessionId,
+    pub bytes: Octets,
+    pub last: bool,
+}
+
+/// The voice outbox of one port.
+pub type VoiceBox = Queue<VoiceParcel, VOICE_CAPACITY>;
+
+/// The control outbox of one port.
+pub type PostBox = Queue<PostParcel, POST_CAPACITY>;
+
+/// The commands of all workers to the control owner.
+pub type Desk<T> = Queue<T, DESK_CAPACITY>;
+
+/// The replies of the control owner to one worker.
+pub type Bell<T> = Queue<T, BELL_CAPACITY>;
+
+/// The capacities. This does nothing: its contract is what they are.
+pub fn capacities()
+    ensures voice { VOICE_CAPACITY ≡ 128 }
+    ensures post { POST_CAPACITY ≡ 8192 }
+    ensures desk { DESK_CAPACITY ≡ 1024 }
+    ensures bell { BELL_CAPACITY ≡ 1024 }
+{}

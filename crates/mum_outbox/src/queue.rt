@@ -1,0 +1,201 @@
+//! One queue of any items and any capacity, and its passes.
+
+ghost use Rattle.std.specs.Prelude.{◌≡◌, ◌<◌, IfOk, MatchResult, [], List};
+ghost use Rattle.std.specs.List.{AllPairs};
+ghost use Rattle.mum_outbox.specs.Rule.{IsBefore, after_least};
+ghost use Rattle.mum_outbox.specs.Calls.{Offers, Takes, WasThen, IsNewPass, Halves};
+
+use crate::rule::{BoxProtocol, GivesHalf, GivesNumber, Hand, LAST, Offering, Tagged, Taking};
+use crossbeam_queue::{Pass, RuledArrayQueue};
+use mum_base::OutOfMemory;
+use std::alloc::Global;
+use std::marker::Model;
+use std::sync::{Arc, Wait};
+
+/// What an offer answers.
+#[derive(Debug, Drop)]
+pub enum Offered<I> {
+    /// The item is in the queue.
+    Sent,
+    /// The queue held its capacity. The item comes back.
+    Full(I),
+}
+
+/// The queue below, under the rule.
+type Ruled<I, const CAPACITY: usize> = RuledArrayQueue<Tagged<I>, Hand<I>, BoxProtocol<CAPACITY>>;
+
+/// An owner of a queue of at most `CAPACITY` items, which threads share.
+#[derive(Drop)]
+pub struct Queue<I, const CAPACITY: usize> {
+    ruled: Arc<Ruled<I, CAPACITY>>,
+    // The pass that is split for each new one, and the numbers that new passes get.
+    owner: Pass<Tagged<I>, Hand<I>>,
+    low: u64,
+    end: u64,
+}
+
+/// What one thread holds of a queue: it has a number, and keeps how often an offer of it found the
+/// queue full. What it has offered and taken only contracts see.
+#[derive(Drop)]
+pub struct BoxPass<I> {
+    pass: Pass<Tagged<I>, Hand<I>>,
+    number: u64,
+    // The place of the next item.
+    next: u64,
+    full: u64,
+}
+
+impl<I, const CAPACITY: usize> Model for Queue<I, CAPACITY> {
+    ghost use Rattle.std.specs.Prelude.{◌≡◌, ◌≤◌, []};
+    ghost use Rattle.crossbeam_queue.specs.Passes.{view as hand_of, IsPassOf, ruled_capacity};
+    ghost use Rattle.mum_outbox.specs.Facts.{QueueFacts};
+
+    ghost Value = { QueueFacts };
+
+    ghost use Rattle.mum_outbox.specs.Rule.{owner_hand};
+
+    ghost view = { λ q. record {
+      queue = q.ruled.value.table.shared.table_id;
+      low = q.low;
+      end = q.end;
+    } };
+
+    ghost invariant = { λ q. (ruled_capacity q.ruled.value ≡ CAPACITY)
+        × IsPassOf q.ruled.value q.owner
+        × (hand_of q.owner ≡ owner_hand q.low q.end)
+        × (q.low ≤ q.end) };
+}
+
+impl<I> Model for BoxPass<I> {
+    ghost use Rattle.std.specs.Prelude.{◌≡◌, [], min, length};
+    ghost use Rattle.crossbeam_queue.specs.Passes.{view as hand_of};
+    ghost use Rattle.mum_outbox.specs.Facts.{PassFacts, hand_of_pass};
+
+    ghost Value = { PassFacts I };
+
+    ghost use Rattle.mum_outbox.specs.declared.rule.TheConstants.{LAST};
+
+    ghost view = { λ p. record {
+      queue = p.pass.table_id;
+      number = p.number;
+      offered = (hand_of p.pass).offered;
+      taken = (hand_of p.pass).taken;
+      full = p.full;
+    } };
+
+    ghost invariant = { λ p. (p.pass.me.1 ≡ [])
+        × (hand_of p.pass ≡ hand_of_pass (view p))
+        × (p.next ≡ min (length (hand_of p.pass).offered) LAST) };
+}
+
+impl<I: Drop, const CAPACITY: usize> Queue<I, CAPACITY> {
+    /// An empty queue. Its first owner may give new passes every number below the last.
+    pub fn new(alloc: Global) -> Result<Self, OutOfMemory>
+        requires { 0 < CAPACITY }
+        ensures { IfOk result (λ queue. (queue.low ≡ 0) × (queue.end ≡ LAST)) }
+    {
+        let (ruled, owner) = Ruled::<I, CAPACITY>::ruled(alloc, CAPACITY)?;
+        Ok(Queue {
+            ruled: Arc::new(alloc, ruled)?,
+            owner,
+            low: 0,
+            end: LAST,
+        })
+    }
+
+    /// Another owner of this queue. It may give the upper half of the numbers that this one had, and
+    /// this one keeps the lower half. Where memory runs out, nothing changes.
+    pub fn share(&mut self) -> Result<Self, OutOfMemory>
+        ensures { MatchResult result (Halves self.old self.new) (λ _. self.new ≡ self.old) }
+    {
+        let ruled = Arc::try_clone(&self.ruled)?;
+        let owner = self.ruled.another::<GivesHalf>(&mut self.owner);
+        let (middle, end) = (self.low + (self.end - self.low) / 2, self.end);
+        self.end = middle;
+        Ok(Queue {
+            ruled,
+            owner,
+            low: middle,
+            end,
+        })
+    }
+
+    /// A new pass, for one thread. It gets the least number that this owner has left.
+    pub fn pass(&mut self) -> BoxPass<I>
+        ensures pass { IsNewPass self.old result }
+        ensures owner { self.new ≡ record self.old { low = after_least self.old.low self.old.end } }
+    {
+        let pass = self.ruled.another::<GivesNumber>(&mut self.owner);
+        let mut number = LAST;
+        if self.low < self.end {
+            number = self.low;
+            self.low += 1;
+        }
+        BoxPass {
+            pass,
+            number,
+            next: 0,
+            full: 0,
+        }
+    }
+
+    /// Puts the item at the back. It comes back only where the queue held its capacity at one moment
+    /// of the call, and the pass counts that. The call takes no memory, and may try again beside
+    /// other threads.
+    pub fn offer_as<R: Wait>(&self, rt: &R, pass: &mut BoxPass<I>, item: I) -> Offered<I>
+        requires { pass.old.queue ≡ self.now.queue }
+        ensures { Offers CAPACITY pass.old item result pass.new }
+    {
+        let tagged = Tagged {
+            by: pass.number,
+            place: pass.next,
+            item,
+        };
+        match self
+            .ruled
+            .push_as::<Offering<CAPACITY>, R>(rt, &mut pass.pass, tagged)
+        {
+            Ok(()) => {
+                pass.next = pass.next.saturating_add(1);
+                Offered::Sent
+            }
+            Err(back) => {
+                pass.full = pass.full.saturating_add(1);
+                Offered::Full(back.item)
+            }
+        }
+    }
+
+    /// Takes the item at the front. There is none only where the queue was empty at one moment of
+    /// the call. The call takes no memory, and may try again beside other threads.
+    pub fn take_as<R: Wait>(&self, rt: &R, pass: &mut BoxPass<I>) -> Option<I>
+        requires { pass.old.queue ≡ self.now.queue }
+        ensures { Takes CAPACITY pass.old result pass.new }
+    {
+        let tagged = self
+            .ruled
+            .pop_as::<Taking<CAPACITY>, R>(rt, &mut pass.pass)?;
+        Some(tagged.item)
+    }
+
+    /// What the rule says at one moment of this call: the items of each pass lie in what this one
+    /// has taken in the order of their offers; and there are items, and hands of passes with this
+    /// one's among them, of which the whole rule holds. It changes nothing.
+    pub fn rule_as(&self, pass: &mut BoxPass<I>)
+        requires { pass.old.queue ≡ self.now.queue }
+        ensures same { pass.new ≡ pass.old }
+        ensures order { AllPairs IsBefore pass.old.taken }
+        ensures rule { (items : List _) × WasThen CAPACITY pass.old items }
+    {
+        self.ruled.learn_as::<Offering<CAPACITY>>(&mut pass.pass);
+    }
+}
+
+impl<I> BoxPass<I> {
+    /// How often an offer of this pass found the queue full.
+    pub fn full(&self) -> u64
+        ensures { result ≡ self.now.full }
+    {
+        self.full
+    }
+}

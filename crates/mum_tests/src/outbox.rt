@@ -1,0 +1,236 @@
+//! `mum_outbox`: threads that offer and take at once, and queues that are full.
+
+ghost use Rattle.std.specs.Prelude.{◌≡◌, ◌<◌};
+
+use arrayvec::ArrayVec;
+use mum_base::{Octets, OutOfMemory, SessionId};
+use mum_outbox::{
+    BELL_CAPACITY, BoxPass, DESK_CAPACITY, Desk, Offered, POST_CAPACITY, PostParcel, Queue,
+    VOICE_CAPACITY, VoiceBox, VoiceParcel, capacities,
+};
+use std::alloc::Global;
+use std::sync::Wait;
+use std::test::Fail;
+use std::thread;
+
+/// The parcels that each of two threads offers.
+const PARCELS: u32 = 500;
+
+/// The parcels that a third takes meanwhile. The others fit into the outbox.
+const TAKEN: u32 = 900;
+
+/// An item that tells its number.
+trait Numbered {
+    fn numbered(alloc: Global, number: u32) -> Self;
+
+    fn number(&self) -> u32;
+}
+
+impl Numbered for u32 {
+    fn numbered(_alloc: Global, number: u32) -> u32 {
+        number
+    }
+
+    fn number(&self) -> u32 {
+        *self
+    }
+}
+
+impl Numbered for VoiceParcel {
+    fn numbered(_alloc: Global, number: u32) -> VoiceParcel {
+        voice_parcel(number, 0)
+    }
+
+    fn number(&self) -> u32 {
+        self.to.0
+    }
+}
+
+impl Numbered for PostParcel {
+    fn numbered(alloc: Global, number: u32) -> PostParcel {
+        PostParcel {
+            to: SessionId(number),
+            bytes: Octets::from_vec(Vec::new(alloc)),
+            last: false,
+        }
+    }
+
+    fn number(&self) -> u32 {
+        self.to.0
+    }
+}
+
+/// A parcel with the turn in which it is offered.
+fn voice_parcel(to: u32, turn: u32) -> VoiceParcel {
+    let mut bytes = ArrayVec::new();
+    let _fits = bytes.try_extend_from_slice(&turn.to_be_bytes());
+    VoiceParcel {
+        to: SessionId(to),
+        bytes,
+    }
+}
+
+fn turn_of(parcel: &VoiceParcel) -> Option<u32> {
+    let [a, b, c, d] = *parcel.bytes.as_slice() else {
+        return None;
+    };
+    Some(u32::from_be_bytes([a, b, c, d]))
+}
+
+/// How many parcels came of each of two passes, and whether each came in its turn.
+#[derive(Clone, Copy, Debug, Drop, PartialEq)]
+struct Came {
+    first: u32,
+    second: u32,
+    in_turn: bool,
+}
+
+impl Came {
+    fn with(self, parcel: &VoiceParcel) -> Came {
+        let turn = turn_of(parcel);
+        match parcel.to.0 {
+            1 => Came {
+                first: self.first.wrapping_add(1),
+                second: self.second,
+                in_turn: self.in_turn && turn == Some(self.first),
+            },
+            _ => Came {
+                first: self.first,
+                second: self.second.wrapping_add(1),
+                in_turn: self.in_turn && turn == Some(self.second),
+            },
+        }
+    }
+}
+
+/// Offers each parcel until it is sent.
+fn offer_all<R: Wait>(rt: &R, outbox: &VoiceBox, mut pass: BoxPass<VoiceParcel>, to: u32)
+    requires { pass.queue ≡ outbox.now.queue }
+{
+    let mut turn = 0;
+    for _ in rt.forever() {
+        if turn >= PARCELS {
+            break;
+        }
+        match outbox.offer_as(rt, &mut pass, voice_parcel(to, turn)) {
+            Offered::Sent => turn += 1,
+            Offered::Full(_) => thread::yield_now(),
+        }
+    }
+}
+
+/// Takes so many parcels, waiting for each.
+fn take_some<R: Wait>(
+    rt: &R,
+    outbox: &VoiceBox,
+    mut pass: BoxPass<VoiceParcel>,
+    mut came: Came,
+    count: u32,
+) -> Came
+    requires { pass.queue ≡ outbox.now.queue }
+{
+    let mut taken = 0;
+    for _ in rt.forever() {
+        if taken >= count {
+            break;
+        }
+        match outbox.take_as(rt, &mut pass) {
+            Some(parcel) => {
+                came = came.with(&parcel);
+                taken += 1;
+            }
+            None => thread::yield_now(),
+        }
+    }
+    came
+}
+
+#[test]
+fn each_parcel_is_taken_or_left_once_in_its_turn(rt: HostRuntime) -> Result<(), Fail> {
+    let mut outbox = VoiceBox::new(rt.alloc())?;
+    let (one, two, three) = (outbox.share()?, outbox.share()?, outbox.share()?);
+    let (first, second, third) = (outbox.pass(), outbox.pass(), outbox.pass());
+    let none = Came {
+        first: 0,
+        second: 0,
+        in_turn: true,
+    };
+    let offers = thread::spawn(&rt, move || offer_all(&rt, &one, first, 1))?;
+    let others = thread::spawn(&rt, move || offer_all(&rt, &two, second, 2))?;
+    let takes = thread::spawn(&rt, move || take_some(&rt, &three, third, none, TAKEN))?;
+    offers.join(&rt);
+    others.join(&rt);
+    let taken = takes.join(&rt);
+    let last = outbox.pass();
+    let all = take_some(&rt, &outbox, last, taken, 2 * PARCELS - TAKEN);
+    assert_eq!(rt; (all.first, all.second, all.in_turn), (PARCELS, PARCELS, true));
+    let mut after = outbox.pass();
+    assert!(rt; outbox.take_as(&rt, &mut after).is_none());
+    Ok(())
+}
+
+/// Offers items with numbers from 0 until the queue is full, and gives the number that came back.
+fn fill<I: Numbered + Drop, const CAPACITY: usize, R: Wait>(
+    rt: &R,
+    alloc: Global,
+    queue: &Queue<I, CAPACITY>,
+    pass: &mut BoxPass<I>,
+) -> Option<u32>
+    requires { pass.old.queue ≡ queue.now.queue }
+    ensures { pass.new.queue ≡ pass.old.queue }
+{
+    for number in 0..u32::MAX {
+        if let Offered::Full(back) = queue.offer_as(rt, pass, I::numbered(alloc, number)) {
+            return Some(back.number());
+        }
+    }
+    None
+}
+
+/// A queue is filled, left by one and filled again by one: the number that came back each time, the
+/// number that was taken, and how often the pass found it full.
+fn left_by_one<I: Numbered + Drop, const CAPACITY: usize, R: Wait>(
+    rt: &R,
+    alloc: Global,
+) -> Result<(Option<u32>, Option<u32>, Option<u32>, u64), OutOfMemory>
+    requires { 0 < CAPACITY }
+{
+    let mut queue = Queue::<I, CAPACITY>::new(alloc)?;
+    let mut pass = queue.pass();
+    let mut taker = queue.pass();
+    let share = queue.share()?;
+    let first = fill(rt, alloc, &queue, &mut pass);
+    let taken = share.take_as(rt, &mut taker).map(|item| item.number());
+    let second = fill(rt, alloc, &share, &mut pass);
+    queue.rule_as(&mut taker);
+    Ok((first, taken, second, pass.full()))
+}
+
+#[test]
+fn a_queue_holds_its_capacity_and_is_left_by_one(rt: HostRuntime) -> Result<(), Fail> {
+    capacities();
+    let voice = left_by_one::<VoiceParcel, VOICE_CAPACITY, _>(&rt, rt.alloc())?;
+    assert_eq!(rt; voice, (Some(128), Some(0), Some(1), 2));
+    let post = left_by_one::<PostParcel, POST_CAPACITY, _>(&rt, rt.alloc())?;
+    assert_eq!(rt; post, (Some(8192), Some(0), Some(1), 2));
+    let desk = left_by_one::<u32, DESK_CAPACITY, _>(&rt, rt.alloc())?;
+    assert_eq!(rt; desk, (Some(1024), Some(0), Some(1), 2));
+    let bell = left_by_one::<u32, BELL_CAPACITY, _>(&rt, rt.alloc())?;
+    assert_eq!(rt; bell, (Some(1024), Some(0), Some(1), 2));
+    Ok(())
+}
+
+#[test]
+fn a_share_is_the_same_queue(rt: HostRuntime) -> Result<(), Fail> {
+    let mut desk = Desk::<u32>::new(rt.alloc())?;
+    let mut other = desk.share()?;
+    let (mut here, mut there) = (desk.pass(), other.pass());
+    assert!(rt; matches!(desk.offer_as(&rt, &mut here, 5), Offered::Sent));
+    assert!(rt; matches!(other.offer_as(&rt, &mut here, 6), Offered::Sent));
+    assert!(rt; matches!(other.offer_as(&rt, &mut there, 7), Offered::Sent));
+    assert_eq!(rt; other.take_as(&rt, &mut there), Some(5));
+    assert_eq!(rt; desk.take_as(&rt, &mut there), Some(6));
+    assert_eq!(rt; other.take_as(&rt, &mut here), Some(7));
+    assert_eq!(rt; desk.take_as(&rt, &mut there), None);
+    Ok(())
+}

@@ -8,7 +8,7 @@ use Rattle.std.proofs.lemmas.Str.{IsAscii-append}
 use Rattle.std.proofs.lemmas.Str.Ascii.{IsAscii-nil}
 use Rattle.std.specs.Str.{IsAscii}
 use Rattle.std.specs.List.{slice_split, join_with_byte, flat_map, position_or_len, before_first, after_first}
-use Rattle.mum_record.specs.Words.{is_space, line_of_words, spelled, behind_space}
+use Rattle.mum_record.specs.Words.{is_space, line_of_words, spelled_word, behind_space}
 use Rattle.mum_record.specs.declared.line.Word.{Word}
 
 -- no byte is a space, and each is ASCII
@@ -66,9 +66,9 @@ slice_split-whole p (x ∷ xs) h = elim (cases_Bool (p x)) [
 ]
 
 -- a line of a first word and others
-pub line_of_words-first : (first : List ℕ) (words : List Word) → line_of_words (first ∷ map spelled words) ≡ first ++ flat_map behind_space words
+pub line_of_words-first : (first : List ℕ) (words : List Word) → line_of_words (first ∷ map spelled_word words) ≡ first ++ flat_map behind_space words
 line_of_words-first first [] = sym (append-nil first)
-line_of_words-first first (word ∷ words) = ap (λ (xs : List ℕ). first ++ 32 ∷ xs) (line_of_words-first (spelled word) words)
+line_of_words-first first (word ∷ words) = ap (λ (xs : List ℕ). first ++ 32 ∷ xs) (line_of_words-first (spelled_word word) words)
 
 pub first_word-none : (line : List ℕ) (r : Option (Bor (List ℕ) × Bor (List ℕ))) → IsSplitOnceResult 32 line r → r ≡ None → slice_split is_space line ≡ line ∷ []
 first_word-none line None h e = slice_split-whole is_space line (split_once_first 32 line None h (lit< tt))

@@ -163,7 +163,10 @@ fn each_parcel_is_taken_or_left_once_in_its_turn(rt: HostRuntime) -> Result<(), 
     let taken = takes.join(&rt);
     let last = outbox.pass();
     let all = take_some(&rt, &outbox, last, taken, 2 * PARCELS - TAKEN);
-    assert_eq!(rt; (all.first, all.second, all.in_turn), (PARCELS, PARCELS, true));
+    assert_eq!(rt;
+        (all.first, all.second, all.in_turn),
+        (PARCELS, PARCELS, true)
+    );
     let mut after = outbox.pass();
     assert!(rt; outbox.take_as(&rt, &mut after).is_none());
     Ok(())

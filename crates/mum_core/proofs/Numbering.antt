@@ -1,6 +1,6 @@
 -- The sessions of a run are numbered in their order, so each hears a packet once.
-use Rattle.std.proofs.Common.{◌≡◌, ℕ, zero, suc, ◌+◌, ◌<◌, ◌≤◌, Bool, true, false, cond, List, [], ◌∷◌, ◌++◌, length, map, take, get_or, Option, Some, None, Result, Ok, Err, refl, sym, ap, ◌∙◌, arith}
-use Rattle.std.specs.Prelude.{not, filter, nat_lt, slice_get, fold, ◌==◌, if◌then◌else◌}
+use Rattle.std.proofs.Common.{◌≡◌, ℕ, zero, suc, ◌+◌, ◌<◌, ◌≤◌, Bool, true, false, cond, List, [], ◌∷◌, ◌++◌, length, map, take, Option, Some, None, arith}
+use Rattle.std.specs.Prelude.{not, filter, ◌==◌}
 use Rattle.std.specs.List.{AllPairs, list_any}
 use Rattle.std.specs.List.{AllByRecursion}
 use Rattle.std.proofs.lemmas.List.{append-nil, length-map, map_push, take-map}
@@ -14,7 +14,7 @@ use Rattle.mum_core.specs.declared.route.Member.{Member}
 use Rattle.mum_core.specs.Action.{action}
 use Rattle.mum_core.specs.Built as steps
 use Rattle.mum_core.specs.Built.{BuiltStep, Open, Frame, Publish, Tell, Look, Offer, Drain, End}
-use Rattle.mum_core.specs.Core.{CoreState, start, connection_at, state_at, current}
+use Rattle.mum_core.specs.Core.{CoreState, start, connection_at, state_at}
 use Rattle.mum_core.specs.Kept.{session_of}
 use Rattle.mum_core.specs.Laws.{ran}
 use Rattle.mum_core.specs.State.{State, after, route, is_session}

@@ -13,6 +13,21 @@ ghost use Rattle.mum_core.specs.Step.{does, illegal};
 ghost use Rattle.mum_core.specs.Worker.{HeldPacket};
 ghost use Rattle.mum_core.specs.steps.Look.{copy_to};
 
+use crate::connection::OLDEST_VERSION;
+use crate::outbox::OUTBOX_CAPACITY;
+use crate::replay::{INPUT_LIMIT, LINE_LIMIT};
+use crate::slot::SLOTS;
+
+/// The numbers for which the limits stand: slots of the server, copies of an outbox, bytes of a line and
+/// of a recording, and the oldest version of the protocol, 1.2.0.
+pub fn limits()
+    ensures slots { SLOTS ≡ 128 }
+    ensures outbox { OUTBOX_CAPACITY ≡ 128 }
+    ensures line { LINE_LIMIT ≡ 131200 }
+    ensures input { INPUT_LIMIT ≡ 67108864 }
+    ensures version { OLDEST_VERSION ≡ 0x10200 }
+{}
+
 /// Accepted edits are only added to, at their end, and no more is published than was accepted.
 pub fn accepted_edits_are_one_list()
     ensures grows { (core : CoreState) (steps : List BuiltStep) →

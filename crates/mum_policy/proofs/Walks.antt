@@ -2,12 +2,13 @@
 use Rattle.std.proofs.Common.{◌≡◌, ℕ, suc, ◌+◌, ◌<◌, ◌≤◌, ◌==◌, Bool, true, false, List, ◌∷◌, length, get_or, drop, refl, sym, ap, ◌∙◌, drop-cons, add-one, add-zero, arith, inl, inr, Option, Some, None, if◌then◌else◌}
 use Rattle.std.proofs.Math.ListN.{drop_of_length-le}
 use Rattle.std.proofs.lemmas.Bool.{cases_lt, eq-eqb, ne_eqb}
+use Rattle.mum_base.specs.declared.number.TheConstants.AccountId.{SUPER_USER}
 use Rattle.mum_base.specs.declared.number.ChannelId.{ChannelId}
 use Rattle.mum_policy.specs.declared.policy.AclEntry.{AclEntry}
 use Rattle.mum_policy.specs.declared.policy.ChannelPolicy.{ChannelPolicy}
 use Rattle.mum_policy.specs.declared.walk.Walk.{Walk}
 use Rattle.mum_policy.specs.Member.{Asker, PolicyMap}
-use Rattle.mum_policy.specs.Walk.{goes_on, after_match, after_entries, after_policy, after_channel, entry_count, is_asked, along, visits_along, is_account, super_user, full_set, on_root, set_of, perm, visits, walk_start}
+use Rattle.mum_policy.specs.Walk.{goes_on, after_match, after_entries, after_policy, after_channel, entry_count, is_asked, along, visits_along, is_account, full_set, on_root, set_of, perm, visits, walk_start}
 
 -- ---- entries
 
@@ -141,28 +142,28 @@ ended_visits on later p e is_false later_is s = omega (arith, visits_next false 
 
 -- ---- the answer
 
-pub perm_super : (policies : PolicyMap) (path : List ChannelId) (who : Asker) (super root : Bool) → super ≡ is_account who.account super_user → super ≡ true
+pub perm_super : (policies : PolicyMap) (path : List ChannelId) (who : Asker) (super root : Bool) → super ≡ is_account who.account SUPER_USER → super ≡ true
     → root ≡ on_root path → full_set root ≡ perm policies path who
 unfolding perm
 perm_super policies path who super root e is_true at_root =
     ap full_set at_root
     ∙ ap (λ (b : Bool). if b then full_set (on_root path) else set_of (on_root path) (along policies path who 0 path walk_start)) (sym is_true ∙ e)
 
-pub perm_walked : (policies : PolicyMap) (path : List ChannelId) (who : Asker) (super root : Bool) (end : Option Walk) → super ≡ is_account who.account super_user → super ≡ false
+pub perm_walked : (policies : PolicyMap) (path : List ChannelId) (who : Asker) (super root : Bool) (end : Option Walk) → super ≡ is_account who.account SUPER_USER → super ≡ false
     → root ≡ on_root path → along policies path who 0 path walk_start ≡ end → set_of root end ≡ perm policies path who
 unfolding perm
 perm_walked policies path who super root end e is_false at_root ends =
     ap (λ (b : Bool). set_of b end) at_root ∙ ap (set_of (on_root path)) (sym ends)
     ∙ ap (λ (b : Bool). if b then full_set (on_root path) else set_of (on_root path) (along policies path who 0 path walk_start)) (sym is_false ∙ e)
 
-pub visits_super : (policies : PolicyMap) (path : List ChannelId) (who : Asker) (super : Bool) (before : ℕ) → super ≡ is_account who.account super_user → super ≡ true
+pub visits_super : (policies : PolicyMap) (path : List ChannelId) (who : Asker) (super : Bool) (before : ℕ) → super ≡ is_account who.account SUPER_USER → super ≡ true
     → before ≡ before + visits policies path who
 unfolding visits
 visits_super policies path who super before e is_true =
     sym (add-zero before)
     ∙ ap (λ (b : Bool). before + (if b then 0 else visits_along policies path who 0 path walk_start)) (sym is_true ∙ e)
 
-pub visits_walked : (policies : PolicyMap) (path : List ChannelId) (who : Asker) (super : Bool) (before now : ℕ) → super ≡ is_account who.account super_user → super ≡ false
+pub visits_walked : (policies : PolicyMap) (path : List ChannelId) (who : Asker) (super : Bool) (before now : ℕ) → super ≡ is_account who.account SUPER_USER → super ≡ false
     → now ≡ before + visits_along policies path who 0 path walk_start → now ≡ before + visits policies path who
 unfolding visits
 visits_walked policies path who super before now e is_false read =

@@ -3,6 +3,8 @@ use Rattle.std.specs.Prelude.{ℕ, ◌+◌, ◌==◌, ◌&&◌, ◌||◌, ◌≡
 use Rattle.mum_base.specs.Perm.{without_bits}
 use Rattle.mum_base.specs.declared.number.AccountId.{AccountId}
 use Rattle.mum_base.specs.declared.number.ChannelId.{ChannelId}
+use Rattle.mum_base.specs.declared.number.TheConstants.AccountId.{SUPER_USER}
+use Rattle.mum_base.specs.declared.number.TheConstants.ChannelId.{ROOT}
 use Rattle.mum_base.specs.declared.perm.Perm.{Perm}
 use Rattle.mum_policy.specs.declared.policy.AclEntry.{AclEntry}
 use Rattle.mum_policy.specs.declared.policy.ChannelPolicy.{ChannelPolicy}
@@ -127,13 +129,10 @@ visits_along policies path who place (channel ∷ below) walk =
 
 -- ---- the answer
 
-abbrev pub super_user : AccountId
-super_user = record { 0 = 0 }
-
 -- of the asked channel and those above it, whether the asked one is the root
 unfoldable pub is_root : List ChannelId → Bool
 is_root [] = false
-is_root (asked ∷ above) = asked.0 == 0
+is_root (asked ∷ above) = asked.0 == ROOT.0
 
 abbrev pub on_root : List ChannelId → Bool
 on_root path = is_root (reverse path)
@@ -150,15 +149,15 @@ set_of root (Some walk) = finished root walk.set.0
 
 unfoldable pub perm : PolicyMap → List ChannelId → Asker → ℕ
 perm policies path who =
-    if is_account who.account super_user then full_set (on_root path)
+    if is_account who.account SUPER_USER then full_set (on_root path)
     else set_of (on_root path) (along policies path who 0 path walk_start)
 
 unfoldable pub visits : PolicyMap → List ChannelId → Asker → ℕ
 visits policies path who =
-    if is_account who.account super_user then 0
+    if is_account who.account SUPER_USER then 0
     else visits_along policies path who 0 path walk_start
 
 -- the first channel of a path is the root
 abbrev pub BeginsAtRoot : List ChannelId → Type 0
 BeginsAtRoot [] = ⊥
-BeginsAtRoot (first ∷ below) = first.0 ≡ 0
+BeginsAtRoot (first ∷ below) = first.0 ≡ ROOT.0

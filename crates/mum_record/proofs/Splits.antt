@@ -1,5 +1,5 @@
 -- Lines cut into words, and words joined to lines.
-use Rattle.std.proofs.Common.{◌≡◌, ℕ, zero, suc, ◌+◌, ◌<◌, Bool, sym, List, [], ◌∷◌, ◌++◌, map, length, Option, Some, None, refl, ap, ◌∙◌, arith, inl, inr, false, lit<, Bor}
+use Rattle.std.proofs.Common.{◌≡◌, ℕ, zero, suc, ◌+◌, ◌<◌, ◌≤◌, Bool, sym, List, [], ◌∷◌, ◌++◌, map, length, Option, Some, None, refl, ap, ◌∙◌, arith, inl, inr, false, lit<, Bor}
 use Rattle.std.proofs.lemmas.List.{append-nil}
 use Rattle.std.proofs.lemmas.List.Splits.{slice_split_first}
 use Rattle.std.proofs.lemmas.Str.Pattern.{IsSplitOnceResult, split_once_first}
@@ -8,7 +8,7 @@ use Rattle.std.proofs.lemmas.Str.{IsAscii-append}
 use Rattle.std.proofs.lemmas.Str.Ascii.{IsAscii-nil}
 use Rattle.std.specs.Str.{IsAscii}
 use Rattle.std.specs.List.{slice_split, join_with_byte, flat_map, position_or_len, before_first, after_first}
-use Rattle.mum_record.specs.Words.{is_space, line_of_words, spelled, behind_space}
+use Rattle.mum_record.specs.Words.{is_space, line_of_words, spelled_word, behind_space}
 use Rattle.mum_record.specs.declared.line.Word.{Word}
 
 -- no byte is a space, and each is ASCII
@@ -53,7 +53,7 @@ join-IsAscii (w ∷ []) h = word-IsAscii w h.0
 join-IsAscii (w ∷ x ∷ xs) h = IsAscii-append w (32 ∷ join_with_byte 32 (x ∷ xs)) (word-IsAscii w h.0) (spaced (join_with_byte 32 (x ∷ xs)) (join-IsAscii (x ∷ xs) h.1))
 
 -- what has no element that passes is one part
-pub slice_split-whole : {X : Type 0} (p : X → Bool) (xs : List X) → position_or_len p xs ≡ length xs → slice_split p xs ≡ xs ∷ []
+pub slice_split-whole : {X : Type 0} (p : X → Bool) (xs : List X) → length xs ≤ position_or_len p xs → slice_split p xs ≡ xs ∷ []
 slice_split-whole p [] h = refl
 slice_split-whole p (x ∷ xs) h = elim (cases_Bool (p x)) [
   | inl passes ↦
@@ -61,17 +61,19 @@ slice_split-whole p (x ∷ xs) h = elim (cases_Bool (p x)) [
       absurd (omega arith)
   | inr other ↦
       let later : position_or_len p (x ∷ xs) ≡ 1 + position_or_len p xs = rw other refl in
-      let rest : position_or_len p xs ≡ length xs = omega arith in
+      let rest : length xs ≤ position_or_len p xs = omega arith in
       rw (other, slice_split-whole p xs rest) refl
 ]
 
 -- a line of a first word and others
-pub line_of_words-first : (first : List ℕ) (words : List Word) → line_of_words (first ∷ map spelled words) ≡ first ++ flat_map behind_space words
+pub line_of_words-first : (first : List ℕ) (words : List Word) → line_of_words (first ∷ map spelled_word words) ≡ first ++ flat_map behind_space words
 line_of_words-first first [] = sym (append-nil first)
-line_of_words-first first (word ∷ words) = ap (λ (xs : List ℕ). first ++ 32 ∷ xs) (line_of_words-first (spelled word) words)
+line_of_words-first first (word ∷ words) = ap (λ (xs : List ℕ). first ++ 32 ∷ xs) (line_of_words-first (spelled_word word) words)
 
 pub first_word-none : (line : List ℕ) (r : Option (Bor (List ℕ) × Bor (List ℕ))) → IsSplitOnceResult 32 line r → r ≡ None → slice_split is_space line ≡ line ∷ []
-first_word-none line None h e = slice_split-whole is_space line (split_once_first 32 line None h (lit< tt))
+first_word-none line None h e =
+    let none = split_once_first 32 line None h (lit< tt) in
+    slice_split-whole is_space line (omega arith)
 first_word-none line (Some x) h e = cc
 
 pub first_word-some : (line : List ℕ) (r : Option (Bor (List ℕ) × Bor (List ℕ))) (x : Bor (List ℕ) × Bor (List ℕ)) → IsSplitOnceResult 32 line r → r ≡ Some x

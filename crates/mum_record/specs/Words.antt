@@ -36,13 +36,13 @@ revision_of word = number_within 0 (2 ^ 64 - 1) word
 -- ---- in the code
 
 -- what a word of a line is spelled
-abbrev pub spelled : Word → List ℕ
-spelled (Name name) = name.now
-spelled (Number number) = decimal number
-spelled (Digits bytes) = encode_lower bytes.now
+abbrev pub spelled_word : Word → List ℕ
+spelled_word (Name name) = name.now
+spelled_word (Number number) = decimal number
+spelled_word (Digits bytes) = encode_lower bytes.now
 
 abbrev pub behind_space : Word → List ℕ
-behind_space word = 32 ∷ spelled word
+behind_space word = 32 ∷ spelled_word word
 
 -- the words of what follows a space, if anything does
 abbrev pub words_after : Option (List ℕ) → List (List ℕ)

@@ -2,7 +2,7 @@
 
 ghost use Rattle.std.specs.Prelude.{◌≡◌, ◌++◌, ◌∷◌, IfOk, map, string_bytes};
 ghost use Rattle.std.specs.List.{flat_map};
-ghost use Rattle.mum_record.specs.Words.{spelled, behind_space, line_of_words};
+ghost use Rattle.mum_record.specs.Words.{spelled_word, behind_space, line_of_words};
 
 use itoa::Buffer;
 use mum_base::OutOfMemory;
@@ -21,7 +21,7 @@ pub enum Word<'a> {
 
 /// Appends a word.
 pub fn push_word(alloc: Global, text: &mut String, word: &Word<'_>) -> Result<(), OutOfMemory>
-    ensures { IfOk result (λ _. string_bytes text.new ≡ string_bytes text.old ++ spelled word.now) }
+    ensures { IfOk result (λ _. string_bytes text.new ≡ string_bytes text.old ++ spelled_word word.now) }
 {
     match *word {
         Word::Name(name) => text.push_str(name),
@@ -48,7 +48,7 @@ pub fn push_line(
     first: &str,
     words: &[Word<'_>],
 ) -> Result<(), OutOfMemory>
-    ensures { IfOk result (λ _. string_bytes text.new ≡ string_bytes text.old ++ line_of_words (first.now ∷ map spelled words.now)) }
+    ensures { IfOk result (λ _. string_bytes text.new ≡ string_bytes text.old ++ line_of_words (first.now ∷ map spelled_word words.now)) }
 {
     text.push_str(first)?;
     push_words(alloc, text, words)

@@ -46,7 +46,7 @@ or_twice false false = refl
 same_pair : (session : SessionId) (channel : ChannelId) (new pair : ListenerPair) → is_pair new.session new.channel pair ≡ true → is_pair session channel new ≡ is_pair session channel pair
 same_pair session channel new pair same = grind (arith, nat_tests)
 
-listed-put : (session : SessionId) (channel : ChannelId) (new : ListenerPair) (pairs : List ListenerPair) → list_any (is_pair session channel) (with_pair pair_below new pairs) ≡ (list_any (is_pair session channel) pairs || is_pair session channel new)
+pub listed-put : (session : SessionId) (channel : ChannelId) (new : ListenerPair) (pairs : List ListenerPair) → list_any (is_pair session channel) (with_pair pair_below new pairs) ≡ (list_any (is_pair session channel) pairs || is_pair session channel new)
 listed-put session channel new [] = or_swap (is_pair session channel new) false
 listed-put session channel new (pair ∷ pairs) = split (pair_below pair new) (is_pair new.session new.channel pair) refl refl (listed-put session channel new pairs)
   where
@@ -58,7 +58,7 @@ listed-put session channel new (pair ∷ pairs) = split (pair_below pair new) (i
 
 -- ---- channels of a session
 
-among_same : (channels : List ChannelId) (channel other : ChannelId) → eqb channel.0 other.0 ≡ true → is_among channels channel ≡ is_among channels other
+pub among_same : (channels : List ChannelId) (channel other : ChannelId) → eqb channel.0 other.0 ≡ true → is_among channels channel ≡ is_among channels other
 among_same channels channel other same = ap (λ (n : ℕ). list_any (λ (c : ChannelId). eqb c.0 n) channels) (eqb-true _ _ same)
 
 module _ (session : SessionId) (left : List ChannelId) where
@@ -157,7 +157,7 @@ module _ (session : SessionId) (left : List ChannelId) where
       either true = refl
       either false = refl
 
-  listed-staying : (channel : ChannelId) (pairs : List ListenerPair) → is_among left channel ≡ false → list_any (is_pair session channel) (staying session left pairs) ≡ list_any (is_pair session channel) pairs
+  pub listed-staying : (channel : ChannelId) (pairs : List ListenerPair) → is_among left channel ≡ false → list_any (is_pair session channel) (staying session left pairs) ≡ list_any (is_pair session channel) pairs
   listed-staying channel pairs kept =
       any-filter_same (is_pair session channel) (λ pair. not (is_of_session session pair && is_among left pair.channel)) true
       (λ pair is. stays_at channel pair kept (second (eqb pair.session.0 session.0) (eqb pair.channel.0 channel.0) is)) pairs

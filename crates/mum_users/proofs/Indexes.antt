@@ -9,7 +9,7 @@ use Rattle.mum_users.specs.State.{is_of_channel}
 use Rattle.mum_users.proofs.Orders.{Rises-filter}
 use Rattle.mum_users.proofs.Pairs.{Rises-put, agree, filter-put, same_channel}
 
-filter-swap : {X : Type 0} (p q : X → Bool) (xs : List X) → filter p (filter q xs) ≡ filter q (filter p xs)
+pub filter-swap : {X : Type 0} (p q : X → Bool) (xs : List X) → filter p (filter q xs) ≡ filter q (filter p xs)
 filter-swap p q [] = refl
 filter-swap p q (x ∷ xs) = split (p x) (q x) refl refl (filter-swap p q xs)
   where

@@ -7,6 +7,8 @@ pub mod Runs
 pub mod Pairs
 pub mod PairCounts
 pub mod Indexes
+pub mod Numbers
 pub mod Rosters
 pub mod Edits
+pub mod Told
 pub mod Refusals

@@ -1,7 +1,8 @@
 -- The first place at which a test passes, and what a change there is.
 use Rattle.std.proofs.Common.{◌≡◌, ℕ, suc, ◌+◌, ◌<◌, ◌≤◌, Bool, true, false, not, cond, ltb, List, [], ◌∷◌, length, get_or, set, map, Some, None, refl, sym, ap, ◌∙◌, arith}
 use Rattle.std.specs.Prelude.{IsTrue, unwrap_or}
-use Rattle.std.specs.List.{count_by, insert, list_any, position, position_or_len}
+use Rattle.std.specs.List.{count_by, find, insert, list_any, position, position_or_len}
+use Rattle.std.specs.Option.{is_some}
 use Rattle.std.proofs.lemmas.Bool.Decides.{nat_tests}
 use Rattle.mum_users.specs.declared.target.TargetRow.{TargetRow}
 use Rattle.mum_users.specs.State.{is_target}
@@ -33,6 +34,46 @@ pub record IsPlace {X : Type 0} (p : X → Bool) (xs : List X) (i : ℕ) : Type 
 
 pub present_from : {X : Type 0} (p : X → Bool) (xs : List X) (i : ℕ) → Some i ≡ position p xs → IsPlace p xs i
 present_from p xs i e = record { first = grind (arith, nat_tests); within = grind (arith, nat_tests); there = grind (arith, nat_tests, list_any-position p xs) }
+
+pub position_is : {X : Type 0} (p : X → Bool) (xs : List X) (i : ℕ) → position_or_len p xs ≡ i → i < length xs → position p xs ≡ Some i
+position_is p xs i at within = grind (arith, nat_tests)
+
+pub no_position : {X : Type 0} (p : X → Bool) (xs : List X) → position_or_len p xs ≡ length xs → position p xs ≡ None
+no_position p xs far = grind (arith, nat_tests)
+
+some_if : (b : Bool) (n : ℕ) → is_some (cond b (Some n) None) ≡ b
+some_if true n = refl
+some_if false n = refl
+
+pub is_some-position : {X : Type 0} (p : X → Bool) (xs : List X) → is_some (position p xs) ≡ list_any p xs
+is_some-position p xs = some_if (ltb (position_or_len p xs) (length xs)) (position_or_len p xs) ∙ sym (list_any-position p xs)
+
+-- what is found is at the first place
+find-place : {X : Type 0} (p : X → Bool) (xs : List X) (d : X) → position_or_len p xs < length xs → find p xs ≡ Some (get_or xs (position_or_len p xs) d)
+find-place p [] d within = absurd (omega arith)
+find-place p (x ∷ xs) d within = split (p x) refl (find-place p xs d)
+  where
+    split : (b : Bool) → p x ≡ b → (position_or_len p xs < length xs → find p xs ≡ Some (get_or xs (position_or_len p xs) d)) → find p (x ∷ xs) ≡ Some (get_or (x ∷ xs) (position_or_len p (x ∷ xs)) d)
+    split true e rest = rw e refl
+    split false e rest =
+        let inside : 1 + position_or_len p xs < length (x ∷ xs) = rw e at within in
+        rw (e, one_more (position_or_len p xs)) (rest (omega arith))
+
+pub find-found : {X : Type 0} (p : X → Bool) (xs : List X) (i : ℕ) (d : X) → Some i ≡ position p xs → find p xs ≡ Some (get_or xs i d)
+find-found p xs i d e =
+    let at : i ≡ position_or_len p xs = (present_from p xs i e).first in
+    rw at (find-place p xs d (present_from p xs i e).within)
+
+find-none : {X : Type 0} (p : X → Bool) (xs : List X) → list_any p xs ≡ false → find p xs ≡ None
+find-none p [] none = refl
+find-none p (x ∷ xs) none = split (p x) refl (find-none p xs)
+  where
+    split : (b : Bool) → p x ≡ b → (list_any p xs ≡ false → find p xs ≡ None) → find p (x ∷ xs) ≡ None
+    split true e rest = let some : true ≡ false = rw e at none in cc
+    split false e rest = let none : list_any p xs ≡ false = rw e at none in rw e (rest none)
+
+pub find-absent : {X : Type 0} (p : X → Bool) (xs : List X) → None ≡ position p xs → find p xs ≡ None
+find-absent p xs e = find-none p xs (absent_from p xs e)
 
 -- where nothing passes, a change of what passes is none
 pub map-absent : {X : Type 0} (p : X → Bool) (f : X → X) (xs : List X) → count_by p xs ≡ 0 → map (λ x. cond (p x) (f x) x) xs ≡ xs

@@ -1,25 +1,30 @@
 -- A call is refused exactly where it would not leave a proper roster.
-use Rattle.std.proofs.Common.{◌≡◌, ℕ, ◌+◌, ◌-◌, ◌<◌, ◌≤◌, ◌^◌, ◌↔◌, Bool, true, false, cond, leb, ltb, List, [], ◌∷◌, length, Some, None, refl, sym, ap, subst, ◌∙◌, arith}
-use Rattle.std.specs.List.{count_by, list_any}
+use Rattle.std.proofs.Common.{◌≡◌, ℕ, ◌+◌, ◌-◌, ◌<◌, ◌≤◌, ◌^◌, ◌↔◌, Bool, true, false, not, cond, eqb, leb, ltb, List, [], ◌∷◌, length, Some, None, refl, sym, ap, subst, ◌∙◌, arith}
+use Rattle.std.specs.List.{count_by, filter, list_any}
 use Rattle.std.specs.Str.{bytes_eq}
-use Rattle.std.proofs.lemmas.Bool.{le-ltb, leb-false, ltb-false, lt-leb}
+use Rattle.std.proofs.lemmas.Bool.{le-ltb, leb-false, ltb-false, lt-leb, ne_eqb}
 use Rattle.std.proofs.lemmas.Bool.Decides.{nat_tests}
 use Rattle.std.proofs.lemmas.List.Edits.{length-insert}
 use Rattle.std.proofs.lemmas.Slice.Eq.{bytes_eq-Decides}
 use Rattle.mum_base.specs.declared.number.ChannelId.{ChannelId}
+use Rattle.mum_base.specs.declared.number.SessionId.{SessionId}
 use Rattle.mum_users.specs.declared.listening.ListenerPair.{ListenerPair}
 use Rattle.mum_users.specs.declared.listening.TheConstants.{CHANNEL_LISTENERS, LISTENED_CHANNELS}
-use Rattle.mum_users.specs.declared.fault.UserFault.TheVariants.{Full, ListenerLimit, NameInUse, SessionsUsedUp, UserListenerLimit}
+use Rattle.mum_users.specs.declared.fault.UserFault.TheVariants.{Full, ListenerLimit, NameInUse, SessionsUsedUp, TargetId, TargetSize, UserListenerLimit}
+use Rattle.mum_users.specs.declared.target.Target.{Target}
+use Rattle.mum_users.specs.declared.target.TargetRow.{TargetRow}
+use Rattle.mum_users.specs.declared.target.TheConstants.{LAST_TARGET}
 use Rattle.mum_users.specs.Edit.{edit_fault, edited, is_crowded, pairs_after}
-use Rattle.mum_users.specs.Laws.{EditsWhereProper, JoinsWhereProper, ListensWhereProper}
+use Rattle.mum_users.specs.Laws.{EditsWhereProper, JoinsWhereProper, ListensWhereProper, TargetsWhereProper, UnsetStaysProper}
 use Rattle.mum_users.specs.Sessions.{free_slot, join_fault, joined, next_number, next_slot}
 use Rattle.mum_users.specs.Listeners.{listen_fault, listening, listens, pair_below, with_pair}
-use Rattle.mum_users.specs.Proper.{IsProper}
-use Rattle.mum_users.specs.State.{has_name, is_of_channel, is_of_session, joining}
+use Rattle.mum_users.specs.Proper.{IsProper, is_sound}
+use Rattle.mum_users.specs.State.{RosterState, has_name, is_of_channel, is_of_session, is_target, joining}
+use Rattle.mum_users.specs.Targets.{is_oversize, target_below, target_fault, targeted, with_target}
 use Rattle.mum_users.proofs.Edits.{IsProper-edited}
 use Rattle.mum_users.proofs.PairCounts.{count-put_new, listed-stays}
-use Rattle.mum_users.proofs.Counts.{count_by-insert, some_from}
-use Rattle.mum_users.proofs.Rosters.{IsProper-joined, IsProper-listening}
+use Rattle.mum_users.proofs.Counts.{count_by-cons, count_by-insert, some_from}
+use Rattle.mum_users.proofs.Rosters.{IsProper-fewer_targets, IsProper-joined, IsProper-listening, IsProper-with_target}
 use Rattle.mum_users.proofs.Slots.{SlotsRise-within, free_slot_from-le}
 
 -- ---- several parts at once
@@ -100,3 +105,55 @@ joins_where_proper_lem limit state name account tokens proper = (to _ _ _ refl r
         unused : (b : Bool) → list_any (has_name name) state.sessions ≡ b → count_by (has_name name) state.sessions ≤ 0 → b ≡ false
         unused true e none = absurd (omega (arith, some_from (has_name name) state.sessions e, none))
         unused false e none = refl
+
+-- ---- voice targets
+
+new_counts : (p : TargetRow → Bool) (new : TargetRow) (rows : List TargetRow) → cond (p new) 1 0 ≤ count_by p (with_target new rows)
+new_counts p new [] = omega (arith, count_by-cons p new [])
+new_counts p new (row ∷ rows) = split (target_below new.session new.id row) (is_target new.session new.id row) refl refl (new_counts p new rows)
+  where
+    split : (b s : Bool) → target_below new.session new.id row ≡ b → is_target new.session new.id row ≡ s → cond (p new) 1 0 ≤ count_by p (with_target new rows) → cond (p new) 1 0 ≤ count_by p (with_target new (row ∷ rows))
+    split true s e f rest = rw e (omega (arith, rest, count_by-cons p row (with_target new rows)))
+    split false true e f rest = rw (e, f) (omega (arith, count_by-cons p new rows))
+    split false false e f rest = rw (e, f) (omega (arith, count_by-cons p new (row ∷ rows)))
+
+abbrev row_of : SessionId → ℕ → Target → TargetRow
+row_of session id target = record { session = session; id = id; target = target }
+
+pub targets_where_proper_lem : TargetsWhereProper
+targets_where_proper_lem limit state session id target proper here some = (to _ _ _ refl refl refl, from)
+  where
+    items : eqb (length target.items) 0 ≡ false
+    items = ne_eqb _ _ (λ none. omega arith)
+
+    set_is : targeted state session id target ≡ record state { targets = with_target (row_of session id target) state.targets }
+    set_is = rw items refl
+
+    to : (zero last big : Bool) → eqb id 0 ≡ zero → ltb LAST_TARGET id ≡ last → is_oversize target ≡ big → target_fault state session id target ≡ None → IsProper limit (targeted state session id target)
+    to true last big e f g none = let refused : target_fault state session id target ≡ Some TargetId = rw (here, e) refl in absurd (cc)
+    to false true big e f g none = let refused : target_fault state session id target ≡ Some TargetId = rw (here, e, f) refl in absurd (cc)
+    to false false true e f g none = let refused : target_fault state session id target ≡ Some TargetSize = rw (here, e, f, g) refl in absurd (cc)
+    to false false false e f g none =
+        let sound : is_sound (row_of session id target) ≡ true = rw (e, f, items, g) refl in
+        subst (λ (s : RosterState). IsProper limit s) (sym set_is) (IsProper-with_target state (row_of session id target) proper here sound)
+
+    sound_after : IsProper limit (targeted state session id target) → (b : Bool) → is_sound (row_of session id target) ≡ b → b ≡ true
+    sound_after after true e = refl
+    sound_after after false e =
+        let kept : IsProper limit (record state { targets = with_target (row_of session id target) state.targets }) = subst (λ (s : RosterState). IsProper limit s) set_is after in
+        absurd (omega (arith, new_counts (λ r. not (is_sound r)) (row_of session id target) state.targets, kept.targets_sound, ap (λ (b : Bool). cond {A = ℕ} (not b) 1 0) e))
+
+    allowed : (zero last big : Bool) → eqb id 0 ≡ zero → ltb LAST_TARGET id ≡ last → is_oversize target ≡ big → is_sound (row_of session id target) ≡ true → target_fault state session id target ≡ None
+    allowed true last big e f g sound = let unsound : is_sound (row_of session id target) ≡ false = rw e refl in absurd (cc)
+    allowed false true big e f g sound = let unsound : is_sound (row_of session id target) ≡ false = rw (e, f) refl in absurd (cc)
+    allowed false false true e f g sound = let unsound : is_sound (row_of session id target) ≡ false = rw (e, f, items, g) refl in absurd (cc)
+    allowed false false false e f g sound = rw (here, e, f, g) refl
+
+    from : IsProper limit (targeted state session id target) → target_fault state session id target ≡ None
+    from after = allowed _ _ _ refl refl refl (sound_after after (is_sound (row_of session id target)) refl)
+
+pub unset_stays_proper_lem : UnsetStaysProper
+unset_stays_proper_lem limit state session id target proper none =
+    let items : eqb (length target.items) 0 ≡ true = rw none refl in
+    let unset : targeted state session id target ≡ record state { targets = filter (λ row. not (is_target session id row)) state.targets } = rw items refl in
+    subst (λ (s : RosterState). IsProper limit s) (sym unset) (IsProper-fewer_targets state (λ row. not (is_target session id row)) proper)

@@ -9,6 +9,8 @@ use Rattle.std.proofs.lemmas.Slice.Eq.{bytes_eq-Decides}
 use Rattle.mum_base.specs.declared.number.SessionId.{SessionId}
 use Rattle.mum_base.specs.declared.number.ChannelId.{ChannelId}
 use Rattle.mum_base.specs.declared.number.AccountId.{AccountId}
+use Rattle.mum_base.specs.declared.number.Slot.{Slot}
+use Rattle.mum_users.specs.declared.sessions.SessionSlot.{SessionSlot}
 use Rattle.mum_users.specs.declared.user.User.{User}
 use Rattle.mum_users.specs.declared.listening.TheConstants.{CHANNEL_LISTENERS, LISTENED_CHANNELS}
 use Rattle.mum_users.specs.declared.listening.ListenerPair.{ListenerPair}
@@ -20,8 +22,10 @@ use Rattle.mum_users.specs.Sessions.{absent_fault, changed, free_slot, joined, l
 use Rattle.mum_users.specs.Listeners.{listen_fault, listening, listens, pair_below, with_pair}
 use Rattle.mum_users.specs.declared.target.TheConstants.{LAST_TARGET}
 use Rattle.mum_users.specs.Targets.{is_oversize, target_below, with_target}
+use Rattle.mum_users.specs.Numbers.{IsKept, IsNumbered, session_slot}
 use Rattle.mum_users.specs.Proper.{IsProper, is_sound, row_below}
 use Rattle.mum_users.proofs.Counts.{count_by-cons, count_by-insert, count_by-filter-le, count_by-filter_others, count_by-filter_none, count_by-map, none_from, some_from}
+use Rattle.mum_users.proofs.Numbers.{IsNumbered-map}
 use Rattle.mum_users.proofs.Places.{absent_from, present_from, set-position}
 use Rattle.mum_users.proofs.Slots.{SlotsRise-filter, SlotsRise-map, SlotsRise-seated, free_slot_from-le}
 use Rattle.mum_users.proofs.Orders.{Rises-filter, Rises-with_target}
@@ -73,6 +77,20 @@ set-changed state session change seen i user proper e found is =
 pub IsProper-set : {limit : ℕ} (state : RosterState) (session : SessionId) (change : User → User) (seen : List User) (i : ℕ) (user : User) → KeepsIdentity change → IsProper limit state → seen ≡ state.sessions → Some i ≡ position (has_number session) seen → user ≡ get_or state.sessions i user → IsProper limit (record state { sessions = set state.sessions i (change user) })
 IsProper-set {limit} state session change seen i user keeps proper e found is =
     subst (λ (users : List User). IsProper limit (record state { sessions = users })) (sym (set-changed state session change seen i user proper e found is)) (IsProper-changed state session change keeps proper)
+
+pub IsNumbered-set : {limit : ℕ} (state : RosterState) (slots : List SessionSlot) (session : SessionId) (change : User → User) (seen : List User) (i : ℕ) (user : User) → KeepsIdentity change → IsKept limit state slots → seen ≡ state.sessions → Some i ≡ position (has_number session) seen → user ≡ get_or state.sessions i user → IsNumbered (set state.sessions i (change user)) slots
+IsNumbered-set state slots session change seen i user keeps kept e found is =
+    let made : SessionId → Slot → SessionSlot = λ s t. record { session = s; slot = t } in
+    let same : (u : User) → session_slot (cond (has_number session u) (change u) u) ≡ session_slot u =
+    λ u. either session_slot change u (has_number session u) (ap (λ s. made s (change u).slot) (keeps.session u) ∙ ap (λ t. made u.session t) (keeps.slot u)) in
+    subst (λ (users : List User). IsNumbered users slots) (sym (set-changed state session change seen i user kept.proper e found is))
+    (IsNumbered-map (λ u. cond (has_number session u) (change u) u) same state.sessions slots kept.numbered)
+
+pub IsKept-set : {limit : ℕ} (state : RosterState) (slots : List SessionSlot) (session : SessionId) (change : User → User) (seen : List User) (i : ℕ) (user : User) → KeepsIdentity change → IsKept limit state slots → seen ≡ state.sessions → Some i ≡ position (has_number session) seen → user ≡ get_or state.sessions i user → IsKept limit (record state { sessions = set state.sessions i (change user) }) slots
+IsKept-set state slots session change seen i user keeps kept e found is = record {
+  proper = IsProper-set state session change seen i user keeps kept.proper e found is;
+  numbered = IsNumbered-set state slots session change seen i user keeps kept e found is;
+}
 
 -- what a call that changes a row answers, where code finds the row, and where it finds none
 pub found : {limit : ℕ} (state now : RosterState) (session : SessionId) (change : User → User) (seen : List User) (i : ℕ) (user : User) → state ≡ now → IsProper limit state → seen ≡ state.sessions → Some i ≡ position (has_number session) seen → user ≡ get_or state.sessions i user → (absent_fault now session ≡ None) × (record state { sessions = set state.sessions i (change user) } ≡ changed now session change)

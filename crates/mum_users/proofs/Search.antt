@@ -1,10 +1,12 @@
 -- A search by halving in rows that rise.
-use Rattle.std.proofs.Common.{◌≡◌, ℕ, zero, suc, ◌+◌, ◌<◌, ◌≤◌, Bool, true, false, not, List, [], ◌∷◌, length, get_or, Some, None, refl, sym, ap, ◌∙◌, inl, inr, arith}
+use Rattle.std.proofs.Common.{◌≡◌, ℕ, zero, suc, ◌+◌, ◌<◌, ◌≤◌, Bool, true, false, not, List, [], ◌∷◌, length, get_or, Some, None, Result, Ok, Err, MatchResult, refl, sym, ap, ◌∙◌, inl, inr, arith}
 use Rattle.std.specs.Prelude.{IsTrue}
 use Rattle.std.specs.List.{find, position_or_len}
-use Rattle.std.specs.List.Sorted.{IsPartitionPoint, IsPartitionedBy}
+use Rattle.std.specs.List.Sorted.{IsBinarySearchResult, IsNonDecreasingBy, IsPartitionPoint, IsPartitionedBy, IsSearchInRange}
+use Rattle.std.specs.Ordering.{nat_cmp, ordering_index}
 use Rattle.std.proofs.lemmas.Bool.{cases_lt, not_from_false, not_from_true}
 use Rattle.std.proofs.lemmas.Bool.Decides.{nat_tests}
+use Rattle.std.proofs.lemmas.Cmp.{ranked}
 use Rattle.std.proofs.lemmas.List.Sums.{position_or_len_is}
 use Rattle.mum_base.specs.declared.number.SessionId.{SessionId}
 use Rattle.mum_users.specs.declared.target.TargetRow.{TargetRow}
@@ -16,12 +18,12 @@ use Rattle.mum_users.proofs.Orders.{IsBelowAll-through, row_through, row_other_w
 use Rattle.mum_users.proofs.Places.{one_more}
 
 module _ {X : Type 0} (below : X → X → Bool) where
-  IsBelowAll-at : (first : X) (xs : List X) (j : ℕ) (d : X) → IsBelowAll below first xs → j < length xs → IsTrue (below first (get_or xs j d))
+  pub IsBelowAll-at : (first : X) (xs : List X) (j : ℕ) (d : X) → IsBelowAll below first xs → j < length xs → IsTrue (below first (get_or xs j d))
   IsBelowAll-at first [] j d all within = absurd (omega arith)
   IsBelowAll-at first (x ∷ xs) zero d all within = all.0
   IsBelowAll-at first (x ∷ xs) (suc j) d all within = IsBelowAll-at first xs j d all.1 (omega arith)
 
-  Rises-at : (xs : List X) (i j : ℕ) (d : X) → Rises below xs → i < j → j < length xs → IsTrue (below (get_or xs i d) (get_or xs j d))
+  pub Rises-at : (xs : List X) (i j : ℕ) (d : X) → Rises below xs → i < j → j < length xs → IsTrue (below (get_or xs i d) (get_or xs j d))
   Rises-at [] i j d rise lt within = absurd (omega arith)
   Rises-at (x ∷ xs) i zero d rise lt within = absurd (omega arith)
   Rises-at (x ∷ xs) zero (suc j) d rise lt within = IsBelowAll-at x xs j d rise.0 (omega arith)
@@ -40,6 +42,20 @@ place_between lower xs i d within split =
     sym (position_or_len_is (λ x. not (lower x)) xs i d within
     (λ k lt. not_from_true _ (split.0 k d (omega arith) lt))
     (λ lt. not_from_false _ (split.1 i d (omega arith) lt)))
+
+-- keys that rise are compared with a number as a binary search asks
+module _ {X : Type 0} (key : X → ℕ) (n : ℕ) (xs : List X) (rise : (i j : ℕ) (d : X) → i < j → j < length xs → key (get_or xs i d) < key (get_or xs j d)) where
+  comparisons_rise : IsNonDecreasingBy (λ x. ordering_index (nat_cmp (key x) n)) xs
+  comparisons_rise i j d le within =
+      let below : key (get_or xs i d) ≤ key (get_or xs j d) = grind (arith, rise i j d, λ (same : i ≡ j). ap (λ k. key (get_or xs k d)) same) in
+      grind (arith, nat_tests)
+
+  pub found_by_halving : (r : Result ℕ ℕ) → IsSearchInRange r (length xs) → IsBinarySearchResult (λ x. nat_cmp (key x) n) xs r → MatchResult r (λ i. (d : X) → key (get_or xs i d) ≡ n) (λ i. (j : ℕ) (d : X) → j < length xs → key (get_or xs j d) ≡ n → ⊥)
+  found_by_halving (Ok i) within equal = λ d. ranked _ n _ (sym (equal d))
+  found_by_halving (Err i) within parted = λ j d lt same. elim (cases_lt j i) [
+    | inl below ↦ omega (arith, same, ranked _ n _ (sym ((parted comparisons_rise).0 j d (omega arith) below)))
+    | inr above ↦ omega (arith, same, ranked _ n _ (sym ((parted comparisons_rise).1 j d above lt)))
+  ]
 
 module _ (session : SessionId) (id : ℕ) where
   pub below_down : (row other : TargetRow) → IsTrue (row_below row other) → target_below session id other ≡ true → target_below session id row ≡ true

@@ -1,17 +1,17 @@
 -- Slots that rise, and the least that is free.
 use Rattle.std.proofs.Common.{◌≡◌, ℕ, zero, suc, ◌+◌, ◌<◌, ◌≤◌, Bool, true, false, eqb, List, [], ◌∷◌, ◌++◌, length, get_or, take, drop, map, Some, None, Result, Ok, Err, MatchResult, refl, sym, ap, ◌∙◌, arith}
-use Rattle.std.specs.List.{find, filter, list_any}
-use Rattle.std.specs.List.Sorted.{IsSearchInRange, IsBinarySearchResult, IsNonDecreasingBy}
-use Rattle.std.specs.Ordering.{nat_cmp, ordering_index}
-use Rattle.std.proofs.Common.{inl, inr}
-use Rattle.std.proofs.lemmas.Bool.{cases_lt, eqb-false, eqb-true, ne_eqb}
-use Rattle.std.proofs.lemmas.Cmp.{ranked}
+use Rattle.std.specs.List.{filter, list_any, position, position_or_len}
+use Rattle.std.specs.List.Sorted.{IsSearchInRange, IsBinarySearchResult}
+use Rattle.std.specs.Ordering.{nat_cmp}
+use Rattle.std.proofs.lemmas.Bool.{eqb-false, eqb-true, ne_eqb}
 use Rattle.std.proofs.lemmas.Bool.Decides.{nat_tests}
 use Rattle.mum_base.specs.declared.number.Slot.{Slot}
 use Rattle.mum_users.specs.declared.user.User.{User}
 use Rattle.mum_users.specs.Sessions.{free_slot_from, IsLeastFree}
 use Rattle.mum_users.specs.State.{has_slot}
 use Rattle.mum_users.specs.Proper.{SlotsRise}
+use Rattle.mum_users.proofs.Places.{no_position, position_is}
+use Rattle.mum_users.proofs.Search.{found_by_halving}
 
 pub free_slot_from-ge : (slot : ℕ) (users : List User) → slot ≤ free_slot_from slot users
 free_slot_from-ge slot [] = omega arith
@@ -29,9 +29,14 @@ held_below : (low : ℕ) (users : List User) (below : ℕ) → low ≤ below →
 held_below low [] below le lt = absurd (omega arith)
 held_below low (user ∷ users) below le lt = grind (arith, nat_tests, held_below (low + 1) users below)
 
-pub find-no_slot : (users : List User) (slot : Slot) → ((i : ℕ) (d : User) → i < length users → (get_or users i d).slot.0 ≡ slot.0 → ⊥) → find (has_slot slot) users ≡ None
-find-no_slot [] slot apart = refl
-find-no_slot (user ∷ users) slot apart = grind (arith, nat_tests, apart 0 user (omega arith), find-no_slot users slot (λ i d lt. apart (suc i) d (omega arith)))
+no_slot : (users : List User) (slot : Slot) → ((i : ℕ) (d : User) → i < length users → (get_or users i d).slot.0 ≡ slot.0 → ⊥) → position_or_len (has_slot slot) users ≡ length users
+no_slot [] slot apart = refl
+no_slot (user ∷ users) slot apart =
+    let other : has_slot slot user ≡ false = ne_eqb _ _ (apart 0 user (omega arith)) in
+    rw other (omega (arith, no_slot users slot (λ i d lt. apart (suc i) d (omega arith))))
+
+in_slot : (user : User) (slot : Slot) → user.slot.0 ≡ slot.0 → has_slot slot user ≡ true
+in_slot user slot is = grind (arith, nat_tests)
 
 -- where the slots are below this limit
 module _ (limit : ℕ) where
@@ -108,24 +113,28 @@ module _ (limit : ℕ) where
   slots_rise_by_place low (user ∷ users) zero (suc j) d rise lt within = omega (arith, SlotsRise-at (user.slot.0 + 1) users j d rise.1 (omega arith))
   slots_rise_by_place low (user ∷ users) (suc i) (suc j) d rise lt within = slots_rise_by_place (user.slot.0 + 1) users i j d rise.1 (omega arith) (omega arith)
 
-  pub find-at_slot : (low : ℕ) (users : List User) (slot : Slot) (i : ℕ) (d : User) → SlotsRise limit low users → i < length users → (get_or users i d).slot.0 ≡ slot.0 → find (has_slot slot) users ≡ Some (get_or users i d)
-  find-at_slot low [] slot i d rise within is = absurd (omega arith)
-  find-at_slot low (user ∷ users) slot zero d rise within is = grind (arith, nat_tests)
-  find-at_slot low (user ∷ users) slot (suc i) d rise within is = grind (arith, nat_tests, SlotsRise-at (user.slot.0 + 1) users i d rise.1 (omega arith), find-at_slot (user.slot.0 + 1) users slot i d rise.1 (omega arith) is)
+  place-at_slot : (low : ℕ) (users : List User) (slot : Slot) (i : ℕ) (d : User) → SlotsRise limit low users → i < length users → (get_or users i d).slot.0 ≡ slot.0 → position_or_len (has_slot slot) users ≡ i
+  place-at_slot low [] slot i d rise within is = absurd (omega arith)
+  place-at_slot low (user ∷ users) slot zero d rise within is = rw (in_slot user slot is) refl
+  place-at_slot low (user ∷ users) slot (suc i) d rise within is =
+      let above : user.slot.0 + 1 ≤ (get_or users i d).slot.0 = SlotsRise-at (user.slot.0 + 1) users i d rise.1 (omega arith) in
+      let other : has_slot slot user ≡ false = ne_eqb _ _ (λ same. omega arith) in
+      rw other (omega (arith, place-at_slot (user.slot.0 + 1) users slot i d rise.1 (omega arith) is))
 
 module _ (limit : ℕ) (users : List User) (rise : SlotsRise limit 0 users) (slot : Slot) where
-  -- the comparisons with a slot rise along the rows, as a binary search asks
-  comparisons_rise : IsNonDecreasingBy (λ user. ordering_index (nat_cmp user.slot.0 slot.0)) users
-  comparisons_rise i j d le within =
-      let below : (get_or users i d).slot.0 ≤ (get_or users j d).slot.0 = grind (arith, slots_rise_by_place limit 0 users i j d rise, λ (same : i ≡ j). ap (λ k. (get_or users k d).slot.0) same) in
-      grind (arith, nat_tests)
-
-  pub found_by_halving : (r : Result ℕ ℕ) → IsSearchInRange r (length users) → IsBinarySearchResult (λ user. nat_cmp user.slot.0 slot.0) users r → MatchResult r (λ i. (d : User) → find (has_slot slot) users ≡ Some (get_or users i d)) (λ i. find (has_slot slot) users ≡ None)
-  found_by_halving (Ok i) within equal = λ d. find-at_slot limit 0 users slot i d rise within (ranked _ slot.0 _ (sym (equal d)))
-  found_by_halving (Err i) within parted = find-no_slot users slot apart
+  pub place_of_slot : (r : Result ℕ ℕ) → IsSearchInRange r (length users) → IsBinarySearchResult (λ user. nat_cmp user.slot.0 slot.0) users r → MatchResult r (λ i. Some i ≡ position (has_slot slot) users) (λ i. None ≡ position (has_slot slot) users)
+  place_of_slot (Ok i) within equal =
+      let d : User = first users within in
+      sym (position_is (has_slot slot) users i (place-at_slot limit 0 users slot i d rise within (found_by_halving (λ user. user.slot.0) slot.0 users slots (Ok i) within equal d)) within)
     where
-      apart : (j : ℕ) (d : User) → j < length users → (get_or users j d).slot.0 ≡ slot.0 → ⊥
-      apart j d lt same = elim (cases_lt j i) [
-        | inl below ↦ omega (arith, same, ranked _ slot.0 _ (sym ((parted comparisons_rise).0 j d (omega arith) below)))
-        | inr above ↦ omega (arith, same, ranked _ slot.0 _ (sym ((parted comparisons_rise).1 j d above lt)))
-      ]
+      first : (us : List User) → i < length us → User
+      first [] lt = absurd (omega arith)
+      first (user ∷ us) lt = user
+
+      slots : (i j : ℕ) (d : User) → i < j → j < length users → (get_or users i d).slot.0 < (get_or users j d).slot.0
+      slots i j d = slots_rise_by_place limit 0 users i j d rise
+  place_of_slot (Err i) within parted =
+      sym (no_position (has_slot slot) users (no_slot users slot (found_by_halving (λ user. user.slot.0) slot.0 users slots (Err i) within parted)))
+    where
+      slots : (i j : ℕ) (d : User) → i < j → j < length users → (get_or users i d).slot.0 < (get_or users j d).slot.0
+      slots i j d = slots_rise_by_place limit 0 users i j d rise

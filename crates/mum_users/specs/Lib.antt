@@ -7,4 +7,5 @@ pub mod Listeners
 pub mod Edit
 pub mod Targets
 pub mod Proper
+pub mod Numbers
 pub mod Laws

@@ -6,6 +6,7 @@ use Rattle.mum_base.specs.declared.number.SessionId.{SessionId}
 use Rattle.mum_base.specs.declared.number.AccountId.{AccountId}
 use Rattle.mum_base.specs.declared.number.ChannelId.{ChannelId}
 use Rattle.mum_base.specs.declared.number.Slot.{Slot}
+use Rattle.mum_base.specs.declared.number.TheConstants.ChannelId.{ROOT}
 use Rattle.mum_users.specs.declared.user.User.{User}
 use Rattle.mum_users.specs.declared.user.TheConstants.{CONTEXT_BYTES, TOKEN_BYTES, TOKENS}
 use Rattle.mum_users.specs.declared.listening.ListenerPair.{ListenerPair}
@@ -70,7 +71,7 @@ joining session slot name account tokens = record {
   slot = slot;
   name = name;
   account = account;
-  channel = record { 0 = 0 };
+  channel = ROOT;
   mute = false;
   deaf = false;
   suppress = false;

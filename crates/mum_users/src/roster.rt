@@ -12,7 +12,8 @@ use crate::flags::FlagChange;
 use crate::listeners::Listeners;
 use crate::listening::{CHANNEL_LISTENERS, ChannelSet, LISTENED_CHANNELS, ListenerPair};
 use crate::sessions::{
-    copy_of_users, free_slot, has_member, index_of, is_here, name_in_use, row_at, row_of, take_user,
+    SessionSlot, copy_of_users, free_slot, has_member, index_of, is_here, name_in_use, row_at,
+    row_of, take_slot, take_user,
 };
 use crate::target::{
     LAST_TARGET, Target, TargetRow, copy_of_targets, put_target, row_of_target, take_target,
@@ -32,6 +33,8 @@ pub struct Roster {
     alloc: Global,
     // By their slots.
     users: Vec<User>,
+    // By their numbers.
+    slots: Vec<SessionSlot>,
     listeners: Listeners,
     // By their sessions, then their numbers.
     targets: Vec<TargetRow>,
@@ -40,7 +43,7 @@ pub struct Roster {
 
 impl Model for Roster {
     ghost use Rattle.mum_users.specs.State.{RosterState};
-    ghost use Rattle.mum_users.specs.Proper.{IsProper};
+    ghost use Rattle.mum_users.specs.Numbers.{IsKept};
     ghost use Rattle.mum_users.specs.declared.user.TheConstants.{SESSIONS};
 
     ghost Value = { RosterState };
@@ -52,12 +55,12 @@ impl Model for Roster {
       last = r.last;
     } };
 
-    ghost invariant = { λ r. IsProper SESSIONS (record {
+    ghost invariant = { λ r. IsKept SESSIONS (record {
       sessions = r.users.items;
       listeners = r.listeners;
       targets = r.targets.items;
       last = r.last;
-    }) };
+    }) r.slots.items };
 }
 
 impl Roster {
@@ -76,18 +79,20 @@ impl Roster {
         Ok(Roster {
             alloc,
             users: Vec::with_capacity(alloc, SESSIONS)?,
+            slots: Vec::with_capacity(alloc, SESSIONS)?,
             listeners: Listeners::new(alloc),
             targets: Vec::new(alloc),
             last: 0,
         })
     }
 
-    /// The row of a session, in one pass.
+    /// The row of a session, in a number of steps that grows as the logarithm of the number of
+    /// sessions.
     pub fn session(&self, session: SessionId) -> Option<&User>
         ensures row { option_copied result ≡ session_of self.now session }
         ensures proper { IsProper SESSIONS self.now }
     {
-        row_of(self.users.as_slice(), session)
+        row_of(self.users.as_slice(), self.slots.as_slice(), session)
     }
 
     /// The row of the session in a slot, in a number of steps that grows as the logarithm of the
@@ -150,10 +155,13 @@ impl Roster {
         if self.last == u32::MAX {
             return Err(UserFault::SessionsUsedUp);
         }
-        let slot = free_slot(self.users.as_slice());
+        self.slots.reserve(1)?;
+        let place = free_slot(self.users.as_slice());
         let session = SessionId(self.last + 1);
-        let user = joining_user(self.alloc, session, Slot(slot as u8), name, account, tokens)?;
-        self.users.insert(slot, user)?;
+        let slot = Slot(place as u8);
+        let user = joining_user(self.alloc, session, slot, name, account, tokens)?;
+        self.users.insert(place, user)?;
+        self.slots.push_reserved(SessionSlot { session, slot });
         self.last += 1;
         Ok(session)
     }
@@ -165,10 +173,11 @@ impl Roster {
             self.old result self.new }
         ensures proper { IsProper SESSIONS self.new }
     {
-        if !is_here(self.users.as_slice(), session) {
+        if !is_here(self.users.as_slice(), self.slots.as_slice(), session) {
             return Err(UserFault::NoSession);
         }
         take_user(&mut self.users, session);
+        take_slot(&mut self.slots, session);
         self.listeners.leave_all(session);
         take_targets(&mut self.targets, session);
         Ok(())
@@ -180,7 +189,7 @@ impl Roster {
             self.old result self.new }
         ensures proper { IsProper SESSIONS self.new }
     {
-        match index_of(self.users.as_slice(), session) {
+        match index_of(self.users.as_slice(), self.slots.as_slice(), session) {
             None => Err(UserFault::NoSession),
             Some(index) => {
                 let user = &mut self.users[index];
@@ -196,7 +205,7 @@ impl Roster {
             self.old result self.new }
         ensures proper { IsProper SESSIONS self.new }
     {
-        match index_of(self.users.as_slice(), session) {
+        match index_of(self.users.as_slice(), self.slots.as_slice(), session) {
             None => Err(UserFault::NoSession),
             Some(index) => {
                 let user = &mut self.users[index];
@@ -212,7 +221,7 @@ impl Roster {
             self.old result self.new }
         ensures proper { IsProper SESSIONS self.new }
     {
-        match index_of(self.users.as_slice(), session) {
+        match index_of(self.users.as_slice(), self.slots.as_slice(), session) {
             None => Err(UserFault::NoSession),
             Some(index) => {
                 change_flags(&mut self.users[index], change);
@@ -227,7 +236,7 @@ impl Roster {
             (with_tokens self.old session tokens.now) self.old result self.new }
         ensures proper { IsProper SESSIONS self.new }
     {
-        match index_of(self.users.as_slice(), session) {
+        match index_of(self.users.as_slice(), self.slots.as_slice(), session) {
             None => Err(UserFault::NoSession),
             Some(index) => {
                 let tokens = copy_of_texts(self.alloc, tokens)?;
@@ -251,7 +260,7 @@ impl Roster {
             self.old result self.new }
         ensures proper { IsProper SESSIONS self.new }
     {
-        match index_of(self.users.as_slice(), session) {
+        match index_of(self.users.as_slice(), self.slots.as_slice(), session) {
             None => Err(UserFault::NoSession),
             Some(index) => {
                 let comment = copy_of_text(self.alloc, comment)?;
@@ -279,7 +288,7 @@ impl Roster {
             (listening self.old session channel) self.old result self.new }
         ensures proper { IsProper SESSIONS self.new }
     {
-        if !is_here(self.users.as_slice(), session) {
+        if !is_here(self.users.as_slice(), self.slots.as_slice(), session) {
             return Err(UserFault::NoSession);
         }
         if self.listeners.has(session, channel) {
@@ -302,7 +311,7 @@ impl Roster {
             (not_listening self.old session channel) self.old result self.new }
         ensures proper { IsProper SESSIONS self.new }
     {
-        if !is_here(self.users.as_slice(), session) {
+        if !is_here(self.users.as_slice(), self.slots.as_slice(), session) {
             return Err(UserFault::NoSession);
         }
         self.listeners.leave(session, &[channel]);
@@ -336,7 +345,7 @@ impl Roster {
             (edited self.old session (user_edit_of change.now)) self.old result self.new }
         ensures proper { IsProper SESSIONS self.new }
     {
-        let Some(index) = index_of(self.users.as_slice(), session) else {
+        let Some(index) = index_of(self.users.as_slice(), self.slots.as_slice(), session) else {
             return Err(UserFault::NoSession);
         };
         if crowds_one(&self.listeners, session, change) {
@@ -387,7 +396,7 @@ impl Roster {
             (targeted self.old session id target.now) self.old result self.new }
         ensures proper { IsProper SESSIONS self.new }
     {
-        if !is_here(self.users.as_slice(), session) {
+        if !is_here(self.users.as_slice(), self.slots.as_slice(), session) {
             return Err(UserFault::NoSession);
         }
         if id == 0 || id > LAST_TARGET {
@@ -420,6 +429,7 @@ impl Roster {
         Ok(Roster {
             alloc,
             users: copy_of_users(alloc, self.users.as_slice())?,
+            slots: Vec::from_slice(alloc, self.slots.as_slice())?,
             listeners: self.listeners.copy(alloc)?,
             targets: copy_of_targets(alloc, self.targets.as_slice())?,
             last: self.last,

@@ -1,8 +1,10 @@
 //! The rows of sessions, by their slots.
 
-ghost use Rattle.std.specs.Prelude.{◌≡◌, ◌≤◌, not, IfOk, filter, find, length, position};
+ghost use Rattle.std.specs.Prelude.{◌≡◌, ◌≤◌, not, [], ◌∷◌, IfOk, MatchOption, filter, find, length, position};
 ghost use Rattle.std.specs.List.{list_any};
 ghost use Rattle.std.specs.Option.{option_copied};
+ghost use Rattle.mum_users.specs.Numbers.{is_slot_of, number_below, IsNumbered};
+ghost use Rattle.mum_users.specs.Order.{Rises};
 ghost use Rattle.mum_users.specs.Sessions.{free_slot_from};
 ghost use Rattle.mum_users.specs.State.{has_name, has_number, has_slot, is_in};
 ghost use Rattle.mum_users.specs.Proper.{SlotsRise};
@@ -11,10 +13,43 @@ use crate::user::{SESSIONS, User};
 use mum_base::{ChannelId, OutOfMemory, SessionId, Slot};
 use std::alloc::Global;
 
-pub(crate) fn is_here(users: &[User], session: SessionId) -> bool
+/// A session with its slot.
+#[derive(Clone, Copy, Debug)]
+pub(crate) struct SessionSlot {
+    pub session: SessionId,
+    pub slot: Slot,
+}
+
+// The slot of a session, found by halving.
+fn slot_of(slots: &[SessionSlot], session: SessionId) -> Option<Slot>
+    requires { Rises number_below slots.now }
+    ensures { MatchOption result (filter (is_slot_of session) slots.now ≡ []) (λ slot.
+        filter (is_slot_of session) slots.now ≡ record { session = session; slot = slot } ∷ []) }
+{
+    match slots.binary_search_by_key(&session.0, |own| own.session.0) {
+        Ok(index) => Some(slots[index].slot),
+        Err(_) => None,
+    }
+}
+
+// The place of the row in a slot, found by halving.
+fn place_of(users: &[User], slot: Slot) -> Option<usize>
+    requires { SlotsRise SESSIONS 0 users.now }
+    ensures { result ≡ position (has_slot slot) users.now }
+{
+    match users.binary_search_by_key(&slot.0, |user| user.slot.0) {
+        Ok(index) => Some(index),
+        Err(_) => None,
+    }
+}
+
+/// Whether a session is here, found by halving.
+pub(crate) fn is_here(users: &[User], slots: &[SessionSlot], session: SessionId) -> bool
+    requires rise { SlotsRise SESSIONS 0 users.now }
+    requires numbered { IsNumbered users.now slots.now }
     ensures { result ≡ list_any (has_number session) users.now }
 {
-    users.iter().any(|user| user.session == session)
+    index_of(users, slots, session).is_some()
 }
 
 pub(crate) fn name_in_use(users: &[User], name: &str) -> bool
@@ -23,16 +58,32 @@ pub(crate) fn name_in_use(users: &[User], name: &str) -> bool
     users.iter().any(|user| user.name.as_str() == name)
 }
 
-pub(crate) fn index_of(users: &[User], session: SessionId) -> Option<usize>
+/// The place of the row of a session, found by halving.
+pub(crate) fn index_of(users: &[User], slots: &[SessionSlot], session: SessionId) -> Option<usize>
+    requires rise { SlotsRise SESSIONS 0 users.now }
+    requires numbered { IsNumbered users.now slots.now }
     ensures { result ≡ position (has_number session) users.now }
 {
-    users.iter().position(|user| user.session == session)
+    match slot_of(slots, session) {
+        None => None,
+        Some(slot) => place_of(users, slot),
+    }
 }
 
-pub(crate) fn row_of(users: &[User], session: SessionId) -> Option<&User>
+/// The row of a session, found by halving.
+pub(crate) fn row_of<'a>(
+    users: &'a [User],
+    slots: &[SessionSlot],
+    session: SessionId,
+) -> Option<&'a User>
+    requires rise { SlotsRise SESSIONS 0 users.now }
+    requires numbered { IsNumbered users.now slots.now }
     ensures { option_copied result ≡ find (has_number session) users.now }
 {
-    users.iter().find(|user| user.session == session)
+    match index_of(users, slots, session) {
+        None => None,
+        Some(index) => Some(&users[index]),
+    }
 }
 
 /// Whether a session is in the channel.
@@ -47,6 +98,13 @@ pub(crate) fn take_user(users: &mut Vec<User>, session: SessionId)
     ensures { users.new.items ≡ filter (λ user. not (has_number session user)) users.old.items }
 {
     users.retain(|user| user.session != session);
+}
+
+/// Takes the slot of a session out.
+pub(crate) fn take_slot(slots: &mut Vec<SessionSlot>, session: SessionId)
+    ensures { slots.new.items ≡ filter (λ own. not (is_slot_of session own)) slots.old.items }
+{
+    slots.retain(|own| own.session != session);
 }
 
 /// Equal rows in the same order.
@@ -65,9 +123,9 @@ pub(crate) fn row_at(users: &[User], slot: Slot) -> Option<&User>
     requires { SlotsRise SESSIONS 0 users.now }
     ensures { option_copied result ≡ find (has_slot slot) users.now }
 {
-    match users.binary_search_by_key(&slot.0, |user| user.slot.0) {
-        Ok(index) => Some(&users[index]),
-        Err(_) => None,
+    match place_of(users, slot) {
+        None => None,
+        Some(index) => Some(&users[index]),
     }
 }
 

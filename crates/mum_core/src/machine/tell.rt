@@ -5,7 +5,7 @@ ghost use Rattle.mum_base.specs.Refusal.{Settles};
 ghost use Rattle.mum_core.specs.Case.{Passes, first_that_stands, named_cause};
 ghost use Rattle.mum_core.specs.Line.{joined};
 ghost use Rattle.mum_record.specs.Grammar.{revision_word};
-ghost use Rattle.mum_record.specs.Words.{spelled};
+ghost use Rattle.mum_record.specs.Words.{spelled_word};
 ghost use Rattle.mum_core.specs.steps.Tell.{forbids, does, lines, note_cases};
 
 use super::{Core, StepFault, illegal};
@@ -15,7 +15,7 @@ use mum_record::{Word, push_line};
 
 /// The word of a note: its revision, or a dash where there is none.
 fn note_word(note: Option<u64>) -> Word<'static>
-    ensures { spelled result ≡ revision_word note }
+    ensures { spelled_word result ≡ revision_word note }
 {
     match note {
         Some(revision) => Word::Number(revision),

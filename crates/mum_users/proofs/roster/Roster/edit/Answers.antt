@@ -1,7 +1,8 @@
 use Rattle.std.proofs.Common.{refl}
 use Rattle.std.proofs.lemmas.Result.{err_from_is_err_and}
-use Rattle.mum_users.specs.Edit.{user_edit_of}
+use Rattle.mum_users.specs.Edit.{changed_user, user_edit_of}
 use Rattle.mum_users.proofs.Edits.{IsProper-edited_here, edit_absent, edit_allowed, edit_crowded, edit_too_many, edited_now}
+use Rattle.mum_users.proofs.Rosters.{IsNumbered-set}
 use Rattle.mum_users.proofs.roster.Roster.edit.Goals as goal
 
 pub returns-in_default-clause-outcome : goal.returns-in_default-clause-outcome
@@ -31,18 +32,19 @@ returns-in_err-change-clause-outcome c =
     rw (p.1, p.2, c.in_err-change.ensures.err) (edit_allowed _ _ c.args.session (user_edit_of c.args.change.now) _ c.self.view_is c.as_slice.ensures.value _ c.in-Some.ensures _ c.crowds_one.ensures c.if-crowds_one.false _ c.listens_to_too_many.ensures c.if-listens_to_too_many.false, c.self.view_is)
 
 pub invariant_of-self-2 : goal.invariant_of-self-2
-invariant_of-self-2 c =
-    rw c.change_row.ensures (
-    IsProper-edited_here _ _ c.args.session (user_edit_of c.args.change.now) _ c.self.view_is c.as_slice.ensures.value _ c.in-Some.ensures _ c.crowds_one.ensures c.if-crowds_one.false _ c.listens_to_too_many.ensures c.if-listens_to_too_many.false c.self.invariant c.index_mut.result.now c.index_mut.ensures.value _ c.in_ok-change.ensures.ok)
+invariant_of-self-2 c = rw c.change_row.ensures (record {
+  proper = IsProper-edited_here _ _ c.args.session (user_edit_of c.args.change.now) _ c.self.view_is c.as_slice.ensures.value _ c.in-Some.ensures _ c.crowds_one.ensures c.if-crowds_one.false _ c.listens_to_too_many.ensures c.if-listens_to_too_many.false c.self.invariant.proper c.index_mut.result.now c.index_mut.ensures.value _ c.in_ok-change.ensures.ok;
+  numbered = IsNumbered-set _ _ c.args.session (changed_user (user_edit_of c.args.change.now)) _ _ c.index_mut.result.now (record { session = λ _. refl; slot = λ _. refl; name = λ _. refl }) c.self.invariant c.as_slice.ensures.value c.in-Some.ensures c.index_mut.ensures.value;
+})
 
 pub returns-clause-outcome : goal.returns-clause-outcome
 returns-clause-outcome c =
     rw c.change_row.ensures (
       edit_allowed _ _ c.args.session (user_edit_of c.args.change.now) _ c.self.view_is c.as_slice.ensures.value _ c.in-Some.ensures _ c.crowds_one.ensures c.if-crowds_one.false _ c.listens_to_too_many.ensures c.if-listens_to_too_many.false,
-      edited_now _ _ c.args.session (user_edit_of c.args.change.now) _ c.self.view_is c.as_slice.ensures.value _ c.in-Some.ensures _ c.crowds_one.ensures c.if-crowds_one.false _ c.listens_to_too_many.ensures c.if-listens_to_too_many.false c.self.invariant c.index_mut.result.now c.index_mut.ensures.value _ c.in_ok-change.ensures.ok,
+      edited_now _ _ c.args.session (user_edit_of c.args.change.now) _ c.self.view_is c.as_slice.ensures.value _ c.in-Some.ensures _ c.crowds_one.ensures c.if-crowds_one.false _ c.listens_to_too_many.ensures c.if-listens_to_too_many.false c.self.invariant.proper c.index_mut.result.now c.index_mut.ensures.value _ c.in_ok-change.ensures.ok,
     )
 
 pub returns-clause-proper : goal.returns-clause-proper
 returns-clause-proper c =
     rw c.change_row.ensures (
-    IsProper-edited_here _ _ c.args.session (user_edit_of c.args.change.now) _ c.self.view_is c.as_slice.ensures.value _ c.in-Some.ensures _ c.crowds_one.ensures c.if-crowds_one.false _ c.listens_to_too_many.ensures c.if-listens_to_too_many.false c.self.invariant c.index_mut.result.now c.index_mut.ensures.value _ c.in_ok-change.ensures.ok)
+    IsProper-edited_here _ _ c.args.session (user_edit_of c.args.change.now) _ c.self.view_is c.as_slice.ensures.value _ c.in-Some.ensures _ c.crowds_one.ensures c.if-crowds_one.false _ c.listens_to_too_many.ensures c.if-listens_to_too_many.false c.self.invariant.proper c.index_mut.result.now c.index_mut.ensures.value _ c.in_ok-change.ensures.ok)

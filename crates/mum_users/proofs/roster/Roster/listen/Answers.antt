@@ -6,7 +6,7 @@ pub returns-then-has-clause-outcome : goal.returns-then-has-clause-outcome
 returns-then-has-clause-outcome c =
     let here = rw c.as_slice.ensures.value at c.if-not-is_here.ensures in
     let listed = c.if-has.ensures in
-    listed_already _ _ c.args.session c.args.channel c.self.view_is c.self.invariant (sym here) (sym listed)
+    listed_already _ _ c.args.session c.args.channel c.self.view_is c.self.invariant.proper (sym here) (sym listed)
 
 pub invariant_of-self-2 : goal.invariant_of-self-2
 invariant_of-self-2 c =
@@ -14,9 +14,12 @@ invariant_of-self-2 c =
     let absent = c.if-has.ensures in
     let listeners = c.session_count.ensures in
     let channels = c.channel_count.ensures in
-    rw c.in_ok-put.ensures.ok (
-    IsProper-listening _ c.args.session c.args.channel c.self.invariant (sym here) (sym absent)
-    (rw (← listeners) c.if-session_count-ge-CHANNEL_LISTENERS.false) (rw (← channels) c.if-channel_count-ge-LISTENED_CHANNELS.false))
+    record {
+      proper = rw c.in_ok-put.ensures.ok (
+          IsProper-listening _ c.args.session c.args.channel c.self.invariant.proper (sym here) (sym absent)
+          (rw (← listeners) c.if-session_count-ge-CHANNEL_LISTENERS.false) (rw (← channels) c.if-channel_count-ge-LISTENED_CHANNELS.false));
+      numbered = c.self.invariant.numbered;
+    }
 
 pub returns-clause-proper : goal.returns-clause-proper
 returns-clause-proper c =
@@ -25,5 +28,5 @@ returns-clause-proper c =
     let listeners = c.session_count.ensures in
     let channels = c.channel_count.ensures in
     rw c.in_ok-put.ensures.ok (
-    IsProper-listening _ c.args.session c.args.channel c.self.invariant (sym here) (sym absent)
+    IsProper-listening _ c.args.session c.args.channel c.self.invariant.proper (sym here) (sym absent)
     (rw (← listeners) c.if-session_count-ge-CHANNEL_LISTENERS.false) (rw (← channels) c.if-channel_count-ge-LISTENED_CHANNELS.false))

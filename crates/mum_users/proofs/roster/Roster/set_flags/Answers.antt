@@ -1,6 +1,6 @@
 use Rattle.std.proofs.Common.{refl}
 use Rattle.mum_users.specs.Flags.{flagged}
-use Rattle.mum_users.proofs.Rosters.{IsProper-set, found, not_found}
+use Rattle.mum_users.proofs.Rosters.{IsKept-set, IsProper-set, found, not_found}
 use Rattle.mum_users.proofs.roster.Roster.set_flags.Goals as goal
 
 pub returns-in-None-clause-outcome : goal.returns-in-None-clause-outcome
@@ -9,7 +9,7 @@ returns-in-None-clause-outcome c = (not_found _ _ c.args.session _ c.self.view_i
 pub invariant_of-self : goal.invariant_of-self
 invariant_of-self c =
     rw c.change_flags.ensures (
-    IsProper-set _ c.args.session (λ user. flagged user c.args.change) _ _ c.index_mut.result.now
+    IsKept-set _ _ c.args.session (λ user. flagged user c.args.change) _ _ c.index_mut.result.now
     (record { session = λ _. refl; slot = λ _. refl; name = λ _. refl })
     c.self.invariant c.as_slice.ensures.value c.in-Some.ensures c.index_mut.ensures.value)
 
@@ -17,11 +17,11 @@ pub returns-in-Some-clause-outcome : goal.returns-in-Some-clause-outcome
 returns-in-Some-clause-outcome c =
     rw c.change_flags.ensures (
     found _ _ c.args.session (λ user. flagged user c.args.change) _ _ c.index_mut.result.now
-    c.self.view_is c.self.invariant c.as_slice.ensures.value c.in-Some.ensures c.index_mut.ensures.value)
+    c.self.view_is c.self.invariant.proper c.as_slice.ensures.value c.in-Some.ensures c.index_mut.ensures.value)
 
 pub returns-in-Some-clause-proper : goal.returns-in-Some-clause-proper
 returns-in-Some-clause-proper c =
     rw c.change_flags.ensures (
     IsProper-set _ c.args.session (λ user. flagged user c.args.change) _ _ c.index_mut.result.now
     (record { session = λ _. refl; slot = λ _. refl; name = λ _. refl })
-    c.self.invariant c.as_slice.ensures.value c.in-Some.ensures c.index_mut.ensures.value)
+    c.self.invariant.proper c.as_slice.ensures.value c.in-Some.ensures c.index_mut.ensures.value)

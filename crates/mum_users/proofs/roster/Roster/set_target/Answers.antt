@@ -5,27 +5,32 @@ use Rattle.mum_users.proofs.Rosters.{IsProper-fewer_targets, IsProper-with_targe
 use Rattle.mum_users.proofs.roster.Roster.set_target.Goals as goal
 
 pub invariant_of-self : goal.invariant_of-self
-invariant_of-self c =
-    rw c.take_target.ensures (IsProper-fewer_targets _ (λ row. not (is_target c.args.session c.args.id row)) c.self.invariant)
+invariant_of-self c = record {
+  proper = rw c.take_target.ensures (IsProper-fewer_targets _ (λ row. not (is_target c.args.session c.args.id row)) c.self.invariant.proper);
+  numbered = c.self.invariant.numbered;
+}
 
 pub invariant_of-self-2 : goal.invariant_of-self-2
 invariant_of-self-2 c =
     let here = rw c.as_slice.ensures.value at c.if-not-is_here.ensures in
-    let some = rw c.as_slice-2.ensures at c.if-is_empty.ensures in
+    let some = rw c.as_slice-3.ensures at c.if-is_empty.ensures in
     let row : TargetRow = record { session = c.args.session; id = c.args.id; target = c.args.target.now } in
-    rw (c.in_ok-put_target.ensures.ok, c.in_ok-target.ensures) (
-    IsProper-with_target _ row c.self.invariant (sym here)
-    (is_sound-from row c.if-id-eq0.false c.if-id-gt-LAST_TARGET.false (sym some) (sym c.if-is_oversize.ensures)))
+    record {
+      proper = rw (c.in_ok-put_target.ensures.ok, c.in_ok-target.ensures) (
+          IsProper-with_target _ row c.self.invariant.proper (sym here)
+          (is_sound-from row c.if-id-eq0.false c.if-id-gt-LAST_TARGET.false (sym some) (sym c.if-is_oversize.ensures)));
+      numbered = c.self.invariant.numbered;
+    }
 
 pub returns-then-is_empty-clause-proper : goal.returns-then-is_empty-clause-proper
 returns-then-is_empty-clause-proper c =
-    rw c.take_target.ensures (IsProper-fewer_targets _ (λ row. not (is_target c.args.session c.args.id row)) c.self.invariant)
+    rw c.take_target.ensures (IsProper-fewer_targets _ (λ row. not (is_target c.args.session c.args.id row)) c.self.invariant.proper)
 
 pub returns-clause-proper : goal.returns-clause-proper
 returns-clause-proper c =
     let here = rw c.as_slice.ensures.value at c.if-not-is_here.ensures in
-    let some = rw c.as_slice-2.ensures at c.if-is_empty.ensures in
+    let some = rw c.as_slice-3.ensures at c.if-is_empty.ensures in
     let row : TargetRow = record { session = c.args.session; id = c.args.id; target = c.args.target.now } in
     rw (c.in_ok-put_target.ensures.ok, c.in_ok-target.ensures) (
-    IsProper-with_target _ row c.self.invariant (sym here)
+    IsProper-with_target _ row c.self.invariant.proper (sym here)
     (is_sound-from row c.if-id-eq0.false c.if-id-gt-LAST_TARGET.false (sym some) (sym c.if-is_oversize.ensures)))

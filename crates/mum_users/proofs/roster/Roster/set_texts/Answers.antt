@@ -2,7 +2,7 @@ use Rattle.std.proofs.Common.{refl}
 use Rattle.std.specs.Prelude.{unwrap_or}
 use Rattle.std.specs.Option.{option_copied}
 use Rattle.std.proofs.lemmas.Result.{err_from_is_err_and}
-use Rattle.mum_users.proofs.Rosters.{IsProper-set, found, here_from, not_found}
+use Rattle.mum_users.proofs.Rosters.{IsKept-set, IsProper-set, found, here_from, not_found}
 use Rattle.mum_users.proofs.roster.Roster.set_texts.Goals as goal
 
 pub returns-in-None-clause-outcome : goal.returns-in-None-clause-outcome
@@ -11,7 +11,7 @@ returns-in-None-clause-outcome c = (not_found _ _ c.args.session _ c.self.view_i
 pub invariant_of-self : goal.invariant_of-self
 invariant_of-self c =
     rw (c.change_texts.ensures, c.in_ok-comment-in-Some.ensures, c.in_ok-context-in-Some.ensures) (
-    IsProper-set _ c.args.session
+    IsKept-set _ _ c.args.session
     (λ user. record user { comment = unwrap_or (option_copied c.args.comment) user.comment; context = unwrap_or (option_copied c.args.context) user.context })
     _ _ c.index_mut.result.now (record { session = λ _. refl; slot = λ _. refl; name = λ _. refl })
     c.self.invariant c.as_slice.ensures.value c.in-Some.ensures c.index_mut.ensures.value)
@@ -21,7 +21,7 @@ returns-in_ok-context-in-Some-clause-outcome c =
     let changed =
     found _ _ c.args.session
     (λ user. record user { comment = unwrap_or (option_copied c.args.comment) user.comment; context = unwrap_or (option_copied c.args.context) user.context })
-    _ _ c.index_mut.result.now c.self.view_is c.self.invariant c.as_slice.ensures.value c.in-Some.ensures c.index_mut.ensures.value in
+    _ _ c.index_mut.result.now c.self.view_is c.self.invariant.proper c.as_slice.ensures.value c.in-Some.ensures c.index_mut.ensures.value in
     rw (c.change_texts.ensures, c.in_ok-comment-in-Some.ensures, c.in_ok-context-in-Some.ensures) changed
 
 pub returns-in_err-comment-in-Some-clause-outcome : goal.returns-in_err-comment-in-Some-clause-outcome
@@ -40,4 +40,4 @@ returns-in_ok-context-in-Some-clause-proper c =
     IsProper-set _ c.args.session
     (λ user. record user { comment = unwrap_or (option_copied c.args.comment) user.comment; context = unwrap_or (option_copied c.args.context) user.context })
     _ _ c.index_mut.result.now (record { session = λ _. refl; slot = λ _. refl; name = λ _. refl })
-    c.self.invariant c.as_slice.ensures.value c.in-Some.ensures c.index_mut.ensures.value)
+    c.self.invariant.proper c.as_slice.ensures.value c.in-Some.ensures c.index_mut.ensures.value)

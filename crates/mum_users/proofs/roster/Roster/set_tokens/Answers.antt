@@ -1,6 +1,6 @@
 use Rattle.std.proofs.Common.{refl}
 use Rattle.std.proofs.lemmas.Result.{err_from_is_err_and}
-use Rattle.mum_users.proofs.Rosters.{IsProper-set, found, here_from, not_found}
+use Rattle.mum_users.proofs.Rosters.{IsKept-set, IsProper-set, found, here_from, not_found}
 use Rattle.mum_users.proofs.roster.Roster.set_tokens.Goals as goal
 
 pub returns-in-None-clause-outcome : goal.returns-in-None-clause-outcome
@@ -9,7 +9,7 @@ returns-in-None-clause-outcome c = (not_found _ _ c.args.session _ c.self.view_i
 pub invariant_of-self : goal.invariant_of-self
 invariant_of-self c =
     rw c.in_ok-tokens-in-Some.ensures (
-    IsProper-set _ c.args.session (λ user. record user { tokens = c.args.tokens.now }) _ _ c.index_mut-user.result.now
+    IsKept-set _ _ c.args.session (λ user. record user { tokens = c.args.tokens.now }) _ _ c.index_mut-user.result.now
     (record { session = λ _. refl; slot = λ _. refl; name = λ _. refl })
     c.self.invariant c.as_slice.ensures.value c.in-Some.ensures c.index_mut-user.ensures.value)
 
@@ -17,7 +17,7 @@ pub returns-in_ok-tokens-in-Some-clause-outcome : goal.returns-in_ok-tokens-in-S
 returns-in_ok-tokens-in-Some-clause-outcome c =
     let changed =
     found _ _ c.args.session (λ user. record user { tokens = c.args.tokens.now }) _ _ c.index_mut-user.result.now
-    c.self.view_is c.self.invariant c.as_slice.ensures.value c.in-Some.ensures c.index_mut-user.ensures.value in
+    c.self.view_is c.self.invariant.proper c.as_slice.ensures.value c.in-Some.ensures c.index_mut-user.ensures.value in
     rw c.in_ok-tokens-in-Some.ensures changed
 
 pub returns-in_err-tokens-in-Some-clause-outcome : goal.returns-in_err-tokens-in-Some-clause-outcome
@@ -30,4 +30,4 @@ returns-in_ok-tokens-in-Some-clause-proper c =
     rw c.in_ok-tokens-in-Some.ensures (
     IsProper-set _ c.args.session (λ user. record user { tokens = c.args.tokens.now }) _ _ c.index_mut-user.result.now
     (record { session = λ _. refl; slot = λ _. refl; name = λ _. refl })
-    c.self.invariant c.as_slice.ensures.value c.in-Some.ensures c.index_mut-user.ensures.value)
+    c.self.invariant.proper c.as_slice.ensures.value c.in-Some.ensures c.index_mut-user.ensures.value)

@@ -5,9 +5,11 @@ use Rattle.mum_users.proofs.Rosters.{IsProper-fewer_listeners}
 use Rattle.mum_users.proofs.roster.Roster.unlisten.Goals as goal
 
 pub invariant_of-self : goal.invariant_of-self
-invariant_of-self c =
-    rw c.leave.ensures (IsProper-fewer_listeners _ (λ pair. not (is_of_session c.args.session pair && is_among (c.args.channel ∷ []) pair.channel)) c.self.invariant)
+invariant_of-self c = record {
+  proper = rw c.leave.ensures (IsProper-fewer_listeners _ (λ pair. not (is_of_session c.args.session pair && is_among (c.args.channel ∷ []) pair.channel)) c.self.invariant.proper);
+  numbered = c.self.invariant.numbered;
+}
 
 pub returns-clause-proper : goal.returns-clause-proper
 returns-clause-proper c =
-    rw c.leave.ensures (IsProper-fewer_listeners _ (λ pair. not (is_of_session c.args.session pair && is_among (c.args.channel ∷ []) pair.channel)) c.self.invariant)
+    rw c.leave.ensures (IsProper-fewer_listeners _ (λ pair. not (is_of_session c.args.session pair && is_among (c.args.channel ∷ []) pair.channel)) c.self.invariant.proper)

@@ -1,0 +1,8 @@
+use Rattle.std.proofs.Common.{ap, ◌∙◌}
+use Rattle.std.specs.Option.{is_some}
+use Rattle.mum_users.specs.State.{has_number}
+use Rattle.mum_users.proofs.Places.{is_some-position}
+use Rattle.mum_users.proofs.sessions.is_here.Goals as goal
+
+pub returns : goal.returns
+returns c = c.is_some.ensures ∙ ap is_some c.index_of.ensures ∙ is_some-position (has_number c.args.session) c.args.users.now

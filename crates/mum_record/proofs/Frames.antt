@@ -1,21 +1,22 @@
 -- The frame whose digits a word is.
-use Rattle.std.proofs.Common.{◌≡◌, ℕ, ◌+◌, ◌*◌, ◌/◌, ◌%◌, ◌<◌, List, [], ◌∷◌, Option, Some, None, Result, Ok, Err, refl, sym, ◌∙◌, arith, Bool, true, false, inl, inr, ◌&&◌, ◌⊎◌, suc, slice_index}
+use Rattle.std.proofs.Common.{◌≡◌, ℕ, zero, ◌+◌, ◌-◌, ◌*◌, ◌/◌, ◌%◌, ◌<◌, ◌≤◌, List, [], ◌∷◌, length, take, drop, Option, Some, None, is_some, Result, Ok, Err, refl, sym, ap, ◌∙◌, arith, Bool, true, false, ◌&&◌, suc, slice_index, lit<}
 use Rattle.std.proofs.lemmas.Option.{cond_some}
-use Rattle.std.proofs.lemmas.Bool.{cond-true, and_parts, and_from, or_parts, or_from, eqb-true, agree_below_at}
+use Rattle.std.proofs.lemmas.Bool.{cond-true, and_parts, and_from, eqb-true, agree_below_at, false_from_ne_true}
+use Rattle.std.proofs.lemmas.List.{get_or-take, length-take-le}
 use Rattle.std.proofs.lemmas.Slice.Eq.{bytes_eq-Decides}
 use Rattle.std.proofs.lemmas.Bool.Decides.{nat_tests}
-use Rattle.std.specs.Prelude.{nat_lt, ◌==◌, if◌then◌else◌}
-use Rattle.std.specs.Char.{is_ascii_uppercase}
-use Rattle.std.specs.List.{list_any}
+use Rattle.std.specs.Prelude.{nat_lt, nat_le, ◌==◌, if◌then◌else◌}
+use Rattle.std.specs.List.{list_all}
 use Rattle.std.specs.Str.{bytes_eq}
-use Rattle.hex.specs.Hex.{encode_with, encode_lower, decode_of, decode_pairs, pair_value, value_at, digit_or_error, hex_digit_value, lower_digits, IsBytes, ◌>>=◌}
+use Rattle.byteorder.specs.Endian.{big_number}
+use Rattle.hex.specs.Hex.{encode_with, encode_lower, decode_of, decode_sized, lower_digits, IsBytes}
 use Rattle.hex.specs.declared.error.FromHexError.{FromHexError}
-use Rattle.hex.specs.declared.error.FromHexError.TheVariants as faults
-use Rattle.hex.proofs.HexLemmas.{decode_of-encode_lower, decode_of-ok, decode_of-even}
-use Rattle.mum_frame.specs.Frame.{IsOneFrame, is_one_frame}
+use Rattle.hex.proofs.HexLemmas.{length-encode_with, decode_of-encode_lower, decode_of-ok, decode_sized-encode_lower}
+use Rattle.mum_frame.specs.declared.frame.TheConstants.{HEADER_LENGTH, PAYLOAD_LIMIT}
+use Rattle.mum_frame.specs.Frame.{IsOneFrame, is_one_frame, named_length}
 use Rattle.mum_frame.proofs.OneFrame.{one_frame-tested, one_frame-found}
 use Rattle.mum_record.specs.Words.{is_space}
-use Rattle.mum_record.specs.Answers.{Reads, fault_of}
+use Rattle.mum_record.specs.Answers.{is_lower_digit, TestsFrame}
 use Rattle.mum_record.specs.Reading.{frame_of}
 use Rattle.mum_record.proofs.Numbers.{none_unless}
 
@@ -29,11 +30,15 @@ lower_digit : (v : ℕ) → v < 16 → slice_index lower_digits v ≡ (if nat_lt
 unfolding lower_digit-test
 lower_digit v h = eqb-true (slice_index lower_digits v) (if nat_lt v 10 then v + 48 else v + 87) (agree_below_at lower_digit-test (λ (_ : ℕ). true) 16 v refl h)
 
--- a digit that is no upper case letter is that of its value
-digit_of_value : (c v : ℕ) → hex_digit_value c ≡ Some v → is_ascii_uppercase c ≡ false → (v < 16) × (slice_index lower_digits v ≡ c)
-digit_of_value c v h lower =
-    let small : v < 16 = grind (arith, nat_tests) in
-    let at = lower_digit v small in
+-- the value of a digit
+value_of : ℕ → ℕ
+value_of c = if nat_lt c 58 then c - 48 else c - 87
+
+digit_of_value : (c : ℕ) → is_lower_digit c ≡ true → (value_of c < 16) × (slice_index lower_digits (value_of c) ≡ c)
+unfolding value_of
+digit_of_value c h =
+    let small : value_of c < 16 = grind (arith, nat_tests) in
+    let at = lower_digit (value_of c) small in
     (small, grind (arith, nat_tests))
 
 -- a digit is ASCII and no space
@@ -42,56 +47,40 @@ lower_digit-graphic v h =
     let at = lower_digit v h in
     (grind (arith, nat_tests), grind (arith, nat_tests))
 
--- the digits of bytes have no upper case letter
-pub encode_lower-lower : (bytes : List ℕ) → IsBytes bytes → list_any is_ascii_uppercase (encode_lower bytes) ≡ false
+-- the digits of bytes are such digits
+encode_lower-digits : (bytes : List ℕ) → IsBytes bytes → list_all is_lower_digit (encode_lower bytes) ≡ true
 unfolding encode_with
-encode_lower-lower [] small = refl
-encode_lower-lower (b ∷ bs) small =
+encode_lower-digits [] small = refl
+encode_lower-digits (b ∷ bs) small =
     let byte : b < 256 = small 0 in
     let high = lower_digit (b / 16) (omega arith) in
     let low = lower_digit (b % 16) (omega arith) in
-    let first : is_ascii_uppercase (slice_index lower_digits (b / 16)) ≡ false = grind (arith, nat_tests) in
-    let second : is_ascii_uppercase (slice_index lower_digits (b % 16)) ≡ false = grind (arith, nat_tests) in
-    or_from (is_ascii_uppercase (slice_index lower_digits (b / 16))) _ first
-    (or_from (is_ascii_uppercase (slice_index lower_digits (b % 16))) _ second (encode_lower-lower bs (λ i. small (suc i))))
+    let first : is_lower_digit (slice_index lower_digits (b / 16)) ≡ true = grind (arith, nat_tests) in
+    let second : is_lower_digit (slice_index lower_digits (b % 16)) ≡ true = grind (arith, nat_tests) in
+    and_from (is_lower_digit (slice_index lower_digits (b / 16))) _ first
+    (and_from (is_lower_digit (slice_index lower_digits (b % 16))) _ second (encode_lower-digits bs (λ i. small (suc i))))
 
--- ---- a word and its bytes
+byte_before : (b : ℕ) (bs : List ℕ) → b < 256 → IsBytes bs → IsBytes (b ∷ bs)
+byte_before b bs byte small zero = byte
+byte_before b bs byte small (suc i) = small i
 
--- what an `Ok` after `>>=` shows
-bind_ok : {A B : Type 0} (r : Result A FromHexError) (f : A → Result B FromHexError) (y : B) → (r >>= f) ≡ Ok y → (x : A) × (r ≡ Ok x) × (f x ≡ Ok y)
-bind_ok (Ok x) f y h = (x, refl, h)
-bind_ok (Err e) f y h = cc
-
-digit_read : (c i : ℕ) (o : Option ℕ) (v : ℕ) → digit_or_error c i o ≡ Ok v → o ≡ Some v
-digit_read c i (Some w) v h = cc
-digit_read c i None v h = cc
-
--- the bytes that lower case digits say are written by those digits
-decode_pairs-lower : (i : ℕ) (word bytes : List ℕ) → list_any is_ascii_uppercase word ≡ false → decode_pairs i word ≡ Ok bytes → word ≡ encode_lower bytes
-unfolding decode_pairs encode_with
-decode_pairs-lower i [] bytes lower h =
-    let e : [] ≡ bytes = cc in
-    rw (← e) refl
-decode_pairs-lower i (a ∷ []) bytes lower h = cc
-decode_pairs-lower i (a ∷ b ∷ rest) bytes lower h =
-    let byte = bind_ok (pair_value a b i) _ bytes h in
-    let high = bind_ok (value_at a i) _ byte.0 byte.1 in
-    let low = bind_ok (value_at b (i + 1)) _ byte.0 high.2 in
-    let more = bind_ok (decode_pairs (i + 2) rest) _ bytes byte.2 in
-    let first = or_parts (is_ascii_uppercase a) _ lower in
-    let second = or_parts (is_ascii_uppercase b) _ first.1 in
-    let a_is = digit_of_value a high.0 (digit_read a i (hex_digit_value a) high.0 high.1) first.0 in
-    let b_is = digit_of_value b low.0 (digit_read b (i + 1) (hex_digit_value b) low.0 low.1) second.0 in
-    let others : rest ≡ encode_lower more.0 = decode_pairs-lower (i + 2) rest more.0 second.1 more.1 in
-    let value : high.0 * 16 + low.0 ≡ byte.0 = cc in
-    let whole : byte.0 ∷ more.0 ≡ bytes = cc in
-    let above : byte.0 / 16 ≡ high.0 = omega (arith, a_is.0, b_is.0) in
-    let below : byte.0 % 16 ≡ low.0 = omega (arith, a_is.0, b_is.0) in
-    rw (← whole, above, below, a_is.1, b_is.1, ← others) refl
-
-decode_of-lower : (word bytes : List ℕ) → list_any is_ascii_uppercase word ≡ false → decode_of word ≡ Ok bytes → word ≡ encode_lower bytes
-decode_of-lower word bytes lower h =
-    decode_pairs-lower 0 word bytes lower (sym (decode_of-even word (decode_of-ok word bytes h).0) ∙ h)
+-- an even number of such digits are those of bytes
+digits_are_of : (word : List ℕ) → length word % 2 ≡ 0 → list_all is_lower_digit word ≡ true → (bytes : List ℕ) × IsBytes bytes × (word ≡ encode_lower bytes)
+unfolding encode_with
+digits_are_of [] even digits = ([], λ i. lit< tt, refl)
+digits_are_of (a ∷ []) even digits = absurd (omega arith)
+digits_are_of (a ∷ b ∷ rest) even digits =
+    let first = and_parts (is_lower_digit a) _ digits in
+    let second = and_parts (is_lower_digit b) _ first.1 in
+    let high = digit_of_value a first.0 in
+    let low = digit_of_value b second.0 in
+    let more = digits_are_of rest (omega arith) second.1 in
+    let above : (value_of a * 16 + value_of b) / 16 ≡ value_of a = omega (arith, high.0, low.0) in
+    let below : (value_of a * 16 + value_of b) % 16 ≡ value_of b = omega (arith, high.0, low.0) in (
+      (value_of a * 16 + value_of b) ∷ more.0,
+      byte_before (value_of a * 16 + value_of b) more.0 (omega (arith, high.0, low.0)) more.1,
+      rw (above, below, high.1, low.1, ← more.2) refl,
+    )
 
 -- ---- the frame of a word
 
@@ -103,18 +92,9 @@ frame_of-decoded : (word bytes : List ℕ) → decode_of word ≡ Ok bytes → f
 unfolding frame_of kept
 frame_of-decoded word bytes h = rw h refl
 
--- a word that does not decode says no frame
-pub frame_of-undecoded : (word : List ℕ) (e : FromHexError) → decode_of word ≡ Err e → frame_of word ≡ None
+frame_of-undecoded : (word : List ℕ) (e : FromHexError) → decode_of word ≡ Err e → frame_of word ≡ None
 unfolding frame_of
 frame_of-undecoded word e h = rw h refl
-
--- lower case digits of exactly one frame say it
-pub frame_of-read : (word bytes : List ℕ) → list_any is_ascii_uppercase word ≡ false → decode_of word ≡ Ok bytes → IsOneFrame bytes → frame_of word ≡ Some bytes
-unfolding kept
-frame_of-read word bytes lower h one =
-    let same = (bytes_eq-Decides word (encode_lower bytes)).1 (decode_of-lower word bytes lower h) in
-    frame_of-decoded word bytes h
-    ∙ cond-true (bytes_eq word (encode_lower bytes) && is_one_frame bytes) (Some bytes) None (and_from (bytes_eq word (encode_lower bytes)) (is_one_frame bytes) same (one_frame-tested bytes one))
 
 found_from : (word bytes : List ℕ) (r : Result (List ℕ) FromHexError) → decode_of word ≡ r → frame_of word ≡ Some bytes → IsBytes bytes × IsOneFrame bytes × (word ≡ encode_lower bytes)
 unfolding kept
@@ -131,32 +111,126 @@ found_from word bytes (Err e) is h =
 pub frame_of-found : (word bytes : List ℕ) → frame_of word ≡ Some bytes → IsBytes bytes × IsOneFrame bytes × (word ≡ encode_lower bytes)
 frame_of-found word bytes h = found_from word bytes (decode_of word) refl h
 
--- bytes that are no one frame are not said
-pub frame_of-other : (word bytes : List ℕ) → decode_of word ≡ Ok bytes → (IsOneFrame bytes → ⊥) → frame_of word ≡ None
-frame_of-other word bytes h other =
-    none_unless (frame_of word) (λ read is.
-    let found = frame_of-found word read is in
-    let again : decode_of word ≡ Ok read = rw found.2 (decode_of-encode_lower read found.0) in
-    let same : read ≡ bytes = cc in
-    other (rw same at found.1))
-
--- nor is anything by upper case digits
-pub frame_of-upper : (word : List ℕ) → list_any is_ascii_uppercase word ≡ true → frame_of word ≡ None
-frame_of-upper word upper =
-    none_unless (frame_of word) (λ bytes is.
-    let found = frame_of-found word bytes is in
-    let lower : list_any is_ascii_uppercase word ≡ false = rw found.2 (encode_lower-lower bytes found.0) in
-    cc)
+-- the digits of bytes say a frame where the bytes are one
+frame_of-digits : (bytes : List ℕ) → IsBytes bytes → frame_of (encode_lower bytes) ≡ (if is_one_frame bytes then Some bytes else None)
+unfolding kept
+frame_of-digits bytes small =
+    frame_of-decoded (encode_lower bytes) bytes (decode_of-encode_lower bytes small)
+    ∙ ap (λ (same : Bool). if same && is_one_frame bytes then Some bytes else None) ((bytes_eq-Decides (encode_lower bytes) (encode_lower bytes)).1 refl)
 
 -- a frame is read back from its digits
 pub frame_of-encode_lower : (bytes : List ℕ) → IsBytes bytes → IsOneFrame bytes → frame_of (encode_lower bytes) ≡ Some bytes
-frame_of-encode_lower bytes small one = frame_of-read (encode_lower bytes) bytes (encode_lower-lower bytes small) (decode_of-encode_lower bytes small) one
+frame_of-encode_lower bytes small one =
+    frame_of-digits bytes small ∙ cond-true (is_one_frame bytes) (Some bytes) None (one_frame-tested bytes one)
 
--- ---- what reading a frame answers
+-- ---- the test of a word
 
--- digits that did not decode say no frame, unless memory ran out
-pub frame_of-refused : (word : List ℕ) (e : FromHexError) → (e ≡ faults.OutOfMemory) ⊎ (decode_of word ≡ Err e) → Reads {X = List ℕ} (Err (fault_of e)) (frame_of word)
-frame_of-refused word faults.OutOfMemory h = tt
-frame_of-refused word faults.OddLength h = elim h [ inl e ↦ cc | inr e ↦ frame_of-undecoded word faults.OddLength e ]
-frame_of-refused word faults.InvalidStringLength h = elim h [ inl e ↦ cc | inr e ↦ frame_of-undecoded word faults.InvalidStringLength e ]
-frame_of-refused word (faults.InvalidHexCharacter letter place) h = elim h [ inl e ↦ cc | inr e ↦ frame_of-undecoded word (faults.InvalidHexCharacter letter place) e ]
+some_as_tested : (tested : Bool) (bytes : List ℕ) → is_some (if tested then Some bytes else None) ≡ tested
+some_as_tested true bytes = refl
+some_as_tested false bytes = refl
+
+-- of such digits, the test of their bytes is that of the word
+pub tested-digits : (word : List ℕ) (tested : Bool) → list_all is_lower_digit word ≡ true → (tested ≡ true → length word % 2 ≡ 0) → TestsFrame word tested → tested ≡ is_some (frame_of word)
+tested-digits word true digits even tests =
+    let of = digits_are_of word (even refl) digits in
+    tests of.0 of.1 of.2 ∙ sym (ap (λ (w : List ℕ). is_some (frame_of w)) of.2 ∙ ap is_some (frame_of-digits of.0 of.1) ∙ some_as_tested (is_one_frame of.0) of.0)
+tested-digits word false digits even tests =
+    sym (ap is_some (none_unless (frame_of word) (λ bytes is.
+    let found = frame_of-found word bytes is in
+    let one = one_frame-tested bytes found.1 in
+    let other : false ≡ is_one_frame bytes = tests bytes found.0 found.2 in
+    cc)))
+
+-- a word of other letters says no frame
+pub tested-other : (word : List ℕ) → list_all is_lower_digit word ≡ false → false ≡ is_some (frame_of word)
+tested-other word other =
+    sym (ap is_some (none_unless (frame_of word) (λ bytes is.
+    let found = frame_of-found word bytes is in
+    let digits : list_all is_lower_digit word ≡ true = rw found.2 (encode_lower-digits bytes found.0) in
+    cc)))
+
+some_if_tested : (tested : Bool) (bytes : List ℕ) → is_some (if tested then Some bytes else None) ≡ true → (if tested then Some bytes else None) ≡ Some bytes
+some_if_tested true bytes h = refl
+some_if_tested false bytes h = cc
+
+-- a frame that a word says is what it decodes to
+pub frame_of-decodes : (word bytes : List ℕ) → is_some (frame_of word) ≡ true → decode_of word ≡ Ok bytes → frame_of word ≡ Some bytes
+unfolding kept
+frame_of-decodes word bytes some h =
+    let decoded = frame_of-decoded word bytes h in
+    decoded ∙ some_if_tested (bytes_eq word (encode_lower bytes) && is_one_frame bytes) bytes (rw decoded at some)
+
+-- ---- the header of the digits
+
+length-digits : (word bytes : List ℕ) → word ≡ encode_lower bytes → length word ≡ 2 * length bytes
+length-digits word bytes is = ap length is ∙ length-encode_with lower_digits bytes
+
+-- fewer digits than those of a header are no frame
+pub TestsFrame-cut : (word : List ℕ) → length word < 2 * HEADER_LENGTH → TestsFrame word false
+TestsFrame-cut word cut bytes small is =
+    let size = length-digits word bytes is in
+    sym (false_from_ne_true (is_one_frame bytes) (λ one.
+    let parts = and_parts (length bytes == HEADER_LENGTH + named_length bytes) (nat_le (named_length bytes) PAYLOAD_LIMIT) one in
+    let long = eqb-true (length bytes) (HEADER_LENGTH + named_length bytes) parts.0 in
+    omega arith))
+
+header_taken : (bytes : List ℕ) → HEADER_LENGTH ≤ length bytes → take (2 * HEADER_LENGTH) (encode_lower bytes) ≡ encode_lower (take HEADER_LENGTH bytes)
+unfolding encode_with
+header_taken (a ∷ b ∷ c ∷ d ∷ e ∷ f ∷ rest) h = refl
+header_taken [] h = absurd (omega arith)
+header_taken (a ∷ []) h = absurd (omega arith)
+header_taken (a ∷ b ∷ []) h = absurd (omega arith)
+header_taken (a ∷ b ∷ c ∷ []) h = absurd (omega arith)
+header_taken (a ∷ b ∷ c ∷ d ∷ []) h = absurd (omega arith)
+header_taken (a ∷ b ∷ c ∷ d ∷ e ∷ []) h = absurd (omega arith)
+
+-- the length, as a read of the header from the third byte on sees it
+pub named_length-read : (header : List ℕ) → big_number 4 (take 4 (drop 2 header)) ≡ named_length header
+unfolding named_length
+named_length-read header =
+    let rest : List ℕ = drop 2 header in
+    rw (get_or-take 4 rest 0 0 (lit< tt), get_or-take 4 rest 1 0 (lit< tt), get_or-take 4 rest 2 0 (lit< tt), get_or-take 4 rest 3 0 (lit< tt)) refl
+
+named_by_header : (bytes : List ℕ) → HEADER_LENGTH ≤ length bytes → named_length (take HEADER_LENGTH bytes) ≡ named_length bytes
+unfolding named_length
+named_by_header (a ∷ b ∷ c ∷ d ∷ e ∷ f ∷ rest) h = refl
+named_by_header [] h = absurd (omega arith)
+named_by_header (a ∷ []) h = absurd (omega arith)
+named_by_header (a ∷ b ∷ []) h = absurd (omega arith)
+named_by_header (a ∷ b ∷ c ∷ []) h = absurd (omega arith)
+named_by_header (a ∷ b ∷ c ∷ d ∷ []) h = absurd (omega arith)
+named_by_header (a ∷ b ∷ c ∷ d ∷ e ∷ []) h = absurd (omega arith)
+
+first_bytes : (n : ℕ) (bytes : List ℕ) → IsBytes bytes → IsBytes (take n bytes)
+first_bytes zero bytes small i = lit< tt
+first_bytes (suc n) [] small i = lit< tt
+first_bytes (suc n) (b ∷ bs) small zero = small 0
+first_bytes (suc n) (b ∷ bs) small (suc i) = first_bytes n bs (λ k. small (suc k)) i
+
+-- the first digits are those of the header
+header_read : (word bytes : List ℕ) → 2 * HEADER_LENGTH ≤ length word → IsBytes bytes → word ≡ encode_lower bytes
+    → (HEADER_LENGTH ≤ length bytes) × (decode_sized (take (2 * HEADER_LENGTH) word) HEADER_LENGTH ≡ Ok (take HEADER_LENGTH bytes))
+header_read word bytes long small is =
+    let size = length-digits word bytes is in
+    let header : HEADER_LENGTH ≤ length bytes = omega arith in
+    let first : take (2 * HEADER_LENGTH) word ≡ encode_lower (take HEADER_LENGTH bytes) = ap (take (2 * HEADER_LENGTH)) is ∙ header_taken bytes header in (
+      header,
+      rw first (decode_sized-encode_lower (take HEADER_LENGTH bytes) HEADER_LENGTH (length-take-le HEADER_LENGTH bytes header) (first_bytes HEADER_LENGTH bytes small)),
+    )
+
+-- what has no header is not the digits of bytes
+pub TestsFrame-no_header : (word : List ℕ) → 2 * HEADER_LENGTH ≤ length word
+    → ((header : List ℕ) → decode_sized (take (2 * HEADER_LENGTH) word) HEADER_LENGTH ≡ Ok header → ⊥) → TestsFrame word false
+TestsFrame-no_header word long never bytes small is =
+    absurd (never (take HEADER_LENGTH bytes) (header_read word bytes long small is).1)
+
+-- as many bytes follow the header as it names, within the limit
+pub TestsFrame-named : (word header : List ℕ) (named : ℕ) (tested : Bool) → 2 * HEADER_LENGTH ≤ length word
+    → decode_sized (take (2 * HEADER_LENGTH) word) HEADER_LENGTH ≡ Ok header → named ≡ named_length header
+    → tested ≡ (nat_le named PAYLOAD_LIMIT && (length word == 2 * (HEADER_LENGTH + named))) → TestsFrame word tested
+TestsFrame-named word header named tested long read named_is tested_is bytes small is =
+    let size = length-digits word bytes is in
+    let first = header_read word bytes long small is in
+    let same : header ≡ take HEADER_LENGTH bytes = cc in
+    let names : named ≡ named_length bytes = named_is ∙ ap named_length same ∙ named_by_header bytes first.0 in
+    grind (arith, nat_tests)

@@ -9,7 +9,7 @@ use Rattle.std.proofs.lemmas.Str.Parse.{digit_at, digit_from_value}
 use Rattle.std.proofs.lemmas.List.Splits.{join_with_byte-slice_split}
 use Rattle.std.specs.Fmt.{decimal}
 use Rattle.std.specs.List.{slice_split, join_with_byte, list_all}
-use Rattle.std.specs.Prelude.{nat_lt}
+use Rattle.std.specs.Prelude.{nat_lt, ◌↔◌}
 use Rattle.std.specs.Option.{option_map}
 use Rattle.std.specs.Str.{bytes_eq, IsUtf8}
 use Rattle.std.specs.Str.Parse.{AllDigits}
@@ -255,13 +255,21 @@ pub Reads-found : (line : List ℕ) (r : Result Step LineFault) → Reads r (ste
 Reads-found line (Ok step) h = step_of-found line step h
 Reads-found line (Err e) h = tt
 
--- a line that was refused is that of no step
-pub Reads-only : (line : List ℕ) (r : Result Step LineFault) → Reads r (step_of line) → IsErrOf r NotALine → (step : Step) → IsLineOf line step → ⊥
-Reads-only line (Ok read) h refused step is = cc
-Reads-only line (Err NotALine) h refused step is =
-    let found : step_of line ≡ Some step = rw is.1 (step_of-line_of step is.0) in
-    cc
-Reads-only line (Err OutOfMemory) h refused step is = cc
+-- a line is refused where it is that of no step, and there alone
+pub Reads-refused : (line : List ℕ) (r : Result Step LineFault) → Reads r (step_of line) → IsErrOf r NotALine ↔ ((step : Step) → IsLineOf line step → ⊥)
+Reads-refused line (Ok read) h = (λ e step is. cc, λ never. absurd (never read (step_of-found line read h)))
+Reads-refused line (Err NotALine) h = (
+  λ e step is.
+      let found : step_of line ≡ Some step = rw is.1 (step_of-line_of step is.0) in
+      cc,
+  λ never. refl,
+)
+Reads-refused line (Err OutOfMemory) h = (
+  λ e step is. cc,
+  λ never.
+      let none : step_of line ≡ None = none_unless (step_of line) (λ step is. never step (step_of-found line step is)) in
+      cc (rw none at h),
+)
 
 -- a line that is no text says no step
 pub step_of-no_text : (line : List ℕ) → (IsUtf8 line → ⊥) → step_of line ≡ None

@@ -1,22 +1,24 @@
 -- What reading a line, or a word of it, answers.
-use Rattle.std.specs.Prelude.{◌≡◌, ℕ, ◌<◌, ◌≤◌, List, length, slice_index, Option, Some, None, Result, Ok, Err}
-use Rattle.hex.specs.declared.error.FromHexError.{FromHexError}
-use Rattle.hex.specs.declared.error.FromHexError.TheVariants as faults
+use Rattle.std.specs.Prelude.{◌≡◌, ℕ, ◌<◌, ◌≤◌, ◌&&◌, Bool, not, List, length, slice_index, Option, Some, None, IsSome, Result, Ok, Err}
+use Rattle.std.specs.Char.{is_ascii_hexdigit, is_ascii_uppercase}
+use Rattle.hex.specs.Hex.{encode_lower, IsBytes}
+use Rattle.mum_frame.specs.Frame.{is_one_frame}
 use Rattle.mum_record.specs.declared.step.LineFault.{LineFault}
 use Rattle.mum_record.specs.declared.step.LineFault.TheVariants.{NotALine, OutOfMemory}
 
--- the value that was to be read, or none where there is none; memory may run out
+-- the value that was to be read, or none where there is none; memory runs out only where there is one
 abbrev pub Reads : {X : Type 0} → Result X LineFault → Option X → Type 0
 Reads (Ok value) read = read ≡ Some value
 Reads (Err NotALine) read = read ≡ None
-Reads (Err OutOfMemory) read = Unit {0}
+Reads (Err OutOfMemory) read = IsSome read
 
--- the fault of digits that did not decode
-abbrev pub fault_of : FromHexError → LineFault
-fault_of faults.OutOfMemory = OutOfMemory
-fault_of faults.OddLength = NotALine
-fault_of faults.InvalidStringLength = NotALine
-fault_of (faults.InvalidHexCharacter letter place) = NotALine
+-- a digit 0 to 9 or a to f
+abbrev pub is_lower_digit : ℕ → Bool
+is_lower_digit letter = is_ascii_hexdigit letter && not (is_ascii_uppercase letter)
+
+-- whether bytes are one frame, where the word is their digits
+abbrev pub TestsFrame : List ℕ → Bool → Type 0
+TestsFrame word tested = (bytes : List ℕ) → IsBytes bytes → word ≡ encode_lower bytes → tested ≡ is_one_frame bytes
 
 -- a digit stands first, and a zero only alone
 abbrev pub BeginsPlainly : List ℕ → Type 0

@@ -1,21 +1,20 @@
 //! Reading the line of a step.
 
-ghost use Rattle.std.specs.Prelude.{◌≡◌, IfOk, IsErrOf};
-ghost use Rattle.std.specs.Char.{is_ascii_uppercase};
-ghost use Rattle.std.specs.List.{list_any};
+ghost use Rattle.std.specs.Prelude.{◌≡◌, ◌%◌, ◌↔◌, IfOk, IsErrOf, IsTrue, is_some, length};
+ghost use Rattle.std.specs.List.{list_all};
 ghost use Rattle.mum_record.specs.declared.step.Step.{Step};
 ghost use Rattle.mum_record.specs.Grammar.{IsLineOf};
 ghost use Rattle.mum_record.specs.Reading.{frame_of, told_of, cause_of, step_of};
 ghost use Rattle.mum_record.specs.Reading as spec;
-ghost use Rattle.mum_record.specs.Answers.{Reads};
-ghost use Rattle.mum_record.specs.Answers as spec_answers;
+ghost use Rattle.mum_record.specs.Answers.{Reads, TestsFrame, is_lower_digit};
 ghost use Rattle.mum_record.specs.Laws.{ReadsTheGrammar, ReadsBack};
 
 use crate::step::{LineFault, Step};
 use crate::words::{Words, number_in, place_in, words_in};
-use hex::FromHexError;
+use byteorder::{BigEndian, ByteOrder};
+use hex::FromHex;
 use mum_base::{Cause, Octets};
-use mum_frame::whole_frame;
+use mum_frame::{HEADER_LENGTH, PAYLOAD_LIMIT};
 use std::alloc::Global;
 
 /// The revision that a word says, or that it says none.
@@ -45,33 +44,45 @@ fn cause_in(word: &str) -> Option<Cause>
     }
 }
 
-/// Why digits that did not decode give no step.
-fn fault_of(fault: FromHexError) -> LineFault
-    ensures { result ≡ spec_answers.fault_of fault }
+/// Whether a word is digits 0 to 9 and a to f.
+fn are_lower_digits(word: &[u8]) -> bool
+    ensures { result ≡ list_all is_lower_digit word.now }
 {
-    match fault {
-        FromHexError::OutOfMemory => LineFault::OutOfMemory,
-        _ => LineFault::NotALine,
+    word.iter().all(|letter| letter.is_ascii_hexdigit() && !letter.is_ascii_uppercase())
+}
+
+/// Whether as many digits follow those of a frame's header as it names, within the limit.
+fn has_named_length(word: &[u8]) -> bool
+    ensures pairs { IsTrue result → length word.now % 2 ≡ 0 }
+    ensures named { TestsFrame word.now result }
+{
+    if word.len() < 2 * HEADER_LENGTH {
+        return false;
     }
+    let Ok(header) = <[u8; HEADER_LENGTH] as FromHex>::from_hex(&word[..2 * HEADER_LENGTH]) else {
+        return false;
+    };
+    let length = BigEndian::read_u32(&header[2..]) as usize;
+    length <= PAYLOAD_LIMIT && word.len() == 2 * (HEADER_LENGTH + length)
 }
 
-fn has_upper_case(word: &[u8]) -> bool
-    ensures { result ≡ list_any is_ascii_uppercase word.now }
+/// Whether a word is the digits of exactly one frame. It takes no memory.
+fn is_frame(word: &[u8]) -> bool
+    ensures { result ≡ is_some (frame_of word.now) }
 {
-    word.iter().any(|letter| letter.is_ascii_uppercase())
+    are_lower_digits(word) && has_named_length(word)
 }
 
-/// The bytes of the frame whose digits a word is.
+/// The bytes of the frame whose digits a word is. It takes memory only for such a word.
 fn frame_in(alloc: Global, word: &str) -> Result<Octets, LineFault>
     ensures { Reads result (frame_of word.now) }
 {
-    if has_upper_case(word.as_bytes()) {
+    if !is_frame(word.as_bytes()) {
         return Err(LineFault::NotALine);
     }
     match hex::decode(alloc, word) {
-        Ok(bytes) if whole_frame(&bytes).is_some() => Ok(Octets::from_vec(bytes)),
-        Ok(_) => Err(LineFault::NotALine),
-        Err(fault) => Err(fault_of(fault)),
+        Ok(bytes) => Ok(Octets::from_vec(bytes)),
+        Err(_) => Err(LineFault::OutOfMemory),
     }
 }
 
@@ -156,13 +167,17 @@ fn step_in(alloc: Global, line: &str) -> Result<Step, LineFault>
 }
 
 /// The step that a line says. The line stands without its line feed, and may be any bytes. Only the
-/// bytes of a frame take memory.
+/// bytes of a frame take memory, and only once the whole line is known to say a step: a line that
+/// says none is `NotALine` whatever memory there is.
 pub fn read_step(alloc: Global, line: &[u8]) -> Result<Step, LineFault>
+    // A step is the one that the line says, `NotALine` is of a line that says none, and
+    // `OutOfMemory` of one that says some.
     ensures exact { Reads result (step_of line.now) }
     // What is read is a step whose line this is.
     ensures found { IfOk result (IsLineOf line.now) }
-    // A line that is refused is that of no step.
-    ensures only { IsErrOf result LineFault.NotALine → (step : Step) → IsLineOf line.now step → ⊥ }
+    // A line is refused exactly where it is that of no step, whatever memory there is.
+    ensures refused { IsErrOf result LineFault.NotALine
+        ↔ ((step : Step) → IsLineOf line.now step → ⊥) }
 {
     match str::from_utf8(line) {
         Ok(text) => step_in(alloc, text),

@@ -32,10 +32,10 @@ use Rattle.mum_core.proofs.RunLaws.{none_stands, not_false, told_core, taken_cor
 
 -- ---- a worker that holds a packet has no copies
 
-abbrev IsClean : WorkerState → Type 0
+abbrev pub IsClean : WorkerState → Type 0
 IsClean x = is_some x.held ≡ true → x.copies ≡ []
 
-abbrev AreClean : List WorkerState → Type 0
+abbrev pub AreClean : List WorkerState → Type 0
 AreClean workers = (w : ℕ) → IsClean (slice_index_or workers w idle)
 
 clean-at : (workers : List WorkerState) (i : ℕ) (change : WorkerState → WorkerState)
@@ -62,7 +62,7 @@ idle_hands None copies h = no_copies copies h
 idle_hands (Some held) copies h = absurd (omega arith)
 
 -- the worker of a frame that is allowed has nothing in hand
-frame_hands : (core : CoreState) (c kind : ℕ) (payload : List ℕ) → illegal core (Frame c kind payload) ≡ None → (worker_at core (connection_at core c).worker).copies ≡ []
+pub frame_hands : (core : CoreState) (c kind : ℕ) (payload : List ℕ) → illegal core (Frame c kind payload) ≡ None → (worker_at core (connection_at core c).worker).copies ≡ []
 frame_hands core c kind payload h =
     let worker : WorkerState = worker_at core (connection_at core c).worker in
     let first = none_stands (not (is_opened core c)) _ _ h in
@@ -96,14 +96,14 @@ takes_workers : (core : CoreState) (seat : Seat) (front : Option Parcel) → (dr
 takes_workers core seat None = refl
 takes_workers core seat (Some front) = cond_workers (drain_step.is_for front seat) core _ _ refl refl
 
-drain_workers : (core : CoreState) (seat : Option Seat) → (drain_step.does_from core seat).workers ≡ core.workers
+pub drain_workers : (core : CoreState) (seat : Option Seat) → (drain_step.does_from core seat).workers ≡ core.workers
 drain_workers core None = refl
 drain_workers core (Some seat) = takes_workers core seat (slice_get (outbox_at core seat.slot.0) 0)
 
 clean_by : (old new : List WorkerState) → new ≡ old → AreClean old → AreClean new
 clean_by old new same clean w = rw same (clean w)
 
-clean_step : (core : CoreState) (step : BuiltStep) → illegal core step ≡ None → AreClean core.workers → AreClean (does core step).workers
+pub clean_step : (core : CoreState) (step : BuiltStep) → illegal core step ≡ None → AreClean core.workers → AreClean (does core step).workers
 clean_step core (Open c w) h clean = clean
 clean_step core (Frame c kind payload) h clean = clean_frame core c (action (connection_at core c).seat kind payload) (frame_hands core c kind payload h) clean
 clean_step core (steps.Edit c) h clean = clean
@@ -120,7 +120,7 @@ clean_step core (Offer w) h clean =
 clean_step core (Drain c) h clean = clean_by core.workers (does core (Drain c)).workers (drain_workers core (connection_at core c).seat) clean
 clean_step core End h clean = clean
 
-clean_start : (workers : ℕ) → AreClean (replicate workers idle)
+pub clean_start : (workers : ℕ) → AreClean (replicate workers idle)
 clean_start zero w holds = refl
 clean_start (suc n) zero holds = refl
 clean_start (suc n) (suc w) holds = clean_start n w holds
@@ -225,12 +225,12 @@ pub record Adds (old new : CoreState) (more : ℕ) : Type 0 where
 adds_none : (old new : CoreState) → Same old new → Adds old new 0
 adds_none old new same = record { counted = omega (arith, same.0, same.1); total_is = omega (arith, same.0, same.1, same.2) }
 
-there_is : (core : CoreState) (w : ℕ) (cases : Option (ℕ × ℕ)) → (if not (nat_lt w (length core.workers)) then Some (w, length core.workers) else cases) ≡ None → slice_get core.workers w ≡ Some (worker_at core w)
+pub there_is : (core : CoreState) (w : ℕ) (cases : Option (ℕ × ℕ)) → (if not (nat_lt w (length core.workers)) then Some (w, length core.workers) else cases) ≡ None → slice_get core.workers w ≡ Some (worker_at core w)
 there_is core w cases h =
     let first = none_stands (not (nat_lt w (length core.workers))) _ _ h in
     slice_get-get_or core.workers w idle (ltb-true w (length core.workers) (not_false (nat_lt w (length core.workers)) first.0))
 
-held_there : (held : Option HeldPacket) → is_none held ≡ false → is_some held ≡ true
+pub held_there : (held : Option HeldPacket) → is_none held ≡ false → is_some held ≡ true
 held_there None h = cc
 held_there (Some x) h = refl
 

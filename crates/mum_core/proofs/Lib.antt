@@ -10,3 +10,6 @@ pub mod Ends
 pub mod RunLaws
 pub mod Counts
 pub mod Numbering
+pub mod Orders
+pub mod Origins
+pub mod Places

@@ -25,7 +25,7 @@ use Rattle.mum_core.proofs.RunLaws.{frame_keeps, notes_keep, puts_keep, drain_ke
 use Rattle.mum_core.proofs.Sessions.{sessions_after, length_after}
 
 -- sessions numbered from n on
-abbrev AreNumbered : ℕ → List Session → Type 0
+abbrev pub AreNumbered : ℕ → List Session → Type 0
 AreNumbered n [] = Unit {0}
 AreNumbered n (s ∷ sessions) = (s.session.0 ≡ n) × AreNumbered (n + 1) sessions
 
@@ -40,7 +40,7 @@ numbered-take n (suc k) (s ∷ sessions) h = (h.0, numbered-take (n + 1) k sessi
 
 -- ---- what a run accepts
 
-abbrev IsNumbered : CoreState → Type 0
+abbrev pub IsNumbered : CoreState → Type 0
 IsNumbered core = AreNumbered 1 (after core.accepted).sessions
 
 numbered_by : (old new : CoreState) → new.accepted ≡ old.accepted → IsNumbered old → IsNumbered new
@@ -56,7 +56,7 @@ more_edits core (Some (Login name)) h =
     omega (arith, length_after core.accepted, length-map core.accepted session_of) in
     rw (sessions_after (core.accepted ++ edit ∷ []), map_push session_of core.accepted edit) (numbered-push 1 (map session_of core.accepted) (session_of edit) old number)
 
-numbered : (core : CoreState) (step : BuiltStep) → IsNumbered core → IsNumbered (does core step)
+pub numbered : (core : CoreState) (step : BuiltStep) → IsNumbered core → IsNumbered (does core step)
 numbered core (Open c w) h = h
 numbered core (Frame c kind payload) h = numbered_by core (does core (Frame c kind payload)) (frame_keeps core c (action (connection_at core c).seat kind payload)).0 h
 numbered core (steps.Edit c) h = more_edits core (connection_at core c).waiting h
@@ -71,7 +71,7 @@ numbered_all : (core : CoreState) (run : List BuiltStep) → IsNumbered core →
 numbered_all core [] h = h
 numbered_all core (step ∷ run) h = numbered_all (does core step) run (numbered core step h)
 
-numbered_start : (workers : ℕ) → IsNumbered (start workers)
+pub numbered_start : (workers : ℕ) → IsNumbered (start workers)
 numbered_start workers = rw (sessions_after []) tt
 
 -- ---- who hears
@@ -114,7 +114,7 @@ cond_rising : (b : Bool) (xs : List Member) → AllPairs IsBefore xs → AllPair
 cond_rising true xs h = h
 cond_rising false xs h = no_pairs
 
-state_numbered : (edits : List Edit) (revision : ℕ) → AreNumbered 1 (after edits).sessions → AreNumbered 1 (after (take revision edits)).sessions
+pub state_numbered : (edits : List Edit) (revision : ℕ) → AreNumbered 1 (after edits).sessions → AreNumbered 1 (after (take revision edits)).sessions
 state_numbered edits revision h =
     let old : AreNumbered 1 (map session_of edits) = rw sessions_after at h in
     rw (sessions_after (take revision edits), ← take-map session_of revision edits) (numbered-take 1 revision (map session_of edits) old)

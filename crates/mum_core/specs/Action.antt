@@ -6,11 +6,9 @@ use Rattle.mum_fields.specs.Written.{written}
 use Rattle.mum_frame.specs.Frame.{spelling_of}
 use Rattle.mum_frame.specs.declared.kind.TheConstants.{UDP_TUNNEL, VERSION, PING, AUTHENTICATE}
 use Rattle.mum_msg_state.specs.Messages.{version, authenticate, ping}
-use Rattle.mum_core.specs.declared.action.Action.{Action}
+use Rattle.mum_core.specs.declared.{action.Action.Action, action.Ignored.Ignored, connection.Seat.Seat}
 use Rattle.mum_core.specs.declared.action.Action.TheVariants.{Ask, Voice, Echo, Keep, Ignore}
-use Rattle.mum_core.specs.declared.action.Ignored.{Ignored}
 use Rattle.mum_core.specs.declared.action.Ignored.TheVariants.{NotRead, Malformed, NotLoggedIn}
-use Rattle.mum_core.specs.declared.connection.Seat.{Seat}
 
 -- the number by which the transcript tells why
 abbrev pub ignored_code : Ignored → ℕ

@@ -1,9 +1,6 @@
 -- What a connection is to the steps.
 use Rattle.std.specs.Prelude.{ℕ, ◌+◌, Option, Some, None}
-use Rattle.mum_core.specs.declared.connection.Connection.{Connection}
-use Rattle.mum_core.specs.declared.connection.Seat.{Seat}
-use Rattle.mum_core.specs.declared.connection.Verdict.{Verdict}
-use Rattle.mum_core.specs.declared.connection.Verdict.TheVariants.{Accepted}
+use Rattle.mum_core.specs.declared.{connection.Connection.Connection, connection.Seat.Seat, connection.Verdict.Verdict, connection.Verdict.TheVariants.Accepted}
 
 -- a connection that asked for nothing yet, at this worker
 abbrev pub fresh : ℕ → Connection

@@ -1,10 +1,6 @@
 -- The core as plain data, and the changes of one connection, one worker or one outbox.
 use Rattle.std.specs.Prelude.{ℕ, ◌+◌, ◌-◌, ◌^◌, ◌&&◌, min, Bool, List, [], take, length, replicate, nat_lt, slice_index_or, if◌then◌else◌}
-use Rattle.mum_core.specs.declared.connection.Connection.{Connection}
-use Rattle.mum_core.specs.declared.machine.Totals.{Totals}
-use Rattle.mum_core.specs.declared.edit.Edit.{Edit}
-use Rattle.mum_core.specs.declared.outbox.Parcel.{Parcel}
-use Rattle.mum_core.specs.declared.slot.TheConstants.{SLOTS}
+use Rattle.mum_core.specs.declared.{connection.Connection.Connection, machine.Totals.Totals, edit.Edit.Edit, outbox.Parcel.Parcel, slot.TheConstants.SLOTS}
 use Rattle.mum_core.specs.Connection.{fresh}
 use Rattle.mum_core.specs.Lists.{changed_at}
 use Rattle.mum_core.specs.State.{State, after}

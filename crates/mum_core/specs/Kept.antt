@@ -2,11 +2,7 @@
 use Rattle.std.specs.Prelude.{◌≡◌, ℕ, ◌≤◌, List, [], length, map, Result, Ok, Err}
 use Rattle.mum_voice.specs.declared.fault.BadVoice.{BadVoice}
 use Rattle.mum_voice.specs.Packet.{Parts}
-use Rattle.mum_core.specs.declared.edit.Edit.{Edit}
-use Rattle.mum_core.specs.declared.edit.Edit.TheVariants.{Join}
-use Rattle.mum_core.specs.declared.edit.Session.{Session}
-use Rattle.mum_core.specs.declared.outbox.Parcel.{Parcel}
-use Rattle.mum_core.specs.declared.slot.TheConstants.{SLOTS}
+use Rattle.mum_core.specs.declared.{edit.Edit.Edit, edit.Edit.TheVariants.Join, edit.Session.Session, outbox.Parcel.Parcel, slot.TheConstants.SLOTS}
 
 -- the session that an edit brings
 abbrev pub session_of : Edit → Session

@@ -6,15 +6,9 @@ use Rattle.mum_frame.specs.declared.kind.TheConstants.{AUTHENTICATE}
 use Rattle.mum_record.specs.declared.step.Step.{Step}
 use Rattle.mum_record.specs.Head.{is_head_line, workers_of, is_empty_config}
 use Rattle.mum_record.specs.Reading.{step_of}
-use Rattle.mum_core.specs.declared.connection.TheConstants.{OLDEST_VERSION}
-use Rattle.mum_core.specs.declared.end.End.{End}
-use Rattle.mum_core.specs.declared.end.End.TheVariants.{Finished, Faulty}
-use Rattle.mum_core.specs.declared.end.LineFault.{LineFault}
+use Rattle.mum_core.specs.declared.{connection.TheConstants.OLDEST_VERSION, end.End.End, end.End.TheVariants.Finished, end.End.TheVariants.Faulty, end.LineFault.LineFault, replay.Login.Login, replay.Phase.Phase, replay.TheConstants.LINE_LIMIT, replay.TheConstants.INPUT_LIMIT}
 use Rattle.mum_core.specs.declared.end.LineFault.TheVariants.{TooLong, BadRecording, NotBuilt, IllegalStep}
-use Rattle.mum_core.specs.declared.replay.Login.{Login}
-use Rattle.mum_core.specs.declared.replay.Phase.{Phase}
 use Rattle.mum_core.specs.declared.replay.Phase.TheVariants.{Head, Workers, Config, Running, Over}
-use Rattle.mum_core.specs.declared.replay.TheConstants.{LINE_LIMIT, INPUT_LIMIT}
 use Rattle.mum_core.specs.Built.{BuiltStep, Frame, is_built, taken}
 use Rattle.mum_core.specs.Built as steps
 use Rattle.mum_core.specs.Core.{CoreState, connection_at, start}

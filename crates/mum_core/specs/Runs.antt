@@ -4,12 +4,7 @@ use Rattle.std.specs.List.{slice_split}
 use Rattle.std.specs.Borrow.{Bor}
 use Rattle.mum_record.specs.declared.step.Step.{Step}
 use Rattle.mum_record.specs.declared.step.Step.TheVariants as words
-use Rattle.mum_core.specs.declared.end.End.{End}
-use Rattle.mum_core.specs.declared.end.End.TheVariants.{Faulty, OutOfMemory}
-use Rattle.mum_core.specs.declared.end.LineFault.TheVariants.{BadRecording}
-use Rattle.mum_core.specs.declared.replay.Login.{Login}
-use Rattle.mum_core.specs.declared.replay.Phase.{Phase}
-use Rattle.mum_core.specs.declared.replay.Run.{Run}
+use Rattle.mum_core.specs.declared.{end.End.End, end.End.TheVariants.Faulty, end.End.TheVariants.OutOfMemory, end.LineFault.TheVariants.BadRecording, replay.Login.Login, replay.Phase.Phase, replay.Run.Run}
 use Rattle.mum_core.specs.Built.{taken}
 use Rattle.mum_core.specs.Core.{CoreState}
 use Rattle.mum_core.specs.Line.{text_of}

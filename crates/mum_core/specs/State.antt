@@ -3,10 +3,7 @@ use Rattle.std.specs.Prelude.{ℕ, ◌+◌, ◌==◌, not, Bool, List, [], ◌�
 use Rattle.std.specs.List.{list_any}
 use Rattle.mum_base.specs.declared.number.SessionId.{SessionId}
 use Rattle.mum_base.specs.declared.number.Slot.{Slot}
-use Rattle.mum_core.specs.declared.edit.Edit.{Edit}
-use Rattle.mum_core.specs.declared.edit.Edit.TheVariants.{Join}
-use Rattle.mum_core.specs.declared.edit.Session.{Session}
-use Rattle.mum_core.specs.declared.route.Member.{Member}
+use Rattle.mum_core.specs.declared.{edit.Edit.Edit, edit.Edit.TheVariants.Join, edit.Session.Session, route.Member.Member}
 
 -- the sessions of the root channel, in slot order
 pub record State : Type 0 where

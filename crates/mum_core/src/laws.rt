@@ -1,13 +1,15 @@
 //! What follows from the definitions of the steps for every run of them. These functions do nothing:
 //! each contract is a theorem.
 
-ghost use Rattle.std.specs.Prelude.{◌≡◌, ◌≤◌, ◌<◌, ◌+◌, ◌-◌, ◌^◌, ◌++◌, ◌∷◌, ℕ, List, length, map, sum_by, None, Some};
+ghost use Rattle.std.specs.Prelude.{◌≡◌, ◌==◌, ◌≤◌, ◌<◌, ◌+◌, ◌-◌, ◌^◌, ◌++◌, ◌∷◌, ℕ, List, filter, length, map, sum_by, None, Some, true};
 ghost use Rattle.std.specs.List.{AllByRecursion, AllPairs};
+ghost use Rattle.mum_voice.specs.Packet.{copy};
 ghost use Rattle.mum_core.specs.declared.edit.Edit.{Edit};
+ghost use Rattle.mum_core.specs.declared.slot.TheConstants.{SLOTS};
 ghost use Rattle.mum_core.specs.declared.worker.Outgoing.{Outgoing};
 ghost use Rattle.mum_core.specs.Built.{BuiltStep, Look, Offer};
-ghost use Rattle.mum_core.specs.Core.{CoreState, start, state_at, worker_at};
-ghost use Rattle.mum_core.specs.Laws.{IsRun, looked, ran};
+ghost use Rattle.mum_core.specs.Core.{CoreState, start, state_at, connection_at, is_opened, outbox_at, worker_at};
+ghost use Rattle.mum_core.specs.Laws.{IsRun, IsSubsequence, gathered, heard, looked, packet_taken, ran, sent};
 ghost use Rattle.mum_core.specs.State.{State, route};
 ghost use Rattle.mum_core.specs.Step.{does, illegal};
 ghost use Rattle.mum_core.specs.Worker.{HeldPacket};
@@ -70,4 +72,20 @@ pub fn each_copy_is_counted()
         let core = ran (start workers) steps in
         core.totals.copies + core.totals.full + sum_by (λ worker. length worker.copies) core.workers
         ≡ looked (start workers) steps }
+{}
+
+/// A connection stays at its worker. What a worker sends to a session are copies of the packets that it
+/// took, in their order, one at most of each. What was sent to a session is what its connection drained, in
+/// this order, and then what waits in its outbox: no copy is lost, doubled, changed or overtaken on its way.
+pub fn copies_keep_their_order()
+    ensures one_worker { (core : CoreState) (steps : List BuiltStep) (c : ℕ) → is_opened core c ≡ true →
+        (connection_at (ran core steps) c).worker ≡ (connection_at core c).worker }
+    ensures sent { (workers w n : ℕ) (steps : List BuiltStep) → IsRun (start workers) steps →
+        IsSubsequence
+        (map (λ offer. offer.1.bytes) (filter (λ offer. offer.0 == w) (gathered (sent n) (start workers) steps)))
+        (map (λ held. copy held.parts held.speaker.0 0 true) (gathered (packet_taken w) (start workers) steps)) }
+    ensures heard { (workers slot : ℕ) (steps : List BuiltStep) → slot < SLOTS →
+        map (λ offer. offer.1.bytes) (gathered (sent (slot + 1)) (start workers) steps)
+        ≡ map (λ parcel. parcel.bytes)
+        (gathered (heard (slot + 1)) (start workers) steps ++ outbox_at (ran (start workers) steps) slot) }
 {}

@@ -1,13 +1,7 @@
 -- The control owner decides the command of a connection that waits, at the state after all accepted edits.
 use Rattle.std.specs.Prelude.{ℕ, ◌+◌, not, List, [], ◌∷◌, ◌++◌, length, Option, Some, None, is_none, nat_lt}
-use Rattle.mum_core.specs.declared.connection.Command.{Command}
-use Rattle.mum_core.specs.declared.connection.Command.TheVariants.{Login}
-use Rattle.mum_core.specs.declared.connection.Seat.{Seat}
-use Rattle.mum_core.specs.declared.connection.Verdict.{Verdict}
-use Rattle.mum_core.specs.declared.connection.Verdict.TheVariants.{Accepted}
+use Rattle.mum_core.specs.declared.{connection.Command.Command, connection.Command.TheVariants.Login, connection.Seat.Seat, connection.Verdict.Verdict, connection.Verdict.TheVariants.Accepted, edit.Edit.TheVariants.Join, slot.TheConstants.SLOTS}
 use Rattle.mum_core.specs.declared.edit.Edit as edits
-use Rattle.mum_core.specs.declared.edit.Edit.TheVariants.{Join}
-use Rattle.mum_core.specs.declared.slot.TheConstants.{SLOTS}
 use Rattle.mum_core.specs.Case.{Case, not_opened}
 use Rattle.mum_core.specs.Core.{CoreState, connection_at, current, at_connection}
 use Rattle.mum_core.specs.Line.{said_of, verdict_words}

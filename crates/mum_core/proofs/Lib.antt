@@ -13,3 +13,4 @@ pub mod Numbering
 pub mod Orders
 pub mod Origins
 pub mod Places
+pub mod Speakers

@@ -93,7 +93,7 @@ goes_looking : (n revision : ℕ) (x : WorkerState) (held : HeldPacket) (left : 
     → Goes n x (record x { seen = revision; held = None; copies = left })
 goes_looking n revision x held left holds none most = rw (holds, none) (looks_lead held (waiting n left) most)
 
-related-at : (R : WorkerState → WorkerState → Type 0) → ((x : WorkerState) → R x x) → (workers : List WorkerState) (i w : ℕ) (change : WorkerState → WorkerState)
+pub related-at : (R : WorkerState → WorkerState → Type 0) → ((x : WorkerState) → R x x) → (workers : List WorkerState) (i w : ℕ) (change : WorkerState → WorkerState)
     → ((x : WorkerState) → slice_get workers i ≡ Some x → R x (change x)) → R (slice_index_or workers w idle) (slice_index_or (changed_at i change workers) w idle)
 related-at R same_one workers i w change h = from (slice_get workers i) refl
   where

@@ -56,7 +56,7 @@ stay-pushed [] x i within = absurd (omega arith)
 stay-pushed (y ∷ ys) x zero within = (omega arith, refl)
 stay-pushed (y ∷ ys) x (suc i) within = let later = stay-pushed ys x i (omega arith) in let low = later.0 in (omega arith, later.1)
 
-hears_connections : (core : CoreState) (w : ℕ) (speaker : SessionId) (read : Result Parts BadVoice) → (frame_step.hears core w speaker read).connections ≡ core.connections
+pub hears_connections : (core : CoreState) (w : ℕ) (speaker : SessionId) (read : Result Parts BadVoice) → (frame_step.hears core w speaker read).connections ≡ core.connections
 hears_connections core w speaker (Ok parts) = refl
 hears_connections core w speaker (Err fault) = refl
 
@@ -67,7 +67,7 @@ stay_frame core c (Echo frame) = stay_same core.connections core.connections ref
 stay_frame core c (Keep number) = stay-cond core.connections (nat_lt 0 c) (c - 1) _ (λ x. refl)
 stay_frame core c (Ignore why) = stay_same core.connections core.connections refl
 
-notes_connections : (core : CoreState) (w : ℕ) (revision : Option ℕ) → (tell_step.notes w revision core).connections ≡ core.connections
+pub notes_connections : (core : CoreState) (w : ℕ) (revision : Option ℕ) → (tell_step.notes w revision core).connections ≡ core.connections
 notes_connections core w None = refl
 notes_connections core w (Some revision) = refl
 
@@ -75,7 +75,7 @@ cond_connections : (b : Bool) (core x y : CoreState) → x.connections ≡ core.
 cond_connections true core x y hx hy = hx
 cond_connections false core x y hx hy = hy
 
-puts_connections : (core : CoreState) (next : Option Outgoing) → (offer_step.puts core next).connections ≡ core.connections
+pub puts_connections : (core : CoreState) (next : Option Outgoing) → (offer_step.puts core next).connections ≡ core.connections
 puts_connections core None = refl
 puts_connections core (Some next) = cond_connections (offer_step.has_room core next.slot.0) core _ _ refl refl
 
@@ -83,7 +83,7 @@ takes_connections : (core : CoreState) (seat : Seat) (front : Option Parcel) →
 takes_connections core seat None = refl
 takes_connections core seat (Some front) = cond_connections (drain_step.is_for front seat) core _ _ refl refl
 
-drain_connections : (core : CoreState) (seat : Option Seat) → (drain_step.does_from core seat).connections ≡ core.connections
+pub drain_connections : (core : CoreState) (seat : Option Seat) → (drain_step.does_from core seat).connections ≡ core.connections
 drain_connections core None = refl
 drain_connections core (Some seat) = takes_connections core seat (slice_get (outbox_at core seat.slot.0) 0)
 
@@ -92,7 +92,7 @@ stay_tell core c revision =
     let same = notes_connections (told_core core c) (connection_at core c).worker revision in
     rw same (stay-cond core.connections (nat_lt 0 c) (c - 1) _ (λ x. refl))
 
-stay_step : (core : CoreState) (step : BuiltStep) → Stay core.connections (does core step).connections
+pub stay_step : (core : CoreState) (step : BuiltStep) → Stay core.connections (does core step).connections
 stay_step core (Open c w) = stay-pushed core.connections (fresh w)
 stay_step core (Frame c kind payload) = stay_frame core c (action (connection_at core c).seat kind payload)
 stay_step core (steps.Edit c) = stay-cond core.connections (nat_lt 0 c) (c - 1) _ (λ x. refl)

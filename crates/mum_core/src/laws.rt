@@ -1,9 +1,10 @@
 //! What follows from the definitions of the steps for every run of them. These functions do nothing:
 //! each contract is a theorem.
 
-ghost use Rattle.std.specs.Prelude.{◌≡◌, ◌==◌, ◌≤◌, ◌<◌, ◌+◌, ◌-◌, ◌^◌, ◌++◌, ◌∷◌, ℕ, List, filter, length, map, sum_by, None, Some, true};
+ghost use Rattle.std.specs.Prelude.{◌≡◌, ◌==◌, ◌≤◌, ◌<◌, ◌+◌, ◌-◌, ◌^◌, ◌⊎◌, ◌++◌, ◌∷◌, ℕ, List, [], filter, length, map, sum_by, None, Some, true};
 ghost use Rattle.std.specs.List.{AllByRecursion, AllPairs};
 ghost use Rattle.mum_voice.specs.Packet.{copy};
+ghost use Rattle.mum_core.specs.declared.connection.Seat.{Seat};
 ghost use Rattle.mum_core.specs.declared.edit.Edit.{Edit};
 ghost use Rattle.mum_core.specs.declared.slot.TheConstants.{SLOTS};
 ghost use Rattle.mum_core.specs.declared.worker.Outgoing.{Outgoing};
@@ -74,18 +75,31 @@ pub fn each_copy_is_counted()
         ≡ looked (start workers) steps }
 {}
 
-/// A connection stays at its worker. What a worker sends to a session are copies of the packets that it
-/// took, in their order, one at most of each. What was sent to a session is what its connection drained, in
-/// this order, and then what waits in its outbox: no copy is lost, doubled, changed or overtaken on its way.
+/// A connection stays at its worker, a session is never of two connections, and the packets of one speaker
+/// are all taken by one worker. What a worker sends to a session are copies of the packets that it took, in
+/// their order, one at most of each. What was sent to the session of a slot (its number and 1, since none
+/// leaves) is what its connection drained, in this order, and then what waits in its outbox: from the offer
+/// that has room to the drain no copy is lost, doubled, changed or overtaken.
 pub fn copies_keep_their_order()
-    ensures one_worker { (core : CoreState) (steps : List BuiltStep) (c : ℕ) → is_opened core c ≡ true →
+    ensures stays { (core : CoreState) (steps : List BuiltStep) (c : ℕ) → is_opened core c ≡ true →
         (connection_at (ran core steps) c).worker ≡ (connection_at core c).worker }
+    ensures one_connection { (workers c d : ℕ) (steps more : List BuiltStep) (seat other : Seat) →
+        let core = ran (start workers) steps in
+        IsRun (start workers) steps → IsRun core more →
+        (connection_at core c).seat ≡ Some seat → (connection_at (ran core more) d).seat ≡ Some other →
+        seat.session.0 ≡ other.session.0 → c ≡ d }
+    ensures one_worker { (workers v w speaker : ℕ) (steps : List BuiltStep) →
+        let taken = λ (worker : ℕ). filter (λ held. held.speaker.0 == speaker)
+        (gathered (packet_taken worker) (start workers) steps) in
+        IsRun (start workers) steps → (v ≡ w → ⊥) → (taken v ≡ []) ⊎ (taken w ≡ []) }
     ensures sent { (workers w n : ℕ) (steps : List BuiltStep) → IsRun (start workers) steps →
-        IsSubsequence
-        (map (λ offer. offer.1.bytes) (filter (λ offer. offer.0 == w) (gathered (sent n) (start workers) steps)))
-        (map (λ held. copy held.parts held.speaker.0 0 true) (gathered (packet_taken w) (start workers) steps)) }
+        let offers = filter (λ offer. offer.0 == w) (gathered (sent n) (start workers) steps) in
+        let packets = gathered (packet_taken w) (start workers) steps in
+        IsSubsequence (map (λ offer. offer.1.bytes) offers)
+        (map (λ held. copy held.parts held.speaker.0 0 true) packets) }
     ensures heard { (workers slot : ℕ) (steps : List BuiltStep) → slot < SLOTS →
-        map (λ offer. offer.1.bytes) (gathered (sent (slot + 1)) (start workers) steps)
-        ≡ map (λ parcel. parcel.bytes)
-        (gathered (heard (slot + 1)) (start workers) steps ++ outbox_at (ran (start workers) steps) slot) }
+        let offers = gathered (sent (slot + 1)) (start workers) steps in
+        let drained = gathered (heard (slot + 1)) (start workers) steps in
+        map (λ offer. offer.1.bytes) offers
+        ≡ map (λ parcel. parcel.bytes) (drained ++ outbox_at (ran (start workers) steps) slot) }
 {}

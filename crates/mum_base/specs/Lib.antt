@@ -1,3 +1,5 @@
+pub mod Channels
 pub mod Name
 pub mod Perm
 pub mod Refusal
+pub mod Text

@@ -1,10 +1,12 @@
 //! Lists that contracts see as lists, whatever holds them.
 
 ghost use Rattle.std.specs.Prelude.{◌≡◌, ◌++◌, [], ◌∷◌, IfOk, OnOk, OnErr, string_bytes};
+ghost use Rattle.std.specs.Option.{option_copied};
 ghost use Rattle.std.specs.Str.{IsUtf8};
 
 use std::alloc::{AllocError, Global};
 use std::marker::Model;
+use std::sync::ArcStr;
 
 /// Memory ran out. It is the one answer that no clause ties to a cause.
 pub type OutOfMemory = AllocError;
@@ -54,18 +56,27 @@ impl Octets {
     }
 }
 
-/// A text: a list of bytes that are UTF-8.
+/// How a text lies in memory: by itself, or once for all who share it.
+#[derive(Debug, Drop)]
+enum Holding {
+    Own(String),
+    Shared(ArcStr),
+}
+
+/// A text: a list of bytes that are UTF-8. One that was copied from elsewhere is held once by all who
+/// share it.
 #[derive(Debug, Drop)]
 pub struct Text {
-    text: String,
+    text: Holding,
 }
 
 impl Model for Text {
-    ghost use Rattle.std.specs.Prelude.{ℕ, List, string_bytes};
+    ghost use Rattle.std.specs.Prelude.{ℕ, List};
+    ghost use Rattle.mum_base.specs.Text.{held_bytes};
 
     ghost Value = { List ℕ };
 
-    ghost view = { λ t. string_bytes t.text };
+    ghost view = { λ t. held_bytes t.text };
 }
 
 impl Text {
@@ -74,36 +85,75 @@ impl Text {
         ensures { IfOk result (λ copy. copy ≡ text.now) }
     {
         Ok(Text {
-            text: String::from_str(alloc, text)?,
+            text: Holding::Shared(ArcStr::from_str(alloc, text)?),
         })
     }
 
-    /// This text, without a copy.
+    /// No text. It takes no memory.
+    pub fn empty(alloc: Global) -> Text
+        ensures { result ≡ [] }
+    {
+        Text {
+            text: Holding::Own(String::new(alloc)),
+        }
+    }
+
+    /// A copy of a text, if one is given.
+    pub fn of_given(alloc: Global, given: Option<&str>) -> Result<Option<Text>, OutOfMemory>
+        ensures { IfOk result (λ copy. copy ≡ option_copied given.entry) }
+    {
+        match given {
+            Some(text) => Ok(Some(Text::of(alloc, text)?)),
+            None => Ok(None),
+        }
+    }
+
+    /// This text, without a copy. It takes no memory, and whoever wants to share the text gets a copy.
     pub fn from_string(text: String) -> Text
         ensures { result ≡ string_bytes text }
     {
-        Text { text }
+        Text {
+            text: Holding::Own(text),
+        }
     }
 
     /// The bytes of the text.
     pub fn as_slice(&self) -> &[u8]
         ensures { result.now ≡ self.now }
     {
-        self.text.as_bytes()
+        self.as_str().as_bytes()
     }
 
     pub fn as_str(&self) -> &str
         ensures value { result.now ≡ self.now }
         ensures utf8 { IsUtf8 self.now }
     {
-        self.text.as_str()
+        match &self.text {
+            Holding::Own(text) => text.as_str(),
+            Holding::Shared(text) => text.as_str(),
+        }
     }
 
-    /// A text of its own that is equal.
-    pub fn copy(&self, alloc: Global) -> Result<Text, OutOfMemory>
-        ensures { IfOk result (λ copy. copy ≡ self.now) }
+    /// The same text once more. Of a text that is held once for all it takes no memory, and copies
+    /// nothing: the error stands for more holders than can be counted.
+    pub fn share(&self) -> Result<Text, OutOfMemory>
+        ensures { IfOk result (λ shared. shared ≡ self.now) }
     {
-        Text::of(alloc, self.as_str())
+        let text = match &self.text {
+            Holding::Own(text) => Holding::Own(text.clone()?),
+            Holding::Shared(text) => Holding::Shared(text.clone()?),
+        };
+        Ok(Text { text })
+    }
+
+    /// The same text once more, if one is given.
+    pub fn share_given(given: Option<&Text>) -> Result<Option<Text>, OutOfMemory>
+        ensures { IfOk result (λ shared. shared ≡ option_copied given.entry) }
+    {
+        match given {
+            Some(text) => Ok(Some(text.share()?)),
+            None => Ok(None),
+        }
     }
 }
 

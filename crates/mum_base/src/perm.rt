@@ -4,6 +4,33 @@ ghost use Rattle.std.specs.Prelude.{◌≡◌, ◌↔◌, ◌-◌, ◌<◌, ℕ,
 ghost use Rattle.std.specs.Int.{bit_at};
 ghost use Rattle.mum_base.specs.Perm.{Holds, without_bits};
 
+/// The bits of the permissions and of the sets that have a name. This does nothing: its contract is
+/// what they are.
+pub fn permission_bits()
+    ensures none { Perm.NONE.0 ≡ 0 }
+    ensures write { Perm.WRITE.0 ≡ 0x1 }
+    ensures traverse { Perm.TRAVERSE.0 ≡ 0x2 }
+    ensures enter { Perm.ENTER.0 ≡ 0x4 }
+    ensures speak { Perm.SPEAK.0 ≡ 0x8 }
+    ensures mute_deafen { Perm.MUTE_DEAFEN.0 ≡ 0x10 }
+    ensures move_users { Perm.MOVE.0 ≡ 0x20 }
+    ensures make_channel { Perm.MAKE_CHANNEL.0 ≡ 0x40 }
+    ensures link_channel { Perm.LINK_CHANNEL.0 ≡ 0x80 }
+    ensures whisper { Perm.WHISPER.0 ≡ 0x100 }
+    ensures text_message { Perm.TEXT_MESSAGE.0 ≡ 0x200 }
+    ensures make_temp_channel { Perm.MAKE_TEMP_CHANNEL.0 ≡ 0x400 }
+    ensures listen { Perm.LISTEN.0 ≡ 0x800 }
+    ensures kick { Perm.KICK.0 ≡ 0x10000 }
+    ensures ban { Perm.BAN.0 ≡ 0x20000 }
+    ensures register { Perm.REGISTER.0 ≡ 0x40000 }
+    ensures self_register { Perm.SELF_REGISTER.0 ≡ 0x80000 }
+    ensures reset_user_content { Perm.RESET_USER_CONTENT.0 ≡ 0x100000 }
+    ensures all { Perm.ALL.0 ≡ 0x1F0FFF }
+    ensures root_only { Perm.ROOT_ONLY.0 ≡ 0x1F0000 }
+    ensures start { Perm.START.0 ≡ 0xB0E }
+    ensures by_write { Perm.BY_WRITE.0 ≡ 0xEF7 }
+{}
+
 /// A set of permissions, a bit for each.
 #[derive(Clone, Copy, Debug, Default, PartialEq, Eq, Hash)]
 pub struct Perm(pub u32);

@@ -19,7 +19,7 @@ fn reply(alloc: Global, core: &mut Core, line: &str) -> Result<String> {
     match core.step(&step) {
         Ok(lines) => {
             for line in lines.as_slice() {
-                told.push_str(line.as_str())?;
+                told.push_str(str::from_utf8(line.as_slice())?)?;
             }
         }
         Err(StepFault::Illegal { given, against }) => {

@@ -30,15 +30,19 @@ fn octets(alloc: Global, way: &str, word: &str) -> Result<String> {
     hex_of(alloc, octets.as_slice())
 }
 
+fn taken_over(alloc: Global, text: &Text) -> Result<Text> {
+    let string = String::from_str(alloc, text.as_str())?;
+    Ok(Text::from_string(string))
+}
+
 fn text(alloc: Global, way: &str, word: &str) -> Result<String> {
     let text = text_in(alloc, word)?;
     match way {
         "of" => shown(alloc, &text),
-        "from" => {
-            let string = String::from_str(alloc, text.as_str())?;
-            shown(alloc, &Text::from_string(string))
-        }
-        "copy" => shown(alloc, &text.copy(alloc)?),
+        "from" => shown(alloc, &taken_over(alloc, &text)?),
+        "share" => shown(alloc, &text.share()?),
+        "from-share" => shown(alloc, &taken_over(alloc, &text)?.share()?),
+        "empty" => hex_of(alloc, Text::empty(alloc).as_slice()),
         _ => bail!("no way to make a text: {way}"),
     }
 }

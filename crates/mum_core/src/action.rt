@@ -58,7 +58,7 @@ fn name_in(alloc: Global, login: Authenticate) -> Text
     let Authenticate { username, .. } = login;
     match username {
         Some(name) => name,
-        None => Text::from_string(String::new(alloc)),
+        None => Text::empty(alloc),
     }
 }
 

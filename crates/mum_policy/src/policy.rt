@@ -50,7 +50,7 @@ impl Group {
         ensures { IfOk result (λ copy. copy ≡ self.now) }
     {
         Ok(Group {
-            name: self.name.copy(alloc)?,
+            name: self.name.share()?,
             inherit: self.inherit,
             inheritable: self.inheritable,
             add: copy_of_accounts(alloc, self.add.as_slice())?,
@@ -74,13 +74,13 @@ pub enum Whom {
 }
 
 impl Whom {
-    /// Another that is equal.
-    pub fn copy(&self, alloc: Global) -> Result<Whom, OutOfMemory>
-        ensures { IfOk result (λ copy. copy ≡ self.now) }
+    /// The same once more, without a copy of the name.
+    pub fn share(&self) -> Result<Whom, OutOfMemory>
+        ensures { IfOk result (λ shared. shared ≡ self.now) }
     {
         match self {
             Whom::Account(account) => Ok(Whom::Account(*account)),
-            Whom::Group(name) => Ok(Whom::Group(name.copy(alloc)?)),
+            Whom::Group(name) => Ok(Whom::Group(name.share()?)),
         }
     }
 
@@ -108,12 +108,12 @@ pub struct AclEntry {
 }
 
 impl AclEntry {
-    /// An entry of its own that is equal.
-    pub fn copy(&self, alloc: Global) -> Result<AclEntry, OutOfMemory>
-        ensures { IfOk result (λ copy. copy ≡ self.now) }
+    /// The same entry once more, without a copy of the name.
+    pub fn share(&self) -> Result<AclEntry, OutOfMemory>
+        ensures { IfOk result (λ shared. shared ≡ self.now) }
     {
         Ok(AclEntry {
-            whom: self.whom.copy(alloc)?,
+            whom: self.whom.share()?,
             here: self.here,
             subs: self.subs,
             grant: self.grant,
@@ -147,7 +147,7 @@ fn copy_of_entries(alloc: Global, entries: &[AclEntry]) -> Result<Items<AclEntry
 {
     let mut copies = Vec::with_capacity(alloc, entries.len())?;
     for entry in entries {
-        copies.push(entry.copy(alloc)?)?;
+        copies.push(entry.share()?)?;
     }
     Ok(Items::from_vec(copies))
 }

@@ -24,20 +24,20 @@ fn join(alloc: Global, seat: &Seat, name: &Text) -> Result<Edit, OutOfMemory>
     Ok(Edit::Join {
         session: seat.session,
         slot: seat.slot.to_slot(),
-        name: name.copy(alloc)?,
+        name: name.share()?,
         account: None,
         tokens: Items::new(alloc),
     })
 }
 
 /// The session that such an edit brings.
-fn session(alloc: Global, seat: &Seat, name: &Text) -> Result<Session, OutOfMemory>
+fn session(seat: &Seat, name: &Text) -> Result<Session, OutOfMemory>
     ensures { IfOk result (λ session. session ≡ session_of (join_of seat.now name.now)) }
 {
     Ok(Session {
         session: seat.session,
         slot: seat.slot,
-        name: name.copy(alloc)?,
+        name: name.share()?,
     })
 }
 
@@ -73,7 +73,7 @@ impl Core {
         let words = [Word::Number(u64::from(connection)), Word::Number(revision)];
         push_line(self.alloc, text, "accepted", &words)?;
         let join = join(self.alloc, &seat, name)?;
-        let session = session(self.alloc, &seat, name)?;
+        let session = session(&seat, name)?;
         self.accepted.reserve(1)?;
         self.sessions.reserve(1)?;
         self.accepted.push_reserved(join);

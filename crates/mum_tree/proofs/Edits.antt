@@ -11,7 +11,7 @@ use Rattle.mum_tree.specs.declared.channel.ChannelInfo.{ChannelInfo}
 use Rattle.mum_tree.specs.declared.channel.Row.{Row}
 use Rattle.mum_tree.specs.declared.fault.TreeFault.{TreeFault}
 use Rattle.mum_tree.specs.declared.fault.TreeFault.TheVariants.{NoChannel, SameName, TemporaryParent, Nesting, Count, RootFixed}
-use Rattle.mum_tree.specs.Refusals.{fault_of_add, fault_of_rename, fault_of_set_info, parent_of, is_full}
+use Rattle.mum_tree.specs.Refusals.{fault_of_add, fault_of_remove, fault_of_rename, fault_of_set_info, parent_of, is_full}
 use Rattle.mum_tree.specs.Rows.{number, row_of, is_there, is_temporary, is_taken, has_name_beside, path, upward, Rise}
 use Rattle.mum_tree.specs.Proper.{AreApart, IsProper}
 use Rattle.mum_tree.specs.Places.{least_place}
@@ -29,6 +29,12 @@ some_is_none fault e = cc
 pub none_stands : (b : Bool) (fault : TreeFault) (rest : Option TreeFault) → cond b (Some fault) rest ≡ None → (b ≡ false) × (rest ≡ None)
 none_stands true fault rest e = absurd (some_is_none fault e)
 none_stands false fault rest e = (refl, e)
+
+-- a channel that may go is there, and is not the root
+pub may_go : (tree : TreeState) (id : ChannelId) → fault_of_remove tree id ≡ None → (is_there tree.channels id ≡ true) × (eqb id.0 0 ≡ false)
+may_go tree id allowed =
+    let (named, rest) = none_stands (not (is_there tree.channels id)) NoChannel (cond (eqb id.0 0) (Some RootFixed) None) allowed in
+    (not-false (is_there tree.channels id) named, (none_stands (eqb id.0 0) RootFixed None rest).0)
 
 pub some_row : (found : Option Row) → is_some found ≡ true → (row : Row) × (found ≡ Some row)
 some_row None there = absurd (false≢true there)

@@ -12,7 +12,8 @@ use Rattle.std.proofs.lemmas.List.Kept.{AllPairs-filter}
 use Rattle.std.proofs.lemmas.List.Sums.{length-filter, sum_by-cons}
 use Rattle.mum_base.specs.declared.number.ChannelId.{ChannelId}
 use Rattle.mum_tree.specs.declared.channel.Row.{Row}
-use Rattle.mum_tree.specs.Change.{Change, is_among, is_new_partner, is_partner_after, overlinks, pairs_with_all, pairs_without_all}
+use Rattle.mum_base.specs.Channels.{is_among}
+use Rattle.mum_tree.specs.Change.{Change, is_new_partner, is_partner_after, overlinks, pairs_with_all, pairs_without_all}
 use Rattle.mum_tree.specs.Proper.{AreBothWays, AreLinks, ArePairs, IsBetween, IsProper}
 use Rattle.mum_tree.specs.Rows.{number, row_of, is_there, Rise}
 use Rattle.mum_tree.specs.State.{Pair, Ordered, TreeState, is_above, is_pair, pairs_with, pairs_without, partners, starts_at, with_pair}

@@ -1,8 +1,8 @@
 -- Which places are taken.
 use Rattle.std.proofs.Common.{◌≡◌, ◌≢◌, ℕ, zero, suc, ◌<◌, ◌+◌, ◌≤◌, ◌||◌, not, eqb, Bool, true, false, cond, List, [], ◌∷◌, length, get_or, set, replicate, refl, arith, ap, sym, subst, ◌∙◌, ⊎_elim}
-use Rattle.std.specs.List.{AllPairs, count_by, filter}
-use Rattle.std.proofs.lemmas.Bool.{both_ways, cases_Bool, cases_eq, cases_order, eq-eqb, eqb-true, false≢true, ne_eqb, or_parts}
-use Rattle.std.proofs.lemmas.List.{get_or-set_same, get_or-set_other, get_or_default}
+use Rattle.std.specs.List.{All, AllPairs, count_by, filter}
+use Rattle.std.proofs.lemmas.Bool.{both_ways, cases_Bool, cases_eq, cases_lt, cases_order, eq-eqb, eqb-true, false≢true, ne_eqb, or_parts}
+use Rattle.std.proofs.lemmas.List.{get_or-set_same, get_or-set_other, get_or_default, get_or_past}
 use Rattle.std.proofs.lemmas.List.Sums.{count_by-le-length, length-filter, sum_by-set, sum_by-cons}
 use Rattle.mum_tree.specs.declared.channel.Row.{Row}
 use Rattle.mum_tree.specs.Places.{first_place, has_place, least_place, IsFree, IsLeastFree}
@@ -166,3 +166,28 @@ least_is rows place (free, least) =
     (λ (g : least_place rows < place). absurd (least (least_place rows) g (least_free rows).0))
     o)
     (cases_order place (least_place rows))
+
+pub free_unhad : (rows : List Row) (place : ℕ) → IsFree rows place → has_place rows place ≡ false
+free_unhad rows place free = by_cases (has_place rows place) refl
+  where
+    by_cases : (b : Bool) → has_place rows place ≡ b → b ≡ false
+    by_cases true has = absurd (had rows place has free)
+    by_cases false none = refl
+
+-- marks that tell which places are free tell which are had
+pub marks_had : (rows : List Row) (marks : List Bool) → All (λ row. row.place < length marks) rows
+    → ((place : ℕ) → place < length marks → get_or marks place false ≡ false → IsFree rows place)
+    → ((place : ℕ) → get_or marks place false ≡ true → IsFree rows place → ⊥)
+    → (place : ℕ) → get_or marks place false ≡ has_place rows place
+marks_had rows marks seated free taken place = ⊎_elim
+    (λ (within : place < length marks). by_mark (get_or marks place false) refl within)
+    (λ (past : length marks ≤ place). get_or_past marks place false past ∙ sym (free_unhad rows place (λ k d at same. let lt : (get_or rows k d).place < length marks = seated k d at in omega arith)))
+    (cases_lt place (length marks))
+  where
+    by_mark : (mark : Bool) → get_or marks place false ≡ mark → place < length marks → mark ≡ has_place rows place
+    by_mark false is within = sym (free_unhad rows place (free place within is))
+    by_mark true is within = by_cases (has_place rows place) refl
+      where
+        by_cases : (b : Bool) → has_place rows place ≡ b → true ≡ b
+        by_cases true has = refl
+        by_cases false none = absurd (taken place is (unhad rows place none))

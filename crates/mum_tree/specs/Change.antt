@@ -1,8 +1,9 @@
 -- A change of a channel in several parts at once: what it leaves, and for what it is refused.
 use Rattle.std.specs.Prelude.{ℕ, ℤ, ◌==◌, ◌&&◌, ◌||◌, not, nat_le, nat_lt, Bool, List, [], ◌∷◌, length, Option, Some, None, count_by, if◌then◌else◌}
 use Rattle.std.specs.List.{list_all, list_any}
-use Rattle.std.specs.Option.{option_map, option_map_or}
+use Rattle.std.specs.Option.{option_copied, option_map_or}
 use Rattle.std.specs.Str.{bytes_eq}
+use Rattle.mum_base.specs.Channels.{is_among}
 use Rattle.mum_base.specs.declared.number.ChannelId.{ChannelId}
 use Rattle.mum_tree.specs.declared.change.ChannelChange.{ChannelChange}
 use Rattle.mum_tree.specs.declared.channel.Channel.{Channel}
@@ -26,9 +27,9 @@ pub record Change : Type 0 where
 -- a change as plain data, without its borrows
 abbrev pub change_of : ChannelChange → Change
 change_of change = record {
-  name = option_map (λ name. name.now) change.name;
+  name = option_copied change.name;
   parent = change.parent;
-  description = option_map (λ description. description.now) change.description;
+  description = option_copied change.description;
   position = change.position;
   max_users = change.max_users;
   links_add = change.links_add.now;
@@ -85,9 +86,6 @@ names_there tree id change =
 abbrev pub reseats : TreeState → ChannelId → Change → Bool
 reseats tree id change =
     not (bytes_eq (name_after tree id change) (name_of tree id)) || not ((parent_after tree id change).0 == (parent_of tree id).0)
-
-abbrev pub is_among : List ChannelId → ChannelId → Bool
-is_among ids id = list_any (λ one. one.0 == id.0) ids
 
 -- the channel is linked to the other after the change
 abbrev pub is_partner_after : TreeState → ChannelId → Change → ChannelId → Bool

@@ -1,11 +1,9 @@
 //! A change of a channel in several parts.
 
-ghost use Rattle.std.specs.Prelude.{◌≡◌, IfOk};
-ghost use Rattle.std.specs.Option.{option_map};
+ghost use Rattle.std.specs.Prelude.{◌≡◌};
 ghost use Rattle.mum_tree.specs.Change.{given_or};
 
-use mum_base::{ChannelId, OutOfMemory, Text};
-use std::alloc::Global;
+use mum_base::{ChannelId, Text};
 
 /// What becomes another of a channel, as far as it is given, and the links that come and go
 /// (Mumble.proto, `ChannelState`). A channel in both lists is linked first, and then parted; the
@@ -14,21 +12,11 @@ use std::alloc::Global;
 pub struct ChannelChange<'a> {
     pub name: Option<&'a str>,
     pub parent: Option<ChannelId>,
-    pub description: Option<&'a str>,
+    pub description: Option<&'a Text>,
     pub position: Option<i32>,
     pub max_users: Option<u32>,
     pub links_add: &'a [ChannelId],
     pub links_remove: &'a [ChannelId],
-}
-
-/// A copy of a text, if one is given.
-pub(crate) fn copied(alloc: Global, given: Option<&str>) -> Result<Option<Text>, OutOfMemory>
-    ensures { IfOk result (λ copy. copy ≡ option_map (λ text. text.now) given.entry) }
-{
-    match given {
-        Some(text) => Ok(Some(Text::of(alloc, text)?)),
-        None => Ok(None),
-    }
 }
 
 /// Sets what is given.

@@ -24,22 +24,22 @@ pub struct ChannelInfo {
 
 impl ChannelInfo {
     /// No description, no place among its siblings, no limit of users.
-    pub(crate) fn plain(alloc: Global) -> Result<ChannelInfo, OutOfMemory>
-        ensures { IfOk result (λ info. info ≡ plain_info) }
+    pub(crate) fn plain(alloc: Global) -> ChannelInfo
+        ensures { result ≡ plain_info }
     {
-        Ok(ChannelInfo {
-            description: Text::of(alloc, "")?,
+        ChannelInfo {
+            description: Text::empty(alloc),
             position: 0,
             max_users: 0,
-        })
+        }
     }
 
-    /// Info of its own that is equal.
-    pub fn copy(&self, alloc: Global) -> Result<ChannelInfo, OutOfMemory>
-        ensures { IfOk result (λ copy. copy ≡ self.now) }
+    /// The same once more, without a copy of the description.
+    pub fn share(&self) -> Result<ChannelInfo, OutOfMemory>
+        ensures { IfOk result (λ shared. shared ≡ self.now) }
     {
         Ok(ChannelInfo {
-            description: self.description.copy(alloc)?,
+            description: self.description.share()?,
             position: self.position,
             max_users: self.max_users,
         })
@@ -59,16 +59,16 @@ pub struct Channel {
 }
 
 impl Channel {
-    /// A channel of its own that is equal.
-    pub fn copy(&self, alloc: Global) -> Result<Channel, OutOfMemory>
-        ensures { IfOk result (λ copy. copy ≡ self.now) }
+    /// The same channel once more, without a copy of its texts.
+    pub fn share(&self) -> Result<Channel, OutOfMemory>
+        ensures { IfOk result (λ shared. shared ≡ self.now) }
     {
         Ok(Channel {
             id: self.id,
             parent: self.parent,
-            name: self.name.copy(alloc)?,
+            name: self.name.share()?,
             temporary: self.temporary,
-            info: self.info.copy(alloc)?,
+            info: self.info.share()?,
         })
     }
 }

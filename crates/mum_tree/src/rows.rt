@@ -3,7 +3,7 @@
 ghost use Rattle.std.specs.Prelude.{◌≡◌, ◌≢◌, ◌&&◌, ℕ, ◌≤◌, true, false, slice_index_or, ◌<◌, None, Some, length, MatchOption, IfOk, IfSome, IsTrue, is_some};
 ghost use Rattle.std.specs.Option.{option_copied};
 ghost use Rattle.std.specs.List.{All, AllPairs, count_by, list_all, list_any};
-ghost use Rattle.mum_tree.specs.Change.{is_among};
+ghost use Rattle.mum_base.specs.Channels.{is_among};
 ghost use Rattle.mum_tree.specs.Places.{least_place, IsFree};
 ghost use Rattle.mum_tree.specs.Rows.{row_of, is_temporary, is_there, path, level, is_below, is_taken, nests, Rise};
 ghost use Rattle.mum_tree.specs.Proper.{LeadUp};
@@ -164,7 +164,7 @@ pub(crate) fn has_name(rows: &[Row], parent: ChannelId, id: ChannelId, name: &st
 }
 
 /// Which places have a channel.
-fn taken_places(rows: &[Row]) -> [bool; CHANNEL_LIMIT]
+pub(crate) fn taken_places(rows: &[Row]) -> [bool; CHANNEL_LIMIT]
     requires { All (λ row. row.place < CHANNEL_LIMIT) rows.now }
     ensures length { length result ≡ CHANNEL_LIMIT }
     ensures free { (place : ℕ) → place < CHANNEL_LIMIT → slice_index_or result place false ≡ false → IsFree rows.now place }
@@ -229,7 +229,7 @@ pub(crate) fn copy_rows(alloc: Global, rows: &[Row]) -> Result<Vec<Row>, OutOfMe
     for row in rows {
         copy.push(Row {
             place: row.place,
-            channel: row.channel.copy(alloc)?,
+            channel: row.channel.share()?,
         })?;
     }
     Ok(copy)

@@ -1,9 +1,10 @@
 //! The tree of channels, and what is read from it.
 
-ghost use Rattle.std.specs.Prelude.{◌≡◌, if◌then◌else◌, ◌<◌, ◌↔◌, ◌&&◌, IfOk, IfSome, IsTrue, MatchOption, None, is_some, slice_get};
+ghost use Rattle.std.specs.Prelude.{◌≡◌, ℕ, if◌then◌else◌, ◌<◌, ◌↔◌, ◌&&◌, false, length, slice_index_or, IfOk, IfSome, IsTrue, MatchOption, None, is_some, slice_get};
 ghost use Rattle.std.specs.List.{list_all, Contains};
 ghost use Rattle.std.specs.Option.{option_copied, option_map};
 ghost use Rattle.mum_base.specs.declared.number.ChannelId.{ChannelId};
+ghost use Rattle.mum_tree.specs.Places.{has_place};
 ghost use Rattle.mum_tree.specs.Proper.{IsProper};
 ghost use Rattle.mum_tree.specs.Rows.{row_of, is_below, is_there, path, IsWay};
 ghost use Rattle.mum_tree.specs.State.{root_alone, next_number, plain_info, partners, below, with_info, with_link, with_name, with_new, with_parent, without_link, without_subtree};
@@ -13,7 +14,7 @@ ghost use Rattle.mum_tree.specs.Fault.{named_cause};
 ghost use Rattle.mum_tree.specs.Change.{change_of, fault_of_edit, overlinks, with_change};
 ghost use Rattle.mum_base.specs.Refusal.{Settles, SettlesInPlace};
 
-use crate::change::{ChannelChange, copied, give};
+use crate::change::{ChannelChange, give};
 use crate::channel::{CHANNEL_LIMIT, Channel, ChannelInfo, PATH_LIMIT, Row};
 use crate::fault::TreeFault;
 use crate::levels::{nests_too_deep, places_below};
@@ -24,7 +25,7 @@ use crate::links::{
 use crate::reach::{find_linked, places_found};
 use crate::rows::{
     all_stand, both_there, copy_rows, find_path, find_row, has_mark, has_name, is_temporary_there,
-    least_free_place, locate, path_length, places_of, stands, stands_below,
+    least_free_place, locate, path_length, places_of, stands, stands_below, taken_places,
 };
 use crate::scratch::Scratch;
 use arrayvec::ArrayVec;
@@ -75,7 +76,7 @@ impl Tree {
                 parent: ChannelId::ROOT,
                 name: Text::of(alloc, "Root")?,
                 temporary: false,
-                info: ChannelInfo::plain(alloc)?,
+                info: ChannelInfo::plain(alloc),
             },
         })?;
         Ok(Tree {
@@ -143,8 +144,9 @@ impl Tree {
         self.rows.len() >= CHANNEL_LIMIT
     }
 
-    /// The first cause for which a new channel is refused.
-    fn cause_against_adding(
+    /// The first cause for which a new channel is refused: NoChannel, SameName, TemporaryParent,
+    /// Nesting or Count. It takes no memory.
+    pub fn cause_against_adding(
         &self,
         id: ChannelId,
         parent: ChannelId,
@@ -193,7 +195,7 @@ impl Tree {
             parent,
             name: Text::of(self.alloc, name)?,
             temporary,
-            info: ChannelInfo::plain(self.alloc)?,
+            info: ChannelInfo::plain(self.alloc),
         };
         let place = least_free_place(&self.rows);
         self.rows.push(Row { place, channel })?;
@@ -384,8 +386,13 @@ impl Tree {
         partners > LINK_LIMIT
     }
 
-    /// The first cause for which a change of a channel is refused.
-    fn cause_against_editing(&self, id: ChannelId, change: &ChannelChange<'_>) -> Option<TreeFault>
+    /// The first cause for which a change of a channel is refused, as `edit` names them. It takes no
+    /// memory.
+    pub fn cause_against_editing(
+        &self,
+        id: ChannelId,
+        change: &ChannelChange<'_>,
+    ) -> Option<TreeFault>
         ensures { result ≡ fault_of_edit self.now id (change_of change.now) }
     {
         let rows = self.rows.as_slice();
@@ -428,8 +435,8 @@ impl Tree {
         if let Some(cause) = self.cause_against_editing(id, change) {
             return Err(cause);
         }
-        let name = copied(self.alloc, change.name)?;
-        let description = copied(self.alloc, change.description)?;
+        let name = Text::of_given(self.alloc, change.name)?;
+        let description = Text::share_given(change.description)?;
         self.links.reserve(2 * change.links_add.len())?;
         put_links(&mut self.links, id, change.links_add);
         take_links(&mut self.links, id, change.links_remove);
@@ -442,6 +449,20 @@ impl Tree {
         Ok(())
     }
 
+    /// The first cause for which a channel is not taken away: NoChannel or RootFixed. It takes no
+    /// memory.
+    pub fn cause_against_removing(&self, id: ChannelId) -> Option<TreeFault>
+        ensures { result ≡ fault_of_remove self.now id }
+    {
+        if !stands(&self.rows, id) {
+            return Some(TreeFault::NoChannel);
+        }
+        if id.0 == ChannelId::ROOT.0 {
+            return Some(TreeFault::RootFixed);
+        }
+        None
+    }
+
     /// Takes away a channel, all below it, and their links. Refused, in this order: NoChannel,
     /// RootFixed. It takes no memory.
     pub fn remove_subtree(&mut self, id: ChannelId) -> Result<(), TreeFault>
@@ -449,11 +470,8 @@ impl Tree {
             (without_subtree self.old id) self.old result self.new }
         ensures proper { IsProper CHANNEL_LIMIT self.new }
     {
-        if !stands(&self.rows, id) {
-            return Err(TreeFault::NoChannel);
-        }
-        if id.0 == ChannelId::ROOT.0 {
-            return Err(TreeFault::RootFixed);
+        if let Some(cause) = self.cause_against_removing(id) {
+            return Err(cause);
         }
         let gone = places_below(&self.rows, id);
         self.rows.retain(|row| !has_mark(&gone, row.place));
@@ -472,6 +490,22 @@ impl Tree {
             links: Vec::from_slice(alloc, &self.links)?,
             greatest: self.greatest,
         })
+    }
+
+    /// Which places have a channel. It takes no memory.
+    pub fn taken_places(&self) -> [bool; CHANNEL_LIMIT]
+        ensures length { length result ≡ CHANNEL_LIMIT }
+        ensures taken { (place : ℕ) →
+            slice_index_or result place false ≡ has_place self.now.channels place }
+    {
+        taken_places(&self.rows)
+    }
+
+    /// Whether a channel is there. It takes no memory.
+    pub fn is_there(&self, id: ChannelId) -> bool
+        ensures { result ≡ is_there self.now.channels id }
+    {
+        stands(&self.rows, id)
     }
 
     /// Whether a channel is the top, or below it. It takes no memory.

@@ -14,7 +14,8 @@ use Rattle.mum_users.specs.declared.listening.PairOrder.TheVariants.{BySession}
 use Rattle.mum_users.specs.declared.user.User.{User}
 use Rattle.mum_users.specs.declared.fault.UserFault.TheVariants.{NoSession, ListenerLimit, UserListenerLimit}
 use Rattle.mum_users.specs.Sessions.{changed}
-use Rattle.mum_users.specs.Edit.{UserEdit, changed_user, edit_fault, edited, is_among, is_crowded, pairs_after, staying, with_channels}
+use Rattle.mum_base.specs.Channels.{is_among}
+use Rattle.mum_users.specs.Edit.{UserEdit, changed_user, edit_fault, edited, is_crowded, pairs_after, staying, with_channels}
 use Rattle.mum_users.specs.Listeners.{pair_below, with_pair}
 use Rattle.mum_users.specs.Order.{Rises}
 use Rattle.mum_users.specs.Proper.{IsProper}
@@ -339,37 +340,33 @@ IsProper-edited {limit} state session change proper here uncrowded few =
         nothing true b = refl
         nothing false b = refl
 
+-- where nothing stands against it
+pub IsProper-edited_allowed : {limit : ℕ} (state : RosterState) (session : SessionId) (change : UserEdit) → IsProper limit state → list_any (has_number session) state.sessions ≡ true
+    → edit_fault state session change ≡ None → IsProper limit (edited state session change)
+IsProper-edited_allowed {limit} state session change proper here allowed = split _ _ refl refl
+  where
+    split : (crowded many : Bool) → list_any (is_crowded (pairs_after session change state.listeners)) change.listen ≡ crowded → ltb LISTENED_CHANNELS (count_by (is_of_session session) (pairs_after session change state.listeners)) ≡ many → IsProper limit (edited state session change)
+    split true many e f = let refused : edit_fault state session change ≡ Some ListenerLimit = rw (here, e) refl in absurd (cc)
+    split false true e f = let refused : edit_fault state session change ≡ Some UserListenerLimit = rw (here, e, f) refl in absurd (cc)
+    split false false e f = IsProper-edited state session change proper here e (ltb-false _ _ f)
+
 -- ---- what a call that changes a session answers, as code finds the row
 
 module _ (state now : RosterState) (session : SessionId) (change : UserEdit) (seen : List User) (same : state ≡ now) (e : seen ≡ state.sessions) where
   pub edit_absent : None ≡ position (has_number session) seen → edit_fault now session change ≡ Some NoSession
   edit_absent none = rw (← same) (rw (absent_from (has_number session) state.sessions (rw e at none)) refl)
 
-  module _ (i : ℕ) (spot : Some i ≡ position (has_number session) seen) (crowded : Bool) (crowded_is : crowded ≡ list_any (is_crowded (pairs_after session change state.listeners)) change.listen) where
-    pub there : list_any (has_number session) state.sessions ≡ true
-    there = (present_from (has_number session) state.sessions i (rw e at spot)).there
+  module _ {limit : ℕ} (i : ℕ) (spot : Some i ≡ position (has_number session) seen) (allowed : edit_fault now session change ≡ None) (proper : IsProper limit state) (user : User) (is : user ≡ get_or state.sessions i user) (pairs : List ListenerPair) (pairs_is : pairs ≡ pairs_after session change state.listeners) where
+    edited_here : record state { sessions = set state.sessions i (changed_user change user); listeners = pairs } ≡ edited state session change
+    edited_here =
+        ap (λ (users : List User). record state { sessions = users; listeners = pairs }) (set-changed state session (changed_user change) seen i user proper e spot is)
+        ∙ ap (λ (ps : List ListenerPair). record (changed state session (changed_user change)) { listeners = ps }) pairs_is
 
-    pub edit_crowded : crowded ≡ true → edit_fault now session change ≡ Some ListenerLimit
-    edit_crowded is = rw (← same) (rw (there, sym crowded_is ∙ is) refl)
+    pub edited_now : record state { sessions = set state.sessions i (changed_user change user); listeners = pairs } ≡ edited now session change
+    edited_now = edited_here ∙ ap (λ (s : RosterState). edited s session change) same
 
-    module _ (uncrowded : crowded ≡ false) (many : Bool) (many_is : many ≡ ltb LISTENED_CHANNELS (count_by (is_of_session session) (pairs_after session change state.listeners))) where
-      pub edit_too_many : many ≡ true → edit_fault now session change ≡ Some UserListenerLimit
-      edit_too_many is = rw (← same) (rw (there, sym crowded_is ∙ uncrowded, sym many_is ∙ is) refl)
-
-      module _ (few : many ≡ false) where
-        pub edit_allowed : edit_fault now session change ≡ None
-        edit_allowed = rw (← same) (rw (there, sym crowded_is ∙ uncrowded, sym many_is ∙ few) refl)
-
-        module _ {limit : ℕ} (proper : IsProper limit state) (user : User) (is : user ≡ get_or state.sessions i user) (pairs : List ListenerPair) (pairs_is : pairs ≡ pairs_after session change state.listeners) where
-          edited_here : record state { sessions = set state.sessions i (changed_user change user); listeners = pairs } ≡ edited state session change
-          edited_here =
-              ap (λ (users : List User). record state { sessions = users; listeners = pairs }) (set-changed state session (changed_user change) seen i user proper e spot is)
-              ∙ ap (λ (ps : List ListenerPair). record (changed state session (changed_user change)) { listeners = ps }) pairs_is
-
-          pub edited_now : record state { sessions = set state.sessions i (changed_user change user); listeners = pairs } ≡ edited now session change
-          edited_now = edited_here ∙ ap (λ (s : RosterState). edited s session change) same
-
-          pub IsProper-edited_here : IsProper limit (record state { sessions = set state.sessions i (changed_user change user); listeners = pairs })
-          IsProper-edited_here =
-              subst (λ (s : RosterState). IsProper limit s) (sym edited_here)
-              (IsProper-edited state session change proper there (sym crowded_is ∙ uncrowded) (ltb-false _ _ (sym many_is ∙ few)))
+    pub IsProper-edited_here : IsProper limit (record state { sessions = set state.sessions i (changed_user change user); listeners = pairs })
+    IsProper-edited_here =
+        subst (λ (s : RosterState). IsProper limit s) (sym edited_here)
+        (IsProper-edited_allowed state session change proper ((present_from (has_number session) state.sessions i (rw e at spot)).there)
+        (subst (λ (s : RosterState). edit_fault s session change ≡ None) (sym same) allowed))

@@ -12,3 +12,4 @@ pub mod Rosters
 pub mod Edits
 pub mod Told
 pub mod Refusals
+pub mod Seats

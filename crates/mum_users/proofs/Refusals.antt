@@ -21,7 +21,7 @@ use Rattle.mum_users.specs.Listeners.{listen_fault, listening, listens, pair_bel
 use Rattle.mum_users.specs.Proper.{IsProper, is_sound}
 use Rattle.mum_users.specs.State.{RosterState, has_name, is_of_channel, is_of_session, is_target, joining}
 use Rattle.mum_users.specs.Targets.{is_oversize, target_below, target_fault, targeted, with_target}
-use Rattle.mum_users.proofs.Edits.{IsProper-edited}
+use Rattle.mum_users.proofs.Edits.{IsProper-edited_allowed}
 use Rattle.mum_users.proofs.PairCounts.{count-put_new, listed-stays}
 use Rattle.mum_users.proofs.Counts.{count_by-cons, count_by-insert, some_from}
 use Rattle.mum_users.proofs.Rosters.{IsProper-fewer_targets, IsProper-joined, IsProper-listening, IsProper-with_target}
@@ -34,13 +34,8 @@ none_crowded pairs [] few = refl
 none_crowded pairs (channel ∷ channels) few = let head : is_crowded pairs channel ≡ false = le-ltb _ _ (few channel) in rw head (none_crowded pairs channels few)
 
 pub edits_where_proper_lem : EditsWhereProper
-edits_where_proper_lem limit state session change proper here = (to _ _ refl refl, from)
+edits_where_proper_lem limit state session change proper here = (IsProper-edited_allowed state session change proper here, from)
   where
-    to : (crowded many : Bool) → list_any (is_crowded (pairs_after session change state.listeners)) change.listen ≡ crowded → ltb LISTENED_CHANNELS (count_by (is_of_session session) (pairs_after session change state.listeners)) ≡ many → edit_fault state session change ≡ None → IsProper limit (edited state session change)
-    to true many e f none = let refused : edit_fault state session change ≡ Some ListenerLimit = rw (here, e) refl in absurd (cc)
-    to false true e f none = let refused : edit_fault state session change ≡ Some UserListenerLimit = rw (here, e, f) refl in absurd (cc)
-    to false false e f none = IsProper-edited state session change proper here e (ltb-false _ _ f)
-
     from : IsProper limit (edited state session change) → edit_fault state session change ≡ None
     from after = rw (here, none_crowded (pairs_after session change state.listeners) change.listen after.few_listeners, le-ltb _ _ (after.few_channels session)) refl
 

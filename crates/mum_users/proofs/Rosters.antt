@@ -1,9 +1,9 @@
 -- What each call leaves is a proper roster.
-use Rattle.std.proofs.Common.{◌≡◌, ℕ, ◌+◌, ◌-◌, ◌<◌, ◌≤◌, ◌^◌, Bool, true, false, not, cond, eqb, ltb, List, [], ◌∷◌, length, get_or, set, map, Option, Some, None, refl, sym, ap, subst, ◌∙◌, arith}
+use Rattle.std.proofs.Common.{◌≡◌, ℕ, ◌+◌, ◌-◌, ◌<◌, ◌≤◌, ◌^◌, Bool, true, false, not, cond, eqb, leb, ltb, List, [], ◌∷◌, length, get_or, set, map, Option, Some, None, refl, sym, ap, subst, ◌∙◌, arith}
 use Rattle.std.proofs.Common.{inl, inr}
 use Rattle.std.specs.List.{count_by, filter, list_any, position, position_or_len}
 use Rattle.std.specs.Str.{bytes_eq}
-use Rattle.std.proofs.lemmas.Bool.{cases_Bool, eqb-true, le-ltb, ne_eqb}
+use Rattle.std.proofs.lemmas.Bool.{cases_Bool, eqb-true, le-ltb, leb-false, ne_eqb}
 use Rattle.std.proofs.lemmas.Bool.Decides.{nat_tests}
 use Rattle.std.proofs.lemmas.Slice.Eq.{bytes_eq-Decides}
 use Rattle.mum_base.specs.declared.number.SessionId.{SessionId}
@@ -17,8 +17,10 @@ use Rattle.mum_users.specs.declared.listening.ListenerPair.{ListenerPair}
 use Rattle.mum_users.specs.declared.listening.PairOrder.TheVariants.{BySession}
 use Rattle.mum_users.specs.declared.target.TargetRow.{TargetRow}
 use Rattle.mum_users.specs.State.{RosterState, has_name, has_number, is_of, is_of_channel, is_of_session, is_target, joining}
-use Rattle.mum_users.specs.declared.fault.UserFault.TheVariants.{NoSession}
-use Rattle.mum_users.specs.Sessions.{absent_fault, changed, free_slot, joined, left, next_number, next_slot}
+use Rattle.mum_users.specs.declared.fault.UserFault.TheVariants.{Full, NameInUse, NoSession, SessionsUsedUp}
+use Rattle.mum_users.specs.declared.seating.Seat.{Seat}
+use Rattle.mum_users.specs.Seats.{seated, seated_anew}
+use Rattle.mum_users.specs.Sessions.{absent_fault, changed, free_slot, join_fault, joined, left, next_number, next_slot}
 use Rattle.mum_users.specs.Listeners.{listen_fault, listening, listens, pair_below, with_pair}
 use Rattle.mum_users.specs.declared.target.TheConstants.{LAST_TARGET}
 use Rattle.mum_users.specs.Targets.{is_oversize, target_below, with_target}
@@ -42,15 +44,14 @@ either : {A : Type 0} (g : User → A) (change : User → User) (user : User) (b
 either g change user true e = e
 either g change user false e = refl
 
-pub IsProper-changed : {limit : ℕ} (state : RosterState) (session : SessionId) (change : User → User) → KeepsIdentity change → IsProper limit state → IsProper limit (changed state session change)
-IsProper-changed {limit} state session change keeps proper =
-    let f : User → User = λ user. cond (has_number session user) (change user) user in
+pub IsProper-mapped : {limit : ℕ} (state : RosterState) (f : User → User) → KeepsIdentity f → IsProper limit state → IsProper limit (record state { sessions = map f state.sessions })
+IsProper-mapped {limit} state f keeps proper =
     let counts : (s : SessionId) → count_by (has_number s) (map f state.sessions) ≡ count_by (has_number s) state.sessions =
-    λ s. count_by-map (has_number s) f (λ user. either (has_number s) change user (has_number session user) (ap (λ (n : SessionId). eqb n.0 s.0) (keeps.session user))) state.sessions in
+    λ s. count_by-map (has_number s) f (λ user. ap (λ (n : SessionId). eqb n.0 s.0) (keeps.session user)) state.sessions in
     let names : (n : List ℕ) → count_by (has_name n) (map f state.sessions) ≡ count_by (has_name n) state.sessions =
-    λ n. count_by-map (has_name n) f (λ user. either (has_name n) change user (has_number session user) (ap (λ (m : List ℕ). bytes_eq m n) (keeps.name user))) state.sessions in
+    λ n. count_by-map (has_name n) f (λ user. ap (λ (m : List ℕ). bytes_eq m n) (keeps.name user)) state.sessions in
     record {
-      slots = SlotsRise-map limit f (λ user. either (λ u. u.slot.0) change user (has_number session user) (ap (λ s. s.0) (keeps.slot user))) 0 state.sessions proper.slots;
+      slots = SlotsRise-map limit f (λ user. ap (λ s. s.0) (keeps.slot user)) 0 state.sessions proper.slots;
       numbers = λ s. rw (counts s) (proper.numbers s);
       names = λ n. rw (names n) (proper.names n);
       given = λ s lt. counts s ∙ proper.given s lt;
@@ -63,6 +64,24 @@ IsProper-changed {limit} state session change keeps proper =
       targets_sound = proper.targets_sound;
       targets_rise = proper.targets_rise;
     }
+
+pub IsProper-changed : {limit : ℕ} (state : RosterState) (session : SessionId) (change : User → User) → KeepsIdentity change → IsProper limit state → IsProper limit (changed state session change)
+IsProper-changed state session change keeps proper =
+    IsProper-mapped state (λ user. cond (has_number session user) (change user) user) (record {
+      session = λ user. either (λ u. u.session) change user (has_number session user) (keeps.session user);
+      slot = λ user. either (λ u. u.slot) change user (has_number session user) (keeps.slot user);
+      name = λ user. either (λ u. u.name) change user (has_number session user) (keeps.name user);
+    }) proper
+
+-- seated anew
+pub IsProper-seated : {limit : ℕ} (state : RosterState) (seat_of : User → Seat) → IsProper limit state → IsProper limit (seated_anew seat_of state)
+IsProper-seated state seat_of proper = IsProper-mapped state (seated seat_of) (record { session = λ _. refl; slot = λ _. refl; name = λ _. refl }) proper
+
+pub IsKept-seated : {limit : ℕ} (state : RosterState) (slots : List SessionSlot) (seat_of : User → Seat) → IsKept limit state slots → IsKept limit (seated_anew seat_of state) slots
+IsKept-seated state slots seat_of kept = record {
+  proper = IsProper-seated state seat_of kept.proper;
+  numbered = IsNumbered-map (seated seat_of) (λ _. refl) state.sessions slots kept.numbered;
+}
 
 -- the same, of the row that code finds and changes at its place
 pub set-changed : {limit : ℕ} (state : RosterState) (session : SessionId) (change : User → User) (seen : List User) (i : ℕ) (user : User) → IsProper limit state → seen ≡ state.sessions → Some i ≡ position (has_number session) seen → user ≡ get_or state.sessions i user → set state.sessions i (change user) ≡ map (λ u. cond (has_number session u) (change u) u) state.sessions
@@ -135,6 +154,18 @@ IsProper-left {limit} state session proper =
       targets_sound = omega (arith, count_by-filter-le (λ row. not (is_sound row)) (λ row. not (is_of session row)) state.targets, proper.targets_sound);
       targets_rise = Rises-filter row_below (λ row. not (is_of session row)) state.targets proper.targets_rise;
     }
+
+-- what holds where a join is allowed
+pub join_parts : (limit : ℕ) (state : RosterState) (name : List ℕ) → join_fault limit state name ≡ None
+    → (list_any (has_name name) state.sessions ≡ false) × (length state.sessions < limit) × (state.last < 2 ^ 32 - 1)
+join_parts limit state name allowed = parts _ _ _ refl refl refl
+  where
+    parts : (named full used : Bool) → list_any (has_name name) state.sessions ≡ named → leb limit (length state.sessions) ≡ full → leb (2 ^ 32 - 1) state.last ≡ used
+        → (list_any (has_name name) state.sessions ≡ false) × (length state.sessions < limit) × (state.last < 2 ^ 32 - 1)
+    parts true full used e f g = let refused : join_fault limit state name ≡ Some NameInUse = rw e refl in absurd (cc)
+    parts false true used e f g = let refused : join_fault limit state name ≡ Some Full = rw (e, f) refl in absurd (cc)
+    parts false false true e f g = let refused : join_fault limit state name ≡ Some SessionsUsedUp = rw (e, f, g) refl in absurd (cc)
+    parts false false false e f g = (e, leb-false _ _ f, leb-false _ _ g)
 
 module _ (limit : ℕ) (state : RosterState) (name : List ℕ) (account : Option AccountId) (tokens : List (List ℕ)) (proper : IsProper limit state) (unnamed : list_any (has_name name) state.sessions ≡ false) (room : length state.sessions < limit) (left_over : state.last < 2 ^ 32 - 1) where
   counted : (p : User → Bool) → count_by p (joined state name account tokens).sessions ≡ count_by p state.sessions + cond (p (joining (next_number state) (next_slot state) name account tokens)) 1 0

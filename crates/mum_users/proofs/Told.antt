@@ -6,7 +6,8 @@ use Rattle.std.proofs.lemmas.Bool.Decides.{nat_tests}
 use Rattle.mum_base.specs.declared.number.ChannelId.{ChannelId}
 use Rattle.mum_base.specs.declared.number.SessionId.{SessionId}
 use Rattle.mum_users.specs.declared.listening.ListenerPair.{ListenerPair}
-use Rattle.mum_users.specs.Edit.{is_among, staying, with_channels}
+use Rattle.mum_base.specs.Channels.{is_among}
+use Rattle.mum_users.specs.Edit.{staying, with_channels}
 use Rattle.mum_users.specs.Laws.{ListensAsTold, OthersListenAsBefore}
 use Rattle.mum_users.specs.State.{is_of_session, is_pair}
 use Rattle.mum_users.proofs.Counts.{count_by-filter_none, count_by-filter_others, list_any-count_by}

@@ -1,7 +1,8 @@
 -- Changes of several parts of a session at once.
-use Rattle.std.specs.Prelude.{◌==◌, ◌&&◌, not, nat_lt, ℕ, Bool, List, [], ◌∷◌, filter, count_by, Option, Some, None, unwrap_or, if◌then◌else◌}
+use Rattle.std.specs.Prelude.{◌&&◌, not, nat_lt, ℕ, Bool, List, [], ◌∷◌, filter, count_by, Option, Some, None, unwrap_or, if◌then◌else◌}
 use Rattle.std.specs.List.{list_any}
 use Rattle.std.specs.Option.{option_copied}
+use Rattle.mum_base.specs.Channels.{is_among}
 use Rattle.mum_base.specs.declared.number.SessionId.{SessionId}
 use Rattle.mum_base.specs.declared.number.ChannelId.{ChannelId}
 use Rattle.mum_users.specs.declared.edit.UserChange.{UserChange}
@@ -42,9 +43,6 @@ changed_user change user =
     let placed : User = record user { channel = unwrap_or change.channel user.channel } in
     let flags : User = flagged placed change.flags in
     record flags { comment = unwrap_or change.comment flags.comment; context = unwrap_or change.context flags.context }
-
-abbrev pub is_among : List ChannelId → ChannelId → Bool
-is_among channels channel = list_any (λ other. other.0 == channel.0) channels
 
 -- the pairs without those of the session and these channels
 abbrev pub staying : SessionId → List ChannelId → List ListenerPair → List ListenerPair

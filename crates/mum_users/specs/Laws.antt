@@ -5,7 +5,8 @@ use Rattle.mum_base.specs.declared.number.AccountId.{AccountId}
 use Rattle.mum_base.specs.declared.number.ChannelId.{ChannelId}
 use Rattle.mum_base.specs.declared.number.SessionId.{SessionId}
 use Rattle.mum_users.specs.declared.target.Target.{Target}
-use Rattle.mum_users.specs.Edit.{UserEdit, edit_fault, edited, is_among}
+use Rattle.mum_base.specs.Channels.{is_among}
+use Rattle.mum_users.specs.Edit.{UserEdit, edit_fault, edited}
 use Rattle.mum_users.specs.Listeners.{listen_fault, listening, listens}
 use Rattle.mum_users.specs.Proper.{IsProper}
 use Rattle.mum_users.specs.Sessions.{join_fault, joined}

@@ -3,6 +3,7 @@ pub mod Order
 pub mod Flags
 pub mod State
 pub mod Sessions
+pub mod Seats
 pub mod Listeners
 pub mod Edit
 pub mod Targets

@@ -2,7 +2,8 @@
 
 ghost use Rattle.std.specs.Prelude.{◌≡◌, ◌≤◌, ◌&&◌, not, nat_le, nat_lt, count_by};
 ghost use Rattle.std.specs.List.{list_any};
-ghost use Rattle.mum_users.specs.Edit.{is_among, is_crowded, pairs_after, changed_user, user_edit_of};
+ghost use Rattle.mum_base.specs.Channels.{is_among};
+ghost use Rattle.mum_users.specs.Edit.{is_crowded, pairs_after, changed_user, user_edit_of};
 ghost use Rattle.mum_users.specs.Listeners.{pair_below};
 ghost use Rattle.mum_users.specs.Order.{Rises};
 ghost use Rattle.mum_users.specs.State.{is_of_channel, is_of_session, is_pair};
@@ -19,7 +20,7 @@ use mum_base::{ChannelId, Octets, SessionId, Text};
 pub struct UserChange<'a> {
     pub channel: Option<ChannelId>,
     pub flags: FlagChange,
-    pub comment: Option<&'a str>,
+    pub comment: Option<&'a Text>,
     /// The plugin context.
     pub context: Option<&'a [u8]>,
     /// Channels to listen to. It may listen to some of them already.

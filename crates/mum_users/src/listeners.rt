@@ -3,7 +3,8 @@
 ghost use Rattle.std.specs.Prelude.{◌≡◌, ◌+◌, ◌≤◌, ◌<◌, not, [], OnOk, OnErr, IfOk, count_by, filter, length, if◌then◌else◌};
 ghost use Rattle.std.specs.List.{list_any};
 ghost use Rattle.std.specs.Vec.{vec_capacity, vec_len};
-ghost use Rattle.mum_users.specs.Edit.{is_among, staying, with_channels};
+ghost use Rattle.mum_base.specs.Channels.{is_among};
+ghost use Rattle.mum_users.specs.Edit.{staying, with_channels};
 ghost use Rattle.mum_users.specs.Listeners.{IsIndexed, pair_below, with_pair};
 ghost use Rattle.mum_users.specs.State.{is_of_channel, is_of_session, is_pair};
 

@@ -3,7 +3,8 @@
 ghost use Rattle.std.specs.Prelude.{◌≡◌, ◌+◌, ◌≤◌, ◌<◌, ◌==◌, ◌||◌, ◌&&◌, not, nat_lt, filter, length, position, slice_index_or, IsTrue};
 ghost use Rattle.std.specs.Vec.{vec_capacity, vec_len};
 ghost use Rattle.std.specs.List.{list_any, position_or_len};
-ghost use Rattle.mum_users.specs.Edit.{is_among, staying};
+ghost use Rattle.mum_base.specs.Channels.{is_among};
+ghost use Rattle.mum_users.specs.Edit.{staying};
 ghost use Rattle.mum_users.specs.Listeners.{below_in, channel_below, pair_below, with_pair};
 ghost use Rattle.mum_users.specs.Order.{Rises};
 ghost use Rattle.mum_users.specs.State.{is_of_channel, is_of_session, is_pair};

@@ -11,6 +11,7 @@ use crate::fault::UserFault;
 use crate::flags::FlagChange;
 use crate::listeners::Listeners;
 use crate::listening::{CHANNEL_LISTENERS, ChannelSet, LISTENED_CHANNELS, ListenerPair};
+use crate::seating::{Seating, seat_all};
 use crate::sessions::{
     SessionSlot, copy_of_users, free_slot, has_member, index_of, is_here, name_in_use, row_at,
     row_of, take_slot, take_user,
@@ -20,8 +21,7 @@ use crate::target::{
     take_targets,
 };
 use crate::user::{
-    SESSIONS, User, change_flags, change_texts, copy_of_octets, copy_of_text, copy_of_texts,
-    joining_user,
+    SESSIONS, User, change_flags, change_texts, copy_of_octets, joining_user, shared_texts,
 };
 use mum_base::{AccountId, ChannelId, OutOfMemory, SessionId, Slot, Text};
 use std::alloc::Global;
@@ -64,7 +64,8 @@ impl Model for Roster {
 }
 
 impl Roster {
-    ghost use Rattle.mum_users.specs.State.{empty_roster, is_in};
+    ghost use Rattle.mum_users.specs.State.{empty_roster, has_number, is_in};
+    ghost use Rattle.mum_users.specs.Seats.{seated_anew};
     ghost use Rattle.mum_users.specs.Proper.{IsProper};
     ghost use Rattle.mum_users.specs.Sessions.{absent_fault, join_fault, joined, left, next_join, next_number, placed, session_at, session_of, suppressed, with_flags, with_texts, with_tokens, IsLeastFree};
     ghost use Rattle.mum_users.specs.Listeners.{listen_fault, listeners_of, listening, listens, pairs_of, without_channels};
@@ -146,14 +147,8 @@ impl Roster {
             (joined self.old name.now account tokens.now) self.old result self.new }
         ensures proper { IsProper SESSIONS self.new }
     {
-        if name_in_use(self.users.as_slice(), name) {
-            return Err(UserFault::NameInUse);
-        }
-        if self.users.len() >= SESSIONS {
-            return Err(UserFault::Full);
-        }
-        if self.last == u32::MAX {
-            return Err(UserFault::SessionsUsedUp);
+        if let Some(cause) = self.cause_against_joining(name) {
+            return Err(cause);
         }
         self.slots.reserve(1)?;
         let place = free_slot(self.users.as_slice());
@@ -239,7 +234,7 @@ impl Roster {
         match index_of(self.users.as_slice(), self.slots.as_slice(), session) {
             None => Err(UserFault::NoSession),
             Some(index) => {
-                let tokens = copy_of_texts(self.alloc, tokens)?;
+                let tokens = shared_texts(self.alloc, tokens)?;
                 let user = &mut self.users[index];
                 user.tokens = tokens;
                 Ok(())
@@ -263,7 +258,7 @@ impl Roster {
         match index_of(self.users.as_slice(), self.slots.as_slice(), session) {
             None => Err(UserFault::NoSession),
             Some(index) => {
-                let comment = copy_of_text(self.alloc, comment)?;
+                let comment = Text::of_given(self.alloc, comment)?;
                 let context = copy_of_octets(self.alloc, context)?;
                 change_texts(&mut self.users[index], comment, context);
                 Ok(())
@@ -348,13 +343,10 @@ impl Roster {
         let Some(index) = index_of(self.users.as_slice(), self.slots.as_slice(), session) else {
             return Err(UserFault::NoSession);
         };
-        if crowds_one(&self.listeners, session, change) {
-            return Err(UserFault::ListenerLimit);
+        if let Some(cause) = self.cause_against_editing(session, change) {
+            return Err(cause);
         }
-        if listens_to_too_many(&self.listeners, session, change) {
-            return Err(UserFault::UserListenerLimit);
-        }
-        let comment = copy_of_text(self.alloc, change.comment)?;
+        let comment = Text::share_given(change.comment)?;
         let context = copy_of_octets(self.alloc, change.context)?;
         self.listeners
             .change(session, change.listen, change.unlisten)?;
@@ -419,6 +411,60 @@ impl Roster {
             },
         )?;
         Ok(())
+    }
+
+    /// The first cause for which a session of this name is not taken in: `NameInUse`, `Full` or
+    /// `SessionsUsedUp`. It takes no memory.
+    pub fn cause_against_joining(&self, name: &str) -> Option<UserFault>
+        ensures { result ≡ join_fault SESSIONS self.now name.now }
+    {
+        if name_in_use(self.users.as_slice(), name) {
+            return Some(UserFault::NameInUse);
+        }
+        if self.users.len() >= SESSIONS {
+            return Some(UserFault::Full);
+        }
+        if self.last == u32::MAX {
+            return Some(UserFault::SessionsUsedUp);
+        }
+        None
+    }
+
+    /// The first cause for which a change of a session is refused, as `edit` names them. It takes no
+    /// memory.
+    pub fn cause_against_editing(
+        &self,
+        session: SessionId,
+        change: &UserChange,
+    ) -> Option<UserFault>
+        ensures { result ≡ edit_fault self.now session (user_edit_of change.now) }
+    {
+        if !is_here(self.users.as_slice(), self.slots.as_slice(), session) {
+            return Some(UserFault::NoSession);
+        }
+        if crowds_one(&self.listeners, session, change) {
+            return Some(UserFault::ListenerLimit);
+        }
+        if listens_to_too_many(&self.listeners, session, change) {
+            return Some(UserFault::UserListenerLimit);
+        }
+        None
+    }
+
+    /// Whether a session is here, found by halving.
+    pub fn is_here(&self, session: SessionId) -> bool
+        ensures { result ≡ list_any (has_number session) self.now.sessions }
+    {
+        is_here(self.users.as_slice(), self.slots.as_slice(), session)
+    }
+
+    /// Seats every session anew: the channel in which it is, and whether it may speak there. It takes
+    /// no memory.
+    pub fn seat_anew<S: Seating>(&mut self, seating: &S)
+        ensures outcome { self.new ≡ seated_anew (S.seat_of seating.now) self.old }
+        ensures proper { IsProper SESSIONS self.new }
+    {
+        seat_all(&mut self.users, seating);
     }
 
     /// An equal roster, with its slots and the last session number that was given.

@@ -60,7 +60,7 @@ impl TargetItem {
         Ok(TargetItem {
             sessions: Items::from_vec(Vec::from_slice(alloc, self.sessions.as_slice())?),
             channel: self.channel,
-            group: self.group.copy(alloc)?,
+            group: self.group.share()?,
             links: self.links,
             children: self.children,
         })

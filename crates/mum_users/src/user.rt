@@ -69,13 +69,13 @@ pub struct User {
     pub context: Octets,
 }
 
-/// Equal texts in the same order.
-pub(crate) fn copy_of_texts(alloc: Global, texts: &[Text]) -> Result<Items<Text>, OutOfMemory>
+/// The same texts in the same order, without a copy of their bytes.
+pub(crate) fn shared_texts(alloc: Global, texts: &[Text]) -> Result<Items<Text>, OutOfMemory>
     ensures { IfOk result (λ copy. copy ≡ texts.now) }
 {
     let mut copies = Vec::with_capacity(alloc, texts.len())?;
     for text in texts {
-        copies.push(Text::of(alloc, text.as_str())?)?;
+        copies.push(text.share()?)?;
     }
     Ok(Items::from_vec(copies))
 }
@@ -104,21 +104,21 @@ pub(crate) fn joining_user(
         self_deaf: false,
         priority: false,
         recording: false,
-        tokens: copy_of_texts(alloc, tokens)?,
-        comment: Text::from_string(String::new(alloc)),
+        tokens: shared_texts(alloc, tokens)?,
+        comment: Text::empty(alloc),
         context: Octets::from_vec(Vec::new(alloc)),
     })
 }
 
 impl User {
-    /// A row of its own that is equal.
+    /// A row of its own that is equal. The texts of both are shared.
     pub fn copy(&self, alloc: Global) -> Result<User, OutOfMemory>
         ensures { IfOk result (λ copy. copy ≡ self.now) }
     {
         Ok(User {
             session: self.session,
             slot: self.slot,
-            name: self.name.copy(alloc)?,
+            name: self.name.share()?,
             account: self.account,
             channel: self.channel,
             mute: self.mute,
@@ -128,20 +128,10 @@ impl User {
             self_deaf: self.self_deaf,
             priority: self.priority,
             recording: self.recording,
-            tokens: copy_of_texts(alloc, self.tokens.as_slice())?,
-            comment: self.comment.copy(alloc)?,
+            tokens: shared_texts(alloc, self.tokens.as_slice())?,
+            comment: self.comment.share()?,
             context: self.context.copy(alloc)?,
         })
-    }
-}
-
-/// A copy of a text, if there is one.
-pub(crate) fn copy_of_text(alloc: Global, text: Option<&str>) -> Result<Option<Text>, OutOfMemory>
-    ensures { IfOk result (λ copy. copy ≡ option_copied text.entry) }
-{
-    match text {
-        None => Ok(None),
-        Some(text) => Ok(Some(Text::of(alloc, text)?)),
     }
 }
 

@@ -1,7 +1,7 @@
 use Rattle.std.proofs.Common.{◌≡◌, ◌<◌, ◌∙◌, true, length, get_or, arith, refl, ap, length-set}
 use Rattle.std.proofs.lemmas.List.{get_or_default, take_all}
 use Rattle.mum_tree.specs.declared.channel.Row.{Row}
-use Rattle.mum_tree.specs.Change.{is_among}
+use Rattle.mum_base.specs.Channels.{is_among}
 use Rattle.mum_tree.proofs.Marks.{mark_more, none_marked}
 use Rattle.mum_tree.proofs.rows.places_of.Goals as goal
 

@@ -4,7 +4,8 @@ use Rattle.std.proofs.lemmas.Bool.Decides.{nat_tests}
 use Rattle.mum_base.specs.declared.number.ChannelId.{ChannelId}
 use Rattle.mum_users.specs.declared.listening.ListenerPair.{ListenerPair}
 use Rattle.mum_users.specs.declared.listening.TheConstants.{LISTENED_CHANNELS}
-use Rattle.mum_users.specs.Edit.{is_among, staying, with_channels}
+use Rattle.mum_base.specs.Channels.{is_among}
+use Rattle.mum_users.specs.Edit.{staying, with_channels}
 use Rattle.mum_users.specs.State.{is_of_session}
 use Rattle.mum_users.proofs.Edits.{count-staying_own, one_more_own, own_grows}
 use Rattle.mum_users.proofs.edit.listens_to_too_many.Goals as goal

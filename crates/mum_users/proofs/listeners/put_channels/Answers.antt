@@ -2,7 +2,8 @@ use Rattle.std.proofs.Common.{◌≡◌, ℕ, suc, ◌-◌, ◌<◌, cond, List,
 use Rattle.mum_base.specs.declared.number.SessionId.{SessionId}
 use Rattle.mum_base.specs.declared.number.ChannelId.{ChannelId}
 use Rattle.mum_users.specs.declared.listening.ListenerPair.{ListenerPair}
-use Rattle.mum_users.specs.Edit.{is_among, with_channels}
+use Rattle.mum_base.specs.Channels.{is_among}
+use Rattle.mum_users.specs.Edit.{with_channels}
 use Rattle.mum_users.specs.Listeners.{pair_below, with_pair}
 use Rattle.mum_users.proofs.listeners.put_channels.Goals as goal
 

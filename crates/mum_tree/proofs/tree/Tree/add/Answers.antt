@@ -13,7 +13,7 @@ invariant_of-self-2 c =
     let above = subst (λ (t : TreeState). t.greatest < c.args.id.0) (sym c.self.view_is) c.requires in
     let allowed = subst (λ (t : TreeState). fault_of_add CHANNEL_LIMIT t c.args.id c.args.parent c.args.name.now ≡ None) (sym c.self.view_is) (sym c.cause_against_adding.ensures ∙ c.in_default.is) in
     let least = c.least_free_place-place.ensures.least ∙ ap (λ (rows : List Row). least_place rows) c.deref.ensures.value in
-    let done = added_proper tree c.least_free_place-place.result c.args.id c.args.parent c.args.name.now c.in_ok-of.field-0 c.args.temporary c.in_ok-plain.field-0 c.self.invariant above allowed c.in_ok-of.ensures c.in_ok-plain.ensures least in
+    let done = added_proper tree c.least_free_place-place.result c.args.id c.args.parent c.args.name.now c.in_ok-of.field-0 c.args.temporary c.plain.result c.self.invariant above allowed c.in_ok-of.ensures c.plain.ensures least in
     rw (c.in_ok-push.ensures {u = tt}).items (rw done.0 done.1)
 
 pub returns-clause-proper : goal.returns-clause-proper
@@ -22,5 +22,5 @@ returns-clause-proper c =
     let above = subst (λ (t : TreeState). t.greatest < c.args.id.0) (sym c.self.view_is) c.requires in
     let allowed = subst (λ (t : TreeState). fault_of_add CHANNEL_LIMIT t c.args.id c.args.parent c.args.name.now ≡ None) (sym c.self.view_is) (sym c.cause_against_adding.ensures ∙ c.in_default.is) in
     let least = c.least_free_place-place.ensures.least ∙ ap (λ (rows : List Row). least_place rows) c.deref.ensures.value in
-    let done = added_proper tree c.least_free_place-place.result c.args.id c.args.parent c.args.name.now c.in_ok-of.field-0 c.args.temporary c.in_ok-plain.field-0 c.self.invariant above allowed c.in_ok-of.ensures c.in_ok-plain.ensures least in
+    let done = added_proper tree c.least_free_place-place.result c.args.id c.args.parent c.args.name.now c.in_ok-of.field-0 c.args.temporary c.plain.result c.self.invariant above allowed c.in_ok-of.ensures c.plain.ensures least in
     rw (c.in_ok-push.ensures {u = tt}).items (rw done.0 done.1)

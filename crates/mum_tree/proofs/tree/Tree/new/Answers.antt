@@ -3,8 +3,8 @@ use Rattle.mum_tree.proofs.tree.Tree.new.Goals as goal
 
 pub invariant_of-result : goal.invariant_of-result
 invariant_of-result c =
-    made_proper _ _ _ _ _ c.new-rows.ensures.items (c.in_ok-push.ensures {u = tt}).items c.in_ok-of.ensures c.in_ok-plain.ensures c.new.ensures.items
+    made_proper _ _ _ _ _ c.new-rows.ensures.items (c.in_ok-push.ensures {u = tt}).items c.in_ok-of.ensures c.plain.ensures c.new.ensures.items
 
 pub returns-clause-proper : goal.returns-clause-proper
 returns-clause-proper c =
-    made_proper _ _ _ _ _ c.new-rows.ensures.items (c.in_ok-push.ensures {u = tt}).items c.in_ok-of.ensures c.in_ok-plain.ensures c.new.ensures.items
+    made_proper _ _ _ _ _ c.new-rows.ensures.items (c.in_ok-push.ensures {u = tt}).items c.in_ok-of.ensures c.plain.ensures c.new.ensures.items

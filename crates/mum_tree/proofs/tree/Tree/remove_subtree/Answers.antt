@@ -1,12 +1,14 @@
 use Rattle.std.proofs.Common.{◌≡◌, ◌∙◌, ◌<◌, ◌&&◌, Bool, false, not, List, get_or, ap, sym, subst, None, rules}
 use Rattle.std.specs.List.{All, filter}
+use Rattle.std.proofs.lemmas.Bool.{eqb-false}
 use Rattle.std.proofs.lemmas.Fn.{filter_same}
 use Rattle.std.proofs.lemmas.List.Kept.{AllPairs-filter}
 use Rattle.mum_tree.specs.declared.channel.Row.{Row}
 use Rattle.mum_tree.specs.Refusals.{fault_of_remove}
 use Rattle.mum_tree.specs.Rows.{is_below, is_there, number, Rise}
 use Rattle.mum_tree.specs.State.{Pair, TreeState, without_rows, without_subtree}
-use Rattle.mum_tree.proofs.Shrunk.{filter_agree_at, remove_allowed, shrunk_proper, stays}
+use Rattle.mum_tree.proofs.Edits.{may_go}
+use Rattle.mum_tree.proofs.Shrunk.{filter_agree_at, shrunk_proper, stays}
 use Rattle.mum_tree.proofs.tree.Tree.remove_subtree.Goals as goal
 
 pub keep_ends-requires : goal.keep_ends-requires
@@ -14,32 +16,33 @@ keep_ends-requires c =
     let rows = c.self.inside.rows.items in
     let keeps : Row → Bool = λ row. not (get_or c.places_below-gone.result row.place false) in
     let kept = filter_same _ keeps _ (λ x b f k. search rules) rows c.retain.new.self.items c.retain.ensures.filtered in
-    subst Rise (sym (c.deref-3.ensures.value ∙ kept)) (AllPairs-filter (λ (one : Row) (later : Row). number one < number later) keeps rows c.self.invariant.rise)
+    subst Rise (sym (c.deref-2.ensures.value ∙ kept)) (AllPairs-filter (λ (one : Row) (later : Row). number one < number later) keeps rows c.self.invariant.rise)
 
 pub invariant_of-self : goal.invariant_of-self
 invariant_of-self c =
     let rows = c.self.inside.rows.items in
     let tree : TreeState = record { channels = rows; links = c.self.inside.links.items; greatest = c.self.inside.greatest } in
+    let allowed = subst (λ (t : TreeState). fault_of_remove t c.args.id ≡ None) (sym c.self.view_is) (sym c.cause_against_removing.ensures ∙ c.in_default.is) in
     let keeps : Row → Bool = λ row. not (get_or c.places_below-gone.result row.place false) in
     let kept = filter_same _ keeps _ (λ x b f k. search rules) rows c.retain.new.self.items c.retain.ensures.filtered in
-    let marks = subst (λ (seen : List Row). All (λ row. get_or c.places_below-gone.result row.place false ≡ is_below seen c.args.id row.channel.id) seen) c.deref-2.ensures.value c.places_below-gone.ensures.value in
+    let marks = subst (λ (seen : List Row). All (λ row. get_or c.places_below-gone.result row.place false ≡ is_below seen c.args.id row.channel.id) seen) c.deref.ensures.value c.places_below-gone.ensures.value in
     let same = filter_agree_at keeps (stays rows c.args.id) rows (λ k d within. ap not (marks k d within)) in
-    let left = subst (λ (seen : List Row). c.keep_ends.new.links.items ≡ filter (λ (pair : Pair). is_there seen pair.0 && is_there seen pair.1) tree.links) (c.deref-3.ensures.value ∙ kept ∙ same) c.keep_ends.ensures in
-    rw (kept ∙ same) (shrunk_proper tree c.args.id c.keep_ends.new.links.items c.self.invariant c.if-id.false left)
+    let left = subst (λ (seen : List Row). c.keep_ends.new.links.items ≡ filter (λ (pair : Pair). is_there seen pair.0 && is_there seen pair.1) tree.links) (c.deref-2.ensures.value ∙ kept ∙ same) c.keep_ends.ensures in
+    rw (kept ∙ same) (shrunk_proper tree c.args.id c.keep_ends.new.links.items c.self.invariant (eqb-false c.args.id.0 0 (may_go tree c.args.id allowed).1) left)
 
 pub returns-clause-made : goal.returns-clause-made
 returns-clause-made c =
     let rows = c.self.inside.rows.items in
     let tree : TreeState = record { channels = rows; links = c.self.inside.links.items; greatest = c.self.inside.greatest } in
+    let allowed = subst (λ (t : TreeState). fault_of_remove t c.args.id ≡ None) (sym c.self.view_is) (sym c.cause_against_removing.ensures ∙ c.in_default.is) in
     let keeps : Row → Bool = λ row. not (get_or c.places_below-gone.result row.place false) in
     let kept = filter_same _ keeps _ (λ x b f k. search rules) rows c.retain.new.self.items c.retain.ensures.filtered in
-    let marks = subst (λ (seen : List Row). All (λ row. get_or c.places_below-gone.result row.place false ≡ is_below seen c.args.id row.channel.id) seen) c.deref-2.ensures.value c.places_below-gone.ensures.value in
+    let marks = subst (λ (seen : List Row). All (λ row. get_or c.places_below-gone.result row.place false ≡ is_below seen c.args.id row.channel.id) seen) c.deref.ensures.value c.places_below-gone.ensures.value in
     let same = filter_agree_at keeps (stays rows c.args.id) rows (λ k d within. ap not (marks k d within)) in
     let left : TreeState = record { channels = c.retain.new.self.items; links = c.keep_ends.new.links.items; greatest = tree.greatest } in
-    let links = subst (λ (seen : List Row). c.keep_ends.new.links.items ≡ filter (λ (pair : Pair). is_there seen pair.0 && is_there seen pair.1) tree.links) c.deref-3.ensures.value c.keep_ends.ensures in
-    let there = ap (λ (seen : List Row). is_there seen c.args.id) (sym c.deref.ensures.value) ∙ sym c.stands.ensures ∙ c.if-not-stands.false in
+    let links = subst (λ (seen : List Row). c.keep_ends.new.links.items ≡ filter (λ (pair : Pair). is_there seen pair.0 && is_there seen pair.1) tree.links) c.deref-2.ensures.value c.keep_ends.ensures in
     let done : left ≡ without_rows tree c.retain.new.self.items = ap (λ (ps : List Pair). record { channels = c.retain.new.self.items; links = ps; greatest = tree.greatest }) links in (
-      subst (λ (t : TreeState). fault_of_remove t c.args.id ≡ None) c.self.view_is (remove_allowed tree c.args.id there c.if-id.false),
+      sym c.cause_against_removing.ensures ∙ c.in_default.is,
       subst (λ (t : TreeState). left ≡ without_subtree t c.args.id) c.self.view_is (done ∙ ap (without_rows tree) (kept ∙ same)),
     )
 
@@ -47,9 +50,10 @@ pub returns-clause-proper : goal.returns-clause-proper
 returns-clause-proper c =
     let rows = c.self.inside.rows.items in
     let tree : TreeState = record { channels = rows; links = c.self.inside.links.items; greatest = c.self.inside.greatest } in
+    let allowed = subst (λ (t : TreeState). fault_of_remove t c.args.id ≡ None) (sym c.self.view_is) (sym c.cause_against_removing.ensures ∙ c.in_default.is) in
     let keeps : Row → Bool = λ row. not (get_or c.places_below-gone.result row.place false) in
     let kept = filter_same _ keeps _ (λ x b f k. search rules) rows c.retain.new.self.items c.retain.ensures.filtered in
-    let marks = subst (λ (seen : List Row). All (λ row. get_or c.places_below-gone.result row.place false ≡ is_below seen c.args.id row.channel.id) seen) c.deref-2.ensures.value c.places_below-gone.ensures.value in
+    let marks = subst (λ (seen : List Row). All (λ row. get_or c.places_below-gone.result row.place false ≡ is_below seen c.args.id row.channel.id) seen) c.deref.ensures.value c.places_below-gone.ensures.value in
     let same = filter_agree_at keeps (stays rows c.args.id) rows (λ k d within. ap not (marks k d within)) in
-    let left = subst (λ (seen : List Row). c.keep_ends.new.links.items ≡ filter (λ (pair : Pair). is_there seen pair.0 && is_there seen pair.1) tree.links) (c.deref-3.ensures.value ∙ kept ∙ same) c.keep_ends.ensures in
-    rw (kept ∙ same) (shrunk_proper tree c.args.id c.keep_ends.new.links.items c.self.invariant c.if-id.false left)
+    let left = subst (λ (seen : List Row). c.keep_ends.new.links.items ≡ filter (λ (pair : Pair). is_there seen pair.0 && is_there seen pair.1) tree.links) (c.deref-2.ensures.value ∙ kept ∙ same) c.keep_ends.ensures in
+    rw (kept ∙ same) (shrunk_proper tree c.args.id c.keep_ends.new.links.items c.self.invariant (eqb-false c.args.id.0 0 (may_go tree c.args.id allowed).1) left)

@@ -1,50 +1,42 @@
-use Rattle.std.proofs.Common.{refl}
+use Rattle.std.proofs.Common.{refl, sym, ◌∙◌}
 use Rattle.std.proofs.lemmas.Result.{err_from_is_err_and}
 use Rattle.mum_users.specs.Edit.{changed_user, user_edit_of}
-use Rattle.mum_users.proofs.Edits.{IsProper-edited_here, edit_absent, edit_allowed, edit_crowded, edit_too_many, edited_now}
+use Rattle.mum_users.proofs.Edits.{IsProper-edited_here, edit_absent, edited_now}
 use Rattle.mum_users.proofs.Rosters.{IsNumbered-set}
 use Rattle.mum_users.proofs.roster.Roster.edit.Goals as goal
 
 pub returns-in_default-clause-outcome : goal.returns-in_default-clause-outcome
 returns-in_default-clause-outcome c = (edit_absent _ _ c.args.session (user_edit_of c.args.change.now) _ c.self.view_is c.as_slice.ensures.value c.in_default.ensures, refl)
 
-pub returns-then-crowds_one-clause-outcome : goal.returns-then-crowds_one-clause-outcome
-returns-then-crowds_one-clause-outcome c =
-    (edit_crowded _ _ c.args.session (user_edit_of c.args.change.now) _ c.self.view_is c.as_slice.ensures.value _ c.in-Some.ensures _ c.crowds_one.ensures c.if-crowds_one.true, refl)
-
-pub returns-then-listens_to_too_many-clause-outcome : goal.returns-then-listens_to_too_many-clause-outcome
-returns-then-listens_to_too_many-clause-outcome c =
-    (edit_too_many _ _ c.args.session (user_edit_of c.args.change.now) _ c.self.view_is c.as_slice.ensures.value _ c.in-Some.ensures _ c.crowds_one.ensures c.if-crowds_one.false _ c.listens_to_too_many.ensures c.if-listens_to_too_many.true, refl)
-
 pub returns-in_err-comment-clause-outcome : goal.returns-in_err-comment-clause-outcome
 returns-in_err-comment-clause-outcome c =
     let p = err_from_is_err_and c.from_residual.result c.from_residual.ensures.1 in
-    rw (p.1, p.2) (edit_allowed _ _ c.args.session (user_edit_of c.args.change.now) _ c.self.view_is c.as_slice.ensures.value _ c.in-Some.ensures _ c.crowds_one.ensures c.if-crowds_one.false _ c.listens_to_too_many.ensures c.if-listens_to_too_many.false, refl)
+    rw (p.1, p.2) (sym c.cause_against_editing.ensures ∙ c.in_default-cause_against_editing.is, refl)
 
 pub returns-in_err-context-clause-outcome : goal.returns-in_err-context-clause-outcome
 returns-in_err-context-clause-outcome c =
     let p = err_from_is_err_and c.from_residual-in_err-context.result c.from_residual-in_err-context.ensures.1 in
-    rw (p.1, p.2) (edit_allowed _ _ c.args.session (user_edit_of c.args.change.now) _ c.self.view_is c.as_slice.ensures.value _ c.in-Some.ensures _ c.crowds_one.ensures c.if-crowds_one.false _ c.listens_to_too_many.ensures c.if-listens_to_too_many.false, refl)
+    rw (p.1, p.2) (sym c.cause_against_editing.ensures ∙ c.in_default-cause_against_editing.is, refl)
 
 pub returns-in_err-change-clause-outcome : goal.returns-in_err-change-clause-outcome
 returns-in_err-change-clause-outcome c =
     let p = err_from_is_err_and c.from_residual-in_err-change.result c.from_residual-in_err-change.ensures.1 in
-    rw (p.1, p.2, c.in_err-change.ensures.err) (edit_allowed _ _ c.args.session (user_edit_of c.args.change.now) _ c.self.view_is c.as_slice.ensures.value _ c.in-Some.ensures _ c.crowds_one.ensures c.if-crowds_one.false _ c.listens_to_too_many.ensures c.if-listens_to_too_many.false, c.self.view_is)
+    rw (p.1, p.2, c.in_err-change.ensures.err) (sym c.cause_against_editing.ensures ∙ c.in_default-cause_against_editing.is, c.self.view_is)
 
 pub invariant_of-self-2 : goal.invariant_of-self-2
 invariant_of-self-2 c = rw c.change_row.ensures (record {
-  proper = IsProper-edited_here _ _ c.args.session (user_edit_of c.args.change.now) _ c.self.view_is c.as_slice.ensures.value _ c.in-Some.ensures _ c.crowds_one.ensures c.if-crowds_one.false _ c.listens_to_too_many.ensures c.if-listens_to_too_many.false c.self.invariant.proper c.index_mut.result.now c.index_mut.ensures.value _ c.in_ok-change.ensures.ok;
+  proper = IsProper-edited_here _ _ c.args.session (user_edit_of c.args.change.now) _ c.self.view_is c.as_slice.ensures.value _ c.in-Some.ensures (sym c.cause_against_editing.ensures ∙ c.in_default-cause_against_editing.is) c.self.invariant.proper c.index_mut.result.now c.index_mut.ensures.value _ c.in_ok-change.ensures.ok;
   numbered = IsNumbered-set _ _ c.args.session (changed_user (user_edit_of c.args.change.now)) _ _ c.index_mut.result.now (record { session = λ _. refl; slot = λ _. refl; name = λ _. refl }) c.self.invariant c.as_slice.ensures.value c.in-Some.ensures c.index_mut.ensures.value;
 })
 
 pub returns-clause-outcome : goal.returns-clause-outcome
 returns-clause-outcome c =
     rw c.change_row.ensures (
-      edit_allowed _ _ c.args.session (user_edit_of c.args.change.now) _ c.self.view_is c.as_slice.ensures.value _ c.in-Some.ensures _ c.crowds_one.ensures c.if-crowds_one.false _ c.listens_to_too_many.ensures c.if-listens_to_too_many.false,
-      edited_now _ _ c.args.session (user_edit_of c.args.change.now) _ c.self.view_is c.as_slice.ensures.value _ c.in-Some.ensures _ c.crowds_one.ensures c.if-crowds_one.false _ c.listens_to_too_many.ensures c.if-listens_to_too_many.false c.self.invariant.proper c.index_mut.result.now c.index_mut.ensures.value _ c.in_ok-change.ensures.ok,
+      sym c.cause_against_editing.ensures ∙ c.in_default-cause_against_editing.is,
+      edited_now _ _ c.args.session (user_edit_of c.args.change.now) _ c.self.view_is c.as_slice.ensures.value _ c.in-Some.ensures (sym c.cause_against_editing.ensures ∙ c.in_default-cause_against_editing.is) c.self.invariant.proper c.index_mut.result.now c.index_mut.ensures.value _ c.in_ok-change.ensures.ok,
     )
 
 pub returns-clause-proper : goal.returns-clause-proper
 returns-clause-proper c =
     rw c.change_row.ensures (
-    IsProper-edited_here _ _ c.args.session (user_edit_of c.args.change.now) _ c.self.view_is c.as_slice.ensures.value _ c.in-Some.ensures _ c.crowds_one.ensures c.if-crowds_one.false _ c.listens_to_too_many.ensures c.if-listens_to_too_many.false c.self.invariant.proper c.index_mut.result.now c.index_mut.ensures.value _ c.in_ok-change.ensures.ok)
+    IsProper-edited_here _ _ c.args.session (user_edit_of c.args.change.now) _ c.self.view_is c.as_slice.ensures.value _ c.in-Some.ensures (sym c.cause_against_editing.ensures ∙ c.in_default-cause_against_editing.is) c.self.invariant.proper c.index_mut.result.now c.index_mut.ensures.value _ c.in_ok-change.ensures.ok)

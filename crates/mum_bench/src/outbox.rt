@@ -127,6 +127,40 @@ fn beside<L: Line + Drop + Send + 'static, R: Wait + Threads + Copy + Send + 'st
     Ok(sum)
 }
 
+fn outbox_by_one<R: Wait>(rt: &R, alloc: Global, count: u32) -> Result<u64> {
+    let outbox = VoiceBox::new(alloc)?;
+    Ok(in_turn(rt, outbox_of(outbox), count))
+}
+
+fn outbox_by_two<R: Wait + Threads + Copy + Send + 'static>(
+    rt: R,
+    alloc: Global,
+    count: u32,
+) -> Result<u64> {
+    let mut outbox = VoiceBox::new(alloc)?;
+    let share = outbox.share()?;
+    beside(rt, outbox_of(outbox), outbox_of(share), count)
+}
+
+fn plain(alloc: Global) -> Result<Plain> {
+    let queue = ArrayQueue::new(alloc, VOICE_CAPACITY)?;
+    Ok(Arc::new(alloc, queue)?)
+}
+
+fn plain_by_one<R: Wait>(rt: &R, alloc: Global, count: u32) -> Result<u64> {
+    Ok(in_turn(rt, plain(alloc)?, count))
+}
+
+fn plain_by_two<R: Wait + Threads + Copy + Send + 'static>(
+    rt: R,
+    alloc: Global,
+    count: u32,
+) -> Result<u64> {
+    let offers = plain(alloc)?;
+    let takes = Arc::try_clone(&offers)?;
+    beside(rt, offers, takes, count)
+}
+
 /// So many parcels through an outbox or the plain queue, by one thread or by two.
 pub fn work<R: Wait + Threads + Copy + Send + 'static>(
     rt: R,
@@ -135,14 +169,10 @@ pub fn work<R: Wait + Threads + Copy + Send + 'static>(
     count: usize,
 ) -> Result<u64> {
     let count = u32::try_from(count).context("each parcel has a number of 32 bits")?;
-    let mut outbox = VoiceBox::new(alloc)?;
-    let share = outbox.share()?;
-    let plain = Arc::new(alloc, ArrayQueue::new(alloc, VOICE_CAPACITY)?)?;
-    let other = Arc::try_clone(&plain)?;
     match kind {
-        "one" => Ok(in_turn(&rt, outbox_of(outbox), count)),
-        "plain-one" => Ok(in_turn(&rt, plain, count)),
-        "two" => beside(rt, outbox_of(outbox), outbox_of(share), count),
-        _ => beside(rt, plain, other, count),
+        "one" => outbox_by_one(&rt, alloc, count),
+        "plain-one" => plain_by_one(&rt, alloc, count),
+        "two" => outbox_by_two(rt, alloc, count),
+        _ => plain_by_two(rt, alloc, count),
     }
 }

@@ -33,7 +33,7 @@ fn target(alloc: Global) -> Result<Target> {
     items.push(TargetItem {
         sessions: Items::from_vec(Vec::from_slice(alloc, &[SessionId(1), SessionId(2)])?),
         channel: Some(ChannelId(1)),
-        group: Text::of(alloc, "")?,
+        group: Text::empty(alloc),
         links: true,
         children: false,
     })?;

@@ -8,7 +8,7 @@ use Rattle.crossbeam_queue.specs.Fifo.{Forks}
 use Rattle.mum_outbox.specs.declared.rule.TheConstants.{LAST}
 use Rattle.mum_outbox.specs.declared.rule.Tagged.{Tagged}
 use Rattle.mum_outbox.specs.declared.rule.Hand.{Hand}
-use Rattle.mum_outbox.specs.Rule.{StandsAt, IsBefore, EachHand, IsAsOffered, LosesNone, TakeApart, BoxRule, new_hand, after_giving, given_number, after_halving, given_half, least_number, middle}
+use Rattle.mum_outbox.specs.Rule.{StandsAt, IsBefore, EachHand, IsAsOffered, LosesNone, TakeApart, BoxRule, TaggedRule, new_hand, after_giving, given_number, after_halving, given_half, least_number, middle}
 use Rattle.mum_outbox.proofs.Hands.{Follows, follows_set, follows_push, as_offered_still, somewhere_still, each_set, two_set, each_push, two_push}
 use Rattle.mum_outbox.proofs.Numbers.{IsCut, new_numbers}
 
@@ -73,9 +73,12 @@ module _ {I : Type 0} where
     new_within = omega arith;
   }
 
-  pub gives_number : (capacity port : ℕ) (v : Hand I) → Forks (BoxRule {I = I} capacity) port v (after_giving v) (given_number v)
-  gives_number capacity port v items hands rule at =
-      fork_keeps capacity items hands rule port v at (min (v.low + 1) v.end) v.end (least_number v.low v.end) 0 0 (giving_is_cut v (least_number v.low v.end) (rule.own_numbers.within port v at) (which_number v.low v.end))
+  pub gives_number : (capacity port : ℕ) (v : Hand I) → Forks (TaggedRule {I = I} capacity) port v (after_giving v) (given_number v)
+  gives_number capacity port v items hands is at = (
+    is.0,
+    is.1,
+    fork_keeps capacity is.0 hands is.2 port v at (min (v.low + 1) v.end) v.end (least_number v.low v.end) 0 0 (giving_is_cut v (least_number v.low v.end) (is.2.own_numbers.within port v at) (which_number v.low v.end)),
+  )
 
   -- another owner is made: it gets the upper half of the range
   halving_is_cut : (v : Hand I) → v.low ≤ v.end → v.end ≤ LAST → IsCut v (after_halving v) (given_half v)
@@ -91,6 +94,6 @@ module _ {I : Type 0} where
     new_within = below;
   }
 
-  pub gives_half : (capacity port : ℕ) (v : Hand I) → v.low ≤ v.end → Forks (BoxRule {I = I} capacity) port v (after_halving v) (given_half v)
-  gives_half capacity port v ordered items hands rule at =
-      fork_keeps capacity items hands rule port v at v.low (middle v.low v.end) LAST (middle v.low v.end) v.end (halving_is_cut v ordered (rule.own_numbers.within port v at))
+  pub gives_half : (capacity port : ℕ) (v : Hand I) → v.low ≤ v.end → Forks (TaggedRule {I = I} capacity) port v (after_halving v) (given_half v)
+  gives_half capacity port v ordered items hands is at =
+      (is.0, is.1, fork_keeps capacity is.0 hands is.2 port v at v.low (middle v.low v.end) LAST (middle v.low v.end) v.end (halving_is_cut v ordered (is.2.own_numbers.within port v at)))

@@ -3,3 +3,4 @@ pub mod Numbers
 pub mod Offers
 pub mod Takes
 pub mod Forks
+pub mod Moments

@@ -1,6 +1,7 @@
 -- An offer keeps the rule.
-use Rattle.std.proofs.Common.{◌≡◌, ℕ, ◌+◌, ◌<◌, ◌≤◌, min, inl, ⊎_elim, List, [], ◌∷◌, ◌++◌, length, set, get_or, sym, refl, ◌∙◌, subst, append_assoc, length-append, arith}
+use Rattle.std.proofs.Common.{◌≡◌, ℕ, ◌+◌, ◌<◌, ◌≤◌, min, inl, ⊎_elim, List, [], ◌∷◌, ◌++◌, length, set, get_or, sym, refl, ap, ◌∙◌, subst, append_assoc, length-append, arith}
 use Rattle.std.specs.List.{All, AllPairs}
+use Rattle.std.proofs.lemmas.List.{length-map, map_push}
 use Rattle.std.proofs.lemmas.List.Elements.{All-push, All-append, All-weaker, Contains-push, Contains-append_left}
 use Rattle.std.proofs.lemmas.List.Quantifiers.{all_pairs_push}
 use Rattle.std.proofs.lemmas.Bool.{cases_lt}
@@ -11,7 +12,7 @@ use Rattle.crossbeam_queue.proofs.Lists.{set_here, at_longer, at_last}
 use Rattle.mum_outbox.specs.declared.rule.TheConstants.{LAST}
 use Rattle.mum_outbox.specs.declared.rule.Tagged.{Tagged}
 use Rattle.mum_outbox.specs.declared.rule.Hand.{Hand}
-use Rattle.mum_outbox.specs.Rule.{StandsAt, IsBefore, IsAsOffered, IsSomewhere, LosesNone, TakeApart, BoxRule}
+use Rattle.mum_outbox.specs.Rule.{StandsAt, IsBefore, IsAsOffered, IsSomewhere, LosesNone, TakeApart, BoxRule, TaggedRule, item_of}
 use Rattle.mum_outbox.proofs.Hands.{within, same_there, Follows, follows_set, as_offered_still, somewhere_still, each_set, two_set}
 use Rattle.mum_outbox.proofs.Numbers.{numbers_kept}
 
@@ -78,7 +79,12 @@ module _ {I : Type 0} where
         own_numbers = numbers_kept hands port v offering at (refl, (λ number may. may), rule.own_numbers.within port v at) rule.own_numbers;
       }
 
-  -- x joins at the back
-  pub offers : (capacity n port : ℕ) (v : Hand I) (x : Tagged I) → n ≡ capacity → x.by ≡ v.number → x.place ≡ min (length v.offered) LAST
-      → Pushes (BoxRule {I = I} capacity) n port v x (λ w. w ≡ record v { offered = v.offered ++ x.item ∷ [] })
-  offers capacity n port v x full by place items hands room rule at = (offering capacity items hands rule port v at x by place, offer_keeps capacity items hands rule port v at x by place (omega arith), refl)
+  -- x joins at the back, tagged with the number of its pass and its place there
+  pub offers : (capacity n port : ℕ) (v : Hand I) (x : I) → n ≡ capacity → Pushes (TaggedRule {I = I} capacity) n port v x (λ w. w ≡ record v { offered = v.offered ++ x ∷ [] })
+  offers capacity n port v x full items hands room is at =
+      let new : Tagged I = record { by = v.number; place = min (length v.offered) LAST; item = x } in
+      let long : length is.0 ≡ length items = sym (length-map is.0 item_of) ∙ ap length is.1 in (
+        offering capacity is.0 hands is.2 port v at new refl refl,
+        (is.0 ++ new ∷ [], map_push item_of is.0 new ∙ ap (λ xs. xs ++ x ∷ []) is.1, offer_keeps capacity is.0 hands is.2 port v at new refl refl (omega arith)),
+        refl,
+      )

@@ -1,12 +1,12 @@
 -- A take keeps the rule.
-use Rattle.std.proofs.Common.{◌≡◌, ◌≢◌, ℕ, inl, inr, ⊎_elim, List, [], ◌∷◌, ◌++◌, set, sym, refl, ap, ◌∙◌, subst, append_assoc, arith}
+use Rattle.std.proofs.Common.{◌≡◌, ◌≢◌, ℕ, inl, inr, ⊎_elim, List, [], ◌∷◌, ◌++◌, length, map, set, get_or, drop, sym, refl, ap, ◌∙◌, subst, append_assoc, arith}
 use Rattle.std.specs.List.{All, AllPairs, Contains}
 use Rattle.std.proofs.lemmas.List.Elements.{All-head, All-tail, All-push, All-weaker, Contains-push, Contains-push_cases, Contains-append_left}
 use Rattle.crossbeam_queue.specs.Fifo.{Pops}
 use Rattle.crossbeam_queue.proofs.Lists.{set_here}
 use Rattle.mum_outbox.specs.declared.rule.Tagged.{Tagged}
 use Rattle.mum_outbox.specs.declared.rule.Hand.{Hand}
-use Rattle.mum_outbox.specs.Rule.{StandsAt, IsNumbered, IsBefore, IsAsOffered, IsSomewhere, LosesNone, TakeApart, BoxRule}
+use Rattle.mum_outbox.specs.Rule.{StandsAt, IsNumbered, IsBefore, IsAsOffered, IsSomewhere, LosesNone, TakeApart, BoxRule, TaggedRule, item_of}
 use Rattle.mum_outbox.proofs.Hands.{within, Contains-cons_cases, pairs_tail, pairs_without, pairs_across, Follows, follows_set, as_offered_still, somewhere_still, each_set, two_set}
 use Rattle.mum_outbox.proofs.Numbers.{numbers_kept}
 
@@ -70,6 +70,14 @@ module _ {I : Type 0} where
       own_numbers = numbers_kept hands port v taking at (refl, (λ number may. may), rule.own_numbers.within port v at) rule.own_numbers;
     }
 
-  -- the front leaves
-  pub takes : (capacity port : ℕ) (v : Hand I) → Pops (BoxRule {I = I} capacity) port v (λ x w. w ≡ record v { taken = v.taken ++ x ∷ [] })
-  takes capacity port v x items hands rule at = (taking capacity x items hands rule port v at, take_keeps capacity x items hands rule port v at, refl)
+  -- the front leaves, with its tag
+  pub takes : (capacity port : ℕ) (v : Hand I) → Pops (TaggedRule {I = I} capacity) port v (λ item w. (x : Tagged I) × (x.item ≡ item) × (w ≡ record v { taken = v.taken ++ x ∷ [] }))
+  takes capacity port v item items hands is at = front is.0 is.1 is.2 where
+    front : (tagged : List (Tagged I)) → map item_of tagged ≡ item ∷ items → BoxRule capacity tagged hands
+        → (w : Hand I) × TaggedRule capacity items (set hands port w) × ((x : Tagged I) × (x.item ≡ item) × (w ≡ record v { taken = v.taken ++ x ∷ [] }))
+    front [] same rule = absurd (omega (arith, ap length same))
+    front (x ∷ rest) same rule = (
+      taking capacity x rest hands rule port v at,
+      (rest, ap (drop 1) same, take_keeps capacity x rest hands rule port v at),
+      (x, ap (λ xs. get_or xs 0 item) same, refl),
+    )

@@ -1,8 +1,8 @@
 -- The rule of a queue: which items are where, whatever threads have offered and taken.
 -- A hand is what one pass has done to the queue. Hands are of all passes ever made, each at its port: the place at which
--- the pass was made. Numbers of passes and places of items stand still at their last value; what is said of an item is
--- said where both are below it.
-use Rattle.std.specs.Prelude.{◌≡◌, ◌≢◌, ℕ, ◌+◌, ◌-◌, ◌/◌, ◌<◌, ◌≤◌, ◌⊎◌, min, nat_lt, if◌then◌else◌, List, [], ◌++◌, length}
+-- the pass was made. A tag says which pass offered an item, and at which place. Numbers of passes and places of items
+-- stand still at their last value; what is said of an item is said where both are below it.
+use Rattle.std.specs.Prelude.{◌≡◌, ◌≢◌, ℕ, ◌+◌, ◌-◌, ◌/◌, ◌<◌, ◌≤◌, ◌⊎◌, min, nat_lt, if◌then◌else◌, List, [], ◌++◌, length, map}
 use Rattle.std.specs.List.{All, AllPairs, Contains}
 use mathlib.Core.Option.{some}
 use lib.ListN.{get_elem?}
@@ -15,6 +15,14 @@ abbrev pub StandsAt : {A : Type 0} → List A → ℕ → A → Type 0
 StandsAt list place element = get_elem? list place ≡ some element
 
 module _ {I : Type 0} where
+  -- an item without its tag
+  abbrev pub item_of : Tagged I → I
+  item_of x = x.item
+
+  -- the items have tags with which this holds of them
+  abbrev pub AreTagged : (List (Tagged I) → Type 0) → List I → Type 0
+  AreTagged P items = (tagged : List (Tagged I)) × (map item_of tagged ≡ items) × P tagged
+
   -- neither the number of its pass nor its place stands still
   abbrev pub IsNumbered : Tagged I → Type 0
   IsNumbered x = (x.by < LAST) × (x.place < LAST)
@@ -83,6 +91,10 @@ module _ {I : Type 0} where
     pub none_twice : EachTwo hands TakeApart
     -- each pass has a number of its own
     pub own_numbers : HaveOwnNumbers hands
+
+  -- what holds of the items in a queue, whose tags only contracts see
+  abbrev pub TaggedRule : ℕ → List I → List (Hand I) → Type 0
+  TaggedRule capacity items hands = AreTagged (λ tagged. BoxRule capacity tagged hands) items
 
   -- at one moment the queue held these items under the rule, and a pass had done this
   abbrev pub IsMomentOf : ℕ → Hand I → List (Tagged I) → Type 0

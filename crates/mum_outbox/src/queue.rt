@@ -5,7 +5,7 @@ ghost use Rattle.std.specs.List.{AllPairs};
 ghost use Rattle.mum_outbox.specs.Rule.{IsBefore, after_least};
 ghost use Rattle.mum_outbox.specs.Calls.{Offers, Takes, WasThen, IsNewPass, Halves};
 
-use crate::rule::{BoxProtocol, GivesHalf, GivesNumber, Hand, LAST, Offering, Tagged, Taking};
+use crate::rule::{BoxProtocol, GivesHalf, GivesNumber, Hand, LAST, Offering, Taking};
 use crossbeam_queue::{Pass, RuledArrayQueue};
 use mum_base::OutOfMemory;
 use std::alloc::Global;
@@ -22,70 +22,59 @@ pub enum Offered<I> {
 }
 
 /// The queue below, under the rule.
-type Ruled<I, const CAPACITY: usize> = RuledArrayQueue<Tagged<I>, Hand<I>, BoxProtocol<CAPACITY>>;
+type Ruled<I, const CAPACITY: usize> = RuledArrayQueue<I, Hand<I>, BoxProtocol<CAPACITY>>;
 
-/// An owner of a queue of at most `CAPACITY` items, which threads share.
+/// An owner of a queue of at most `CAPACITY` items, which threads share. The numbers that it may give
+/// to new passes only contracts see.
 #[derive(Drop)]
 pub struct Queue<I, const CAPACITY: usize> {
     ruled: Arc<Ruled<I, CAPACITY>>,
-    // The pass that is split for each new one, and the numbers that new passes get.
-    owner: Pass<Tagged<I>, Hand<I>>,
-    low: u64,
-    end: u64,
+    // The pass that is split for each new one.
+    owner: Pass<I, Hand<I>>,
 }
 
-/// What one thread holds of a queue: it has a number, and keeps how often an offer of it found the
-/// queue full. What it has offered and taken only contracts see.
+/// What one thread holds of a queue: it keeps how often an offer of it found the queue full. Its
+/// number, and what it has offered and taken, only contracts see.
 #[derive(Drop)]
 pub struct BoxPass<I> {
-    pass: Pass<Tagged<I>, Hand<I>>,
-    number: u64,
-    // The place of the next item.
-    next: u64,
+    pass: Pass<I, Hand<I>>,
     full: u64,
 }
 
 impl<I, const CAPACITY: usize> Model for Queue<I, CAPACITY> {
-    ghost use Rattle.std.specs.Prelude.{◌≡◌, ◌≤◌, []};
+    ghost use Rattle.std.specs.Prelude.{◌≡◌, ◌≤◌};
     ghost use Rattle.crossbeam_queue.specs.Passes.{view as hand_of, IsPassOf, ruled_capacity};
     ghost use Rattle.mum_outbox.specs.Facts.{QueueFacts};
 
     ghost Value = { QueueFacts };
 
-    ghost use Rattle.mum_outbox.specs.Rule.{owner_hand};
-
     ghost view = { λ q. record {
       queue = q.ruled.value.table.shared.table_id;
-      low = q.low;
-      end = q.end;
+      low = (hand_of q.owner).low;
+      end = (hand_of q.owner).end;
     } };
 
     ghost invariant = { λ q. (ruled_capacity q.ruled.value ≡ CAPACITY)
         × IsPassOf q.ruled.value q.owner
-        × (hand_of q.owner ≡ owner_hand q.low q.end)
-        × (q.low ≤ q.end) };
+        × ((hand_of q.owner).low ≤ (hand_of q.owner).end) };
 }
 
 impl<I> Model for BoxPass<I> {
-    ghost use Rattle.std.specs.Prelude.{◌≡◌, [], min, length};
+    ghost use Rattle.std.specs.Prelude.{◌≡◌, []};
     ghost use Rattle.crossbeam_queue.specs.Passes.{view as hand_of};
     ghost use Rattle.mum_outbox.specs.Facts.{PassFacts, hand_of_pass};
 
     ghost Value = { PassFacts I };
 
-    ghost use Rattle.mum_outbox.specs.declared.rule.TheConstants.{LAST};
-
     ghost view = { λ p. record {
       queue = p.pass.table_id;
-      number = p.number;
+      number = (hand_of p.pass).number;
       offered = (hand_of p.pass).offered;
       taken = (hand_of p.pass).taken;
       full = p.full;
     } };
 
-    ghost invariant = { λ p. (p.pass.me.1 ≡ [])
-        × (hand_of p.pass ≡ hand_of_pass (view p))
-        × (p.next ≡ min (length (hand_of p.pass).offered) LAST) };
+    ghost invariant = { λ p. (p.pass.me.1 ≡ []) × (hand_of p.pass ≡ hand_of_pass (view p)) };
 }
 
 impl<I: Drop, const CAPACITY: usize> Queue<I, CAPACITY> {
@@ -98,8 +87,6 @@ impl<I: Drop, const CAPACITY: usize> Queue<I, CAPACITY> {
         Ok(Queue {
             ruled: Arc::new(alloc, ruled)?,
             owner,
-            low: 0,
-            end: LAST,
         })
     }
 
@@ -110,14 +97,7 @@ impl<I: Drop, const CAPACITY: usize> Queue<I, CAPACITY> {
     {
         let ruled = Arc::try_clone(&self.ruled)?;
         let owner = self.ruled.another::<GivesHalf>(&mut self.owner);
-        let (middle, end) = (self.low + (self.end - self.low) / 2, self.end);
-        self.end = middle;
-        Ok(Queue {
-            ruled,
-            owner,
-            low: middle,
-            end,
-        })
+        Ok(Queue { ruled, owner })
     }
 
     /// A new pass, for one thread. It gets the least number that this owner has left.
@@ -126,17 +106,7 @@ impl<I: Drop, const CAPACITY: usize> Queue<I, CAPACITY> {
         ensures owner { self.new ≡ record self.old { low = after_least self.old.low self.old.end } }
     {
         let pass = self.ruled.another::<GivesNumber>(&mut self.owner);
-        let mut number = LAST;
-        if self.low < self.end {
-            number = self.low;
-            self.low += 1;
-        }
-        BoxPass {
-            pass,
-            number,
-            next: 0,
-            full: 0,
-        }
+        BoxPass { pass, full: 0 }
     }
 
     /// Puts the item at the back. It comes back only where the queue held its capacity at one moment
@@ -146,36 +116,27 @@ impl<I: Drop, const CAPACITY: usize> Queue<I, CAPACITY> {
         requires { pass.old.queue ≡ self.now.queue }
         ensures { Offers CAPACITY pass.old item result pass.new }
     {
-        let tagged = Tagged {
-            by: pass.number,
-            place: pass.next,
-            item,
-        };
         match self
             .ruled
-            .push_as::<Offering<CAPACITY>, R>(rt, &mut pass.pass, tagged)
+            .push_as::<Offering<CAPACITY>, R>(rt, &mut pass.pass, item)
         {
-            Ok(()) => {
-                pass.next = pass.next.saturating_add(1);
-                Offered::Sent
-            }
+            Ok(()) => Offered::Sent,
             Err(back) => {
                 pass.full = pass.full.saturating_add(1);
-                Offered::Full(back.item)
+                Offered::Full(back)
             }
         }
     }
 
     /// Takes the item at the front. There is none only where the queue was empty at one moment of
     /// the call. The call takes no memory, and may try again beside other threads.
+    // Inlined, it would move its answer once more.
+    #[inline(never)]
     pub fn take_as<R: Wait>(&self, rt: &R, pass: &mut BoxPass<I>) -> Option<I>
         requires { pass.old.queue ≡ self.now.queue }
         ensures { Takes CAPACITY pass.old result pass.new }
     {
-        let tagged = self
-            .ruled
-            .pop_as::<Taking<CAPACITY>, R>(rt, &mut pass.pass)?;
-        Some(tagged.item)
+        self.ruled.pop_as::<Taking<CAPACITY>, R>(rt, &mut pass.pass)
     }
 
     /// What the rule says at one moment of this call: the items of each pass lie in what this one

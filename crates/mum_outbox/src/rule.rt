@@ -1,5 +1,4 @@
-//! What passes know of a queue, and how each step changes it. Nothing here has a byte at run time
-//! but `Tagged`.
+//! What passes know of a queue, and how each step changes it. Nothing here has a byte at run time.
 
 ghost use Rattle.std.specs.Prelude.{◌≡◌, [], ◌∷◌, ◌++◌, List};
 
@@ -9,8 +8,8 @@ use std::collections::LinkedList;
 /// The number of a pass where no other is left, and the place of an item where no other is left.
 pub const LAST: u64 = u64::MAX;
 
-/// An item with the number of the pass that offered it, and its place in what that pass offered.
-#[derive(Drop)]
+/// An item with its tag: the number of the pass that offered it, and its place in what that pass
+/// offered. No value of it is made.
 pub struct Tagged<I> {
     pub by: u64,
     pub place: u64,
@@ -30,10 +29,10 @@ pub struct Hand<I> {
 /// The rule of a queue that holds so many items.
 pub struct BoxProtocol<const CAPACITY: usize>;
 
-impl<I, const CAPACITY: usize> Protocol<Tagged<I>, Hand<I>> for BoxProtocol<CAPACITY> {
-    ghost use Rattle.mum_outbox.specs.Rule.{BoxRule, first_hand};
+impl<I, const CAPACITY: usize> Protocol<I, Hand<I>> for BoxProtocol<CAPACITY> {
+    ghost use Rattle.mum_outbox.specs.Rule.{TaggedRule, first_hand};
 
-    ghost holds = { BoxRule CAPACITY };
+    ghost holds = { TaggedRule CAPACITY };
 
     ghost first = { first_hand };
 }
@@ -63,25 +62,28 @@ impl<I> Split<Hand<I>> for GivesHalf {
 /// An offer adds its item, or finds the queue full.
 pub(crate) struct Offering<const CAPACITY: usize>;
 
-impl<I, const CAPACITY: usize> Outcome<Tagged<I>, Hand<I>> for Offering<CAPACITY> {
-    ghost then = { λ hand x after. after ≡ record hand { offered = hand.offered ++ x.item ∷ [] } };
+impl<I, const CAPACITY: usize> Outcome<I, Hand<I>> for Offering<CAPACITY> {
+    ghost then = { λ hand x after. after ≡ record hand { offered = hand.offered ++ x ∷ [] } };
 }
 
-impl<I, const CAPACITY: usize> Lesson<Tagged<I>, Hand<I>> for Offering<CAPACITY> {
-    ghost use Rattle.mum_outbox.specs.Rule.{IsMomentOf};
+impl<I, const CAPACITY: usize> Lesson<I, Hand<I>> for Offering<CAPACITY> {
+    ghost use Rattle.mum_outbox.specs.Rule.{AreTagged, IsMomentOf};
 
-    ghost fact = { IsMomentOf CAPACITY };
+    ghost fact = { λ hand items. AreTagged (IsMomentOf CAPACITY hand) items };
 }
 
 /// A take gets the oldest item, or finds the queue empty.
 pub(crate) struct Taking<const CAPACITY: usize>;
 
-impl<I, const CAPACITY: usize> Outcome<Tagged<I>, Hand<I>> for Taking<CAPACITY> {
-    ghost then = { λ hand x after. after ≡ record hand { taken = hand.taken ++ x ∷ [] } };
+impl<I, const CAPACITY: usize> Outcome<I, Hand<I>> for Taking<CAPACITY> {
+    ghost use Rattle.mum_outbox.specs.declared.rule.Tagged.{Tagged};
+
+    ghost then = { λ hand item after. (x : Tagged I) × (x.item ≡ item)
+        × (after ≡ record hand { taken = hand.taken ++ x ∷ [] }) };
 }
 
-impl<I, const CAPACITY: usize> Lesson<Tagged<I>, Hand<I>> for Taking<CAPACITY> {
-    ghost use Rattle.mum_outbox.specs.Rule.{IsMomentOf};
+impl<I, const CAPACITY: usize> Lesson<I, Hand<I>> for Taking<CAPACITY> {
+    ghost use Rattle.mum_outbox.specs.Rule.{AreTagged, IsMomentOf};
 
-    ghost fact = { IsMomentOf CAPACITY };
+    ghost fact = { λ hand items. AreTagged (IsMomentOf CAPACITY hand) items };
 }

@@ -1,11 +1,14 @@
 //! The calls that change a roster, as the table `roster` spells them.
 
-use crate::readers::{fault_text, flags_text};
-use crate::targets::target_of;
-use crate::words::{behind, channel, flags, numbers, small, texts, word_of};
+use crate::readers::fault_text;
 use anyhow::{Context, Result, bail};
-use mum_base::{AccountId, ChannelId, SessionId, Text};
+use mum_base::{ChannelId, SessionId, Text};
 use mum_cases::number;
+use mum_cases_words::flags::{flags, flags_text};
+use mum_cases_words::targets::target_of;
+use mum_cases_words::words::{
+    account, channel, channels, given_channel, numbers, part, small, texts, word_of,
+};
 use mum_users::{ChannelSet, Roster, UserChange, UserFault};
 use std::alloc::Global;
 
@@ -21,6 +24,18 @@ fn listen_to(roster: &mut Roster, session: SessionId, word: &str) -> Result<Done
     Ok(Ok(()))
 }
 
+/// The word behind a key.
+fn behind<'a>(words: &'a str, key: &str) -> Option<&'a str> {
+    let mut found = false;
+    for word in words.split_whitespace() {
+        if found {
+            return Some(word);
+        }
+        found = word == key;
+    }
+    None
+}
+
 fn set_texts(roster: &mut Roster, session: SessionId, words: &str) -> Done {
     let context = behind(words, "context").map(|text| text.as_bytes());
     roster.set_texts(session, behind(words, "comment"), context)
@@ -32,42 +47,14 @@ fn set_target(alloc: Global, roster: &mut Roster, session: SessionId, rest: &str
     Ok(roster.set_target(session, small(id)?, &target))
 }
 
-/// `4 5 100..131`
-fn channels(alloc: Global, words: &str) -> Result<Vec<ChannelId>> {
-    let mut channels = Vec::new(alloc);
-    for word in words.split_whitespace() {
-        for number in numbers(word)? {
-            channels.push(ChannelId(number))?;
-        }
-    }
-    Ok(channels)
-}
-
-/// What stands behind a key among parts that are parted by `, `.
-fn part<'a>(parts: &'a str, key: &str) -> Option<&'a str> {
-    for part in parts.split(", ") {
-        let (word, rest) = word_of(part);
-        if word == key {
-            return Some(rest);
-        }
-    }
-    None
-}
-
-fn given_channel(word: Option<&str>) -> Result<Option<ChannelId>> {
-    match word {
-        Some(word) => Ok(Some(channel(word)?)),
-        None => Ok(None),
-    }
-}
-
 fn edit(alloc: Global, roster: &mut Roster, session: SessionId, parts: &str) -> Result<Done> {
     let listen = channels(alloc, part(parts, "listen").unwrap_or(""))?;
     let unlisten = channels(alloc, part(parts, "unlisten").unwrap_or(""))?;
+    let comment = Text::of_given(alloc, part(parts, "comment"))?;
     let change = UserChange {
         channel: given_channel(part(parts, "channel"))?,
         flags: flags(part(parts, "flags").unwrap_or(""))?,
-        comment: part(parts, "comment"),
+        comment: comment.as_ref(),
         context: part(parts, "context").map(|text| text.as_bytes()),
         listen: listen.as_slice(),
         unlisten: unlisten.as_slice(),
@@ -131,7 +118,7 @@ fn join_many(alloc: Global, roster: &mut Roster, count: u64) -> Result<()> {
 fn join(alloc: Global, roster: &mut Roster, text: &str) -> Result<String> {
     let (text, words) = text.split_once(" tokens ").unwrap_or((text, ""));
     let (name, account) = match text.split_once(" account ") {
-        Some((name, word)) => (name, Some(AccountId(u32::try_from(number(word)?)?))),
+        Some((name, word)) => (name, Some(account(word)?)),
         None => (text, None),
     };
     match roster.join(name, account, texts(alloc, words)?.as_slice()) {

@@ -7,13 +7,10 @@ mod member;
 mod members;
 mod path;
 mod permissions;
-mod perms;
 mod policy;
 mod readers;
 mod roster;
-mod targets;
 mod tree;
-mod words;
 
 use anyhow::Result;
 use mum_cases::Tally;

@@ -1,9 +1,10 @@
 //! The table `members`.
 
-use crate::path::{Asker, Lists, path_of};
+use crate::path::{Lists, path_of};
 use anyhow::{Result, ensure};
 use mum_base::{AccountId, ChannelId};
 use mum_cases::Table;
+use mum_cases_words::askers::Asker;
 use mum_policy::is_member;
 use std::alloc::Global;
 

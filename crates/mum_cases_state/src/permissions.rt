@@ -3,10 +3,10 @@
 ghost use Rattle.std.specs.Prelude.{◌≡◌, ◌<◌};
 
 use crate::path::{Lists, asker_of, begins_at_root, path_of};
-use crate::perms::set_text;
 use anyhow::{Context, Result, ensure};
 use mum_base::{ChannelId, Perm, Steps};
 use mum_cases::Table;
+use mum_cases_words::perms::set_text;
 use mum_policy::{Who, permissions, permitted};
 use std::alloc::Global;
 use std::marker::Brand;

@@ -1,80 +1,14 @@
 //! What the readers of a roster answer, as the table `roster` spells it.
 
-use crate::targets::target_text;
-use crate::words::{channel, session, small, word_of};
-use anyhow::{Context, Result, bail};
-use mum_base::{ChannelId, SessionId, Slot, Text};
+use anyhow::{Result, bail};
+use mum_base::{ChannelId, SessionId, Slot};
 use mum_cases::number;
+use mum_cases_words::targets::target_text;
+use mum_cases_words::users::row_text;
+use mum_cases_words::words::{add_number, channel, or_none, session, small, texts, word_of};
 use mum_users::user::{are_tokens, is_context};
-use mum_users::{Roster, User, UserFault};
+use mum_users::{Roster, UserFault};
 use std::alloc::Global;
-
-/// The names of the flags that are set, or `no flag`.
-pub fn flags_text(alloc: Global, user: &User) -> Result<String> {
-    let flags = [
-        ("mute ", user.mute),
-        ("deaf ", user.deaf),
-        ("suppress ", user.suppress),
-        ("self_mute ", user.self_mute),
-        ("self_deaf ", user.self_deaf),
-        ("priority ", user.priority),
-        ("recording ", user.recording),
-    ];
-    let mut text = String::new(alloc);
-    for (name, on) in flags {
-        if on {
-            text.push_str(name)?;
-        }
-    }
-    if text.is_empty() {
-        text.push_str("no flag")?;
-    }
-    Ok(String::from_str(alloc, text.as_str().trim())?)
-}
-
-fn is_flagged(user: &User) -> bool {
-    user.mute
-        || user.deaf
-        || user.suppress
-        || user.self_mute
-        || user.self_deaf
-        || user.priority
-        || user.recording
-}
-
-fn add_tokens(text: &mut String, tokens: &[Text]) -> Result<()> {
-    for (place, token) in tokens.iter().enumerate() {
-        text.push_str(if place == 0 { ", tokens " } else { " " })?;
-        text.push_str(token.as_str())?;
-    }
-    Ok(())
-}
-
-fn add_text(text: &mut String, name: &str, bytes: &[u8]) -> Result<()> {
-    if !bytes.is_empty() {
-        text.push_str(name)?;
-        text.push_str(str::from_utf8(bytes)?)?;
-    }
-    Ok(())
-}
-
-/// `ann account 7 slot 0 in 3, mute deaf, tokens key, comment hello, context game`
-pub fn row_text(alloc: Global, user: &User) -> Result<String> {
-    let mut text = String::from_str(alloc, user.name.as_str())?;
-    if let Some(account) = user.account {
-        text.push_str(format!(in alloc; " account {}", account.0)?.as_str())?;
-    }
-    let place = format!(in alloc; " slot {} in {}", user.slot.0, user.channel.0)?;
-    text.push_str(place.as_str())?;
-    if is_flagged(user) {
-        text.push_str(", ")?;
-        text.push_str(flags_text(alloc, user)?.as_str())?;
-    }
-    add_tokens(&mut text, user.tokens.as_slice())?;
-    add_text(&mut text, ", comment ", user.comment.as_slice())?;
-    add_text(&mut text, ", context ", user.context.as_slice())?;
-    Ok(text)
-}
 
 /// `43 ListenerLimit`
 pub fn fault_text(alloc: Global, fault: UserFault) -> Result<String> {
@@ -144,26 +78,10 @@ fn target_in(alloc: Global, roster: &Roster, words: &str) -> Result<String> {
     }
 }
 
-/// Numbers parted by spaces, or `none`.
-fn add_number(text: &mut String, alloc: Global, number: u32) -> Result<()> {
-    if !text.is_empty() {
-        text.push_str(" ")?;
-    }
-    text.push_str(format!(in alloc; "{number}")?.as_str())?;
-    Ok(())
-}
-
-fn or_none(alloc: Global, text: String) -> Result<String> {
-    if text.is_empty() {
-        return Ok(String::from_str(alloc, "none")?);
-    }
-    Ok(text)
-}
-
 fn channels_text(alloc: Global, roster: &Roster, id: SessionId) -> Result<String> {
     let mut text = String::new(alloc);
     for pair in roster.pairs_of(id) {
-        add_number(&mut text, alloc, pair.channel.0)?;
+        add_number(alloc, &mut text, pair.channel.0)?;
     }
     or_none(alloc, text)
 }
@@ -171,7 +89,7 @@ fn channels_text(alloc: Global, roster: &Roster, id: SessionId) -> Result<String
 fn listeners_text(alloc: Global, roster: &Roster, id: ChannelId) -> Result<String> {
     let mut text = String::new(alloc);
     for pair in roster.listeners_of(id) {
-        add_number(&mut text, alloc, pair.session.0)?;
+        add_number(alloc, &mut text, pair.session.0)?;
     }
     or_none(alloc, text)
 }
@@ -180,7 +98,7 @@ fn members_text(alloc: Global, roster: &Roster, id: ChannelId) -> Result<String>
     let mut text = String::new(alloc);
     for user in roster.users() {
         if user.channel == id {
-            add_number(&mut text, alloc, user.session.0)?;
+            add_number(alloc, &mut text, user.session.0)?;
         }
     }
     or_none(alloc, text)
@@ -190,14 +108,9 @@ fn yes_or_no(alloc: Global, yes: bool) -> Result<String> {
     Ok(String::from_str(alloc, if yes { "yes" } else { "no" })?)
 }
 
-/// `64 of 128`: so many tokens of so many bytes.
+/// `64 of 128*t`: so many tokens.
 fn tokens_text(alloc: Global, words: &str) -> Result<String> {
-    let (count, bytes) = words.split_once(" of ").context("so many of so many")?;
-    let mut tokens = Vec::new(alloc);
-    for _ in 0..number(count)? {
-        tokens.push(Text::from_string("t".repeat(alloc, usize::try_from(number(bytes)?)?)?))?;
-    }
-    yes_or_no(alloc, are_tokens(tokens.as_slice()))
+    yes_or_no(alloc, are_tokens(texts(alloc, words)?.as_slice()))
 }
 
 fn context_text(alloc: Global, word: &str) -> Result<String> {

@@ -2,9 +2,9 @@
 
 use crate::changes;
 use crate::readers::read;
-use crate::words::word_of;
 use anyhow::{Context, Result, ensure};
 use mum_cases::Table;
+use mum_cases_words::words::word_of;
 use mum_users::Roster;
 use std::alloc::Global;
 use std::mem;

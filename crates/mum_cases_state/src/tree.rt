@@ -3,7 +3,11 @@
 use anyhow::{Result, bail};
 use mum_base::{ChannelId, Text};
 use mum_cases::{Table, number};
-use mum_tree::{Channel, ChannelChange, ChannelInfo, Scratch, Tree, TreeFault};
+use mum_cases_words::channels::{channel_text, links_text};
+use mum_cases_words::words::{
+    add_number, channel, channels, number_of, or_none, position, word_of,
+};
+use mum_tree::{ChannelChange, ChannelInfo, Scratch, Tree, TreeFault};
 use std::alloc::Global;
 use std::mem::swap;
 
@@ -24,30 +28,8 @@ struct Bench {
     said: String,
 }
 
-/// The first word of a text, and what follows it.
-fn first_word(text: &str) -> (&str, &str) {
-    match text.split_once(' ') {
-        Some(parts) => parts,
-        None => (text, ""),
-    }
-}
-
-fn channel_number(word: &str) -> Result<ChannelId> {
-    match u32::try_from(number(word)?) {
-        Ok(id) => Ok(ChannelId(id)),
-        Err(_) => bail!("no channel: {word}"),
-    }
-}
-
 fn place_number(word: &str) -> Result<usize> {
     Ok(number(word)? as usize)
-}
-
-fn position_of(word: &str) -> Result<i32> {
-    match word.parse::<i32>() {
-        Ok(position) => Ok(position),
-        Err(_) => bail!("no position: {word}"),
-    }
 }
 
 /// The parts of a change, as far as a line gives them.
@@ -60,15 +42,6 @@ struct Parts<'a> {
     max_users: Option<u32>,
     links: Vec<ChannelId>,
     unlinks: Vec<ChannelId>,
-}
-
-/// The channels of a list that is parted by spaces.
-fn channel_list(alloc: Global, words: &str) -> Result<Vec<ChannelId>> {
-    let mut list = Vec::new(alloc);
-    for word in words.split(' ') {
-        list.push(channel_number(word)?)?;
-    }
-    Ok(list)
 }
 
 impl<'a> Parts<'a> {
@@ -85,15 +58,15 @@ impl<'a> Parts<'a> {
     }
 
     fn set(&mut self, alloc: Global, part: &'a str) -> Result<()> {
-        let (word, value) = first_word(part);
+        let (word, value) = word_of(part);
         match word {
             "name" => self.name = Some(value),
-            "parent" => self.parent = Some(channel_number(value)?),
+            "parent" => self.parent = Some(channel(value)?),
             "text" => self.description = Some(value),
-            "position" => self.position = Some(position_of(value)?),
-            "users" => self.max_users = Some(channel_number(value)?.0),
-            "links" => self.links = channel_list(alloc, value)?,
-            "unlinks" => self.unlinks = channel_list(alloc, value)?,
+            "position" => self.position = Some(position(value)?),
+            "users" => self.max_users = Some(number_of(value)?),
+            "links" => self.links = channels(alloc, value)?,
+            "unlinks" => self.unlinks = channels(alloc, value)?,
             _ => bail!("no part of a change: {part}"),
         }
         Ok(())
@@ -106,32 +79,6 @@ fn shown(alloc: Global, found: Option<u32>) -> Result<String> {
         Some(number) => Ok(format!(in alloc; "{number}")?),
         None => Ok(String::from_str(alloc, "none")?),
     }
-}
-
-fn kind_of(channel: &Channel) -> &'static str {
-    if channel.temporary { " temporary" } else { "" }
-}
-
-fn row_of(alloc: Global, channel: &Channel) -> Result<String> {
-    let name = channel.name.as_str();
-    let kind = kind_of(channel);
-    let info = &channel.info;
-    let text = info.description.as_str();
-    let seat = format!(in alloc; "{name} under {}{kind}", channel.parent.0)?;
-    Ok(format!(in alloc;
-        "{seat} position {} users {} \"{text}\"",
-        info.position, info.max_users
-    )?)
-}
-
-/// One number more in a list that is parted by spaces.
-fn add_number(alloc: Global, list: &mut String, number: u32) -> Result<()> {
-    if !list.is_empty() {
-        list.push_str(" ")?;
-    }
-    let digits = format!(in alloc; "{number}")?;
-    list.push_str(digits.as_str())?;
-    Ok(())
 }
 
 impl Bench {
@@ -180,16 +127,16 @@ impl Bench {
                 Some(id) => Ok(id),
                 None => bail!("no number is left"),
             },
-            _ => channel_number(word),
+            _ => channel(word),
         }
     }
 
     /// `ID under PARENT`, a name or none, and `temporary` or not.
     fn add(&mut self, words: &str, round: u32) -> Result<()> {
-        let (id, rest) = first_word(words);
-        let (_under, rest) = first_word(rest);
-        let (parent, rest) = first_word(rest);
-        let (name, kind) = first_word(rest);
+        let (id, rest) = word_of(words);
+        let (_under, rest) = word_of(rest);
+        let (parent, rest) = word_of(rest);
+        let (name, kind) = word_of(rest);
         let id = self.channel(id, round)?;
         let parent = self.channel(parent, round)?;
         let own = format!(in self.alloc; "{}", id.0)?;
@@ -209,14 +156,14 @@ impl Bench {
 
     /// `ID POSITION USERS TEXT`.
     fn describe(&mut self, words: &str, round: u32) -> Result<()> {
-        let (id, rest) = first_word(words);
-        let (position, rest) = first_word(rest);
-        let (users, text) = first_word(rest);
+        let (id, rest) = word_of(words);
+        let (place, rest) = word_of(rest);
+        let (users, text) = word_of(rest);
         let id = self.channel(id, round)?;
         let info = ChannelInfo {
             description: Text::of(self.alloc, text)?,
-            position: position_of(position)?,
-            max_users: channel_number(users)?.0,
+            position: position(place)?,
+            max_users: number_of(users)?,
         };
         let outcome = self.tree.set_info(id, info);
         self.settle(outcome)
@@ -224,7 +171,7 @@ impl Bench {
 
     /// `A B` of a call on two channels.
     fn two(&mut self, call: &str, words: &str, round: u32) -> Result<()> {
-        let (a, b) = first_word(words);
+        let (a, b) = word_of(words);
         let a = self.channel(a, round)?;
         let b = self.channel(b, round)?;
         let outcome = match call {
@@ -245,10 +192,11 @@ impl Bench {
             }
         }
         let id = self.channel(id, round)?;
+        let description = Text::of_given(self.alloc, parts.description)?;
         let change = ChannelChange {
             name: parts.name,
             parent: parts.parent,
-            description: parts.description,
+            description: description.as_ref(),
             position: parts.position,
             max_users: parts.max_users,
             links_add: parts.links.as_slice(),
@@ -270,7 +218,7 @@ impl Bench {
     }
 
     fn rename(&mut self, words: &str, round: u32) -> Result<()> {
-        let (id, name) = first_word(words);
+        let (id, name) = word_of(words);
         let id = self.channel(id, round)?;
         let outcome = self.tree.rename(id, name);
         self.settle(outcome)
@@ -284,7 +232,7 @@ impl Bench {
 
     /// A call that changes the tree, or else one that reads it.
     fn call(&mut self, call: &str, round: u32) -> Result<()> {
-        let (word, rest) = first_word(call);
+        let (word, rest) = word_of(call);
         match word {
             "add" => self.add(rest, round),
             "edit" => self.edit(rest, round),
@@ -342,7 +290,7 @@ impl Bench {
 
     /// `ID TOP`: whether the channel is the top or below it.
     fn tell_below(&mut self, words: &str, round: u32) -> Result<()> {
-        let (id, top) = first_word(words);
+        let (id, top) = word_of(words);
         let id = self.channel(id, round)?;
         let top = self.channel(top, round)?;
         let below = self.tree.is_below(top, id);
@@ -352,7 +300,7 @@ impl Bench {
     fn tell_channel(&mut self, word: &str, round: u32) -> Result<()> {
         let id = self.channel(word, round)?;
         let row = match self.tree.channel(id) {
-            Some(channel) => row_of(self.alloc, &channel.copy(self.alloc)?)?,
+            Some(channel) => channel_text(self.alloc, &channel.share()?)?,
             None => String::from_str(self.alloc, "none")?,
         };
         self.say(row.as_str())
@@ -383,16 +331,7 @@ impl Bench {
 
     fn tell_links(&mut self, word: &str, round: u32) -> Result<()> {
         let id = self.channel(word, round)?;
-        let mut list = String::new(self.alloc);
-        for i in 0..LAST_ASKED {
-            let Some(partner) = self.tree.link_at(id, i as usize) else {
-                break;
-            };
-            add_number(self.alloc, &mut list, partner.0)?;
-        }
-        if list.is_empty() {
-            return self.say("none");
-        }
+        let list = links_text(self.alloc, &self.tree, id)?;
         self.say(list.as_str())
     }
 
@@ -403,9 +342,7 @@ impl Bench {
                 add_number(self.alloc, &mut list, number)?;
             }
         }
-        if list.is_empty() {
-            return self.say("none");
-        }
+        let list = or_none(self.alloc, list)?;
         self.say(list.as_str())
     }
 
@@ -426,7 +363,7 @@ impl Bench {
         let Some((times, calls)) = text.split_once(" times ") else {
             return self.call(text, 0);
         };
-        let times = channel_number(times)?.0;
+        let times = number_of(times)?;
         for round in 0..times {
             for call in calls.split(" and ") {
                 self.call(call, round.saturating_add(1))?;

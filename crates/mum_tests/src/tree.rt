@@ -1,7 +1,7 @@
 //! `mum_tree`: a change that memory does not suffice for changes nothing. With ample memory it is made;
 //! `rt try --test --fail-alloc N` refuses each allocation in turn.
 
-use mum_base::ChannelId;
+use mum_base::{ChannelId, Text};
 use mum_tree::{ChannelChange, Tree, TreeFault};
 use std::alloc::Global;
 use std::process::Abort;
@@ -42,10 +42,11 @@ fn is_as(
 fn an_edit_is_whole_or_nothing(rt: HostRuntime) -> Result<(), Fail> {
     let mut tree = two_channels(rt.alloc())?;
     let links = [SECOND];
+    let words = Text::of(rt.alloc(), "words")?;
     let change = ChannelChange {
         name: Some("uno"),
         parent: Some(SECOND),
-        description: Some("words"),
+        description: Some(&words),
         position: Some(1),
         max_users: Some(2),
         links_add: &links,

@@ -1,6 +1,6 @@
 //! A change of several parts of a session, where memory runs out on the way.
 
-use mum_base::ChannelId;
+use mum_base::{ChannelId, Text};
 use mum_users::{FlagChange, Roster, UserChange, UserFault};
 use std::test::Fail;
 
@@ -20,13 +20,14 @@ fn a_change_is_whole_or_none(rt: HostRuntime) -> Result<(), Fail> {
     let mut roster = Roster::new(rt.alloc())?;
     let ann = roster.join("ann", None, &[])?;
     roster.listen(ann, ChannelId(6))?;
+    let comment = Text::of(rt.alloc(), "hello")?;
     let change = UserChange {
         channel: Some(ChannelId(3)),
         flags: FlagChange {
             mute: Some(true),
             ..NO_FLAG
         },
-        comment: Some("hello"),
+        comment: Some(&comment),
         context: Some(b"game"),
         listen: &[ChannelId(4), ChannelId(5)],
         unlisten: &[ChannelId(6)],

@@ -1,33 +1,11 @@
-//! Voice targets as the table `roster` spells them: `channel 3 links children group admin session 4`,
-//! items parted by `/`, `16*` before an item or a session to repeat it.
+//! Voice targets as tables spell them: `channel 3 links children group admin session 4`, items parted
+//! by `/`, `16*` before an item or a session to repeat it.
 
-use crate::words::{channel, session, word_of};
-use anyhow::{Context, Result, bail};
-use mum_base::{ChannelId, Items, SessionId, Text};
-use mum_cases::number;
+use crate::words::{channel, repeated, session, text_of};
+use anyhow::{Result, bail};
+use mum_base::{Items, SessionId, Text};
 use mum_users::{Target, TargetItem};
 use std::alloc::Global;
-
-/// How often, and what: `16* ..`, or once.
-fn repeated(text: &str) -> Result<(u64, &str)> {
-    match text.split_once('*') {
-        Some((times, rest)) => match times.parse::<u64>() {
-            Ok(times) => Ok((times, rest)),
-            Err(_) => Ok((1, text)),
-        },
-        None => Ok((1, text)),
-    }
-}
-
-/// `admin`, or `128*g`.
-fn group_of(alloc: Global, word: &str) -> Result<Text> {
-    let (times, unit) = repeated(word)?;
-    let mut group = String::new(alloc);
-    for _ in 0..times {
-        group.push_str(unit)?;
-    }
-    Ok(Text::from_string(group))
-}
 
 /// What the next word of an item says.
 #[derive(Clone, Copy)]
@@ -63,7 +41,7 @@ fn item_of(alloc: Global, text: &str) -> Result<TargetItem> {
     let mut item = TargetItem {
         sessions: Items::new(alloc),
         channel: None,
-        group: Text::of(alloc, "")?,
+        group: Text::empty(alloc),
         links: false,
         children: false,
     };
@@ -75,7 +53,7 @@ fn item_of(alloc: Global, text: &str) -> Result<TargetItem> {
                 continue;
             }
             Key::Channel => item.channel = Some(channel(word)?),
-            Key::Group => item.group = group_of(alloc, word)?,
+            Key::Group => item.group = text_of(alloc, word)?,
             Key::Sessions(times) => add_sessions(&mut item, times, session(word)?)?,
         }
         key = Key::Field;

@@ -25,8 +25,14 @@ const PERMISSIONS: [(&str, Perm); 17] = [
     ("ResetUserContent", Perm::RESET_USER_CONTENT),
 ];
 
-/// The permission of a name, or one of the sets ALL and ROOT_ONLY.
+/// A bit that is no permission.
+const UNKNOWN: Perm = Perm(0x1000);
+
+/// The permission of a name, one of the sets ALL and ROOT_ONLY, or the bit UNKNOWN.
 pub fn permission(name: &str) -> Result<Perm> {
+    if name == "UNKNOWN" {
+        return Ok(UNKNOWN);
+    }
     if name == "ALL" {
         return Ok(Perm::ALL);
     }
@@ -67,6 +73,18 @@ pub fn set_text(alloc: Global, set: Perm) -> Result<String> {
         if base.has(permission) && !set.has(permission) {
             text.push_str(" -")?;
             text.push_str(known)?;
+        }
+    }
+    Ok(text)
+}
+
+/// The names of the permissions of a set, each behind a mark.
+pub fn names_text(alloc: Global, mark: &str, set: Perm) -> Result<String> {
+    let mut text = String::new(alloc);
+    for (name, permission) in PERMISSIONS {
+        if set.has(permission) {
+            text.push_str(mark)?;
+            text.push_str(name)?;
         }
     }
     Ok(text)

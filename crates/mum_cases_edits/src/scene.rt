@@ -1,0 +1,119 @@
+//! A line of calls on a state.
+
+use crate::questions::asked;
+use anyhow::Result;
+use mum_cases_words::calls::edit;
+use mum_cases_words::lines::changes;
+use mum_cases_words::words::word_of;
+use mum_cases_words::{calls_of, edit_of, told};
+use mum_state::State;
+use std::alloc::Global;
+use std::mem::swap;
+
+/// What a line speaks of: the state that its calls go to, as it is and as it was before the last edit,
+/// another beside it, and what its calls have said.
+#[derive(Drop)]
+struct Scene {
+    alloc: Global,
+    state: State,
+    before: State,
+    other: State,
+    said: String,
+}
+
+/// The names of what two states say another of, or `nothing`.
+fn differences(alloc: Global, before: &State, after: &State) -> Result<String> {
+    let before = told(alloc, before)?;
+    let after = told(alloc, after)?;
+    let text = changes(alloc, before.as_slice(), after.as_slice())?;
+    if text.is_empty() {
+        return Ok(String::from_str(alloc, "nothing")?);
+    }
+    Ok(text)
+}
+
+impl Scene {
+    fn new(alloc: Global) -> Result<Scene> {
+        Ok(Scene {
+            alloc,
+            state: State::empty(alloc)?,
+            before: State::empty(alloc)?,
+            other: State::empty(alloc)?,
+            said: String::new(alloc),
+        })
+    }
+
+    /// What one call says more.
+    fn say(&mut self, text: &str) -> Result<()> {
+        if !self.said.is_empty() {
+            self.said.push_str("; ")?;
+        }
+        self.said.push_str(text)?;
+        Ok(())
+    }
+
+    /// From here on the calls go to an equal state.
+    fn copy(&mut self) -> Result<()> {
+        self.other = self.state.copy(self.alloc)?;
+        swap(&mut self.state, &mut self.other);
+        Ok(())
+    }
+
+    /// Whether an edit fits, which is not made.
+    fn say_fits(&mut self, call: &str) -> Result<()> {
+        let edit = edit_of(self.alloc, &self.state, call)?;
+        let fits = self.state.fits(&edit);
+        self.say(if fits { "yes" } else { "no" })
+    }
+
+    /// What is another since before the last edit.
+    fn say_changes(&mut self) -> Result<()> {
+        let text = differences(self.alloc, &self.before, &self.state)?;
+        self.say(text.as_str())
+    }
+
+    /// What the state has else than the other.
+    fn say_differs(&mut self) -> Result<()> {
+        let text = differences(self.alloc, &self.other, &self.state)?;
+        self.say(text.as_str())
+    }
+
+    fn edit(&mut self, call: &str) -> Result<()> {
+        self.before = self.state.copy(self.alloc)?;
+        if edit(self.alloc, &mut self.state, call)? {
+            return Ok(());
+        }
+        self.say("does not fit")
+    }
+
+    fn call(&mut self, call: &str) -> Result<()> {
+        let (word, rest) = word_of(call);
+        match word {
+            "copy" => self.copy(),
+            "other" => {
+                swap(&mut self.state, &mut self.other);
+                Ok(())
+            }
+            "fits" => self.say_fits(rest),
+            "changes" => self.say_changes(),
+            "differs" => self.say_differs(),
+            _ => match asked(self.alloc, &self.state, call)? {
+                Some(text) => self.say(text.as_str()),
+                None => self.edit(call),
+            },
+        }
+    }
+}
+
+/// What the calls of a line say, or `done`.
+pub fn answer(alloc: Global, line: &str) -> Result<String> {
+    let calls = calls_of(alloc, line)?;
+    let mut scene = Scene::new(alloc)?;
+    for call in &calls {
+        scene.call(call.as_str())?;
+    }
+    if scene.said.is_empty() {
+        scene.say("done")?;
+    }
+    Ok(scene.said)
+}

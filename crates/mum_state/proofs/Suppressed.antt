@@ -1,0 +1,120 @@
+-- Suppression, set anew or cleared, changes whether sessions may speak, and nothing else.
+use Rattle.std.proofs.Common.{◌≡◌, ℕ, ◌==◌, not, Bool, true, false, cond, List, [], ◌∷◌, map, refl, sym, ap, ◌∙◌, count_by}
+use Rattle.std.specs.Str.{bytes_eq}
+use Rattle.mum_base.specs.declared.number.ChannelId.{ChannelId}
+use Rattle.mum_base.specs.declared.number.SessionId.{SessionId}
+use Rattle.mum_tree.specs.Rows.{is_there}
+use Rattle.mum_users.specs.declared.user.User.{User}
+use Rattle.mum_users.specs.Proper.{IsProper as IsProperRoster}
+use Rattle.mum_users.specs.State.{RosterState, has_name, has_number, is_in}
+use Rattle.mum_users.proofs.Counts.{count_by-map}
+use Rattle.mum_users.proofs.Rosters.{KeepsIdentity}
+use Rattle.mum_users.proofs.Slots.{SlotsRise-map}
+use Rattle.mum_state.specs.declared.edit.Edit.{Edit}
+use Rattle.mum_state.specs.declared.edit.Edit.TheVariants.{SetUser}
+use Rattle.mum_state.specs.Emptied.{has_member}
+use Rattle.mum_state.specs.Permissions.{may_speak}
+use Rattle.mum_state.specs.Proper.{IsProper, is_sound_user}
+use Rattle.mum_state.specs.State.{StateValue}
+use Rattle.mum_state.specs.Suppression.{heard_anew, is_set_anew, with_clearing, with_suppression}
+use Rattle.mum_state.proofs.Listed.{all_map, any_map, map_same, map_twice}
+
+-- a roster stays proper where each row changes and keeps what it is found by
+pub roster_mapped : {limit : ℕ} (roster : RosterState) (f : User → User) → KeepsIdentity f → IsProperRoster limit roster → IsProperRoster limit (record roster { sessions = map f roster.sessions })
+roster_mapped {limit} roster f keeps proper =
+    let counts : (s : SessionId) → count_by (has_number s) (map f roster.sessions) ≡ count_by (has_number s) roster.sessions =
+    λ s. count_by-map (has_number s) f (λ user. ap (λ (n : SessionId). n.0 == s.0) (keeps.session user)) roster.sessions in
+    let names : (n : List ℕ) → count_by (has_name n) (map f roster.sessions) ≡ count_by (has_name n) roster.sessions =
+    λ n. count_by-map (has_name n) f (λ user. ap (λ (m : List ℕ). bytes_eq m n) (keeps.name user)) roster.sessions in
+    record {
+      slots = SlotsRise-map limit f (λ user. ap (λ s. s.0) (keeps.slot user)) 0 roster.sessions proper.slots;
+      numbers = λ s. rw (counts s) (proper.numbers s);
+      names = λ n. rw (names n) (proper.names n);
+      given = λ s lt. counts s ∙ proper.given s lt;
+      last_fits = proper.last_fits;
+      listeners_here = λ s none. proper.listeners_here s (sym (counts s) ∙ none);
+      few_listeners = proper.few_listeners;
+      few_channels = proper.few_channels;
+      listeners_rise = proper.listeners_rise;
+      targets_here = λ s none. proper.targets_here s (sym (counts s) ∙ none);
+      targets_sound = proper.targets_sound;
+      targets_rise = proper.targets_rise;
+    }
+
+-- a session that may speak or not
+abbrev pub heard : (User → Bool) → User → User
+heard silent user = record user { suppress = silent user }
+
+-- the sessions may speak or not, as told
+abbrev pub with_heard : (User → Bool) → StateValue → StateValue
+with_heard silent state = record state { roster = record state.roster { sessions = map (heard silent) state.roster.sessions } }
+
+heard_either : (is silent : Bool) (user : User) → cond is (record user { suppress = silent }) user ≡ record user { suppress = cond is silent user.suppress }
+heard_either true silent user = refl
+heard_either false silent user = refl
+
+-- who may not speak once suppression is set anew
+abbrev pub silent_anew : StateValue → Edit → StateValue → User → Bool
+silent_anew before edit state user = cond (is_set_anew before.roster.sessions edit user) (not (may_speak state user)) user.suppress
+
+-- who may not speak once it is cleared
+abbrev pub silent_cleared : Edit → User → Bool
+silent_cleared (SetUser session actor channel mute deaf true priority self_mute self_deaf recording comment context listen unlisten) user = cond (has_number session user) false user.suppress
+silent_cleared edit user = user.suppress
+
+pub suppression_is : (before : StateValue) (edit : Edit) (state : StateValue) → with_suppression before edit state ≡ with_heard (silent_anew before edit state) state
+suppression_is before edit state =
+    ap (λ (users : List User). record state { roster = record state.roster { sessions = users } })
+    (map_same (λ user. cond (is_set_anew before.roster.sessions edit user) (heard_anew state user) user) (heard (silent_anew before edit state)) (λ user. heard_either (is_set_anew before.roster.sessions edit user) (not (may_speak state user)) user) state.roster.sessions)
+
+heard_itself : (users : List User) → users ≡ map (heard (λ user. user.suppress)) users
+heard_itself [] = refl
+heard_itself (user ∷ users) = ap (λ (us : List User). user ∷ us) (heard_itself users)
+
+unchanged : (state : StateValue) → state ≡ with_heard (λ user. user.suppress) state
+unchanged state = ap (λ (users : List User). record state { roster = record state.roster { sessions = users } }) (heard_itself state.roster.sessions)
+
+pub clearing_is : (edit : Edit) (state : StateValue) → with_clearing edit state ≡ with_heard (silent_cleared edit) state
+clearing_is (SetUser session actor channel mute deaf true priority self_mute self_deaf recording comment context listen unlisten) state =
+    ap (λ (users : List User). record state { roster = record state.roster { sessions = users } })
+    (map_same (λ user. cond (has_number session user) (record user { suppress = false }) user) (heard (λ user. cond (has_number session user) false user.suppress)) (λ user. heard_either (has_number session user) false user) state.roster.sessions)
+clearing_is (SetUser session actor channel mute deaf false priority self_mute self_deaf recording comment context listen unlisten) state = unchanged state
+clearing_is edit state = unchanged state
+
+-- one after the other
+pub heard_twice : (then_silent silent : User → Bool) (state : StateValue) → with_heard then_silent (with_heard silent state) ≡ with_heard (λ user. then_silent (heard silent user)) state
+heard_twice then_silent silent state =
+    ap (λ (users : List User). record state { roster = record state.roster { sessions = users } }) (map_twice (heard then_silent) (heard silent) state.roster.sessions)
+
+-- what suppression and clearing leave, in one step
+abbrev pub silent_after : StateValue → Edit → StateValue → User → Bool
+silent_after before edit state user = silent_cleared edit (heard (silent_anew before edit state) user)
+
+pub heard_after : (before : StateValue) (edit : Edit) (state : StateValue) → with_clearing edit (with_suppression before edit state) ≡ with_heard (silent_after before edit state) state
+heard_after before edit state =
+    ap (with_clearing edit) (suppression_is before edit state)
+    ∙ clearing_is edit (with_heard (silent_anew before edit state) state)
+    ∙ heard_twice (silent_cleared edit) (silent_anew before edit state) state
+
+-- a proper state stays proper
+pub heard_proper : (silent : User → Bool) (state : StateValue) → IsProper state → IsProper (with_heard silent state)
+heard_proper silent state proper = record {
+  welcome = proper.welcome;
+  names = proper.names;
+  accounts = proper.accounts;
+  few_accounts = proper.few_accounts;
+  short_names = proper.short_names;
+  tree = proper.tree;
+  channels = proper.channels;
+  policies = proper.policies;
+  sound_policies = proper.sound_policies;
+  roster = roster_mapped state.roster (heard silent) (record { session = λ user. refl; slot = λ user. refl; name = λ user. refl }) proper.roster;
+  users = all_map is_sound_user is_sound_user (heard silent) (λ user sound. sound) state.roster.sessions proper.users;
+  inside = all_map (λ user. is_there state.tree.channels user.channel) (λ user. is_there state.tree.channels user.channel) (heard silent) (λ user there. there) state.roster.sessions proper.inside;
+  listening = proper.listening;
+  counts = proper.counts;
+}
+
+-- the same channels have members
+pub heard_members : (silent : User → Bool) (users : List User) (channel : ChannelId) → has_member (map (heard silent) users) channel ≡ has_member users channel
+heard_members silent users channel = any_map (is_in channel) (heard silent) (λ user. refl) users

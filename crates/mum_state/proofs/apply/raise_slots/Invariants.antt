@@ -1,0 +1,8 @@
+use Rattle.std.proofs.Common.{◌≡◌, ◌++◌, drop, take}
+use Rattle.mum_state.specs.Counts.{raised_slots}
+use Rattle.mum_state.specs.Renewed.{is_renewed_slot}
+use Rattle.mum_state.proofs.apply.raise_slots.Given as goal
+
+abbrev pub invariant-loop-slot : goal.invariant-loop-slot
+invariant-loop-slot l =
+    l.counts.items ≡ raised_slots (is_renewed_slot l.renewed) 0 (take l.slot l.initial.counts.items) ++ drop l.slot l.initial.counts.items

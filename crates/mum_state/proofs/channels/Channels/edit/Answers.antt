@@ -1,0 +1,17 @@
+use Rattle.std.proofs.Common.{◌∙◌, ap}
+use Rattle.mum_tree.specs.Change.{change_of, with_change}
+use Rattle.mum_state.specs.Channels.{ChannelsState}
+use Rattle.mum_state.proofs.Governed.{edited_free, edited_value}
+use Rattle.mum_state.proofs.channels.Channels.edit.Goals as goal
+
+pub invariant_of-self-2 : goal.invariant_of-self-2
+invariant_of-self-2 c = record {
+  proper = c.in_ok-edit_tree.ensures.proper;
+  whole = c.self.invariant.whole;
+  free = edited_free c.self.inside.policies.items c.self.inside.tree c.edit_tree.new.tree c.args.id (change_of c.args.change.now) c.in_ok-edit_tree.ensures.ok c.self.invariant.free;
+}
+
+pub returns-clause-ok : goal.returns-clause-ok
+returns-clause-ok c =
+    edited_value c.self.inside.policies.items c.self.inside.tree c.edit_tree.new.tree c.args.id (change_of c.args.change.now) c.in_ok-edit_tree.ensures.ok
+    ∙ ap (λ (channels : ChannelsState). record channels { tree = with_change channels.tree c.args.id (change_of c.args.change.now) }) c.self.view_is

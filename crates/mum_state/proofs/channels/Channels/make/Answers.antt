@@ -1,0 +1,34 @@
+use Rattle.std.proofs.Common.{◌≡◌, ◌∙◌, None, ap, sym, subst}
+use Rattle.mum_tree.specs.Refusals.{fault_of_set_info}
+use Rattle.mum_tree.specs.State.{TreeState, with_info, with_new}
+use Rattle.mum_state.specs.Channels.{ChannelsState, with_channel_made}
+use Rattle.mum_state.proofs.Governed.{made_value, new_there}
+use Rattle.mum_state.proofs.Laid.{IsOpenWhereFree, free_made}
+use Rattle.mum_state.proofs.channels.Channels.make.Goals as goal
+
+pub describe-requires : goal.describe-requires
+describe-requires c =
+    subst (λ (t : TreeState). fault_of_set_info t c.args.id ≡ None) (sym c.in_ok-grow.ensures.ok)
+    (new_there c.self.inside.tree c.args.id c.args.parent c.args.name.now c.args.temporary)
+
+pub invariant_of-self-2 : goal.invariant_of-self-2
+invariant_of-self-2 c =
+    let tree_is : c.describe.new.tree ≡ with_info (with_new c.self.inside.tree c.args.id c.args.parent c.args.name.now c.args.temporary) c.args.id c.args.info.now =
+    c.describe.ensures.info
+    ∙ ap (λ (t : TreeState). with_info t c.args.id c.in_ok-info.info) c.in_ok-grow.ensures.ok
+    ∙ ap (with_info (with_new c.self.inside.tree c.args.id c.args.parent c.args.name.now c.args.temporary) c.args.id) c.in_ok-info.ensures in
+    record {
+      proper = c.describe.ensures.proper;
+      whole = c.self.invariant.whole;
+      free = subst (λ (t : TreeState). IsOpenWhereFree c.self.inside.policies.items t.channels) (sym tree_is)
+          (free_made c.self.inside.policies.items c.self.inside.tree c.args.id c.args.parent c.args.name.now c.args.temporary c.args.info.now c.self.invariant.free);
+    }
+
+pub returns-clause-ok : goal.returns-clause-ok
+returns-clause-ok c =
+    let tree_is : c.describe.new.tree ≡ with_info (with_new c.self.inside.tree c.args.id c.args.parent c.args.name.now c.args.temporary) c.args.id c.args.info.now =
+    c.describe.ensures.info
+    ∙ ap (λ (t : TreeState). with_info t c.args.id c.in_ok-info.info) c.in_ok-grow.ensures.ok
+    ∙ ap (with_info (with_new c.self.inside.tree c.args.id c.args.parent c.args.name.now c.args.temporary) c.args.id) c.in_ok-info.ensures in
+    made_value c.self.inside.policies.items c.self.inside.tree c.describe.new.tree c.args.id c.args.parent c.args.name.now c.args.temporary c.args.info.now c.self.invariant.free tree_is
+    ∙ ap (λ (channels : ChannelsState). with_channel_made channels c.args.id c.args.parent c.args.name.now c.args.temporary c.args.info.now) c.self.view_is

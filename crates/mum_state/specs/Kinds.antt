@@ -1,0 +1,56 @@
+-- Kinds of edits: who makes them, and what they may change.
+use Rattle.std.specs.Prelude.{◌==◌, ◌&&◌, not, Bool, true, false, List, length, is_none, is_some}
+use Rattle.mum_users.specs.declared.user.User.{User}
+use Rattle.mum_users.specs.State.{has_number}
+use Rattle.mum_state.specs.declared.edit.Edit.{Edit}
+use Rattle.mum_state.specs.declared.edit.Edit.TheVariants.{AddAccount, EditChannel, MakeChannel, RemoveChannel, SetAcl, SetServer, SetTokens, SetUser, Text}
+
+-- it is a configuration's, which has no actor and no maker, and no session's
+abbrev pub is_of_configuration : Edit → Bool
+is_of_configuration (SetServer welcome bandwidth password) = true
+is_of_configuration (AddAccount account name digest) = true
+is_of_configuration (MakeChannel id parent name temporary info maker) = is_none maker
+is_of_configuration (EditChannel id actor name parent description position max_users links_add links_remove) = is_none actor
+is_of_configuration (SetAcl channel actor policy) = is_none actor
+is_of_configuration edit = false
+
+-- it is an edit of channels or of their policies
+abbrev pub changes_channels : Edit → Bool
+changes_channels (MakeChannel id parent name temporary info maker) = true
+changes_channels (EditChannel id actor name parent description position max_users links_add links_remove) = true
+changes_channels (RemoveChannel id actor) = true
+changes_channels (SetAcl channel actor policy) = true
+changes_channels edit = false
+
+-- it sets a policy
+abbrev pub sets_policy : Edit → Bool
+sets_policy (SetAcl channel actor policy) = true
+sets_policy edit = false
+
+-- it sets the session's tokens
+abbrev pub sets_tokens_of : Edit → User → Bool
+sets_tokens_of (SetTokens session tokens) user = has_number session user
+sets_tokens_of edit user = false
+
+abbrev pub is_empty : {X : Type 0} → List X → Bool
+is_empty xs = length xs == 0
+
+-- it makes, moves or removes channels, or sets a policy
+abbrev pub changes_paths : Edit → Bool
+changes_paths (MakeChannel id parent name temporary info maker) = true
+changes_paths (EditChannel id actor name parent description position max_users links_add links_remove) = is_some parent
+changes_paths (RemoveChannel id actor) = true
+changes_paths (SetAcl channel actor policy) = true
+changes_paths edit = false
+
+-- it is none that changes nothing but what no route reads
+abbrev pub changes_routes : Edit → Bool
+changes_routes (SetServer welcome bandwidth password) = false
+changes_routes (AddAccount account name digest) = false
+changes_routes (Text actor sessions channels trees message) = false
+changes_routes (EditChannel id actor name parent description position max_users links_add links_remove) =
+    not (is_none parent && is_empty links_add && is_empty links_remove)
+changes_routes (SetUser session actor channel mute deaf clear_suppress priority self_mute self_deaf recording comment context listen unlisten) =
+    not (is_none channel && is_none mute && is_none deaf && not clear_suppress && is_none self_mute && is_none self_deaf
+    && is_empty listen && is_empty unlisten)
+changes_routes edit = true

@@ -1,0 +1,85 @@
+-- What holds of all edits and of all lists of edits.
+use Rattle.std.specs.Prelude.{◌≡◌, ℕ, ◌≤◌, ◌↔◌, List, [], ◌∷◌, Some, IsTrue, ⊤}
+use Rattle.std.specs.Option.{option_map}
+use Rattle.mum_base.specs.declared.number.ChannelId.{ChannelId}
+use Rattle.mum_base.specs.declared.number.SessionId.{SessionId}
+use Rattle.mum_base.specs.declared.number.Slot.{Slot}
+use Rattle.mum_tree.specs.Rows.{row_of}
+use Rattle.mum_users.specs.Sessions.{session_of}
+use Rattle.mum_state.specs.declared.edit.Edit.{Edit}
+use Rattle.mum_state.specs.After.{all_fit, led_to}
+use Rattle.mum_state.specs.Applied.{applied}
+use Rattle.mum_state.specs.Counts.{slot_count}
+use Rattle.mum_state.specs.Fits.{fits, gives_right_numbers}
+use Rattle.mum_state.specs.Named.{names_there}
+use Rattle.mum_state.specs.Permissions.{perm_of}
+use Rattle.mum_state.specs.Proper.{IsProper}
+use Rattle.mum_state.specs.Routed.{route_inputs}
+use Rattle.mum_state.specs.Set.{set_by}
+use Rattle.mum_state.specs.State.{Counts, StateValue}
+
+-- edits that fit lead from a proper state to a proper one
+abbrev pub KeepsProper : Type 0
+KeepsProper =
+    (state : StateValue) (edits : List Edit) → IsProper state → IsTrue (all_fit state edits) → IsProper (led_to state edits)
+
+-- one that names what is there, and gives right numbers, fits exactly where what it sets is proper and what it leaves is
+abbrev pub FitsWhereProper : Type 0
+FitsWhereProper =
+    (state : StateValue) (edit : Edit) → IsProper state → IsTrue (names_there state edit) → IsTrue (gives_right_numbers state edit)
+    → IsTrue (fits state edit) ↔ (IsProper (set_by state edit) × IsProper (applied state edit))
+
+-- each number is at most that at its place
+abbrev pub AreAtMost : List ℕ → List ℕ → Type 0
+AreAtMost [] [] = ⊤
+AreAtMost (count ∷ counts) (later ∷ laters) = (count ≤ later) × AreAtMost counts laters
+AreAtMost counts laters = ⊥
+
+-- no count is lower, and none of a slot is
+pub record AreCountsOn (before later : Counts) : Type 0 where
+  pub revision : before.revision ≤ later.revision
+  pub policy : before.policy ≤ later.policy
+  pub routing : before.routing ≤ later.routing
+  pub slots : AreAtMost before.slots later.slots
+
+-- no count falls by an edit, whatever it is
+abbrev pub CountsNeverFall : Type 0
+CountsNeverFall = (state : StateValue) (edits : List Edit) → AreCountsOn state.counts (led_to state edits).counts
+
+-- the channel has this place
+abbrev pub HasPlace : StateValue → ChannelId → ℕ → Type 0
+HasPlace state channel place = option_map (λ row. row.place) (row_of state.tree.channels channel) ≡ Some place
+
+-- the session is in this slot
+abbrev pub IsInSlot : StateValue → SessionId → Slot → Type 0
+IsInSlot state session slot = option_map (λ user. user.slot) (session_of state.roster session) ≡ Some slot
+
+-- while a session is there it keeps its slot, and a channel keeps its place
+abbrev pub SeatsStand : Type 0
+SeatsStand =
+    (state : StateValue) (edits : List Edit) → IsProper state → IsTrue (all_fit state edits)
+    → ((session : SessionId) (slot later : Slot) → IsInSlot state session slot → IsInSlot (led_to state edits) session later → slot ≡ later)
+    × ((channel : ChannelId) (place later : ℕ) → HasPlace state channel place → HasPlace (led_to state edits) channel later → place ≡ later)
+
+-- the greatest numbers that channels and sessions had never fall
+abbrev pub NumbersNeverFall : Type 0
+NumbersNeverFall =
+    (state : StateValue) (edits : List Edit) → IsTrue (all_fit state edits)
+    → (state.tree.greatest ≤ (led_to state edits).tree.greatest) × (state.roster.last ≤ (led_to state edits).roster.last)
+
+-- what a session may do in a channel is the same while it is there, its slot's count is the same and the policy count is
+abbrev pub PermissionsStand : Type 0
+PermissionsStand =
+    (state : StateValue) (edits : List Edit) (session : SessionId) (slot : Slot) (channel : ChannelId)
+    → IsProper state → IsTrue (all_fit state edits)
+    → IsInSlot state session slot → IsInSlot (led_to state edits) session slot
+    → state.counts.policy ≡ (led_to state edits).counts.policy
+    → slot_count state slot ≡ slot_count (led_to state edits) slot
+    → perm_of state session channel ≡ perm_of (led_to state edits) session channel
+
+-- what a route reads is the same while the routing count is
+abbrev pub RoutesStand : Type 0
+RoutesStand =
+    (state : StateValue) (edits : List Edit) → IsProper state → IsTrue (all_fit state edits)
+    → state.counts.routing ≡ (led_to state edits).counts.routing
+    → route_inputs state ≡ route_inputs (led_to state edits)

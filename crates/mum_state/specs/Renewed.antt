@@ -1,0 +1,24 @@
+-- The slots of those for whom an edit starts anew what was computed of a session.
+use Rattle.std.specs.Prelude.{ℕ, ◌==◌, ◌||◌, Bool, true, false, map, slice_index_or, if◌then◌else◌}
+use Rattle.mum_state.specs.declared.renewed.Renewed.{Renewed}
+use Rattle.mum_state.specs.declared.renewed.Renewed.TheVariants.{Nobody, One, Those}
+use Rattle.mum_state.specs.State.{StateValue}
+use Rattle.mum_state.specs.Suppression.{heard_anew}
+
+-- the slot is one of them
+abbrev pub is_renewed_slot : Renewed → ℕ → Bool
+is_renewed_slot Nobody slot = false
+is_renewed_slot (One one) slot = one.0 == slot
+is_renewed_slot (Those marks) slot = slice_index_or marks slot false
+
+abbrev pub is_nobody : Renewed → Bool
+is_nobody Nobody = true
+is_nobody renewed = false
+
+-- whether those in these slots, or all, may speak where they are is set anew
+abbrev pub heard_again : Renewed → Bool → StateValue → StateValue
+heard_again renewed all state = record state {
+  roster = record state.roster {
+    sessions = map (λ user. if is_renewed_slot renewed user.slot.0 || all then heard_anew state user else user) state.roster.sessions;
+  };
+}

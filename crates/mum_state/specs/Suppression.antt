@@ -1,0 +1,41 @@
+-- Whether a session may speak where it is: for whom this is set anew, and from what.
+use Rattle.std.specs.Prelude.{◌&&◌, ◌||◌, Bool, false, not, List, map, if◌then◌else◌}
+use Rattle.std.specs.List.{list_any}
+use Rattle.mum_users.specs.declared.user.User.{User}
+use Rattle.mum_users.specs.Sessions.{suppressed}
+use Rattle.mum_users.specs.State.{has_number, is_in}
+use Rattle.mum_state.specs.declared.edit.Edit.{Edit}
+use Rattle.mum_state.specs.declared.edit.Edit.TheVariants.{SetUser}
+use Rattle.mum_state.specs.Kinds.{sets_policy, sets_tokens_of}
+use Rattle.mum_state.specs.Permissions.{may_speak}
+use Rattle.mum_state.specs.State.{StateValue}
+
+-- the session was not in this channel before: it joined, or it was in another. One under which its channel was
+-- moved is in the same
+abbrev pub is_newcomer : List User → User → Bool
+is_newcomer before user = not (list_any (λ was. has_number user.session was && is_in user.channel was) before)
+
+-- it is new in its channel, or its tokens were set
+abbrev pub is_renewed : List User → Edit → User → Bool
+is_renewed before edit user = is_newcomer before user || sets_tokens_of edit user
+
+-- whether it may speak is set anew: also of everybody where a policy was set
+abbrev pub is_set_anew : List User → Edit → User → Bool
+is_set_anew before edit user = is_renewed before edit user || sets_policy edit
+
+-- by what it may do now
+abbrev pub heard_anew : StateValue → User → User
+heard_anew state user = record user { suppress = not (may_speak state user) }
+
+abbrev pub with_suppression : StateValue → Edit → StateValue → StateValue
+with_suppression before edit state = record state {
+  roster = record state.roster {
+    sessions = map (λ user. if is_set_anew before.roster.sessions edit user then heard_anew state user else user) state.roster.sessions;
+  };
+}
+
+-- it may speak where the edit says so, whatever it may do
+abbrev pub with_clearing : Edit → StateValue → StateValue
+with_clearing (SetUser session actor channel mute deaf clear_suppress priority self_mute self_deaf recording comment context listen unlisten) state =
+    if clear_suppress then record state { roster = suppressed state.roster session false } else state
+with_clearing edit state = state

@@ -1,0 +1,152 @@
+//! An edit, from what it sets to its counts.
+
+ghost use Rattle.std.specs.Prelude.{◌≡◌, ◌||◌, ◌<◌, ◌≤◌, ◌^◌, ◌==◌, ℕ, None, IfSome, IsTrue, OnErr, OnOk, length, false, if◌then◌else◌};
+ghost use Rattle.std.specs.List.{All, list_all, list_any};
+ghost use Rattle.std.specs.Prelude.{◌+◌};
+ghost use Rattle.mum_tree.specs.Refusals.{fault_of_remove};
+ghost use Rattle.mum_tree.specs.Rows.{is_there};
+ghost use Rattle.mum_users.specs.Sessions.{suppressed};
+ghost use Rattle.mum_users.specs.State.{has_number};
+ghost use Rattle.mum_users.specs.declared.user.TheConstants.{SESSIONS};
+ghost use Rattle.mum_state.specs.Applied.{applied};
+ghost use Rattle.mum_state.specs.Counts.{raised_slots, raised_where};
+ghost use Rattle.mum_state.specs.Fits.{fits};
+ghost use Rattle.mum_state.specs.Followed.{cleared_session, counted, is_left_empty, with_left_closed};
+ghost use Rattle.mum_state.specs.Kinds.{sets_policy};
+ghost use Rattle.mum_state.specs.Proper.{IsProper};
+ghost use Rattle.mum_state.specs.Renewed.{heard_again, is_renewed_slot};
+ghost use Rattle.mum_state.specs.Suppression.{with_clearing};
+
+use crate::edit::Edit;
+use crate::kind::{changes_paths, changes_routes, is_of_configuration, sets_policy};
+use crate::moved::Hearing;
+use crate::parts::Parts;
+use crate::renewed::Renewed;
+use mum_base::{ChannelId, OutOfMemory, SessionId, Slot};
+
+// One if it holds, else nothing.
+fn one_if(holds: bool) -> u64
+    ensures { result ≡ (if holds then 1 else 0) }
+{
+    if holds { 1 } else { 0 }
+}
+
+// One more where it holds.
+fn raised_where(holds: bool, count: u64) -> u64
+    requires { count ≤ 2 ^ 63 }
+    ensures { result ≡ raised_where holds count }
+{
+    count + one_if(holds)
+}
+
+// One more for each renewed slot.
+fn raise_slots(counts: &mut Vec<u64>, renewed: &Renewed)
+    requires few { All (λ count. count ≤ 2 ^ 63) counts.old.items }
+    requires whole { length counts.old.items < 256 }
+    ensures { counts.new.items ≡ raised_slots (is_renewed_slot renewed.now) 0 counts.old.items }
+{
+    if renewed.is_nobody() {
+        return;
+    }
+    for slot in 0..counts.len() {
+        let raised = raised_where(renewed.has(Slot(slot as u8)), counts[slot]);
+        counts[slot] = raised;
+    }
+}
+
+impl Parts {
+    // Whether they may speak where they are is set anew for those in renewed slots, and for all where
+    // a policy was set.
+    fn hear(&mut self, edit: &Edit, renewed: &Renewed)
+        requires { IsTrue (list_all (λ user. is_there self.old.tree.channels user.channel) self.old.roster.sessions) }
+        ensures { self.new ≡ heard_again renewed.now (sets_policy edit.now) self.old }
+    {
+        let all = sets_policy(edit);
+        if renewed.hears_nobody(all) {
+            return;
+        }
+        let hearing = Hearing {
+            channels: &self.channels,
+            renewed,
+            all,
+        };
+        self.roster.seat_anew(&hearing);
+    }
+
+    // A session may speak where it is.
+    fn clear(&mut self, session: SessionId)
+        requires { IsTrue (list_any (has_number session) self.old.roster.sessions) }
+        ensures { self.new ≡ record self.old { roster = suppressed self.old.roster session false } }
+    {
+        match self.roster.suppress(session, false) {
+            Ok(()) => {}
+            Err(_) => unreachable!(),
+        }
+    }
+
+    // The session of an edit may speak where the edit says so.
+    fn clear_by(&mut self, edit: &Edit)
+        requires { IsTrue (list_all (λ session. list_any (has_number session) self.old.roster.sessions) (cleared_session edit.now)) }
+        ensures { self.new ≡ with_clearing edit.now self.old }
+    {
+        match *edit {
+            Edit::SetUser {
+                session,
+                clear_suppress: true,
+                ..
+            } => self.clear(session),
+            _ => {}
+        }
+    }
+
+    // A temporary channel goes where nobody is in it.
+    fn close(&mut self, left: Option<ChannelId>) -> bool
+        requires { IfSome left (λ id. fault_of_remove self.old.tree id ≡ None) }
+        ensures closed { self.new ≡ with_left_closed left self.old }
+        ensures is_closed { result ≡ is_left_empty left self.old }
+    {
+        match left {
+            Some(id) => {
+                if self.roster.has_member(id) {
+                    return false;
+                }
+                self.remove_channels(id);
+                true
+            }
+            None => false,
+        }
+    }
+
+    // Counts an edit.
+    fn count(&mut self, edit: &Edit, renewed: &Renewed, closed: bool)
+        requires revision { self.old.counts.revision ≤ 2 ^ 63 }
+        requires policy { self.old.counts.policy ≤ 2 ^ 63 }
+        requires routing { self.old.counts.routing ≤ 2 ^ 63 }
+        requires slots { All (λ count. count ≤ 2 ^ 63) self.old.counts.slots }
+        requires whole { length self.old.counts.slots ≡ SESSIONS }
+        ensures { self.new
+            ≡ record self.old { counts = counted edit.now renewed.now closed self.old.counts } }
+    {
+        self.revision = raised_where(!is_of_configuration(edit), self.revision);
+        self.stamps.policy = raised_where(changes_paths(edit) || closed, self.stamps.policy);
+        self.stamps.routing = raised_where(changes_routes(edit), self.stamps.routing);
+        raise_slots(&mut self.slot_counts, renewed);
+    }
+
+    /// Makes an edit that fits. After want of memory all is as it was.
+    pub(crate) fn apply(&mut self, edit: &Edit) -> Result<(), OutOfMemory>
+        requires proper { IsProper self.old }
+        requires fits { IsTrue (fits self.old edit.now) }
+        ensures ok { OnOk result (self.new ≡ applied self.old edit.now) }
+        ensures err { OnErr result (self.new ≡ self.old) }
+    {
+        let renewed = self.renewed_by(edit);
+        let left = self.left_by(edit);
+        self.set(edit)?;
+        self.hear(edit, &renewed);
+        self.clear_by(edit);
+        let closed = self.close(left);
+        self.count(edit, &renewed, closed);
+        Ok(())
+    }
+}

@@ -1,0 +1,107 @@
+//! Kinds of edits.
+
+ghost use Rattle.std.specs.Prelude.{◌≡◌};
+ghost use Rattle.mum_state.specs.Followed.{may_renew};
+ghost use Rattle.mum_state.specs.Kinds.{changes_channels, changes_paths, changes_routes, is_of_configuration, sets_policy};
+
+use crate::edit::Edit;
+
+/// Whether it is an edit of channels or of their policies.
+pub(crate) fn changes_channels(edit: &Edit) -> bool
+    ensures { result ≡ changes_channels edit.now }
+{
+    match edit {
+        Edit::MakeChannel { .. }
+        | Edit::EditChannel { .. }
+        | Edit::RemoveChannel { .. }
+        | Edit::SetAcl { .. } => true,
+        _ => false,
+    }
+}
+
+/// Whether it may be that a session joins, enters another channel, or has its tokens set.
+pub(crate) fn may_renew(edit: &Edit) -> bool
+    ensures { result ≡ may_renew edit.now }
+{
+    match edit {
+        Edit::Join { .. }
+        | Edit::SetTokens { .. }
+        | Edit::SetUser { .. }
+        | Edit::MakeChannel { .. }
+        | Edit::RemoveChannel { .. } => true,
+        _ => false,
+    }
+}
+
+/// Whether it is a configuration's, and no session's.
+pub(crate) fn is_of_configuration(edit: &Edit) -> bool
+    ensures { result ≡ is_of_configuration edit.now }
+{
+    match edit {
+        Edit::SetServer { .. } | Edit::AddAccount { .. } => true,
+        Edit::MakeChannel { maker, .. } => maker.is_none(),
+        Edit::EditChannel { actor, .. } | Edit::SetAcl { actor, .. } => actor.is_none(),
+        _ => false,
+    }
+}
+
+/// Whether it sets a policy.
+pub(crate) fn sets_policy(edit: &Edit) -> bool
+    ensures { result ≡ sets_policy edit.now }
+{
+    match edit {
+        Edit::SetAcl { .. } => true,
+        _ => false,
+    }
+}
+
+/// Whether it makes, moves or removes channels, or sets a policy.
+pub(crate) fn changes_paths(edit: &Edit) -> bool
+    ensures { result ≡ changes_paths edit.now }
+{
+    match edit {
+        Edit::MakeChannel { .. } | Edit::RemoveChannel { .. } | Edit::SetAcl { .. } => true,
+        Edit::EditChannel { parent, .. } => parent.is_some(),
+        _ => false,
+    }
+}
+
+/// Whether it changes what a route reads.
+pub(crate) fn changes_routes(edit: &Edit) -> bool
+    ensures { result ≡ changes_routes edit.now }
+{
+    match edit {
+        Edit::SetServer { .. } | Edit::AddAccount { .. } | Edit::Text { .. } => false,
+        Edit::EditChannel {
+            parent,
+            links_add,
+            links_remove,
+            ..
+        } => {
+            !(parent.is_none()
+                && links_add.as_slice().is_empty()
+                && links_remove.as_slice().is_empty())
+        }
+        Edit::SetUser {
+            channel,
+            mute,
+            deaf,
+            clear_suppress,
+            self_mute,
+            self_deaf,
+            listen,
+            unlisten,
+            ..
+        } => {
+            !(channel.is_none()
+                && mute.is_none()
+                && deaf.is_none()
+                && !*clear_suppress
+                && self_mute.is_none()
+                && self_deaf.is_none()
+                && listen.as_slice().is_empty()
+                && unlisten.as_slice().is_empty())
+        }
+        _ => true,
+    }
+}

@@ -1,0 +1,53 @@
+//! For whom an edit starts anew what was computed of a session.
+
+ghost use Rattle.std.specs.Prelude.{◌≡◌, ◌&&◌, not, false, slice_index_or};
+ghost use Rattle.mum_state.specs.Renewed.{is_nobody, is_renewed_slot};
+
+use mum_base::Slot;
+use mum_users::user::SESSIONS;
+
+/// The slots of the sessions that join, that enter another channel, or whose tokens are set.
+#[derive(Debug, Drop)]
+pub(crate) enum Renewed {
+    Nobody,
+    One(Slot),
+    /// Those whose slots are marked.
+    Those([bool; SESSIONS]),
+}
+
+impl Renewed {
+    /// Whether nobody is to be heard anew, where all are or these.
+    pub(crate) fn hears_nobody(&self, all: bool) -> bool
+        ensures { result ≡ (is_nobody self.now && not all) }
+    {
+        self.is_nobody() && !all
+    }
+
+    pub(crate) fn is_nobody(&self) -> bool
+        ensures { result ≡ is_nobody self.now }
+    {
+        match self {
+            Renewed::Nobody => true,
+            _ => false,
+        }
+    }
+
+    pub(crate) fn has(&self, slot: Slot) -> bool
+        ensures { result ≡ is_renewed_slot self.now slot.0 }
+    {
+        match *self {
+            Renewed::Nobody => false,
+            Renewed::One(one) => one.0 == slot.0,
+            Renewed::Those(ref marks) => is_marked(marks, slot),
+        }
+    }
+}
+
+fn is_marked(marks: &[bool], slot: Slot) -> bool
+    ensures { result ≡ slice_index_or marks.now slot.0 false }
+{
+    match marks.get(slot.0 as usize) {
+        Some(mark) => *mark,
+        None => false,
+    }
+}

@@ -1,0 +1,9 @@
+pub mod Accepted
+pub mod ByCause
+pub mod Cleared
+pub mod Firsts
+pub mod Heard
+pub mod Linked
+pub mod Named
+pub mod OneByOne
+pub mod Parted

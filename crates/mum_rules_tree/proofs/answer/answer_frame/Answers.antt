@@ -1,0 +1,7 @@
+use Rattle.std.proofs.Common.{rules}
+use Rattle.mum_rules_tree.specs.Outcome.{answer_frame}
+use Rattle.mum_rules_tree.proofs.answer.answer_frame.Goals as goal
+
+pub returns : goal.returns
+unfolding answer_frame
+returns c = search rules

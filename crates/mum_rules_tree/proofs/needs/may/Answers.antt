@@ -1,0 +1,14 @@
+use Rattle.std.proofs.Common.{rules}
+use Rattle.std.proofs.Common.{arith}
+use Rattle.std.proofs.lemmas.Grind.{common_steps}
+use Rattle.std.proofs.lemmas.Bool.Decides.{nat_tests}
+use Rattle.mum_rules_tree.specs.Decision.{is_open}
+use Rattle.mum_rules_tree.proofs.needs.may.Goals as goal
+
+pub returns-in-Some : goal.returns-in-Some
+unfolding is_open
+returns-in-Some c = grind (arith, nat_tests, common_steps)
+
+pub returns-in-None : goal.returns-in-None
+unfolding is_open
+returns-in-None c = search rules

@@ -1,0 +1,53 @@
+-- What a verdict says of the tables, in words of its own.
+use Rattle.std.specs.Prelude.{◌≡◌, true, false, List, ◌∷◌, ◌++◌}
+use Rattle.std.specs.List.{All}
+use Rattle.mum_base.specs.declared.number.ChannelId.{ChannelId}
+use Rattle.mum_base.specs.declared.number.SessionId.{SessionId}
+use Rattle.mum_base.specs.declared.perm.Perm.{Perm}
+use Rattle.mum_state.specs.declared.verdict.Verdict.TheVariants.{Accepted, Lacks}
+use Rattle.mum_state.specs.declared.edit.Edit.{Edit}
+use Rattle.mum_state.specs.State.{StateValue}
+use Rattle.mum_rules_tree.specs.declared.message.TreeMessage.{TreeMessage}
+use Rattle.mum_rules_tree.specs.Asked.{command_of}
+use Rattle.mum_rules_tree.specs.Decision.{Case, Need, is_met}
+use Rattle.mum_rules_tree.specs.Limits.{limits}
+use Rattle.mum_rules_tree.specs.Needs.{needs}
+use Rattle.mum_rules_tree.specs.Reasons.{reasons}
+use Rattle.mum_rules_tree.specs.Verdict.{asker_named, tree_verdict}
+
+-- what this message needs, and its limits, for whoever asks
+abbrev pub needs_of : StateValue → SessionId → TreeMessage → List Need
+needs_of state actor message = needs state.tree (asker_named state actor) (command_of message)
+
+-- none of these stands
+abbrev pub NoneStands : {Code : Type 0} → List (Case Code) → Type 0
+NoneStands cases = All (λ one. one.stands ≡ false) cases
+
+-- each of these is met
+abbrev pub AllMet : StateValue → List Need → Type 0
+AllMet state needs = All (λ wanted. is_met state wanted ≡ true) needs
+
+-- a permission that is missing is the first way of a need that is not met, and all before it is met
+pub record IsFirstMissing (state : StateValue) (needs : List Need) (perm : Perm) (channel : ChannelId) : Type 0 where
+  pub before : List Need
+  pub missing : Need
+  pub after : List Need
+  pub whole : needs ≡ before ++ missing ∷ after
+  pub met : AllMet state before
+  pub unmet : is_met state missing ≡ false
+  pub named_perm : missing.first.perm ≡ perm
+  pub named_channel : missing.first.channel ≡ channel
+
+-- a denial names the first permission that is missing, and comes only where there is no reason to ignore the message
+abbrev pub NamesFirstMissing : Type 0
+NamesFirstMissing =
+    (state : StateValue) (actor : SessionId) (message : TreeMessage) (perm : Perm) (channel : ChannelId)
+    → tree_verdict state actor message ≡ Lacks perm channel
+    → NoneStands (reasons state actor message) × IsFirstMissing state (needs_of state actor message) perm channel
+
+-- what is accepted has no reason, no need and no limit against it
+abbrev pub AcceptsWhereNothingStands : Type 0
+AcceptsWhereNothingStands =
+    (state : StateValue) (actor : SessionId) (message : TreeMessage) (edit : Edit)
+    → tree_verdict state actor message ≡ Accepted edit
+    → NoneStands (reasons state actor message) × AllMet state (needs_of state actor message) × NoneStands (limits state (command_of message))

@@ -1,0 +1,12 @@
+pub mod Codes
+pub mod Decision
+pub mod Asked
+pub mod Policy
+pub mod Reasons
+pub mod Needs
+pub mod Limits
+pub mod Outcome
+pub mod Verdict
+pub mod Denial
+pub mod Tokens
+pub mod Laws

@@ -1,0 +1,170 @@
+//! What is decided of a message on channels.
+
+ghost use Rattle.std.specs.Prelude.{◌≡◌, IfOk, IsTrue, length, nat_lt};
+ghost use Rattle.std.specs.List.{list_all};
+ghost use Rattle.mum_policy.specs.Member.{asker_of};
+ghost use Rattle.mum_state.specs.Fits.{holds_of_given};
+ghost use Rattle.mum_rules_tree.specs.Asked.{command_of, is_named_there, is_number_there, is_query, names_there, payload_of};
+ghost use Rattle.mum_rules_tree.specs.Decision.{FitsWhereAccepted};
+ghost use Rattle.mum_rules_tree.specs.Verdict.{command_verdict, tree_verdict};
+
+use crate::acl::{decide_policy, decide_query};
+use crate::asker::who_with;
+use crate::channel::{channel_or_root, is_there};
+use crate::edit::decide_edit;
+use crate::make::decide_new;
+use crate::message::TreeMessage;
+use crate::reason::{COMMAND_LIMIT, Reason, takes_no_edits};
+use crate::remove::decide_removal;
+use mum_base::{ChannelId, Octets, OutOfMemory, SessionId};
+use mum_msg_rule::{Acl, Message};
+use mum_msg_state::ChannelState;
+use mum_policy::Who;
+use mum_state::{State, Verdict};
+use mum_tree::Tree;
+use std::alloc::Global;
+
+fn payload_of(alloc: Global, message: &TreeMessage) -> Result<Octets, OutOfMemory>
+    ensures { IfOk result (λ payload. payload ≡ payload_of message.now) }
+{
+    match message {
+        TreeMessage::State(message) => message.encode(alloc),
+        TreeMessage::Remove(message) => message.encode(alloc),
+        TreeMessage::Acl(message) => message.encode(alloc),
+    }
+}
+
+fn is_too_long(alloc: Global, message: &TreeMessage) -> Result<bool, OutOfMemory>
+    ensures { IfOk result (λ long. long ≡ nat_lt COMMAND_LIMIT (length (payload_of message.now))) }
+{
+    let payload = payload_of(alloc, message)?;
+    Ok(payload.as_slice().len() > COMMAND_LIMIT)
+}
+
+/// Whether a channel is named, and is there.
+fn is_named_there(tree: &Tree, number: Option<u32>) -> bool
+    ensures { result ≡ is_named_there tree.now number }
+{
+    match number {
+        Some(number) => is_there(tree, ChannelId(number)),
+        None => false,
+    }
+}
+
+/// Whether the channel that is named, if one is, is there.
+fn is_there_if_named(tree: &Tree, number: Option<u32>) -> bool
+    ensures { result ≡ holds_of_given (is_number_there tree.now) number }
+{
+    match number {
+        Some(number) => is_there(tree, ChannelId(number)),
+        None => true,
+    }
+}
+
+fn are_there(tree: &Tree, numbers: &[u32]) -> bool
+    ensures { result ≡ list_all (is_number_there tree.now) numbers.now }
+{
+    numbers
+        .iter()
+        .all(|number| is_there(tree, ChannelId(*number)))
+}
+
+/// Whether each channel that a message names is there.
+fn names_there(tree: &Tree, message: &TreeMessage) -> bool
+    ensures { result ≡ names_there tree.now message.now }
+{
+    match message {
+        TreeMessage::State(message) => {
+            is_named_there(tree, message.channel_id.or(message.parent))
+                && is_there_if_named(tree, message.parent)
+                && are_there(tree, message.links_add.as_slice())
+                && are_there(tree, message.links_remove.as_slice())
+        }
+        TreeMessage::Remove(message) => is_named_there(tree, message.channel_id),
+        TreeMessage::Acl(message) => is_named_there(tree, message.channel_id),
+    }
+}
+
+fn decide_state(
+    alloc: Global,
+    state: &State,
+    who: &Who<'_>,
+    message: &ChannelState,
+) -> Result<Verdict, OutOfMemory>
+    requires { IsTrue (names_there state.now.tree (TreeMessage.State message.now)) }
+    ensures { IfOk result (λ verdict. verdict ≡ command_verdict state.now (asker_of who.now)
+        who.now.session (command_of (TreeMessage.State message.now))) }
+{
+    match message.channel_id {
+        Some(number) => decide_edit(alloc, state, who, ChannelId(number), message),
+        None => decide_new(alloc, state, who, message),
+    }
+}
+
+fn decide_acl(
+    alloc: Global,
+    state: &State,
+    who: &Who<'_>,
+    message: &Acl,
+) -> Result<Verdict, OutOfMemory>
+    ensures { IfOk result (λ verdict. verdict ≡ command_verdict state.now (asker_of who.now)
+        who.now.session (command_of (TreeMessage.Acl message.now))) }
+{
+    let id = channel_or_root(message.channel_id);
+    if message.query.unwrap_or(false) {
+        decide_query(alloc, state, who, id)
+    } else {
+        decide_policy(alloc, state, who, id, message)
+    }
+}
+
+/// What is decided of a message where each channel that it names is there.
+fn decide_command(
+    alloc: Global,
+    state: &State,
+    who: &Who<'_>,
+    message: &TreeMessage,
+) -> Result<Verdict, OutOfMemory>
+    requires { IsTrue (names_there state.now.tree message.now) }
+    ensures { IfOk result (λ verdict. verdict ≡ command_verdict state.now (asker_of who.now)
+        who.now.session (command_of message.now)) }
+{
+    match message {
+        TreeMessage::State(message) => decide_state(alloc, state, who, message),
+        TreeMessage::Remove(message) => {
+            let id = channel_or_root(message.channel_id);
+            Ok(decide_removal(state, who, id))
+        }
+        TreeMessage::Acl(message) => decide_acl(alloc, state, who, message),
+    }
+}
+
+/// What is decided of a message that a session sends. It is decided whole, and in this order: it is
+/// ignored where the session is gone or no edit is taken any more, where its payload as this server
+/// spells it has more than 65,000 bytes, or where a channel that it names is not there; then the first
+/// permission that is missing is named, with its channel; then the first limit that stands, by its type.
+/// Else it is an edit, which fits the state, or the answer to a query. The state stays as it is.
+pub fn decide_tree(
+    alloc: Global,
+    state: &State,
+    actor: SessionId,
+    message: &TreeMessage,
+) -> Result<Verdict, OutOfMemory>
+    ensures decided { IfOk result (λ verdict. verdict ≡ tree_verdict state.now actor message.now) }
+    ensures fits { IfOk result (FitsWhereAccepted state.now) }
+{
+    let Some(user) = state.roster().session(actor) else {
+        return Ok(Reason::Gone.verdict());
+    };
+    if takes_no_edits(state) {
+        return Ok(Reason::Gone.verdict());
+    }
+    if is_too_long(alloc, message)? {
+        return Ok(Reason::TooLong.verdict());
+    }
+    if !names_there(state.tree(), message) {
+        return Ok(Reason::NotThere.verdict());
+    }
+    let who = who_with(user, user.tokens.as_slice());
+    decide_command(alloc, state, &who, message)
+}

@@ -1,5 +1,5 @@
 -- A message is told by its parts: each table has a row for each field of the struct.
-use Rattle.std.proofs.Common.{◌≡◌, ap}
+use Rattle.std.proofs.Common.{◌≡◌, ap, refl}
 use Rattle.mum_fields.specs.Table.{Values, layout, parts}
 use Rattle.mum_msg_state.specs.declared.ping.Ping.{Ping}
 use Rattle.mum_msg_state.specs.declared.version.Version.{Version}
@@ -27,7 +27,8 @@ pub version_told : (m n : Version) → parts version m ≡ parts version n → m
 unfolding version_of
 version_told m n h = ap version_of h
 
-authenticate_of : Values (layout authenticate) → Authenticate
+-- the message that has these values
+unfoldable pub authenticate_of : Values (layout authenticate) → Authenticate
 authenticate_of v = record {
   username = v.0;
   password = v.1.0;
@@ -39,6 +40,10 @@ authenticate_of v = record {
 pub authenticate_told : (m n : Authenticate) → parts authenticate m ≡ parts authenticate n → m ≡ n
 unfolding authenticate_of
 authenticate_told m n h = ap authenticate_of h
+
+pub authenticate_back : (m : Authenticate) → authenticate_of (parts authenticate m) ≡ m
+unfolding authenticate_of
+authenticate_back m = refl
 
 reject_of : Values (layout reject) → Reject
 reject_of v = record { kind = v.0; reason = v.1.0 }
@@ -66,21 +71,32 @@ pub codec_version_told : (m n : CodecVersion) → parts codec_version m ≡ part
 unfolding codec_version_of
 codec_version_told m n h = ap codec_version_of h
 
-channel_remove_of : Values (layout channel_remove) → ChannelRemove
+-- the message that has these values
+unfoldable pub channel_remove_of : Values (layout channel_remove) → ChannelRemove
 channel_remove_of v = record { channel_id = v.0 }
 
 pub channel_remove_told : (m n : ChannelRemove) → parts channel_remove m ≡ parts channel_remove n → m ≡ n
 unfolding channel_remove_of
 channel_remove_told m n h = ap channel_remove_of h
 
-user_remove_of : Values (layout user_remove) → UserRemove
+pub channel_remove_back : (m : ChannelRemove) → channel_remove_of (parts channel_remove m) ≡ m
+unfolding channel_remove_of
+channel_remove_back m = refl
+
+-- the message that has these values
+unfoldable pub user_remove_of : Values (layout user_remove) → UserRemove
 user_remove_of v = record { session = v.0; actor = v.1.0; reason = v.1.1.0; ban = v.1.1.1.0 }
 
 pub user_remove_told : (m n : UserRemove) → parts user_remove m ≡ parts user_remove n → m ≡ n
 unfolding user_remove_of
 user_remove_told m n h = ap user_remove_of h
 
-channel_state_of : Values (layout channel_state) → ChannelState
+pub user_remove_back : (m : UserRemove) → user_remove_of (parts user_remove m) ≡ m
+unfolding user_remove_of
+user_remove_back m = refl
+
+-- the message that has these values
+unfoldable pub channel_state_of : Values (layout channel_state) → ChannelState
 channel_state_of v = record {
   channel_id = v.0;
   parent = v.1.0;
@@ -98,7 +114,12 @@ pub channel_state_told : (m n : ChannelState) → parts channel_state m ≡ part
 unfolding channel_state_of
 channel_state_told m n h = ap channel_state_of h
 
-user_state_of : Values (layout user_state) → UserState
+pub channel_state_back : (m : ChannelState) → channel_state_of (parts channel_state m) ≡ m
+unfolding channel_state_of
+channel_state_back m = refl
+
+-- the message that has these values
+unfoldable pub user_state_of : Values (layout user_state) → UserState
 user_state_of v = record {
   session = v.0;
   actor = v.1.0;
@@ -123,3 +144,7 @@ user_state_of v = record {
 pub user_state_told : (m n : UserState) → parts user_state m ≡ parts user_state n → m ≡ n
 unfolding user_state_of
 user_state_told m n h = ap user_state_of h
+
+pub user_state_back : (m : UserState) → user_state_of (parts user_state m) ≡ m
+unfolding user_state_of
+user_state_back m = refl

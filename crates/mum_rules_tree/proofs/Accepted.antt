@@ -69,13 +69,13 @@ heard state actor not_gone =
 
 -- ---- the parts of an edit that fits
 
-named_from : (state : StateValue) (edit : Edit) → list_all (λ session. list_any (has_number session) state.roster.sessions) (named_sessions edit) ≡ true → list_all (is_there state.tree.channels) (named_channels edit) ≡ true → option_map_or (has_account state) (named_account edit) true ≡ true → names_there state edit ≡ true
+pub named_from : (state : StateValue) (edit : Edit) → list_all (λ session. list_any (has_number session) state.roster.sessions) (named_sessions edit) ≡ true → list_all (is_there state.tree.channels) (named_channels edit) ≡ true → option_map_or (has_account state) (named_account edit) true ≡ true → names_there state edit ≡ true
 named_from state edit sessions channels account =
     let a = list_all (λ session. list_any (has_number session) state.roster.sessions) (named_sessions edit) in
     let b = list_all (is_there state.tree.channels) (named_channels edit) in
     and_from (a && b) (option_map_or (has_account state) (named_account edit) true) (and_from a b sessions channels) account
 
-fits_from : (state : StateValue) (edit : Edit) → names_there state edit ≡ true → gives_right_numbers state edit ≡ true → sets_properly state edit ≡ true → is_countable state edit ≡ true → fits state edit ≡ true
+pub fits_from : (state : StateValue) (edit : Edit) → names_there state edit ≡ true → gives_right_numbers state edit ≡ true → sets_properly state edit ≡ true → is_countable state edit ≡ true → fits state edit ≡ true
 fits_from state edit named numbers sound counted =
     let a = names_there state edit in
     let b = gives_right_numbers state edit in

@@ -68,17 +68,17 @@ something_mapped : {X Y : Type 0} (f : X → Y) (found : Option X) (y : Y) → o
 something_mapped f None y some = cc
 something_mapped f (Some x) y some = (x, refl, cc)
 
-none_stands : {Code : Type 0} (cases : List (Case Code)) → first_standing cases ≡ None → NoneStands cases
+pub none_stands : {Code : Type 0} (cases : List (Case Code)) → first_standing cases ≡ None → NoneStands cases
 none_stands cases none = none_found (λ one. one.stands) cases (nothing_mapped (λ one. one.code) (find (λ one. one.stands) cases) none)
 
 met_where : (state : StateValue) (needs : List Need) → All (λ wanted. not (is_met state wanted) ≡ false) needs → AllMet state needs
 met_where state needs all = All-weaker (λ wanted. not (is_met state wanted) ≡ false) (λ wanted. is_met state wanted ≡ true) (λ wanted off. not-false (is_met state wanted) off) needs all
 
-all_met_where : (state : StateValue) (needs : List Need) → first_lack state needs ≡ None → AllMet state needs
+pub all_met_where : (state : StateValue) (needs : List Need) → first_lack state needs ≡ None → AllMet state needs
 all_met_where state needs none =
     met_where state needs (none_found (λ wanted. not (is_met state wanted)) needs (nothing_mapped lack_of (find (λ wanted. not (is_met state wanted)) needs) none))
 
-first_missing : (state : StateValue) (needs : List Need) (lack : Lack) (perm : Perm) (channel : ChannelId) → first_lack state needs ≡ Some lack → lack.perm ≡ perm → lack.channel ≡ channel → IsFirstMissing state needs perm channel
+pub first_missing : (state : StateValue) (needs : List Need) (lack : Lack) (perm : Perm) (channel : ChannelId) → first_lack state needs ≡ Some lack → lack.perm ≡ perm → lack.channel ≡ channel → IsFirstMissing state needs perm channel
 first_missing state needs lack perm channel some same_perm same_channel =
     let p : Need → Bool = λ wanted. not (is_met state wanted) in
     let (wanted, found, is) = something_mapped lack_of (find p needs) lack some in

@@ -25,7 +25,7 @@ use Rattle.mum_rules_tree.specs.Reasons.{is_gone, reasons, takes_no_edits}
 use Rattle.mum_rules_tree.specs.Verdict.{asker_named, command_verdict, nobody, tree_verdict}
 use Rattle.mum_rules_tree.proofs.Accepted.{accepted_fits}
 
-found_passes : {X : Type 0} (p : X → Bool) (xs : List X) (x : X) → find p xs ≡ Some x → p x ≡ true
+pub found_passes : {X : Type 0} (p : X → Bool) (xs : List X) (x : X) → find p xs ≡ Some x → p x ≡ true
 found_passes p [] x found = cc
 found_passes {X} p (y ∷ ys) x found =
     ⊎_elim

@@ -34,7 +34,8 @@ fn payload_of(alloc: Global, message: &TreeMessage) -> Result<Octets, OutOfMemor
     }
 }
 
-fn is_too_long(alloc: Global, message: &TreeMessage) -> Result<bool, OutOfMemory>
+/// Whether the payload of a message, as this server spells it, is above the limit of commands.
+pub fn is_too_long(alloc: Global, message: &TreeMessage) -> Result<bool, OutOfMemory>
     ensures { IfOk result (λ long. long ≡ nat_lt COMMAND_LIMIT (length (payload_of message.now))) }
 {
     let payload = payload_of(alloc, message)?;

@@ -21,7 +21,7 @@ mod reason;
 mod remove;
 
 pub use asker::{tokens_for_once, who_with};
-pub use decide::decide_tree;
+pub use decide::{decide_tree, is_too_long};
 pub use denials::denial;
 pub use deny::DenyType;
 pub use message::TreeMessage;

@@ -27,6 +27,6 @@ pub mod verdict;
 pub use account::{ACCOUNT_LIMIT, Account};
 pub use count::{EDIT_LIMIT, Stamps};
 pub use edit::Edit;
-pub use server::Server;
+pub use server::{DEFAULT_BANDWIDTH, Server};
 pub use state::State;
 pub use verdict::Verdict;

@@ -435,6 +435,35 @@ new_is_other false true true gone on = absurd (both_ways false refl on)
 new_is_other false true false gone on = refl
 new_is_other false false own gone on = absurd (both_ways false refl on)
 
+held_before : (l a n r : Bool) → a ≡ false → ((l || (a && n)) && r) ≡ true → l ≡ true
+held_before true a n r off on = refl
+held_before false true n r off on = sym off
+held_before false false n r off on = on
+
+never_new : (l a n r c : Bool) → a ≡ false → ((((l || (a && n)) && r) && not l) && c) ≡ false
+never_new true a n true c off = refl
+never_new true a n false c off = refl
+never_new false true n r c off = absurd (both_ways true off refl)
+never_new false false n r c off = refl
+
+-- where no link comes, no channel has too many
+pub no_link_more : (tree : TreeState) (id : ChannelId) (change : Change) → Rise tree.channels → AreLinks tree.channels tree.links → change.links_add ≡ [] → overlinks tree id change ≡ false
+no_link_more tree id change rise are none =
+    let rows = tree.channels in
+    let own : Row → Bool = λ row. is_partner_after tree id change row.channel.id in
+    let was : Row → Bool = λ row. linked_in tree.links id row.channel.id in
+    let fresh : Row → Bool = λ row. is_new_partner tree id change row.channel.id && leb 64 (length (partners tree row.channel.id)) in
+    let off : (y : ChannelId) → is_among change.links_add y ≡ false = λ y. ap (λ (adds : List ChannelId). is_among adds y) none in
+    let less : count_by own rows ≤ count_by was rows = count_le_at own was rows (λ k d within on.
+    let y = (get_or rows k d).channel.id in
+    held_before (linked_in tree.links id y) (is_among change.links_add y) (not (eqb y.0 id.0)) (not (is_among change.links_remove y)) (off y) on) in
+    let few : count_by own rows ≤ 64 = omega (arith, less, counted rows tree.links id rise are.pairs, are.few_each id) in
+    or_from (ltb 64 (count_by own rows)) (list_any fresh rows)
+    (not_over (count_by own rows) few)
+    (list_any_none fresh rows (λ k d within.
+    let y = (get_or rows k d).channel.id in
+    never_new (linked_in tree.links id y) (is_among change.links_add y) (not (eqb y.0 id.0)) (not (is_among change.links_remove y)) (leb 64 (length (partners tree y))) (off y)))
+
 -- links are links after a change only where it leaves no channel too many
 pub fits_back : (tree : TreeState) (id : ChannelId) (change : Change) → Rise tree.channels → AreLinks tree.channels tree.links → is_there tree.channels id ≡ true → list_all (is_there tree.channels) change.links_add ≡ true → AreLinks tree.channels (links_after tree id change) → overlinks tree id change ≡ false
 fits_back tree id change rise are here adds fit =

@@ -20,7 +20,8 @@ fn find_partners(rows: &[Row], links: &[(ChannelId, ChannelId)], from: ChannelId
     requires few { length rows.now ≤ CHANNEL_LIMIT }
     requires joined { AreLinks rows.now links.now }
     ensures all { (to : ChannelId) → Contains links.now (from, to) → HasRow rows.now found.new to }
-    ensures only { All (λ at. Contains found.old at ⊎ ((at < length rows.now) × ((other : Row) → Contains links.now (from, (slice_index_or rows.now at other).channel.id)))) found.new }
+    ensures only { All (λ at. Contains found.old at ⊎ ((at < length rows.now) × ((other : Row) →
+        Contains links.now (from, (slice_index_or rows.now at other).channel.id)))) found.new }
     ensures kept { (more : List ℕ) × (found.new ≡ found.old ++ more) }
 {
     for at in first_link(links, from)..links.len() {
@@ -57,7 +58,9 @@ pub(crate) fn places_found(rows: &[Row], found: &Found) -> [bool; CHANNEL_LIMIT]
     requires seated { All (λ row. row.place < CHANNEL_LIMIT) rows.now }
     requires seats { AllPairs (λ row other. row.place ≢ other.place) rows.now }
     ensures length { length result ≡ CHANNEL_LIMIT }
-    ensures value { (k : ℕ) (other : Row) → k < length rows.now → IsTrue (slice_index_or result (slice_index_or rows.now k other).place false) ↔ Contains found.now k }
+    ensures value { (k : ℕ) (other : Row) → k < length rows.now →
+        IsTrue (slice_index_or result (slice_index_or rows.now k other).place false)
+        ↔ Contains found.now k }
 {
     let mut places = [false; CHANNEL_LIMIT];
     for (at, row) in rows.iter().enumerate() {

@@ -370,6 +370,9 @@ impl Tree {
         ensures { result ≡ overlinks self.now id (change_of change.now) }
     {
         let rows = self.rows.as_slice();
+        if change.links_add.is_empty() {
+            return false;
+        }
         let added = places_of(rows, change.links_add);
         let removed = places_of(rows, change.links_remove);
         let mut partners = 0;

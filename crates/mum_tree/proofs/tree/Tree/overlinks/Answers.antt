@@ -1,0 +1,15 @@
+use Rattle.std.proofs.Common.{◌≡◌, ◌∙◌, ap, sym, length, []}
+use Rattle.std.proofs.lemmas.Bool.{eqb-true}
+use Rattle.std.proofs.lemmas.List.{nil_from_length}
+use Rattle.mum_tree.specs.Change.{change_of, overlinks}
+use Rattle.mum_tree.specs.State.{TreeState}
+use Rattle.mum_tree.proofs.Partners.{no_link_more}
+use Rattle.mum_tree.proofs.tree.Tree.overlinks.Goals as goal
+
+pub returns-then-is_empty : goal.returns-then-is_empty
+returns-then-is_empty c =
+    let tree : TreeState = record { channels = c.self.inside.rows.items; links = c.self.inside.links.items; greatest = c.self.inside.greatest } in
+    let id = c.args.id in
+    let change = change_of c.args.change.now in
+    let none : change.links_add ≡ [] = nil_from_length change.links_add (eqb-true (length change.links_add) 0 (sym c.if-is_empty.ensures)) in
+    sym (no_link_more tree id change c.self.invariant.rise c.self.invariant.joined none) ∙ ap (λ (t : TreeState). overlinks t id change) c.self.view_is

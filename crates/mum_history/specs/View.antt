@@ -1,0 +1,15 @@
+-- A state that reads behind a history.
+use Rattle.std.specs.Prelude.{◌≡◌, ℕ, ◌≤◌, List, length}
+use Rattle.mum_state.specs.declared.edit.Edit.{Edit}
+use Rattle.mum_state.specs.After.{at}
+use Rattle.mum_state.specs.State.{StateValue}
+
+pub record ViewValue : Type 0 where
+  pub state : StateValue
+  -- how many edits it has
+  pub revision : ℕ
+
+-- it is the state after the first so many of the edits
+pub record IsViewOf (opening : StateValue) (edits : List Edit) (view : ViewValue) : Type 0 where
+  pub within : view.revision ≤ length edits
+  pub state_is : view.state ≡ at opening edits view.revision

@@ -1,0 +1,22 @@
+//! The state that a list of edits leaves.
+
+ghost use Rattle.std.specs.Prelude.{◌≡◌, IfOk, IsTrue};
+ghost use Rattle.mum_state.specs.After.{after, all_fit};
+ghost use Rattle.mum_state.specs.State.{empty_state};
+
+use mum_base::OutOfMemory;
+use mum_state::{Edit, State};
+use std::alloc::Global;
+
+/// The state after edits of which each fits where it stands, from the empty state on.
+#[tactic(auto, using(crate::proofs::Fronts::read_fits, crate::proofs::Fronts::read_leads))]
+pub fn state_after(alloc: Global, edits: &[Edit]) -> Result<State, OutOfMemory>
+    requires { IsTrue (all_fit empty_state edits.now) }
+    ensures { IfOk result (λ state. state ≡ after edits.now) }
+{
+    let mut state = State::empty(alloc)?;
+    for edit in edits {
+        state.apply(edit)?;
+    }
+    Ok(state)
+}

@@ -1,0 +1,102 @@
+//! A state after the first so many accepted edits.
+
+ghost use Rattle.std.specs.Prelude.{◌≡◌, ◌+◌, ◌<◌, ◌≤◌, IfOk, OnErr, OnOk, length};
+ghost use Rattle.mum_history.specs.History.{state_at};
+ghost use Rattle.mum_history.specs.View.{IsViewOf};
+
+use crate::history::History;
+use mum_base::OutOfMemory;
+use mum_state::State;
+use std::alloc::Global;
+use std::marker::Model;
+
+/// A state that reads behind a history, at a revision: the number of edits that it has.
+#[derive(Drop)]
+pub struct View {
+    state: State,
+    revision: u64,
+}
+
+impl Model for View {
+    ghost use Rattle.mum_history.specs.View.{ViewValue};
+
+    ghost Value = { ViewValue };
+
+    ghost view = { λ v. record { state = v.state; revision = v.revision } };
+}
+
+impl View {
+    /// The opening of a history.
+    pub fn of(alloc: Global, history: &History) -> Result<View, OutOfMemory>
+        ensures view { IfOk result (IsViewOf history.now.opening history.now.accepted) }
+        ensures revision { IfOk result (λ view. view.revision ≡ 0) }
+    {
+        Ok(View {
+            state: history.opening().copy(alloc)?,
+            revision: 0,
+        })
+    }
+
+    /// The state that it is at.
+    pub fn state(&self) -> &State
+        ensures { result.now ≡ self.now.state }
+    {
+        &self.state
+    }
+
+    /// Goes on by one edit. After want of memory it is where it was.
+    #[tactic(auto, using(crate::proofs::Fronts::read_fits, crate::proofs::Fronts::read_leads))]
+    fn go_on(&mut self, history: &History) -> Result<(), OutOfMemory>
+        requires view { IsViewOf history.now.opening history.now.accepted self.old }
+        requires behind { self.old.revision < length history.now.accepted }
+        ensures view { IsViewOf history.now.opening history.now.accepted self.new }
+        ensures ok { OnOk result (self.new.revision ≡ self.old.revision + 1) }
+        ensures err { OnErr result (self.new ≡ self.old) }
+    {
+        let edit = &history.accepted()[self.revision as usize];
+        self.state.apply(edit)?;
+        self.revision += 1;
+        Ok(())
+    }
+
+    /// Goes back to the opening where the revision is below its own.
+    fn go_back(
+        &mut self,
+        alloc: Global,
+        history: &History,
+        revision: u64,
+    ) -> Result<(), OutOfMemory>
+        requires { IsViewOf history.now.opening history.now.accepted self.old }
+        ensures view { IsViewOf history.now.opening history.now.accepted self.new }
+        ensures ok { OnOk result (self.new.revision ≤ revision) }
+        ensures err { OnErr result (self.new ≡ self.old) }
+    {
+        if self.revision <= revision {
+            return Ok(());
+        }
+        self.state = history.opening().copy(alloc)?;
+        self.revision = 0;
+        Ok(())
+    }
+
+    /// Goes to a revision: by the edits that are missing, or from the opening on where it is past it.
+    /// After want of memory it may be at another one.
+    pub fn go_to(
+        &mut self,
+        alloc: Global,
+        history: &History,
+        revision: u64,
+    ) -> Result<(), OutOfMemory>
+        requires view { IsViewOf history.now.opening history.now.accepted self.old }
+        requires accepted { revision ≤ length history.now.accepted }
+        ensures view { IsViewOf history.now.opening history.now.accepted self.new }
+        ensures there { OnOk result (self.new.revision ≡ revision) }
+        ensures state { OnOk result (self.new.state ≡ state_at history.now revision) }
+    {
+        self.go_back(alloc, history, revision)?;
+        'edits: while self.revision < revision {
+            self.go_on(history)?;
+        }
+        Ok(())
+    }
+}

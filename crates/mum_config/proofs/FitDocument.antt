@@ -1,0 +1,104 @@
+-- The edits of a document of which nothing is said fit from the empty server.
+use Rattle.std.proofs.Common.{◌≡◌, ℕ, ◌+◌, ◌*◌, ◌≤◌, true, false, cond, List, [], ◌++◌, length, map, Option, None, Some, Result, Ok, Err, IfOk, is_none, append_assoc, refl, sym, ap, subst, ◌∙◌, arith}
+use Rattle.std.specs.Prelude.{IsTrue, codes, nat_lt}
+use Rattle.std.specs.List.{flat_map, list_any}
+use Rattle.std.specs.Option.{option_map, option_map_or}
+use Rattle.std.proofs.lemmas.Bool.Decides.{nat_tests}
+use Rattle.std.proofs.lemmas.Option.{same_Some}
+use Rattle.serde_json.specs.Data.{Data}
+use Rattle.serde_json.specs.Find.{get}
+use Rattle.mum_tree.specs.State.{TreeState}
+use Rattle.mum_state.specs.declared.edit.Edit.{Edit}
+use Rattle.mum_state.specs.After.{all_fit}
+use Rattle.mum_state.specs.Applied.{applied}
+use Rattle.mum_state.specs.State.{StateValue, empty_state}
+use Rattle.mum_state.proofs.Each.{Each}
+use Rattle.mum_config.specs.declared.config.Config.{Config}
+use Rattle.mum_config.specs.declared.fault.BadConfig.{BadConfig}
+use Rattle.mum_config.specs.declared.fault.ConfigFault.TheVariants.{Limit, NotAnObject, NotJson}
+use Rattle.mum_config.specs.Account.{account_edit}
+use Rattle.mum_config.specs.Channel.{channel_edits, is_root_entry, root_met}
+use Rattle.mum_config.specs.Document.{ReadsText, account_list_rows, accounts_in, against_document, channel_list_rows, channels_in, channels_met, config_of, document_names, document_rows, edits_of, fault_of, link_list_rows, links_in, object_fault_of, server_edit, settings_of, settings_rows, value_of}
+use Rattle.mum_config.specs.Link.{link_edit}
+use Rattle.mum_config.specs.Object.{rows_fault, unknown_fault}
+use Rattle.mum_config.proofs.Bare.{IsBare, Leads, empty_bare, leads, less_left, one_more}
+use Rattle.mum_config.proofs.First.{later_none}
+use Rattle.mum_config.proofs.FitAccounts.{first_accounts_fit}
+use Rattle.mum_config.proofs.FitChannels.{channels_fit, made_count, made_with_root}
+use Rattle.mum_config.proofs.FitLinks.{AreJoined, links_fit, none_joined}
+use Rattle.mum_config.proofs.MetChannels.{AreMet, root_is_met}
+use Rattle.mum_config.proofs.Said.{each_row, list_short, not_against, rows_apart, text_good}
+
+-- what a table says of the length of a list
+at_most : (limit n : ℕ) → nat_lt limit n ≡ false → n ≤ limit
+at_most limit n few = grind (arith, nat_tests)
+
+few_channels : (values : List Data) → nat_lt 1024 (length values + cond (list_any is_root_entry values) 0 1) ≡ false → 1 + made_count values ≤ 1024
+few_channels values few = let most = at_most 1024 (length values + cond (list_any is_root_entry values) 0 1) few in omega (arith, made_with_root values)
+
+-- 300,000 is above the edits that any document leads to: 1,024 accounts, twice 65,536 channels and 65,536 links
+lists_fit : (document : Data) (state : StateValue) → IsBare 300000 state → state.accounts ≡ [] → AreMet root_met state.tree → length state.tree.channels ≡ 1
+    → rows_fault [] (account_list_rows document) ≡ None → rows_fault [] (channel_list_rows document) ≡ None → rows_fault [] (link_list_rows (channels_met document).depths document) ≡ None
+    → all_fit state (map account_edit (accounts_in document) ++ (flat_map channel_edits (channels_in document) ++ map link_edit (links_in document))) ≡ true
+lists_fit document state bare nobody met alone account_lines channel_lines link_lines =
+    let accounts : List Data = accounts_in document in
+    let channels : List Data = channels_in document in
+    let links : List Data = links_in document in
+    let of_accounts : Each (λ row. row.1 ≡ None) (account_list_rows document) = each_row [] (account_list_rows document) account_lines in
+    let of_channels : Each (λ row. row.1 ≡ None) (channel_list_rows document) = each_row [] (channel_list_rows document) channel_lines in
+    let of_links : Each (λ row. row.1 ≡ None) (link_list_rows (channels_met document).depths document) = each_row [] (link_list_rows (channels_met document).depths document) link_lines in
+    let few_accounts : length accounts ≤ 1024 = at_most 1024 (length accounts) (list_short 1024 (get (codes "accounts") document) refl of_accounts.0) in
+    let few_entries : length channels ≤ 65536 = at_most 65536 (length channels) (list_short 65536 (get (codes "channels") document) refl of_channels.0) in
+    let few_links : length links ≤ 65536 = at_most 65536 (length links) (list_short 65536 (get (codes "links") document) refl of_links.0) in
+    first_accounts_fit accounts state (2 * length channels + (length links + 0)) (flat_map channel_edits channels ++ map link_edit links)
+    (less_left 300000 (length accounts + (2 * length channels + (length links + 0))) state (omega arith) bare)
+    nobody few_accounts of_accounts.1.0
+    (λ with_accounts still same_tree.
+    channels_fit channels 0 root_met with_accounts (length links + 0) (map link_edit links) still
+    (subst (AreMet root_met) (sym same_tree) met)
+    (omega (arith, ap (λ (t : TreeState). length t.channels) same_tree, few_channels channels (not_against _ _ of_channels.1.0)))
+    of_channels.1.1.0
+    (λ with_channels bare_then met_then.
+    links_fit links 0 (channels_met document).depths [] with_channels 0 bare_then
+    (subst (AreJoined []) (sym met_then.unlinked) none_joined)
+    met_then.there
+    of_links.1.0))
+
+pub edits_fit : (document : Data) → object_fault_of document ≡ None → all_fit empty_state (edits_of document) ≡ true
+unfolding object_fault_of edits_of
+edits_fit document none =
+    let lines : rows_fault [] (document_rows document) ≡ None =
+    later_none (unknown_fault [] document_names document) _ (later_none (against_document NotAnObject _) _ none) in
+    let one = rows_apart [] (settings_rows document) (account_list_rows document ++ channel_list_rows document ++ link_list_rows (channels_met document).depths document) lines in
+    let two = rows_apart [] (account_list_rows document) (channel_list_rows document ++ link_list_rows (channels_met document).depths document) one.1 in
+    let three = rows_apart [] (channel_list_rows document) (link_list_rows (channels_met document).depths document) two.1 in
+    let of_settings : Each (λ row. row.1 ≡ None) (settings_rows document) = each_row [] (settings_rows document) one.0 in
+    let edit : Edit = server_edit (settings_of document) in
+    let led : Leads 300000 empty_state edit = leads 300000 empty_state edit refl (empty_bare 300001 (omega arith)) refl refl (text_good (get (codes "welcome") document) of_settings.0) in
+    one_more empty_state edit (map account_edit (accounts_in document) ++ flat_map channel_edits (channels_in document) ++ map link_edit (links_in document)) led.fit
+    (ap (all_fit (applied empty_state edit)) (append_assoc (map account_edit (accounts_in document)) (flat_map channel_edits (channels_in document)) (map link_edit (links_in document)))
+    ∙ lists_fit document (applied empty_state edit) led.bare
+    (ap (λ (s : StateValue). s.accounts) led.is)
+    (subst (AreMet root_met) (sym (ap (λ (s : StateValue). s.tree) led.is)) root_is_met)
+    (ap (λ (s : StateValue). length s.tree.channels) led.is)
+    two.0 three.0 three.1)
+
+said_of_value : (text : List ℕ) (value : Data) → value_of text ≡ Some value → fault_of text ≡ None → object_fault_of value ≡ None
+unfolding fault_of
+said_of_value text value is none =
+    sym (ap (λ (found : Option Data). option_map_or object_fault_of found None) is)
+    ∙ later_none (against_document NotJson (is_none (value_of text))) _ (later_none (against_document Limit (nat_lt 65536 (length text))) _ none)
+
+same_edits : (value : Data) (config : Config) → config_of value ≡ config → edits_of value ≡ config.edits
+unfolding config_of
+same_edits value config same = ap (λ (c : Config). c.edits) same
+
+-- the edits of a text that is read fit
+pub text_fits : (text : List ℕ) (r : Result Config BadConfig) → ReadsText text r → IfOk r (λ config. IsTrue (all_fit empty_state config.edits))
+text_fits text (Err error) reads = tt
+text_fits text (Ok config) reads = step (value_of text) refl reads.1
+  where
+    step : (found : Option Data) → value_of text ≡ found → option_map config_of found ≡ Some config → all_fit empty_state config.edits ≡ true
+    step None is read = absurd (cc)
+    step (Some value) is read =
+        subst (λ (edits : List Edit). all_fit empty_state edits ≡ true) (same_edits value config (same_Some (config_of value) config read)) (edits_fit value (said_of_value text value is reads.0))

@@ -1,0 +1,17 @@
+pub mod First
+pub mod Values
+pub mod Objects
+pub mod Sets
+pub mod Elements
+pub mod Whoms
+pub mod Lists
+pub mod Counts
+pub mod Documents
+pub mod Said
+pub mod Bare
+pub mod FitAccounts
+pub mod FitPolicies
+pub mod MetChannels
+pub mod FitChannels
+pub mod FitLinks
+pub mod FitDocument

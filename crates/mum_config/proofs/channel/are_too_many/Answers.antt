@@ -1,0 +1,22 @@
+use Rattle.std.proofs.Common.{◌≡◌, ℕ, ◌+◌, true, false, map, length, sym, refl, ◌∙◌, arith, add-zero}
+use Rattle.std.specs.Prelude.{leb, nat_lt}
+use Rattle.std.proofs.lemmas.Bool.Decides.{nat_tests}
+use Rattle.std.specs.List.{list_any}
+use Rattle.std.proofs.lemmas.List.{length-map}
+use Rattle.serde_json.specs.View.{view}
+use Rattle.mum_config.specs.Channel.{is_root_entry}
+use Rattle.mum_config.proofs.Objects.{list_any-of_map}
+use Rattle.mum_config.proofs.channel.are_too_many.Goals as goal
+
+over_by_one : (n : ℕ) → leb 1024 n ≡ nat_lt 1024 (n + 1)
+over_by_one n = grind (arith, nat_tests)
+
+pub returns-then-names_root : goal.returns-then-names_root
+returns-then-names_root c =
+    let named : list_any is_root_entry (map view c.args.values.now) ≡ true = list_any-of_map is_root_entry view c.args.values.now ∙ sym c.names_root.ensures ∙ c.if-names_root.true in
+    rw (named, length-map c.args.values.now view, add-zero) refl
+
+pub returns-else-names_root : goal.returns-else-names_root
+returns-else-names_root c =
+    let unnamed : list_any is_root_entry (map view c.args.values.now) ≡ false = list_any-of_map is_root_entry view c.args.values.now ∙ sym c.names_root.ensures ∙ c.if-names_root.false in
+    rw (unnamed, length-map c.args.values.now view) (over_by_one (length c.args.values.now))

@@ -1,0 +1,78 @@
+//! Accounts.
+
+ghost use Rattle.std.specs.Prelude.{◌≡◌, ◌++◌, [], ◌∷◌, OnOk, map};
+ghost use Rattle.serde_json.specs.View.{view};
+ghost use Rattle.mum_config.specs.Account.{AccountsMet, account_edit, account_fault, account_name, account_number, no_accounts, with_account_met};
+ghost use Rattle.mum_config.specs.Object.{elements_fault};
+ghost use Rattle.mum_config.specs.Reading.{Reads};
+
+use crate::fault::{BadConfig, ConfigFault, at_place};
+use crate::object::Object;
+use indexmap::IndexSet;
+use mum_base::AccountId;
+use mum_state::Edit;
+use serde_json::Value;
+use std::alloc::Global;
+
+const KEYS: [&str; 3] = ["id", "name", "password_sha256"];
+
+/// The edit that adds an account, whose number and name none of those before it has.
+fn read_account<'a>(
+    alloc: Global,
+    value: &'a Value,
+    numbers: &mut IndexSet<u32>,
+    names: &mut IndexSet<&'a str>,
+) -> Result<Edit, BadConfig>
+    ensures reads { Reads (account_fault (record {
+      numbers = numbers.old.keys;
+      names = map (λ n. n.now) names.old.keys;
+    }) (view value.now))
+        (account_edit (view value.now)) result }
+    ensures numbers { OnOk result
+        (numbers.new.keys ≡ numbers.old.keys ++ account_number (view value.now) ∷ []) }
+    ensures names { OnOk result (map (λ n. n.now) names.new.keys
+        ≡ map (λ n. n.now) names.old.keys ++ account_name (view value.now) ∷ []) }
+{
+    let object = Object {
+        alloc,
+        value,
+        dot: ".",
+    };
+    object.open(&KEYS)?;
+    let number = object.needed_number("id", 0, u32::MAX)?;
+    let new_number = numbers.insert(number)?;
+    object.refuse_if(!new_number, "id", ConfigFault::Twice)?;
+    let name = object.needed_name("name")?;
+    let new_name = names.insert(object.text_at("name"))?;
+    object.refuse_if(!new_name, "name", ConfigFault::Twice)?;
+    let digest = object.needed_digest("password_sha256")?;
+    Ok(Edit::AddAccount {
+        account: AccountId(number),
+        name,
+        digest,
+    })
+}
+
+/// The edits that add accounts, at the end of others.
+pub(crate) fn read_accounts(
+    alloc: Global,
+    values: &[Value],
+    edits: &mut Vec<Edit>,
+) -> Result<(), BadConfig>
+    ensures reads { Reads (elements_fault account_fault with_account_met no_accounts 0
+        (map view values.now)) tt result }
+    ensures edits { OnOk result
+        (edits.new.items ≡ edits.old.items ++ map account_edit (map view values.now)) }
+{
+    let mut numbers = IndexSet::new(alloc);
+    let mut names = IndexSet::new(alloc);
+    for (place, value) in values.iter().enumerate() {
+        let edit = at_place(
+            alloc,
+            place,
+            read_account(alloc, value, &mut numbers, &mut names),
+        )?;
+        edits.push(edit)?;
+    }
+    Ok(())
+}

@@ -1,0 +1,88 @@
+//! Entries of a channel's access control list.
+
+ghost use Rattle.std.specs.Prelude.{◌≡◌, ◌++◌, codes, map};
+ghost use Rattle.serde_json.specs.Find.{get};
+ghost use Rattle.serde_json.specs.View.{view};
+ghost use Rattle.mum_config.specs.Fault.{within};
+ghost use Rattle.mum_config.specs.Object.{each_fault, rows_fault};
+ghost use Rattle.mum_config.specs.Policy.{entry_fault, entry_of, lacks_whom, permissions_at, whom_of, whom_rows};
+ghost use Rattle.mum_config.specs.Reading.{Reads};
+ghost use Rattle.mum_config.specs.Value.{number_fault, wanted};
+
+use crate::fault::{BadConfig, ConfigFault, at_place};
+use crate::object::Object;
+use mum_base::name::NAME_LIMIT;
+use mum_base::{AccountId, Items, Perm, Text};
+use mum_policy::{AclEntry, Whom};
+use serde_json::Value;
+use std::alloc::Global;
+
+const KEYS: [&str; 6] = ["account", "group", "here", "subs", "grant", "deny"];
+
+/// Whether an entry speaks of nobody.
+fn lacks_whom(object: &Object<'_>) -> bool
+    ensures { result ≡ lacks_whom (view object.now.value.now) }
+{
+    !object.has("account") && !object.has("group")
+}
+
+/// Whom an entry speaks of: an account, if one is given, or else a group.
+fn whom_in(object: &Object<'_>) -> Result<Whom, BadConfig>
+    ensures { Reads (rows_fault object.now.dot.now (whom_rows (view object.now.value.now)))
+        (whom_of (view object.now.value.now)) result }
+{
+    let account = object.number("account", 0, u32::MAX)?;
+    object.refuse_if(lacks_whom(object), "account", ConfigFault::WrongKind)?;
+    let group = object.text("group", NAME_LIMIT)?;
+    match account {
+        Some(account) => Ok(Whom::Account(AccountId(account))),
+        None => Ok(Whom::Group(group.unwrap_or(Text::from_string(String::new(object.alloc))))),
+    }
+}
+
+/// A set of permissions, of which those that there are count.
+fn permissions_in(object: &Object<'_>, name: &str) -> Result<Perm, BadConfig>
+    ensures { let value = view object.now.value.now in
+        Reads (within (object.now.dot.now ++ name.now)
+        (wanted (number_fault 0 Perm.ALL.0) (get name.now value)))
+        (permissions_at name.now value) result }
+{
+    let bits = object.number(name, 0, Perm::ALL.0)?;
+    Ok(Perm(bits.unwrap_or(0) & Perm::ALL.0))
+}
+
+fn read_entry(alloc: Global, value: &Value) -> Result<AclEntry, BadConfig>
+    ensures { Reads (entry_fault (view value.now)) (entry_of (view value.now)) result }
+{
+    let object = Object {
+        alloc,
+        value,
+        dot: ".",
+    };
+    object.open(&KEYS)?;
+    let whom = whom_in(&object)?;
+    let here = object.flag("here")?;
+    let subs = object.flag("subs")?;
+    let grant = permissions_in(&object, "grant")?;
+    let deny = permissions_in(&object, "deny")?;
+    Ok(AclEntry {
+        whom,
+        here: here.unwrap_or(true),
+        subs: subs.unwrap_or(true),
+        grant,
+        deny,
+    })
+}
+
+/// The entries of a channel, in order.
+pub(crate) fn read_entries(alloc: Global, values: &[Value]) -> Result<Items<AclEntry>, BadConfig>
+    ensures { Reads (each_fault entry_fault 0 (map view values.now))
+        (map entry_of (map view values.now)) result }
+{
+    let mut entries = Vec::with_capacity(alloc, values.len())?;
+    for (place, value) in values.iter().enumerate() {
+        let entry = at_place(alloc, place, read_entry(alloc, value))?;
+        entries.push(entry)?;
+    }
+    Ok(Items::from_vec(entries))
+}

@@ -1,0 +1,101 @@
+//! Groups of a channel.
+
+ghost use Rattle.std.specs.Prelude.{◌≡◌, [], OnOk, map};
+ghost use Rattle.serde_json.specs.View.{view};
+ghost use Rattle.mum_config.specs.Account.{greatest};
+ghost use Rattle.mum_config.specs.Object.{each_fault, elements_fault, rows_fault};
+ghost use Rattle.mum_config.specs.Policy.{account_of, accounts_at, group_fault, group_of, id_rows, with_group_met};
+ghost use Rattle.mum_config.specs.Reading.{Reads};
+ghost use Rattle.mum_config.specs.Value.{number_fault};
+
+use crate::fault::{BadConfig, ConfigFault, at_place, fault_at};
+use crate::object::Object;
+use crate::value::read_number;
+use indexmap::IndexSet;
+use mum_base::{AccountId, Items};
+use mum_policy::Group;
+use mum_policy::policy::GROUP_ACCOUNTS;
+use serde_json::Value;
+use std::alloc::Global;
+
+const KEYS: [&str; 5] = ["name", "inherit", "inheritable", "add", "remove"];
+
+/// The number of an account, which need not be there.
+fn read_account(alloc: Global, value: &Value) -> Result<AccountId, BadConfig>
+    ensures { Reads (number_fault 0 greatest (view value.now)) (account_of (view value.now)) result }
+{
+    match read_number(value, 0, u32::MAX) {
+        Ok(number) => Ok(AccountId(number)),
+        Err(cause) => Err(fault_at(alloc, cause, "")),
+    }
+}
+
+fn read_accounts(alloc: Global, values: &[Value]) -> Result<Items<AccountId>, BadConfig>
+    ensures { Reads (each_fault (number_fault 0 greatest) 0 (map view values.now))
+        (map account_of (map view values.now)) result }
+{
+    let mut accounts = Vec::with_capacity(alloc, values.len())?;
+    for (place, value) in values.iter().enumerate() {
+        let account = at_place(alloc, place, read_account(alloc, value))?;
+        accounts.push(account)?;
+    }
+    Ok(Items::from_vec(accounts))
+}
+
+/// The accounts at a key of a group; none where it is left out.
+fn accounts_in(object: &Object<'_>, name: &str) -> Result<Items<AccountId>, BadConfig>
+    ensures { let value = view object.now.value.now in
+        Reads (rows_fault object.now.dot.now (id_rows name.now value)) (accounts_at name.now value) result }
+{
+    match object.list(name, GROUP_ACCOUNTS)? {
+        Some(values) => object.at(name, read_accounts(object.alloc, values)),
+        None => Ok(Items::new(object.alloc)),
+    }
+}
+
+/// A group, whose name none of those before it has.
+fn read_group<'a>(
+    alloc: Global,
+    value: &'a Value,
+    names: &mut IndexSet<&'a str>,
+) -> Result<Group, BadConfig>
+    ensures reads { Reads (group_fault (map (λ n. n.now) names.old.keys) (view value.now))
+        (group_of (view value.now)) result }
+    ensures names { OnOk result (map (λ n. n.now) names.new.keys
+        ≡ with_group_met (map (λ n. n.now) names.old.keys) (view value.now)) }
+{
+    let object = Object {
+        alloc,
+        value,
+        dot: ".",
+    };
+    object.open(&KEYS)?;
+    let name = object.needed_name("name")?;
+    let new_name = names.insert(object.text_at("name"))?;
+    object.refuse_if(!new_name, "name", ConfigFault::Twice)?;
+    let inherit = object.flag("inherit")?;
+    let inheritable = object.flag("inheritable")?;
+    let add = accounts_in(&object, "add")?;
+    let remove = accounts_in(&object, "remove")?;
+    Ok(Group {
+        name,
+        inherit: inherit.unwrap_or(true),
+        inheritable: inheritable.unwrap_or(true),
+        add,
+        remove,
+    })
+}
+
+/// The groups of a channel, of which no two have one name.
+pub(crate) fn read_groups(alloc: Global, values: &[Value]) -> Result<Items<Group>, BadConfig>
+    ensures { Reads (elements_fault group_fault with_group_met [] 0 (map view values.now))
+        (map group_of (map view values.now)) result }
+{
+    let mut names = IndexSet::new(alloc);
+    let mut groups = Vec::with_capacity(alloc, values.len())?;
+    for (place, value) in values.iter().enumerate() {
+        let group = at_place(alloc, place, read_group(alloc, value, &mut names))?;
+        groups.push(group)?;
+    }
+    Ok(Items::from_vec(groups))
+}

@@ -1,0 +1,86 @@
+//! Values of a document by their kinds. These calls take no memory.
+
+ghost use Rattle.std.specs.Prelude.{◌≡◌, map};
+ghost use Rattle.serde_json.specs.View.{view};
+ghost use Rattle.mum_config.specs.Reading.{Judges, JudgesList, JudgesText};
+ghost use Rattle.mum_config.specs.Value.{digest_fault, digest_of, flag_fault, flag_of, name_fault, number_fault, number_of, signed_fault, signed_of, text_fault, text_of};
+
+use crate::fault::ConfigFault;
+use hex::FromHex;
+use mum_base::check_name;
+use serde_json::Value;
+
+/// A number from `low` to `high`.
+pub(crate) fn read_number(value: &Value, low: u32, high: u32) -> Result<u32, ConfigFault>
+    ensures { Judges (number_fault low high (view value.now)) (number_of (view value.now)) result }
+{
+    match value.as_u64() {
+        Some(number) if number >= u64::from(low) && number <= u64::from(high) => Ok(number as u32),
+        Some(_) => Err(ConfigFault::OutOfRange),
+        None if value.is_i64() => Err(ConfigFault::OutOfRange),
+        None => Err(ConfigFault::WrongKind),
+    }
+}
+
+/// A number of 32 bits with a sign.
+pub(crate) fn read_signed(value: &Value) -> Result<i32, ConfigFault>
+    ensures { Judges (signed_fault (view value.now)) (signed_of (view value.now)) result }
+{
+    match value.as_i64() {
+        Some(number) => i32::try_from(number).map_err(|_| ConfigFault::OutOfRange),
+        None if value.is_u64() => Err(ConfigFault::OutOfRange),
+        None => Err(ConfigFault::WrongKind),
+    }
+}
+
+pub(crate) fn read_flag(value: &Value) -> Result<bool, ConfigFault>
+    ensures { Judges (flag_fault (view value.now)) (flag_of (view value.now)) result }
+{
+    match value.as_bool() {
+        Some(flag) => Ok(flag),
+        None => Err(ConfigFault::WrongKind),
+    }
+}
+
+/// A text of at most so many bytes.
+pub(crate) fn read_text(value: &Value, limit: usize) -> Result<&str, ConfigFault>
+    ensures { JudgesText (text_fault limit (view value.now)) (text_of (view value.now)) result }
+{
+    match value.as_str() {
+        Some(text) if text.len() <= limit => Ok(text),
+        Some(_) => Err(ConfigFault::Limit),
+        None => Err(ConfigFault::WrongKind),
+    }
+}
+
+/// The name of an account, a channel or a group.
+pub(crate) fn read_name(value: &Value) -> Result<&str, ConfigFault>
+    ensures { JudgesText (name_fault (view value.now)) (text_of (view value.now)) result }
+{
+    match value.as_str() {
+        Some(text) if check_name(text).is_ok() => Ok(text),
+        Some(_) => Err(ConfigFault::BadName),
+        None => Err(ConfigFault::WrongKind),
+    }
+}
+
+/// The 32 bytes that 64 hexadecimal digits spell, in either case.
+pub(crate) fn read_digest(value: &Value) -> Result<[u8; 32], ConfigFault>
+    ensures { Judges (digest_fault (view value.now)) (digest_of (view value.now)) result }
+{
+    match value.as_str() {
+        Some(text) => <[u8; 32] as FromHex>::from_hex(text).map_err(|_| ConfigFault::BadDigest),
+        None => Err(ConfigFault::WrongKind),
+    }
+}
+
+/// A list of at most so many values.
+pub(crate) fn read_list(value: &Value, limit: usize) -> Result<&[Value], ConfigFault>
+    ensures { JudgesList limit (view value.now) result }
+{
+    match value.as_array() {
+        Some(values) if values.len() <= limit => Ok(values.as_slice()),
+        Some(_) => Err(ConfigFault::Limit),
+        None => Err(ConfigFault::WrongKind),
+    }
+}

@@ -1,68 +1,15 @@
 //! Edits that messages on channels are, as tables tell them.
 
 use anyhow::{Result, bail};
-use mum_base::{AccountId, ChannelId, Perm, SessionId, Text};
+use mum_base::{AccountId, Perm};
 use mum_cases_words::perms::names_text;
+use mum_cases_words::pieces::{
+    add, add_actor, add_channels, add_number, add_position, add_text, shown,
+};
 use mum_policy::{AclEntry, ChannelPolicy, Group, Whom};
 use mum_state::Edit;
 use mum_tree::ChannelInfo;
 use std::alloc::Global;
-
-/// More of a text, behind `, `.
-fn add(text: &mut String, more: &str) -> Result<()> {
-    text.push_str(", ")?;
-    text.push_str(more)?;
-    Ok(())
-}
-
-/// A text, or how long it is where it is long.
-fn shown(alloc: Global, text: &Text) -> Result<String> {
-    let length = text.as_slice().len();
-    if length > 40 {
-        return Ok(format!(in alloc; "of {length} bytes")?);
-    }
-    Ok(format!(in alloc; "{}", text.as_str())?)
-}
-
-fn add_actor(alloc: Global, text: &mut String, actor: Option<SessionId>) -> Result<()> {
-    if let Some(actor) = actor {
-        add(text, format!(in alloc; "by {}", actor.0)?.as_str())?;
-    }
-    Ok(())
-}
-
-fn add_number(alloc: Global, text: &mut String, key: &str, number: Option<u32>) -> Result<()> {
-    if let Some(number) = number {
-        add(text, format!(in alloc; "{key} {number}")?.as_str())?;
-    }
-    Ok(())
-}
-
-fn add_position(alloc: Global, text: &mut String, position: Option<i32>) -> Result<()> {
-    if let Some(position) = position {
-        add(text, format!(in alloc; "position {position}")?.as_str())?;
-    }
-    Ok(())
-}
-
-fn add_text(alloc: Global, text: &mut String, key: &str, more: &Option<Text>) -> Result<()> {
-    if let Some(more) = more {
-        let more = shown(alloc, more)?;
-        add(text, format!(in alloc; "{key} {more}")?.as_str())?;
-    }
-    Ok(())
-}
-
-fn add_channels(alloc: Global, text: &mut String, key: &str, ids: &[ChannelId]) -> Result<()> {
-    if ids.is_empty() {
-        return Ok(());
-    }
-    add(text, key)?;
-    for id in ids {
-        text.push_str(format!(in alloc; " {}", id.0)?.as_str())?;
-    }
-    Ok(())
-}
 
 /// `position -3, users 10, text words`, as far as it is not a plain one.
 fn add_info(alloc: Global, text: &mut String, info: &ChannelInfo) -> Result<()> {
@@ -208,24 +155,35 @@ fn change_text(alloc: Global, edit: &Edit) -> Result<String> {
     Ok(text)
 }
 
+fn removal_text(alloc: Global, edit: &Edit) -> Result<String> {
+    let Edit::RemoveChannel { id, actor } = edit else {
+        bail!("no removal of a channel");
+    };
+    Ok(format!(in alloc; "remove {}, by {}", id.0, actor.0)?)
+}
+
+fn acl_text(alloc: Global, edit: &Edit) -> Result<String> {
+    let Edit::SetAcl {
+        channel,
+        actor,
+        policy,
+    } = edit
+    else {
+        bail!("no policy");
+    };
+    let mut text = format!(in alloc; "acl {}", channel.0)?;
+    add_actor(alloc, &mut text, *actor)?;
+    text.push_str(policy_text(alloc, policy)?.as_str())?;
+    Ok(text)
+}
+
 /// An edit as the calls of a line spell it.
 pub fn edit_text(alloc: Global, edit: &Edit) -> Result<String> {
     match edit {
         Edit::MakeChannel { .. } => make_text(alloc, edit),
         Edit::EditChannel { .. } => change_text(alloc, edit),
-        Edit::RemoveChannel { id, actor } => {
-            Ok(format!(in alloc; "remove {}, by {}", id.0, actor.0)?)
-        }
-        Edit::SetAcl {
-            channel,
-            actor,
-            policy,
-        } => {
-            let mut text = format!(in alloc; "acl {}", channel.0)?;
-            add_actor(alloc, &mut text, *actor)?;
-            text.push_str(policy_text(alloc, policy)?.as_str())?;
-            Ok(text)
-        }
+        Edit::RemoveChannel { .. } => removal_text(alloc, edit),
+        Edit::SetAcl { .. } => acl_text(alloc, edit),
         _ => bail!("no edit of a channel"),
     }
 }

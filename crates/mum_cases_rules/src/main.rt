@@ -7,10 +7,11 @@ mod edits;
 mod lists;
 mod messages;
 mod scene;
-mod verdicts;
 
 use anyhow::Result;
 use mum_cases::{Table, Tally};
+use mum_cases_words::scene::answer;
+use scene::OnChannels;
 use std::alloc::Global;
 
 /// Why a message is ignored.
@@ -32,7 +33,7 @@ impl Table for Reasons {
     const NAME: &'static str = "ignored";
 
     fn answer(alloc: Global, question: &str) -> Result<String> {
-        scene::answer(alloc, question)
+        answer::<OnChannels>(alloc, question)
     }
 }
 
@@ -40,7 +41,7 @@ impl Table for Needs {
     const NAME: &'static str = "needs";
 
     fn answer(alloc: Global, question: &str) -> Result<String> {
-        scene::answer(alloc, question)
+        answer::<OnChannels>(alloc, question)
     }
 }
 
@@ -48,7 +49,7 @@ impl Table for Limits {
     const NAME: &'static str = "limits";
 
     fn answer(alloc: Global, question: &str) -> Result<String> {
-        scene::answer(alloc, question)
+        answer::<OnChannels>(alloc, question)
     }
 }
 
@@ -56,7 +57,7 @@ impl Table for Accepted {
     const NAME: &'static str = "accepted";
 
     fn answer(alloc: Global, question: &str) -> Result<String> {
-        scene::answer(alloc, question)
+        answer::<OnChannels>(alloc, question)
     }
 }
 
@@ -64,7 +65,7 @@ impl Table for Policies {
     const NAME: &'static str = "policies";
 
     fn answer(alloc: Global, question: &str) -> Result<String> {
-        scene::answer(alloc, question)
+        answer::<OnChannels>(alloc, question)
     }
 }
 

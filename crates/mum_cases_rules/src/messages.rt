@@ -77,20 +77,27 @@ fn query(alloc: Global, rest: &str) -> Result<Acl> {
     })
 }
 
+fn remove(rest: &str) -> Result<ChannelRemove> {
+    Ok(ChannelRemove {
+        channel_id: given(rest)?,
+    })
+}
+
+fn acl(alloc: Global, rest: &str) -> Result<Acl> {
+    let (id, parts) = rest.split_once(':').context("a policy is set")?;
+    acl_of(alloc, given(id)?, parts)
+}
+
 /// The message that words spell.
 pub fn message_of(alloc: Global, words: &str) -> Result<TreeMessage> {
     let (word, rest) = word_of(words);
     match word {
-        "make" => Ok(TreeMessage::State(make(alloc, rest)?)),
-        "edit" => Ok(TreeMessage::State(edit(alloc, rest)?)),
-        "remove" => Ok(TreeMessage::Remove(ChannelRemove {
-            channel_id: given(rest)?,
-        })),
-        "query" => Ok(TreeMessage::Acl(query(alloc, rest)?)),
-        "acl" => {
-            let (id, parts) = rest.split_once(':').context("a policy is set")?;
-            Ok(TreeMessage::Acl(acl_of(alloc, given(id)?, parts)?))
-        }
-        _ => bail!("no message: {words}"),
+        "make" => return Ok(TreeMessage::State(make(alloc, rest)?)),
+        "edit" => return Ok(TreeMessage::State(edit(alloc, rest)?)),
+        "remove" => return Ok(TreeMessage::Remove(remove(rest)?)),
+        "query" => return Ok(TreeMessage::Acl(query(alloc, rest)?)),
+        "acl" => return Ok(TreeMessage::Acl(acl(alloc, rest)?)),
+        _ => {}
     }
+    bail!("no message: {words}")
 }

@@ -23,7 +23,7 @@ use crate::words::{
     text_of, texts, word_of,
 };
 use anyhow::{Context, Result, bail, ensure};
-use mum_base::{ChannelId, Items, Octets, SessionId, Slot};
+use mum_base::{ChannelId, Items, Octets, SessionId, Slot, Text};
 use mum_state::{Edit, State};
 use mum_tree::ChannelInfo;
 use std::alloc::Global;
@@ -43,11 +43,22 @@ fn given_digest(word: Option<&str>) -> Result<Option<[u8; 32]>> {
     }
 }
 
+/// The text behind a key, empty where there is none.
+fn text_behind(alloc: Global, parts: &str, key: &str) -> Result<Text> {
+    text_of(alloc, part(parts, key).unwrap_or(""))
+}
+
+fn tokens_of(alloc: Global, words: &str) -> Result<Items<Text>> {
+    Ok(Items::from_vec(texts(alloc, words)?))
+}
+
 fn set_server(alloc: Global, parts: &str) -> Result<Edit> {
+    let bandwidth = given_number(part(parts, "bandwidth"))?;
+    let password = given_digest(part(parts, "password"))?;
     Ok(Edit::SetServer {
-        welcome: text_of(alloc, part(parts, "welcome").unwrap_or(""))?,
-        bandwidth: given_number(part(parts, "bandwidth"))?.unwrap_or(BANDWIDTH),
-        password: given_digest(part(parts, "password"))?,
+        welcome: text_behind(alloc, parts, "welcome")?,
+        bandwidth: bandwidth.unwrap_or(BANDWIDTH),
+        password,
     })
 }
 
@@ -79,13 +90,14 @@ fn seat_of(state: &State, parts: &str) -> Result<(SessionId, Slot)> {
 fn join(alloc: Global, state: &State, rest: &str) -> Result<Edit> {
     let (name, parts) = head_of(rest);
     let (session, slot) = seat_of(state, parts)?;
-    let tokens = texts(alloc, part(parts, "tokens").unwrap_or(""))?;
+    let account = given_account(part(parts, "account"))?;
+    let name = text_of(alloc, name)?;
     Ok(Edit::Join {
         session,
         slot,
-        name: text_of(alloc, name)?,
-        account: given_account(part(parts, "account"))?,
-        tokens: Items::from_vec(tokens),
+        name,
+        account,
+        tokens: tokens_of(alloc, part(parts, "tokens").unwrap_or(""))?,
     })
 }
 
@@ -93,13 +105,22 @@ fn actor_of(parts: &str) -> Result<SessionId> {
     session(part(parts, "by").context("somebody does it")?)
 }
 
+fn leave(rest: &str) -> Result<Edit> {
+    Ok(Edit::Leave {
+        session: session(rest)?,
+    })
+}
+
 fn kick(alloc: Global, rest: &str) -> Result<Edit> {
     let (who, parts) = head_of(rest);
+    let session = session(who)?;
+    let actor = actor_of(parts)?;
+    let ban = part(parts, "ban").is_some();
     Ok(Edit::Kick {
-        session: session(who)?,
-        actor: actor_of(parts)?,
-        reason: text_of(alloc, part(parts, "reason").unwrap_or(""))?,
-        ban: part(parts, "ban").is_some(),
+        session,
+        actor,
+        reason: text_behind(alloc, parts, "reason")?,
+        ban,
     })
 }
 
@@ -151,14 +172,19 @@ fn listed(alloc: Global, parts: &str, key: &str) -> Result<Items<ChannelId>> {
 
 fn edit_channel(alloc: Global, rest: &str) -> Result<Edit> {
     let (id, parts) = head_of(rest);
+    let id = channel(id)?;
+    let actor = given_session(part(parts, "by"))?;
+    let parent = given_channel(part(parts, "parent"))?;
+    let position = given_position(part(parts, "position"))?;
+    let max_users = given_number(part(parts, "users"))?;
     Ok(Edit::EditChannel {
-        id: channel(id)?,
-        actor: given_session(part(parts, "by"))?,
+        id,
+        actor,
         name: given_text(alloc, part(parts, "name"))?,
-        parent: given_channel(part(parts, "parent"))?,
+        parent,
         description: given_text(alloc, part(parts, "text"))?,
-        position: given_position(part(parts, "position"))?,
-        max_users: given_number(part(parts, "users"))?,
+        position,
+        max_users,
         links_add: listed(alloc, parts, "links")?,
         links_remove: listed(alloc, parts, "unlinks")?,
     })
@@ -208,7 +234,7 @@ fn set_tokens(alloc: Global, rest: &str) -> Result<Edit> {
     let (who, words) = word_of(rest);
     Ok(Edit::SetTokens {
         session: session(who)?,
-        tokens: Items::from_vec(texts(alloc, words)?),
+        tokens: tokens_of(alloc, words)?,
     })
 }
 
@@ -247,21 +273,20 @@ fn say(alloc: Global, rest: &str) -> Result<Edit> {
 pub fn edit_of(alloc: Global, state: &State, call: &str) -> Result<Edit> {
     let (word, rest) = word_of(call);
     match word {
-        "server" | "server," => set_server(alloc, rest),
-        "account" => add_account(alloc, rest),
-        "join" => join(alloc, state, rest),
-        "leave" => Ok(Edit::Leave {
-            session: session(rest)?,
-        }),
-        "kick" => kick(alloc, rest),
-        "make" => make_channel(alloc, state, rest),
-        "edit" => edit_channel(alloc, rest),
-        "remove" => remove_channel(rest),
-        "user" => set_user(alloc, rest),
-        "tokens" => set_tokens(alloc, rest),
-        "target" => set_target(alloc, rest),
-        "acl" => set_acl(alloc, rest),
-        "say" => say(alloc, rest),
-        _ => bail!("no call: {call}"),
+        "server" | "server," => return set_server(alloc, rest),
+        "account" => return add_account(alloc, rest),
+        "join" => return join(alloc, state, rest),
+        "leave" => return leave(rest),
+        "kick" => return kick(alloc, rest),
+        "make" => return make_channel(alloc, state, rest),
+        "edit" => return edit_channel(alloc, rest),
+        "remove" => return remove_channel(rest),
+        "user" => return set_user(alloc, rest),
+        "tokens" => return set_tokens(alloc, rest),
+        "target" => return set_target(alloc, rest),
+        "acl" => return set_acl(alloc, rest),
+        "say" => return say(alloc, rest),
+        _ => {}
     }
+    bail!("no call: {call}")
 }

@@ -1,6 +1,6 @@
 //! What the tables about the state and its parts have in common: how they spell numbers, texts, flags,
-//! permissions, policies, voice targets and edits, and how they tell of channels, sessions and of a
-//! whole state.
+//! permissions, policies, voice targets and edits, and how they tell of channels, sessions, verdicts and of
+//! a whole state.
 #![tactic(auto)]
 
 pub mod askers;
@@ -10,7 +10,9 @@ pub mod edits;
 pub mod flags;
 pub mod lines;
 pub mod perms;
+pub mod pieces;
 pub mod policies;
+pub mod scene;
 pub mod targets;
 pub mod users;
 pub mod words;

@@ -85,6 +85,13 @@ impl Lines {
         self.add_targets(roster, user.session)
     }
 
+    fn add_sessions(&mut self, roster: &Roster) -> Result<()> {
+        for user in roster.users() {
+            self.add_session(roster, user)?;
+        }
+        Ok(())
+    }
+
     fn add_slots(&mut self, state: &State) -> Result<()> {
         for slot in 0..SESSIONS as u8 {
             let count = state.session_stamp(Slot(slot));
@@ -94,6 +101,22 @@ impl Lines {
             }
         }
         Ok(())
+    }
+
+    /// The same of what is there once, where there was memory for its text.
+    fn add_text(&mut self, name: &str, text: Result<String>) -> Result<()> {
+        let text = text?;
+        self.add(name, text.as_str())
+    }
+
+    fn add_all(&mut self, state: &State) -> Result<()> {
+        let alloc = self.alloc;
+        self.add_text("settings", settings_text(alloc, state))?;
+        self.add_channels(state)?;
+        self.add_sessions(state.roster())?;
+        self.add_text("counts", counts_text(alloc, state))?;
+        self.add_slots(state)?;
+        self.add_text("next", next_text(alloc, state))
     }
 }
 
@@ -140,14 +163,7 @@ pub fn told(alloc: Global, state: &State) -> Result<Vec<String>> {
         alloc,
         lines: Vec::new(alloc),
     };
-    lines.add("settings", settings_text(alloc, state)?.as_str())?;
-    lines.add_channels(state)?;
-    for user in state.roster().users() {
-        lines.add_session(state.roster(), user)?;
-    }
-    lines.add("counts", counts_text(alloc, state)?.as_str())?;
-    lines.add_slots(state)?;
-    lines.add("next", next_text(alloc, state)?.as_str())?;
+    lines.add_all(state)?;
     Ok(lines.lines)
 }
 

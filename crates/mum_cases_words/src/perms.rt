@@ -47,6 +47,16 @@ pub fn permission(name: &str) -> Result<Perm> {
     bail!("no permission: {name}")
 }
 
+/// The name of one permission.
+pub fn name_of(one: Perm) -> &'static str {
+    for (name, permission) in PERMISSIONS {
+        if permission == one {
+            return name;
+        }
+    }
+    "another"
+}
+
 /// The set that a set is told from, and its name.
 fn nearest(set: Perm) -> (&'static str, Perm) {
     if !set.has(Perm::WRITE) {

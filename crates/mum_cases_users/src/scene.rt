@@ -1,0 +1,57 @@
+//! The decisions on users, as a line of calls asks for them.
+
+use crate::digests::{account_edit, server_edit};
+use crate::edits::edit_text;
+use crate::messages::message_of;
+use anyhow::Result;
+use mum_base::SessionId;
+use mum_cases_words::edits::edit_of;
+use mum_cases_words::scene::Decisions;
+use mum_cases_words::words::word_of;
+use mum_frame::Frame;
+use mum_rules_tree::denial;
+use mum_rules_user::decide_user;
+use mum_state::{Edit, State, Verdict};
+use std::alloc::Global;
+
+/// Decisions on users.
+pub struct OnUsers;
+
+/// The edit that a call spells: an account or a server with a password, or one of those of all tables.
+fn edit_by(alloc: Global, state: &State, call: &str) -> Result<Edit> {
+    let (word, rest) = word_of(call);
+    match word {
+        "owner" => account_edit(alloc, rest),
+        "guarded" => server_edit(alloc, rest),
+        _ => edit_of(alloc, state, call),
+    }
+}
+
+impl Decisions for OnUsers {
+    fn decide(
+        alloc: Global,
+        state: &State,
+        actor: Option<SessionId>,
+        words: &str,
+    ) -> Result<Verdict> {
+        let message = message_of(alloc, words)?;
+        Ok(decide_user(alloc, state, actor, &message)?)
+    }
+
+    fn denial(alloc: Global, actor: Option<SessionId>, verdict: &Verdict) -> Result<Option<Frame>> {
+        Ok(denial(alloc, actor, verdict)?)
+    }
+
+    fn edit_text(alloc: Global, edit: &Edit) -> Result<String> {
+        edit_text(alloc, edit)
+    }
+
+    fn make(alloc: Global, state: &mut State, call: &str) -> Result<bool> {
+        let edit = edit_by(alloc, state, call)?;
+        if !state.fits(&edit) {
+            return Ok(false);
+        }
+        state.apply(&edit)?;
+        Ok(true)
+    }
+}

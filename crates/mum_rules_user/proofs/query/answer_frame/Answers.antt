@@ -1,0 +1,7 @@
+use Rattle.std.proofs.Common.{rules}
+use Rattle.mum_rules_user.specs.Outcome.{answer_frame}
+use Rattle.mum_rules_user.proofs.query.answer_frame.Goals as goal
+
+pub returns : goal.returns
+unfolding answer_frame
+returns c = search rules

@@ -1,0 +1,6 @@
+use Rattle.std.proofs.Common.{◌≡◌, map, take}
+use Rattle.mum_rules_user.specs.Asked.{item_asked}
+use Rattle.mum_rules_user.proofs.target.target_asked.Given as goal
+
+abbrev pub invariant-loop-block : goal.invariant-loop-block
+invariant-loop-block l = l.items.items ≡ map item_asked (take l.block-index l.blocks)

@@ -1,0 +1,6 @@
+use Rattle.std.proofs.Common.{◌≡◌, map, take}
+use Rattle.mum_rules_user.specs.Asked.{session_numbered}
+use Rattle.mum_rules_user.proofs.text.sessions.Given as goal
+
+abbrev pub invariant-loop-number : goal.invariant-loop-number
+invariant-loop-number l = l.listed.items ≡ map session_numbered (take l.number-index l.numbers)

@@ -1,0 +1,72 @@
+-- What a verdict says of the tables, in words of its own.
+use Rattle.std.specs.Prelude.{◌≡◌, ℕ, List, Option, Some, None, IsTrue}
+use Rattle.mum_base.specs.declared.number.ChannelId.{ChannelId}
+use Rattle.mum_base.specs.declared.number.SessionId.{SessionId}
+use Rattle.mum_base.specs.declared.perm.Perm.{Perm}
+use Rattle.mum_msg_state.specs.declared.authenticate.Authenticate.{Authenticate}
+use Rattle.mum_msg_state.specs.declared.user_remove.UserRemove.{UserRemove}
+use Rattle.mum_msg_state.specs.declared.user_state.UserState.{UserState}
+use Rattle.mum_state.specs.declared.account.Account.{Account}
+use Rattle.mum_state.specs.declared.edit.Edit.{Edit}
+use Rattle.mum_state.specs.declared.verdict.Verdict.TheVariants.{Accepted, Lacks}
+use Rattle.mum_state.specs.State.{StateValue, account_named}
+use Rattle.mum_rules_tree.specs.Decision.{Need}
+use Rattle.mum_rules_tree.specs.Laws.{AllMet, IsFirstMissing, NoneStands}
+use Rattle.mum_rules_user.specs.Asked.{command_of, is_oneself, rules_speech, session_or}
+use Rattle.mum_rules_user.specs.Limits.{is_super_user, limits}
+use Rattle.mum_rules_user.specs.Login.{is_digest_of, limits_of_login, name_given, password_given}
+use Rattle.mum_rules_user.specs.Needs.{needs}
+use Rattle.mum_rules_user.specs.Reasons.{reasons}
+use Rattle.mum_rules_user.specs.Verdict.{asker_for, user_verdict}
+use Rattle.mum_rules_user.specs.declared.message.UserMessage.{UserMessage}
+use Rattle.mum_rules_user.specs.declared.message.UserMessage.TheVariants.{Join, Kick, User}
+
+-- what this message of a session needs
+abbrev pub needs_of : StateValue → SessionId → UserMessage → List Need
+needs_of state actor message = needs state (asker_for state actor message) actor (command_of actor message)
+
+-- a denial names the first permission that is missing, and comes only where there is no reason to ignore the message
+abbrev pub NamesFirstMissing : Type 0
+NamesFirstMissing =
+    (state : StateValue) (actor : SessionId) (message : UserMessage) (perm : Perm) (channel : ChannelId)
+    → user_verdict state (Some actor) message ≡ Lacks perm channel
+    → NoneStands (reasons state (Some actor) message) × IsFirstMissing state (needs_of state actor message) perm channel
+
+-- what is accepted of a session has no reason, no need and no limit against it
+abbrev pub AcceptsWhereNothingStands : Type 0
+AcceptsWhereNothingStands =
+    (state : StateValue) (actor : SessionId) (message : UserMessage) (edit : Edit)
+    → user_verdict state (Some actor) message ≡ Accepted edit
+    → NoneStands (reasons state (Some actor) message) × AllMet state (needs_of state actor message) × NoneStands (limits state actor (command_of actor message))
+
+-- whoever has no session is let do nothing but log in, and that where no reason and no limit stands against it
+abbrev pub LogsInWhereNothingStands : Type 0
+LogsInWhereNothingStands =
+    (state : StateValue) (message : UserMessage) (edit : Edit)
+    → user_verdict state None message ≡ Accepted edit
+    → (login : Authenticate) × (version : Option ℕ) × (message ≡ Join login version)
+    × NoneStands (reasons state None message) × NoneStands (limits_of_login state version login)
+
+-- whoever logs in under the name of an account gave its password
+abbrev pub OwnersAlone : Type 0
+OwnersAlone =
+    (state : StateValue) (login : Authenticate) (version : Option ℕ) (edit : Edit) (account : Account)
+    → user_verdict state None (Join login version) ≡ Accepted edit
+    → account_named state (name_given login) ≡ Some account
+    → IsTrue (is_digest_of (password_given login) account.digest)
+
+-- nobody but SuperUser itself mutes, deafens or raises SuperUser
+abbrev pub SparesSuperUser : Type 0
+SparesSuperUser =
+    (state : StateValue) (actor : SessionId) (message : UserState) (edit : Edit)
+    → user_verdict state (Some actor) (User message) ≡ Accepted edit
+    → IsTrue (rules_speech message) → IsTrue (is_super_user state.roster (session_or actor message.session))
+    → IsTrue (is_oneself actor (session_or actor message.session))
+
+-- and nobody else puts it out
+abbrev pub KeepsSuperUser : Type 0
+KeepsSuperUser =
+    (state : StateValue) (actor : SessionId) (message : UserRemove) (edit : Edit)
+    → user_verdict state (Some actor) (Kick message) ≡ Accepted edit
+    → IsTrue (is_super_user state.roster (session_or actor message.session))
+    → IsTrue (is_oneself actor (session_or actor message.session))

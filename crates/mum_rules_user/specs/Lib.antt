@@ -1,0 +1,9 @@
+pub mod Codes
+pub mod Asked
+pub mod Login
+pub mod Reasons
+pub mod Needs
+pub mod Limits
+pub mod Outcome
+pub mod Verdict
+pub mod Laws

@@ -1,0 +1,159 @@
+//! Moves from channel to channel.
+
+ghost use Rattle.std.specs.Prelude.{◌≡◌, ◌∷◌, [], count_by, false};
+ghost use Rattle.std.specs.Option.{option_map_or};
+ghost use Rattle.mum_policy.specs.Member.{asker_of};
+ghost use Rattle.mum_users.specs.State.{is_in};
+ghost use Rattle.mum_rules_tree.specs.Decision.{all_met, is_met};
+ghost use Rattle.mum_rules_tree.specs.Verdict.{nobody};
+ghost use Rattle.mum_state.specs.Permissions.{asker};
+ghost use Rattle.mum_users.specs.Sessions.{session_of};
+ghost use Rattle.mum_rules_user.specs.Asked.{channel_of, new_channel};
+ghost use Rattle.mum_rules_user.specs.Limits.{room_of, takes_nobody};
+ghost use Rattle.mum_rules_user.specs.Needs.{either_way, needs_to_bring, needs_to_enter, needs_to_move};
+
+use crate::session::{channel_of, is_oneself};
+use mum_base::{ChannelId, Perm, SessionId};
+use mum_msg_state::UserState;
+use mum_policy::Who;
+use mum_rules_tree::{Lack, may, need, who_with};
+use mum_state::State;
+use mum_users::{Roster, User};
+
+/// The channel that is given, where the session is in another.
+pub(crate) fn new_channel(
+    roster: &Roster,
+    session: SessionId,
+    message: &UserState,
+) -> Option<ChannelId>
+    ensures { result ≡ new_channel roster.now session message.now }
+{
+    let channel = message.channel_id?;
+    if channel == channel_of(roster, session).0 {
+        None
+    } else {
+        Some(ChannelId(channel))
+    }
+}
+
+/// Whether whoever asks has one of two permissions in a channel. The lists on its path are read once.
+pub(crate) fn may_either(
+    state: &State,
+    who: &Who<'_>,
+    first: Perm,
+    second: Perm,
+    channel: ChannelId,
+) -> bool
+    ensures { result
+        ≡ is_met state.now (either_way first (asker_of who.now) second (asker_of who.now) channel) }
+{
+    match state.granted_to(who, channel) {
+        Some(held) => held.has(first) || held.has(second),
+        None => false,
+    }
+}
+
+/// Enter or Move there. A denial names Enter.
+fn need_to_enter(state: &State, who: &Who<'_>, there: ChannelId) -> Result<(), Lack>
+    ensures { result ≡ all_met state.now (needs_to_enter (asker_of who.now) there) }
+{
+    if may_either(state, who, Perm::ENTER, Perm::MOVE, there) {
+        Ok(())
+    } else {
+        Err(Lack {
+            perm: Perm::ENTER,
+            channel: there,
+        })
+    }
+}
+
+/// Move where the other is, and then Move there, or Enter of the other. A denial names Move.
+fn need_to_bring(
+    state: &State,
+    who: &Who<'_>,
+    moved: &Who<'_>,
+    there: ChannelId,
+) -> Result<(), Lack>
+    ensures { result ≡ all_met state.now
+        (needs_to_bring (asker_of who.now) (asker_of moved.now) moved.now.channel there) }
+{
+    need(state, who, Perm::MOVE, moved.channel)?;
+    if may(state, who, Perm::MOVE, there) || may(state, moved, Perm::ENTER, there) {
+        Ok(())
+    } else {
+        Err(Lack {
+            perm: Perm::MOVE,
+            channel: there,
+        })
+    }
+}
+
+/// A session as entries and groups see it; whoever is gone is in the root and has nothing.
+fn who_named(roster: &Roster, session: SessionId) -> Who<'_>
+    ensures asker { asker_of result
+        ≡ option_map_or asker (session_of roster.now session) nobody }
+    ensures channel { result.channel ≡ channel_of roster.now session }
+{
+    match roster.session(session) {
+        Some(user) => who_with(user, user.tokens.as_slice()),
+        None => Who {
+            session,
+            account: None,
+            channel: ChannelId::ROOT,
+            tokens: &[],
+        },
+    }
+}
+
+/// What another channel needs.
+pub(crate) fn need_to_move(
+    state: &State,
+    who: &Who<'_>,
+    session: SessionId,
+    message: &UserState,
+) -> Result<(), Lack>
+    ensures { result ≡ all_met state.now
+        (needs_to_move state.now (asker_of who.now) who.now.session session message.now) }
+{
+    let roster = state.roster();
+    let Some(there) = new_channel(roster, session, message) else {
+        return Ok(());
+    };
+    if is_oneself(who.session, session) {
+        return need_to_enter(state, who, there);
+    }
+    need_to_bring(state, who, &who_named(roster, session), there)
+}
+
+fn room_of(state: &State, id: ChannelId) -> u32
+    ensures { result ≡ room_of state.now id }
+{
+    match state.tree().channel(id) {
+        Some(channel) => channel.info.max_users,
+        None => 0,
+    }
+}
+
+fn member_count(users: &[User], id: ChannelId) -> usize
+    ensures { result ≡ count_by (is_in id) users.now }
+{
+    users.iter().filter(|user| user.channel.0 == id.0).count()
+}
+
+/// Whether a channel takes so many users at most, and as many are in it.
+fn takes_nobody(state: &State, id: ChannelId) -> bool
+    ensures { result ≡ takes_nobody state.now id }
+{
+    let room = room_of(state, id);
+    room != 0 && room as usize <= member_count(state.roster().users(), id)
+}
+
+/// Whether the channel that is entered, if one is, takes nobody more.
+pub(crate) fn is_full_for(state: &State, there: Option<ChannelId>) -> bool
+    ensures { result ≡ option_map_or (takes_nobody state.now) there false }
+{
+    match there {
+        Some(id) => takes_nobody(state, id),
+        None => false,
+    }
+}

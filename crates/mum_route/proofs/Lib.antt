@@ -1,0 +1,9 @@
+pub mod Among
+pub mod Rights
+pub mod Present
+pub mod Precedence
+pub mod Filled
+pub mod Aimed
+pub mod Gathered
+pub mod Hearers
+pub mod Relations

@@ -1,0 +1,6 @@
+pub mod Context
+pub mod Hearing
+pub mod Cover
+pub mod Route
+pub mod Aims
+pub mod Laws

@@ -3,6 +3,7 @@
 #![tactic(auto)]
 
 mod frame;
+mod opening;
 mod recording;
 mod replay;
 mod script;

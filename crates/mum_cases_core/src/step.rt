@@ -1,5 +1,6 @@
 //! The table `step`.
 
+use crate::opening::core_at;
 use crate::script::{beginning, line};
 use anyhow::{Result, bail};
 use mum_cases::Table;
@@ -19,6 +20,9 @@ fn reply(alloc: Global, core: &mut Core, line: &str) -> Result<String> {
     match core.step(&step) {
         Ok(lines) => {
             for line in lines.as_slice() {
+                if !told.as_str().is_empty() {
+                    told.push_str(", ")?;
+                }
                 told.push_str(str::from_utf8(line.as_slice())?)?;
             }
         }
@@ -30,26 +34,43 @@ fn reply(alloc: Global, core: &mut Core, line: &str) -> Result<String> {
     Ok(told)
 }
 
+/// Takes the steps of a beginning, of which nothing is told.
+fn begin(alloc: Global, core: &mut Core, begun: &str) -> Result<()> {
+    for line in beginning(begun)?.steps.lines() {
+        let _ = reply(alloc, core, line)?;
+    }
+    Ok(())
+}
+
+/// What a core tells of the steps of a script.
+fn replies(alloc: Global, core: &mut Core, script: &str) -> Result<String> {
+    let mut answer = String::new(alloc);
+    for piece in script.split(';') {
+        let line = line(alloc, piece.trim())?;
+        let told = reply(alloc, core, line.as_str())?;
+        if !answer.as_str().is_empty() {
+            answer.push_str("; ")?;
+        }
+        answer.push_str(told.as_str())?;
+    }
+    Ok(answer)
+}
+
+/// What a core tells of a script behind a beginning.
+fn run(alloc: Global, core: &mut Core, steps: &str) -> Result<String> {
+    let Some((begun, script)) = steps.split_once("; ") else {
+        bail!("no beginning and steps: {steps}");
+    };
+    begin(alloc, core, begun)?;
+    replies(alloc, core, script)
+}
+
 impl Table for Steps {
     const NAME: &'static str = "step";
 
     fn answer(alloc: Global, question: &str) -> Result<String> {
-        let Some((begun, script)) = question.split_once("; ") else {
-            bail!("no beginning and steps: {question}");
-        };
-        let mut core = Core::open(alloc, 1, &[])?;
-        for line in beginning(begun)?.steps.lines() {
-            let _ = reply(alloc, &mut core, line)?;
-        }
-        let mut answer = String::new(alloc);
-        for piece in script.split(';') {
-            let line = line(alloc, piece.trim())?;
-            let told = reply(alloc, &mut core, line.as_str())?;
-            if !answer.as_str().is_empty() {
-                answer.push_str("; ")?;
-            }
-            answer.push_str(told.as_str())?;
-        }
-        Ok(answer)
+        let (edits, steps) = question.split_once(" | ").unwrap_or(("", question));
+        let mut core = core_at(alloc, edits)?;
+        run(alloc, &mut core, steps)
     }
 }

@@ -1,11 +1,14 @@
 -- Each copy of a look is sent, or found its outbox full, or is left.
 use Rattle.std.proofs.Common.{◌≡◌, ℕ, zero, suc, ◌+◌, ◌-◌, ◌≤◌, ◌<◌, ◌^◌, min, Bool, true, false, cond, List, [], ◌∷◌, length, drop, get_or, Option, Some, None, Result, Ok, Err, refl, sym, ap, ◌∙◌, arith, inl, inr}
 use Rattle.std.specs.Prelude.{not, is_none, is_some, nat_lt, sum_by, slice_get, slice_index_or, slice_set, replicate, if◌then◌else◌}
+use Rattle.std.specs.Option.{option_map_or}
 use Rattle.std.proofs.lemmas.Bool.{cases_eq, ltb-false, ltb-true}
 use Rattle.std.proofs.lemmas.List.{length-map, get_or-set_same, get_or-set_other}
 use Rattle.std.proofs.lemmas.List.Sums.{sum_by-set}
 use Rattle.std.proofs.lemmas.Option.{slice_get_within, get_or_from_slice_get, slice_get-get_or}
 use Rattle.mum_base.specs.declared.number.SessionId.{SessionId}
+use Rattle.mum_state.specs.declared.verdict.Verdict.{Verdict}
+use Rattle.mum_state.specs.State.{StateValue}
 use Rattle.mum_voice.specs.declared.fault.BadVoice.{BadVoice}
 use Rattle.mum_voice.specs.Packet.{Parts, packet}
 use Rattle.mum_core.specs.declared.connection.Seat.{Seat}
@@ -20,9 +23,9 @@ use Rattle.mum_core.specs.Connection.{untold}
 use Rattle.mum_core.specs.Core.{CoreState, start, connection_at, worker_at, outbox_at, state_at, is_opened}
 use Rattle.mum_core.specs.Laws.{IsRun, ran, looked}
 use Rattle.mum_core.specs.Lists.{changed_at, with_found}
-use Rattle.mum_core.specs.State.{State}
 use Rattle.mum_core.specs.Step.{does, illegal}
 use Rattle.mum_core.specs.Worker.{WorkerState, HeldPacket, idle, in_hand}
+use Rattle.mum_core.specs.steps.Edit as edit_step
 use Rattle.mum_core.specs.steps.Frame as frame_step
 use Rattle.mum_core.specs.steps.Look as look_step
 use Rattle.mum_core.specs.steps.Offer as offer_step
@@ -100,13 +103,17 @@ pub drain_workers : (core : CoreState) (seat : Option Seat) → (drain_step.does
 drain_workers core None = refl
 drain_workers core (Some seat) = takes_workers core seat (slice_get (outbox_at core seat.slot.0) 0)
 
+pub decided_workers : (core : CoreState) (c : ℕ) (verdict : Option Verdict) → (option_map_or (edit_step.decides core c) verdict core).workers ≡ core.workers
+decided_workers core c None = refl
+decided_workers core c (Some verdict) = refl
+
 clean_by : (old new : List WorkerState) → new ≡ old → AreClean old → AreClean new
 clean_by old new same clean w = rw same (clean w)
 
 pub clean_step : (core : CoreState) (step : BuiltStep) → illegal core step ≡ None → AreClean core.workers → AreClean (does core step).workers
 clean_step core (Open c w) h clean = clean
 clean_step core (Frame c kind payload) h clean = clean_frame core c (action (connection_at core c).seat kind payload) (frame_hands core c kind payload h) clean
-clean_step core (steps.Edit c) h clean = clean
+clean_step core (steps.Edit c) h clean = clean_by core.workers (does core (steps.Edit c)).workers (decided_workers core c (edit_step.decision core c)) clean
 clean_step core Publish h clean = clean
 clean_step core (Tell c revision) h clean = clean_notes (told_core core c) (connection_at core c).worker revision clean
 clean_step core (Look w revision) h clean = clean-at core.workers w (λ worker. record worker { seen = revision; held = None; copies = look_step.copies (state_at core revision) (worker_at core w).held }) (λ x at yes. cc) clean
@@ -165,6 +172,10 @@ frame_same core c (Echo frame) = (refl, refl, refl)
 frame_same core c (Keep number) = (refl, refl, refl)
 frame_same core c (Ignore why) = (refl, refl, refl)
 
+decided_same : (core : CoreState) (c : ℕ) (verdict : Option Verdict) → Same core (option_map_or (edit_step.decides core c) verdict core)
+decided_same core c None = (refl, refl, refl)
+decided_same core c (Some verdict) = (refl, refl, refl)
+
 notes_same : (core : CoreState) (w : ℕ) (revision : Option ℕ) → Same core (tell_step.notes w revision core)
 notes_same core w None = (refl, refl, refl)
 notes_same core w (Some revision) = (refl, refl, left-same core.workers w _ (λ x. refl))
@@ -213,7 +224,7 @@ looked-cons core (Offer w) run = omega arith
 looked-cons core (Drain c) run = omega arith
 looked-cons core End run = omega arith
 
-length-copies : (state : State) (held : Option HeldPacket) → length (look_step.copies state held) ≡ length (look_step.audience state held)
+length-copies : (state : StateValue) (held : Option HeldPacket) → length (look_step.copies state held) ≡ length (look_step.audience state held)
 length-copies state None = refl
 length-copies state (Some held) = length-map (look_step.audience state (Some held)) (look_step.copy_to held)
 
@@ -237,7 +248,7 @@ held_there (Some x) h = refl
 adds : (core : CoreState) (step : BuiltStep) → illegal core step ≡ None → AreClean core.workers → core.totals.copies + core.totals.full < 2 ^ 64 - 1 → Adds core (does core step) (found core step)
 adds core (Open c w) h clean room = adds_none core (does core (Open c w)) (refl, refl, refl)
 adds core (Frame c kind payload) h clean room = adds_none core (does core (Frame c kind payload)) (frame_same core c (action (connection_at core c).seat kind payload))
-adds core (steps.Edit c) h clean room = adds_none core (does core (steps.Edit c)) (refl, refl, refl)
+adds core (steps.Edit c) h clean room = adds_none core (does core (steps.Edit c)) (decided_same core c (edit_step.decision core c))
 adds core Publish h clean room = adds_none core (does core Publish) (refl, refl, refl)
 adds core (Tell c revision) h clean room = adds_none core (does core (Tell c revision)) (notes_same (told_core core c) (connection_at core c).worker revision)
 adds core (Look w revision) h clean room =
@@ -279,9 +290,9 @@ left_start : (workers : ℕ) → sum_by (λ worker. length worker.copies) (repli
 left_start zero = refl
 left_start (suc n) = left_start n
 
-pub copies_are_counted : (workers : ℕ) (run : List BuiltStep) → IsRun (start workers) run → length run < 2 ^ 64 - 1
-    → (ran (start workers) run).totals.copies + (ran (start workers) run).totals.full + left (ran (start workers) run) ≡ looked (start workers) run
-copies_are_counted workers run is room =
+pub copies_are_counted : (opening : StateValue) (workers : ℕ) (run : List BuiltStep) → IsRun (start opening workers) run → length run < 2 ^ 64 - 1
+    → (ran (start opening workers) run).totals.copies + (ran (start opening workers) run).totals.full + left (ran (start opening workers) run) ≡ looked (start opening workers) run
+copies_are_counted opening workers run is room =
     let begun = left_start workers in
-    let all = counted_from (start workers) run is (clean_start workers) (omega (arith, room)) in
+    let all = counted_from (start opening workers) run is (clean_start workers) (omega (arith, room)) in
     omega (arith, begun, all)

@@ -1,4 +1,5 @@
-pub mod Sessions
+pub mod Present
+pub mod Begun
 pub mod Echoes
 pub mod LineFeeds
 pub mod Words
@@ -9,8 +10,14 @@ pub mod Underway
 pub mod Ends
 pub mod RunLaws
 pub mod Counts
-pub mod Numbering
+pub mod Lower
+pub mod Decided
+pub mod Fitted
+pub mod Once
 pub mod Orders
+pub mod Sits
+pub mod Staying
+pub mod Seated
 pub mod Origins
 pub mod Places
 pub mod Speakers

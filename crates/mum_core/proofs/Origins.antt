@@ -1,17 +1,22 @@
 -- What a worker sends to a session are copies of the packets that it took, in their order.
-use Rattle.std.proofs.Common.{◌≡◌, ℕ, zero, suc, ◌+◌, ◌<◌, ◌≤◌, max, Bool, true, false, cond, List, [], ◌∷◌, ◌++◌, length, map, take, drop, get_or, Option, Some, None, Result, Ok, Err, refl, sym, ap, ◌∙◌, arith, inl, inr, append_assoc}
+use Rattle.std.proofs.Common.{◌≡◌, ℕ, zero, suc, ◌<◌, ◌≤◌, max, Bool, true, false, cond, List, [], ◌∷◌, ◌++◌, length, map, take, drop, get_or, Option, Some, None, Result, Ok, Err, refl, sym, ap, ◌∙◌, arith, inl, inr, append_assoc}
 use Rattle.std.specs.Prelude.{◌⊎◌, not, filter, is_none, is_some, nat_lt, option_to_list, slice_get, slice_index_or, slice_set, replicate, ◌==◌, ◌&&◌, if◌then◌else◌}
-use Rattle.std.specs.List.{list_any}
+use Rattle.std.specs.List.{count_by}
+use Rattle.std.specs.Option.{option_map_or}
 use Rattle.std.proofs.lemmas.Bool.{cases_eq, eq-eqb, eqb-true, ltb-false, ltb-true}
 use Rattle.std.proofs.lemmas.List.{append-nil, map-append, get_or-set_same, get_or-set_other}
 use Rattle.std.proofs.lemmas.List.Elements.{filter-append}
 use Rattle.std.proofs.lemmas.Option.{slice_get_within, get_or_from_slice_get}
 use Rattle.mum_base.specs.declared.number.SessionId.{SessionId}
+use Rattle.mum_users.specs.declared.user.User.{User}
+use Rattle.mum_users.specs.Sessions.{session_of}
+use Rattle.mum_users.specs.State.{has_number}
+use Rattle.mum_state.specs.Proper.{IsProper}
+use Rattle.mum_state.specs.State.{StateValue}
 use Rattle.mum_voice.specs.declared.fault.BadVoice.{BadVoice}
 use Rattle.mum_voice.specs.Packet.{Parts, copy, packet}
 use Rattle.mum_core.specs.declared.action.Action.{Action}
 use Rattle.mum_core.specs.declared.action.Action.TheVariants.{Ask, Voice, Echo, Keep, Ignore}
-use Rattle.mum_core.specs.declared.edit.Session.{Session}
 use Rattle.mum_core.specs.declared.route.Member.{Member}
 use Rattle.mum_core.specs.declared.worker.Outgoing.{Outgoing}
 use Rattle.mum_core.specs.Action.{action}
@@ -21,15 +26,17 @@ use Rattle.mum_core.specs.Connection.{untold}
 use Rattle.mum_core.specs.Core.{CoreState, start, connection_at, worker_at, state_at, is_opened}
 use Rattle.mum_core.specs.Laws.{IsRun, IsSubsequence, gathered, packet_taken, sent}
 use Rattle.mum_core.specs.Lists.{changed_at, with_found}
-use Rattle.mum_core.specs.State.{State, is_session}
+use Rattle.mum_core.specs.Route.{by_talk, hears_talk, is_silent, talk_of}
 use Rattle.mum_core.specs.Step.{does, illegal}
 use Rattle.mum_core.specs.Worker.{WorkerState, HeldPacket, idle, in_hand}
+use Rattle.mum_core.specs.steps.Edit as edit_step
 use Rattle.mum_core.specs.steps.Frame as frame_step
 use Rattle.mum_core.specs.steps.Look as look_step
 use Rattle.mum_core.specs.steps.Offer as offer_step
 use Rattle.mum_core.specs.steps.Tell as tell_step
-use Rattle.mum_core.proofs.Counts.{AreClean, clean_start, clean_step, drain_workers, frame_hands, held_there}
-use Rattle.mum_core.proofs.Numbering.{AreNumbered, IsNumbered, numbered, numbered_start, state_numbered}
+use Rattle.mum_core.proofs.Counts.{AreClean, clean_start, clean_step, decided_workers, drain_workers, frame_hands, held_there}
+use Rattle.mum_core.proofs.Fitted.{IsLawful, lawful_start, lawful_step, state_proper}
+use Rattle.mum_core.proofs.Once.{count_none, fewer, rest_none}
 use Rattle.mum_core.proofs.Orders.{changed_same, changed_other}
 use Rattle.mum_core.proofs.RunLaws.{none_stands, not_false, told_core, taken_core, puts_workers}
 
@@ -114,64 +121,66 @@ still n x = goes_kept n x x refl refl
 
 -- ---- an audience has one member at most of each session
 
-abbrev member_of : Session → Member
-member_of s = record { session = s.session; slot = s.slot; context = 0 }
-
-abbrev copies_for : HeldPacket → List Session → List Outgoing
-copies_for held sessions = map (look_step.copy_to held) (map member_of sessions)
+abbrev copies_for : HeldPacket → List User → List Outgoing
+copies_for held users = map (look_step.copy_to held) (map by_talk users)
 
 bytes_cond : (b : Bool) (x : Outgoing) (xs : List Outgoing) → map (λ copy. copy.bytes) (cond b (x ∷ xs) xs) ≡ cond b (x.bytes ∷ map (λ copy. copy.bytes) xs) (map (λ copy. copy.bytes) xs)
 bytes_cond true x xs = refl
 bytes_cond false x xs = refl
 
-waiting-cons : (n : ℕ) (held : HeldPacket) (s : Session) (kept : List Session) (b : Bool) → (s.session.0 == n) ≡ b
-    → waiting n (copies_for held (s ∷ kept)) ≡ cond b (plain held ∷ waiting n (copies_for held kept)) (waiting n (copies_for held kept))
-waiting-cons n held s kept b e =
-    bytes_cond (s.session.0 == n) (look_step.copy_to held (member_of s)) (filter (λ copy. copy.to.0 == n) (copies_for held kept))
+waiting-cons : (n : ℕ) (held : HeldPacket) (user : User) (kept : List User) (b : Bool) → (user.session.0 == n) ≡ b
+    → waiting n (copies_for held (user ∷ kept)) ≡ cond b (plain held ∷ waiting n (copies_for held kept)) (waiting n (copies_for held kept))
+waiting-cons n held user kept b e =
+    bytes_cond (user.session.0 == n) (look_step.copy_to held (by_talk user)) (filter (λ copy. copy.to.0 == n) (copies_for held kept))
     ∙ ap (λ (here : Bool). cond here (plain held ∷ waiting n (copies_for held kept)) (waiting n (copies_for held kept))) e
 
-not_here : (n : ℕ) (s : Session) → n < s.session.0 → (s.session.0 == n) ≡ false
-not_here n s below = from (s.session.0 == n) refl
-  where
-    from : (b : Bool) → (s.session.0 == n) ≡ b → b ≡ false
-    from true e = let same = eqb-true s.session.0 n e in absurd (omega arith)
-    from false e = refl
+abbrev counted : ℕ → List User → ℕ
+counted n users = count_by (has_number (record { 0 = n })) users
 
-none_by : (n : ℕ) (held : HeldPacket) (s : Session) (kept : List Session) (b : Bool) → n < s.session.0 → waiting n (copies_for held kept) ≡ []
-    → waiting n (copies_for held (cond b (s ∷ kept) kept)) ≡ []
-none_by n held s kept true below none = waiting-cons n held s kept false (not_here n s below) ∙ none
-none_by n held s kept false below none = none
+none_by : (n : ℕ) (held : HeldPacket) (user : User) (kept : List User) (b : Bool) → (user.session.0 == n) ≡ false → waiting n (copies_for held kept) ≡ []
+    → waiting n (copies_for held (cond b (user ∷ kept) kept)) ≡ []
+none_by n held user kept true other none = waiting-cons n held user kept false other ∙ none
+none_by n held user kept false other none = none
 
-none_below : (n k : ℕ) (held : HeldPacket) (p : Session → Bool) (sessions : List Session) → AreNumbered k sessions → n < k → waiting n (copies_for held (filter p sessions)) ≡ []
-none_below n k held p [] are below = refl
-none_below n k held p (s ∷ sessions) are below =
-    none_by n held s (filter p sessions) (p s) (omega (arith, are.0)) (none_below n (k + 1) held p sessions are.1 (omega arith))
+none_there : (n : ℕ) (held : HeldPacket) (p : User → Bool) (users : List User) → counted n users ≡ 0 → waiting n (copies_for held (filter p users)) ≡ []
+none_there n held p [] none = refl
+none_there n held p (user ∷ users) none =
+    let parts = count_none (has_number (record { 0 = n })) user users none in
+    none_by n held user (filter p users) (p user) parts.0 (none_there n held p users parts.1)
 
-one_by : (n : ℕ) (held : HeldPacket) (s : Session) (kept : List Session) (b here : Bool) → (s.session.0 == n) ≡ here → AtMost (plain held) (waiting n (copies_for held kept))
-    → (s.session.0 ≡ n → waiting n (copies_for held kept) ≡ []) → AtMost (plain held) (waiting n (copies_for held (cond b (s ∷ kept) kept)))
-one_by n held s kept true true e most none =
-    inr (waiting-cons n held s kept true e ∙ ap (λ (xs : List (List ℕ)). plain held ∷ xs) (none (eqb-true s.session.0 n e)))
-one_by n held s kept true false e most none = rw (waiting-cons n held s kept false e) most
-one_by n held s kept false here e most none = most
+one_by : (n : ℕ) (held : HeldPacket) (user : User) (kept : List User) (b here : Bool) → (user.session.0 == n) ≡ here → AtMost (plain held) (waiting n (copies_for held kept))
+    → (here ≡ true → waiting n (copies_for held kept) ≡ []) → AtMost (plain held) (waiting n (copies_for held (cond b (user ∷ kept) kept)))
+one_by n held user kept true true e most none =
+    inr (waiting-cons n held user kept true e ∙ ap (λ (xs : List (List ℕ)). plain held ∷ xs) (none refl))
+one_by n held user kept true false e most none = rw (waiting-cons n held user kept false e) most
+one_by n held user kept false here e most none = most
 
-one_at_most : (n k : ℕ) (held : HeldPacket) (p : Session → Bool) (sessions : List Session) → AreNumbered k sessions → AtMost (plain held) (waiting n (copies_for held (filter p sessions)))
-one_at_most n k held p [] are = inl refl
-one_at_most n k held p (s ∷ sessions) are =
-    one_by n held s (filter p sessions) (p s) (s.session.0 == n) refl (one_at_most n (k + 1) held p sessions are.1)
-    (λ same. none_below n (k + 1) held p sessions are.1 (omega (arith, same, are.0)))
+one_at_most : (n : ℕ) (held : HeldPacket) (p : User → Bool) (users : List User) → counted n users ≤ 1 → AtMost (plain held) (waiting n (copies_for held (filter p users)))
+one_at_most n held p [] once = inl refl
+one_at_most n held p (user ∷ users) once =
+    one_by n held user (filter p users) (p user) (user.session.0 == n) refl (one_at_most n held p users (fewer (has_number (record { 0 = n })) user users once))
+    (λ same. none_there n held p users (rest_none (has_number (record { 0 = n })) user users same once))
 
 cond_most : (n : ℕ) (held : HeldPacket) (b : Bool) (members : List Member) → AtMost (plain held) (waiting n (map (look_step.copy_to held) members))
     → AtMost (plain held) (waiting n (map (look_step.copy_to held) (cond b members [])))
 cond_most n held true members most = most
 cond_most n held false members most = inl refl
 
-one_each : (n : ℕ) (state : State) (held : HeldPacket) → AreNumbered 1 state.sessions → AtMost (plain held) (waiting n (look_step.copies state (Some held)))
-one_each n state held are =
-    cond_most n held (held.parts.target == 0) _ (cond_most n held (list_any (is_session held.speaker.0) state.sessions) _
-    (one_at_most n 1 held (λ s. not (is_session held.speaker.0 s)) state.sessions are))
+cond_silent : (n : ℕ) (held : HeldPacket) (b : Bool) (members : List Member) → AtMost (plain held) (waiting n (map (look_step.copy_to held) members))
+    → AtMost (plain held) (waiting n (map (look_step.copy_to held) (cond b [] members)))
+cond_silent n held true members most = inl refl
+cond_silent n held false members most = most
 
-one_of : (n : ℕ) (state : State) (holds : Option HeldPacket) (held : HeldPacket) → holds ≡ Some held → AreNumbered 1 state.sessions → AtMost (plain held) (waiting n (look_step.copies state holds))
-one_of n state holds held e are = rw e (one_each n state held are)
+one_each : (n : ℕ) (state : StateValue) (held : HeldPacket) → IsProper state → AtMost (plain held) (waiting n (look_step.copies state (Some held)))
+one_each n state held proper = cond_most n held (held.parts.target == 0) _ (from (session_of state.roster held.speaker))
+  where
+    from : (o : Option User) → AtMost (plain held) (waiting n (map (look_step.copy_to held) (option_map_or (talk_of state) o [])))
+    from None = inl refl
+    from (Some user) =
+        cond_silent n held (is_silent user) _ (one_at_most n held (hears_talk state user) state.roster.sessions (proper.roster.numbers (record { 0 = n })))
+
+one_of : (n : ℕ) (state : StateValue) (holds : Option HeldPacket) (held : HeldPacket) → holds ≡ Some held → IsProper state → AtMost (plain held) (waiting n (look_step.copies state holds))
+one_of n state holds held e proper = rw e (one_each n state held proper)
 
 -- ---- offers
 
@@ -244,7 +253,7 @@ look_goes_from n v core w revision held left holds none most =
     let here : worker_at core w ≡ x = get_or_from_slice_get core.workers w x idle at in
     goes_looking n revision x held left (rw here at holds) (rw here at none) most)
 
-look_goes : (n v : ℕ) (core : CoreState) (w revision : ℕ) → illegal core (Look w revision) ≡ None → AreClean core.workers → IsNumbered core
+look_goes : (n v : ℕ) (core : CoreState) (w revision : ℕ) → illegal core (Look w revision) ≡ None → AreClean core.workers → IsLawful core
     → GoesTo n v [] core (does core (Look w revision)).workers
 look_goes n v core w revision h clean are =
     let first = none_stands (not (nat_lt w (length core.workers))) _ _ h in
@@ -252,7 +261,7 @@ look_goes n v core w revision h clean are =
     let some = some_held (worker_at core w).held second.0 in
     let none : (worker_at core w).copies ≡ [] = clean w (held_there (worker_at core w).held second.0) in
     let most : AtMost (plain some.0) (waiting n (look_step.copies (state_at core revision) (worker_at core w).held)) =
-    one_of n (state_at core revision) (worker_at core w).held some.0 some.1 (state_numbered core.accepted revision are) in
+    one_of n (state_at core revision) (worker_at core w).held some.0 some.1 (state_proper core revision are) in
     look_goes_from n v core w revision some.0 (look_step.copies (state_at core revision) (worker_at core w).held) some.1 none most
 
 offer_own : (n : ℕ) (core : CoreState) (w : ℕ) → w < length core.workers → GoesTo n w (by_worker w (sent n core (Offer w))) core (taken_core core w).workers
@@ -283,12 +292,12 @@ offer_goes n v core w within = elim (cases_eq v w) [
   | inr other ↦ offer_of_other n v core w other
 ]
 
-goes : (n v : ℕ) (core : CoreState) (step : BuiltStep) → illegal core step ≡ None → AreClean core.workers → IsNumbered core
+goes : (n v : ℕ) (core : CoreState) (step : BuiltStep) → illegal core step ≡ None → AreClean core.workers → IsLawful core
     → GoesTo n v (by_worker v (sent n core step)) core (does core step).workers
 goes n v core (Open c w) h clean are = still n (worker_at core v)
 goes n v core (Frame c kind payload) h clean are =
     frame_goes n v core c (action (connection_at core c).seat kind payload) (frame_holds core c kind payload h) (frame_hands core c kind payload h)
-goes n v core (steps.Edit c) h clean are = still n (worker_at core v)
+goes n v core (steps.Edit c) h clean are = let same = decided_workers core c (edit_step.decision core c) in rw same (still n (worker_at core v))
 goes n v core Publish h clean are = still n (worker_at core v)
 goes n v core (Tell c revision) h clean are = notes_go n v (told_core core c) (connection_at core c).worker revision
 goes n v core (Look w revision) h clean are = look_goes n v core w revision h clean are
@@ -300,7 +309,7 @@ goes n v core (Offer w) h clean are =
 goes n v core (Drain c) h clean are = let same = drain_workers core (connection_at core c).seat in rw same (still n (worker_at core v))
 goes n v core End h clean are = still n (worker_at core v)
 
-sent_all : (n v : ℕ) (core : CoreState) (run : List BuiltStep) → IsRun core run → AreClean core.workers → IsNumbered core
+sent_all : (n v : ℕ) (core : CoreState) (run : List BuiltStep) → IsRun core run → AreClean core.workers → IsLawful core
     → IsSubsequence (by_worker v (gathered (sent n) core run)) (in_sight n (worker_at core v) ++ map plain (gathered (packet_taken v) core run))
 sent_all n v core [] is clean are = tt
 sent_all n v core (step ∷ run) is clean are =
@@ -308,7 +317,7 @@ sent_all n v core (step ∷ run) is clean are =
     let rest : List (ℕ × Outgoing) = gathered (sent n) (does core step) run in
     let took : List HeldPacket = packet_taken v core step in
     let takes : List HeldPacket = gathered (packet_taken v) (does core step) run in
-    let later = sent_all n v (does core step) run is.1 (clean_step core step is.0 clean) (numbered core step are) in
+    let later = sent_all n v (does core step) run is.1 (clean_step core step is.0 clean) (lawful_step core step is.0 are) in
     let whole = goes n v core step is.0 clean are (by_worker v rest) (map plain takes) later in
     let split : by_worker v (now ++ rest) ≡ by_worker v now ++ by_worker v rest =
     ap (λ (xs : List (ℕ × Outgoing)). map (λ (offer : ℕ × Outgoing). offer.1.bytes) xs) (filter-append (λ (offer : ℕ × Outgoing). offer.0 == v) now rest)
@@ -321,10 +330,10 @@ idle_at zero w = refl
 idle_at (suc n) zero = refl
 idle_at (suc n) (suc w) = idle_at n w
 
-pub copies_follow_packets : (workers v n : ℕ) (run : List BuiltStep) → IsRun (start workers) run
-    → IsSubsequence (map (λ offer. offer.1.bytes) (filter (λ offer. offer.0 == v) (gathered (sent n) (start workers) run)))
-    (map (λ held. copy held.parts held.speaker.0 0 true) (gathered (packet_taken v) (start workers) run))
-copies_follow_packets workers v n run is =
-    let all = sent_all n v (start workers) run is (clean_start workers) (numbered_start workers) in
-    let nothing : in_sight n (worker_at (start workers) v) ≡ [] = ap (in_sight n) (idle_at workers v) in
+pub copies_follow_packets : (opening : StateValue) (workers v n : ℕ) (run : List BuiltStep) → IsProper opening → IsRun (start opening workers) run
+    → IsSubsequence (map (λ offer. offer.1.bytes) (filter (λ offer. offer.0 == v) (gathered (sent n) (start opening workers) run)))
+    (map (λ held. copy held.parts held.speaker.0 0 true) (gathered (packet_taken v) (start opening workers) run))
+copies_follow_packets opening workers v n run proper is =
+    let all = sent_all n v (start opening workers) run is (clean_start workers) (lawful_start opening workers proper) in
+    let nothing : in_sight n (worker_at (start opening workers) v) ≡ [] = ap (in_sight n) (idle_at workers v) in
     rw nothing at all

@@ -1,10 +1,12 @@
 -- A connection stays at its worker.
 use Rattle.std.proofs.Common.{◌≡◌, ℕ, zero, suc, ◌-◌, ◌<◌, Bool, true, false, cond, List, [], ◌∷◌, ◌++◌, length, get_or, Option, Some, None, Result, Ok, Err, refl, ap, ◌∙◌, arith, inl, inr}
 use Rattle.std.specs.Prelude.{nat_lt, slice_get, slice_index_or, slice_set, ◌&&◌}
+use Rattle.std.specs.Option.{option_map_or}
 use Rattle.std.proofs.lemmas.Bool.{cases_eq, ltb-true}
 use Rattle.std.proofs.lemmas.List.{get_or-set_same, get_or-set_other}
 use Rattle.std.proofs.lemmas.Option.{slice_get_within, get_or_from_slice_get}
 use Rattle.mum_base.specs.declared.number.SessionId.{SessionId}
+use Rattle.mum_state.specs.declared.verdict.Verdict.{Verdict}
 use Rattle.mum_voice.specs.declared.fault.BadVoice.{BadVoice}
 use Rattle.mum_voice.specs.Packet.{Parts, packet}
 use Rattle.mum_core.specs.declared.action.Action.{Action}
@@ -22,6 +24,7 @@ use Rattle.mum_core.specs.Laws.{ran}
 use Rattle.mum_core.specs.Lists.{changed_at, with_found}
 use Rattle.mum_core.specs.Step.{does}
 use Rattle.mum_core.specs.steps.Drain as drain_step
+use Rattle.mum_core.specs.steps.Edit as edit_step
 use Rattle.mum_core.specs.steps.Frame as frame_step
 use Rattle.mum_core.specs.steps.Offer as offer_step
 use Rattle.mum_core.specs.steps.Tell as tell_step
@@ -92,10 +95,14 @@ stay_tell core c revision =
     let same = notes_connections (told_core core c) (connection_at core c).worker revision in
     rw same (stay-cond core.connections (nat_lt 0 c) (c - 1) _ (λ x. refl))
 
+stay_edit : (core : CoreState) (c : ℕ) (verdict : Option Verdict) → Stay core.connections (option_map_or (edit_step.decides core c) verdict core).connections
+stay_edit core c None = stay_same core.connections core.connections refl
+stay_edit core c (Some verdict) = stay-cond core.connections (nat_lt 0 c) (c - 1) _ (λ x. refl)
+
 pub stay_step : (core : CoreState) (step : BuiltStep) → Stay core.connections (does core step).connections
 stay_step core (Open c w) = stay-pushed core.connections (fresh w)
 stay_step core (Frame c kind payload) = stay_frame core c (action (connection_at core c).seat kind payload)
-stay_step core (steps.Edit c) = stay-cond core.connections (nat_lt 0 c) (c - 1) _ (λ x. refl)
+stay_step core (steps.Edit c) = stay_edit core c (edit_step.decision core c)
 stay_step core Publish = stay_same core.connections core.connections refl
 stay_step core (Tell c revision) = stay_tell core c revision
 stay_step core (Look w revision) = stay_same core.connections core.connections refl

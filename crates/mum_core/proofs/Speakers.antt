@@ -1,49 +1,63 @@
 -- The packets of one speaker are all taken by one worker.
-use Rattle.std.proofs.Common.{◌≡◌, ℕ, zero, suc, ◌+◌, ◌-◌, ◌<◌, ◌≤◌, Bool, true, false, cond, List, [], ◌∷◌, ◌++◌, length, max, get_or, Option, Some, None, Result, Ok, Err, refl, sym, ap, ◌∙◌, arith, inl, inr, length-append}
+use Rattle.std.proofs.Common.{◌≡◌, ℕ, zero, suc, ◌+◌, ◌-◌, ◌<◌, ◌≤◌, Bool, true, false, cond, List, [], ◌∷◌, ◌++◌, length, max, get_or, Option, Some, None, Result, Ok, Err, refl, sym, ap, subst, ◌∙◌, arith, inl, inr}
 use Rattle.std.specs.Prelude.{◌⊎◌, not, filter, is_none, nat_lt, option_to_list, slice_get, slice_index_or, slice_set, ◌==◌, ◌&&◌}
+use Rattle.std.specs.Option.{option_map, option_map_or, option_or}
 use Rattle.std.proofs.lemmas.Bool.{cases_eq, eqb-true, ltb-true}
-use Rattle.std.proofs.lemmas.List.{get_or-set_same, get_or-set_other}
+use Rattle.std.proofs.lemmas.List.{append-nil, get_or-set_same, get_or-set_other}
 use Rattle.std.proofs.lemmas.List.Elements.{filter-append}
 use Rattle.std.proofs.lemmas.Option.{slice_get_within, get_or_from_slice_get}
 use Rattle.mum_base.specs.declared.number.SessionId.{SessionId}
+use Rattle.mum_state.specs.declared.edit.Edit.{Edit}
+use Rattle.mum_state.specs.declared.verdict.Verdict.{Verdict}
+use Rattle.mum_state.specs.declared.verdict.Verdict.TheVariants.{Accepted, Lacks, Refused, Rejected, Answer, Ignored}
+use Rattle.mum_state.specs.After.{led_to}
+use Rattle.mum_state.specs.State.{StateValue}
+use Rattle.mum_history.proofs.Fronts.{led_on}
 use Rattle.mum_voice.specs.declared.fault.BadVoice.{BadVoice}
 use Rattle.mum_voice.specs.Packet.{Parts, packet}
-use Rattle.mum_frame.specs.declared.kind.TheConstants.{UDP_TUNNEL, VERSION, PING, AUTHENTICATE}
+use Rattle.mum_frame.specs.declared.kind.TheConstants.{UDP_TUNNEL, VERSION, PING, AUTHENTICATE, CHANNEL_REMOVE, CHANNEL_STATE, ACL}
+use Rattle.mum_fields.specs.declared.message.MessageFault.{MessageFault}
 use Rattle.mum_fields.specs.Table.{decoded}
-use Rattle.mum_msg_state.specs.Messages.{version, authenticate, ping}
+use Rattle.mum_msg_rule.specs.Messages.{acl}
+use Rattle.mum_msg_state.specs.Messages.{version, authenticate, ping, channel_remove, channel_state}
+use Rattle.mum_rules_tree.specs.Asked.{payload_of}
+use Rattle.mum_rules_tree.specs.declared.message.TreeMessage.{TreeMessage}
+use Rattle.mum_rules_tree.specs.declared.reason.Reason.TheVariants.{TooLong}
+use Rattle.mum_rules_tree.specs.declared.reason.TheConstants.{COMMAND_LIMIT}
 use Rattle.mum_core.specs.declared.action.Action.{Action}
 use Rattle.mum_core.specs.declared.action.Action.TheVariants.{Ask, Voice, Echo, Keep, Ignore}
-use Rattle.mum_core.specs.declared.action.Ignored.TheVariants.{NotRead}
+use Rattle.mum_core.specs.declared.action.Ignored.TheVariants.{NotRead, Because}
 use Rattle.mum_core.specs.declared.connection.Command.{Command}
-use Rattle.mum_core.specs.declared.connection.Command.TheVariants.{Login}
+use Rattle.mum_core.specs.declared.connection.Command.TheVariants.{Login, Tree}
 use Rattle.mum_core.specs.declared.connection.Connection.{Connection}
 use Rattle.mum_core.specs.declared.connection.Seat.{Seat}
-use Rattle.mum_core.specs.Action.{Decoded, action, voice_action, version_action, ping_action, login_action}
+use Rattle.mum_core.specs.Action.{Decoded, acl_action, action, after_login, asked, channel_action, login_action, ping_action, removal_action, tree_action, version_action, voice_action}
 use Rattle.mum_core.specs.Built as steps
 use Rattle.mum_core.specs.Built.{BuiltStep, Open, Frame, Publish, Tell, Look, Offer, Drain, End}
-use Rattle.mum_core.specs.Connection.{fresh, seat_given}
-use Rattle.mum_core.specs.Core.{CoreState, start, connection_at, worker_at, is_opened}
+use Rattle.mum_core.specs.Connection.{fresh, seat_given, session_of, told}
+use Rattle.mum_core.specs.Core.{CoreState, start, connection_at, current, worker_at, is_opened}
 use Rattle.mum_core.specs.Laws.{IsRun, ran, gathered, packet_taken}
 use Rattle.mum_core.specs.Lists.{changed_at, with_found}
-use Rattle.mum_core.specs.State.{after}
+use Rattle.mum_core.specs.Reply.{edits_of, login_edit, seat_of, verdict}
 use Rattle.mum_core.specs.Step.{does, illegal}
 use Rattle.mum_core.specs.Worker.{WorkerState, HeldPacket, idle}
 use Rattle.mum_core.specs.steps.Edit as edit_step
 use Rattle.mum_core.specs.steps.Frame as frame_step
 use Rattle.mum_core.specs.steps.Offer as offer_step
 use Rattle.mum_core.specs.steps.Tell as tell_step
-use Rattle.mum_core.proofs.Counts.{drain_workers}
+use Rattle.mum_core.proofs.Counts.{decided_workers, drain_workers}
+use Rattle.mum_core.proofs.Lower.{last_rises, login_last, tree_seats_nobody}
 use Rattle.mum_core.proofs.Orders.{changed_other}
 use Rattle.mum_core.proofs.Origins.{related-at}
 use Rattle.mum_core.proofs.Places.{stay_step, hears_connections, notes_connections, puts_connections, drain_connections}
-use Rattle.mum_core.proofs.RunLaws.{none_stands, not_false, told_core, taken_core, puts_workers, frame_keeps, notes_keep, puts_keep, drain_keeps}
-use Rattle.mum_core.proofs.Sessions.{length_after}
+use Rattle.mum_core.proofs.RunLaws.{none_stands, not_false, told_core, taken_core, puts_workers, frame_keeps, notes_keep, puts_keep, drain_keeps, same_opening}
 
 abbrev conn : CoreState → ℕ → Connection
 conn core i = slice_index_or core.connections i (fresh 0)
 
+-- the last session number that was given
 abbrev count : CoreState → ℕ
-count core = length (after core.accepted).sessions
+count core = (current core).roster.last
 
 abbrev IsOf : ℕ → Option Seat → Type 0
 IsOf k None = ⊥
@@ -61,8 +75,10 @@ Grants old new i = (count old ≤ count new) × ((j k : ℕ) → Has k (conn new
 abbrev Narrows : List Connection → List Connection → Type 0
 Narrows old new = (j k : ℕ) → Has k (slice_index_or new j (fresh 0)) → Has k (slice_index_or old j (fresh 0))
 
-grants_none : (old new : CoreState) → new.accepted ≡ old.accepted → Narrows old.connections new.connections → Grants old new 0
-grants_none old new same narrow = (rw same (omega arith), λ j k has. inl (narrow j k has))
+grants_none : (old new : CoreState) → (new.accepted ≡ old.accepted) × (new.opening ≡ old.opening) → Narrows old.connections new.connections → Grants old new 0
+grants_none old new same narrow =
+    let equal : count new ≡ count old = rw (same.0, same.1) refl in
+    (omega (arith, equal), λ j k has. inl (narrow j k has))
 
 narrow_same : (old new : List Connection) → new ≡ old → Narrows old new
 narrow_same old new same j k has = rw same at has
@@ -101,64 +117,93 @@ narrow_frame core c (Echo frame) = narrow_same core.connections core.connections
 narrow_frame core c (Keep number) = narrow-cond core.connections (nat_lt 0 c) (c - 1) _ (λ x k has. has)
 narrow_frame core c (Ignore why) = narrow_same core.connections core.connections refl
 
-told_has : (x : Connection) (k : ℕ) → IsOf k (seat_given x.decided) ⊎ ⊥ → Has k x
-told_has x k (inl has) = inr has
+either : (k : ℕ) (given own : Option Seat) → IsOf k (option_or given own) → IsOf k own ⊎ IsOf k given
+either k None own has = inl has
+either k (Some seat) own has = inr has
+
+told_has : (x : Connection) (k : ℕ) → IsOf k (option_or (seat_given x.decided) x.seat) ⊎ ⊥ → Has k x
+told_has x k (inl has) = either k (seat_given x.decided) x.seat has
 told_has x k (inr never) = absurd never
 
 narrow_tell : (core : CoreState) (c : ℕ) (revision : Option ℕ) → Narrows core.connections (does core (Tell c revision)).connections
 narrow_tell core c revision =
     let same = notes_connections (told_core core c) (connection_at core c).worker revision in
-    rw same (narrow-cond core.connections (nat_lt 0 c) (c - 1) (λ connection. record connection { seat = seat_given connection.decided; decided = None }) told_has)
+    rw same (narrow-cond core.connections (nat_lt 0 c) (c - 1) told told_has)
 
-more_sessions : (core : CoreState) (waiting : Option Command) → is_none waiting ≡ false → length (after (core.accepted ++ edit_step.edits_of (edit_step.seat_for core) waiting)).sessions ≡ count core + 1
-more_sessions core None h = cc
-more_sessions core (Some (Login name)) h =
-    let old = length_after core.accepted in
-    let new = length_after (core.accepted ++ edit_step.join_of (edit_step.seat_for core) name ∷ []) in
-    let more = length-append core.accepted (edit_step.join_of (edit_step.seat_for core) name ∷ []) in
-    omega (arith, old, new, more)
+-- a verdict gives a number that was not given before, if it gives one
+record IsNew (state next : StateValue) (decided : Verdict) : Type 0 where
+  rises : state.roster.last ≤ next.roster.last
+  given : (k : ℕ) → IsOf k (seat_of decided) → (state.roster.last < k) × (k ≤ next.roster.last)
 
-decided_has : (core : CoreState) (x : Connection) (k more : ℕ) → more ≡ count core + 1 → IsOf k x.seat ⊎ (count core + 1 ≡ k) → Has k x ⊎ ((count core < k) × (k ≤ more))
-decided_has core x k more e (inl has) = inl (inl has)
-decided_has core x k more e (inr same) = inr (omega arith, omega arith)
+rises_by : (opening : StateValue) (edits : List Edit) (decided : Verdict) → (led_to opening edits).roster.last ≤ (led_to opening (edits ++ edits_of decided)).roster.last
+rises_by opening edits (Accepted edit) = rw (led_on opening edits edit) (last_rises (led_to opening edits) edit)
+rises_by opening edits (Lacks perm channel) = rw (append-nil edits) (omega arith)
+rises_by opening edits (Refused kind) = rw (append-nil edits) (omega arith)
+rises_by opening edits (Rejected kind) = rw (append-nil edits) (omega arith)
+rises_by opening edits (Answer frame) = rw (append-nil edits) (omega arith)
+rises_by opening edits (Ignored why) = rw (append-nil edits) (omega arith)
 
-decided_cond : (core : CoreState) (b : Bool) (c more : ℕ) → more ≡ count core + 1 → (j k : ℕ)
-    → Has k (slice_index_or (cond b (changed_at (c - 1) (λ connection. record connection { waiting = None; decided = Some (edit_step.verdict_for core) }) core.connections) core.connections) j (fresh 0))
+new_unseated : (opening : StateValue) (edits : List Edit) (decided : Verdict) → seat_of decided ≡ None
+    → IsNew (led_to opening edits) (led_to opening (edits ++ edits_of decided)) decided
+new_unseated opening edits decided none =
+    record { rises = rises_by opening edits decided; given = λ k has. absurd (subst (IsOf k) none has) }
+
+new_seat : (opening : StateValue) (edits : List Edit) (session : Option SessionId) (command : Command)
+    → let decided = verdict (led_to opening edits) session command in IsNew (led_to opening edits) (led_to opening (edits ++ edits_of decided)) decided
+new_seat opening edits session (Login name) =
+    let state : StateValue = led_to opening edits in
+    let edit : Edit = login_edit state.roster name in
+    let next : (led_to opening (edits ++ edit ∷ [])).roster.last ≡ state.roster.last + 1 = ap (λ (s : StateValue). s.roster.last) (led_on opening edits edit) ∙ login_last state name in
+    record { rises = omega (arith, next); given = λ k has. (omega (arith, has), omega (arith, has, next)) }
+new_seat opening edits None (Tree message) = new_unseated opening edits _ refl
+new_seat opening edits (Some session) (Tree message) = new_unseated opening edits _ (tree_seats_nobody (led_to opening edits) session message)
+
+decided_has : (core : CoreState) (x : Connection) (decided : Verdict) (k more : ℕ) → ((k : ℕ) → IsOf k (seat_of decided) → (count core < k) × (k ≤ more))
+    → IsOf k x.seat ⊎ IsOf k (seat_of decided) → Has k x ⊎ ((count core < k) × (k ≤ more))
+decided_has core x decided k more given (inl has) = inl (inl has)
+decided_has core x decided k more given (inr new) = inr (given k new)
+
+decided_cond : (core : CoreState) (b : Bool) (c more : ℕ) (decided : Verdict) → ((k : ℕ) → IsOf k (seat_of decided) → (count core < k) × (k ≤ more)) → (j k : ℕ)
+    → Has k (slice_index_or (cond b (changed_at (c - 1) (λ connection. record connection { waiting = None; decided = Some (edit_step.reply_to core c decided) }) core.connections) core.connections) j (fresh 0))
     → Has k (conn core j) ⊎ ((count core < k) × (k ≤ more) × (j ≡ c - 1))
-decided_cond core true c more e j k has =
+decided_cond core true c more decided given j k has =
     changed-has (λ j old new. (k : ℕ) → Has k new → Has k old ⊎ ((count core < k) × (k ≤ more) × (j ≡ c - 1))) (λ j x k has. inl has) core.connections (c - 1) j
-    (λ connection. record connection { waiting = None; decided = Some (edit_step.verdict_for core) }) (λ x k has. placed x k (decided_has core x k more e has)) k has
+    (λ connection. record connection { waiting = None; decided = Some (edit_step.reply_to core c decided) }) (λ x k has. placed x k (decided_has core x decided k more given has)) k has
   where
     placed : (x : Connection) (k : ℕ) → Has k x ⊎ ((count core < k) × (k ≤ more)) → Has k x ⊎ ((count core < k) × (k ≤ more) × (c - 1 ≡ c - 1))
     placed x k (inl has) = inl has
     placed x k (inr low) = inr (low.0, low.1, refl)
-decided_cond core false c more e j k has = inl has
+decided_cond core false c more decided given j k has = inl has
 
-grants_edit : (core : CoreState) (c : ℕ) → illegal core (steps.Edit c) ≡ None → Grants core (does core (steps.Edit c)) (c - 1)
-grants_edit core c h =
-    let first = none_stands (not (is_opened core c)) _ _ h in
-    let second = none_stands (is_none (connection_at core c).waiting) _ _ first.1 in
-    let more = more_sessions core (connection_at core c).waiting second.0 in
-    (omega (arith, more), λ j k has. decided_cond core (nat_lt 0 c) c (count (does core (steps.Edit c))) more j k has)
+grants_edit : (core : CoreState) (c : ℕ) (waiting : Option Command)
+    → Grants core (option_map_or (edit_step.decides core c) (option_map (verdict (current core) (session_of (connection_at core c))) waiting) core) (c - 1)
+grants_edit core c None = (omega arith, λ j k has. inl has)
+grants_edit core c (Some command) =
+    let decided : Verdict = verdict (current core) (session_of (connection_at core c)) command in
+    let new = new_seat core.opening core.accepted (session_of (connection_at core c)) command in
+    (new.rises, λ j k has. decided_cond core (nat_lt 0 c) c (count (edit_step.decides core c decided)) decided new.given j k has)
 
-grants : (core : CoreState) (step : BuiltStep) → illegal core step ≡ None → (i : ℕ) × Grants core (does core step) i
-grants core (Open c w) h = (0, grants_none core (does core (Open c w)) refl (narrow-pushed core.connections w))
-grants core (Frame c kind payload) h =
+kept_by : (core : CoreState) (step : BuiltStep) → (does core step).accepted ≡ core.accepted → ((does core step).accepted ≡ core.accepted) × ((does core step).opening ≡ core.opening)
+kept_by core step same = (same, same_opening core step)
+
+grants : (core : CoreState) (step : BuiltStep) → (i : ℕ) × Grants core (does core step) i
+grants core (Open c w) = (0, grants_none core (does core (Open c w)) (refl, refl) (narrow-pushed core.connections w))
+grants core (Frame c kind payload) =
     let a : Action = action (connection_at core c).seat kind payload in
-    (0, grants_none core (does core (Frame c kind payload)) (frame_keeps core c a).0 (narrow_frame core c a))
-grants core (steps.Edit c) h = (c - 1, grants_edit core c h)
-grants core Publish h = (0, grants_none core (does core Publish) refl (λ j k has. has))
-grants core (Tell c revision) h =
-    (0, grants_none core (does core (Tell c revision)) (notes_keep (told_core core c) (connection_at core c).worker revision).0 (narrow_tell core c revision))
-grants core (Look w revision) h = (0, grants_none core (does core (Look w revision)) refl (λ j k has. has))
-grants core (Offer w) h = (
+    (0, grants_none core (does core (Frame c kind payload)) (kept_by core (Frame c kind payload) (frame_keeps core c a).0) (narrow_frame core c a))
+grants core (steps.Edit c) = (c - 1, grants_edit core c (connection_at core c).waiting)
+grants core Publish = (0, grants_none core (does core Publish) (refl, refl) (λ j k has. has))
+grants core (Tell c revision) =
+    (0, grants_none core (does core (Tell c revision)) (kept_by core (Tell c revision) (notes_keep (told_core core c) (connection_at core c).worker revision).0) (narrow_tell core c revision))
+grants core (Look w revision) = (0, grants_none core (does core (Look w revision)) (refl, refl) (λ j k has. has))
+grants core (Offer w) = (
   0,
-  grants_none core (does core (Offer w)) (puts_keep (taken_core core w) (offer_step.next_copy core w)).0
+  grants_none core (does core (Offer w)) (kept_by core (Offer w) (puts_keep (taken_core core w) (offer_step.next_copy core w)).0)
       (narrow_same core.connections _ (puts_connections (taken_core core w) (offer_step.next_copy core w))),
 )
-grants core (Drain c) h =
-    (0, grants_none core (does core (Drain c)) (drain_keeps core (connection_at core c).seat).0 (narrow_same core.connections _ (drain_connections core (connection_at core c).seat)))
-grants core End h = (0, grants_none core core refl (λ j k has. has))
+grants core (Drain c) =
+    (0, grants_none core (does core (Drain c)) (kept_by core (Drain c) (drain_keeps core (connection_at core c).seat).0) (narrow_same core.connections _ (drain_connections core (connection_at core c).seat)))
+grants core End = (0, grants_none core core (refl, refl) (λ j k has. has))
 
 -- ---- each session is of one connection
 
@@ -182,7 +227,7 @@ alone_by old new g i j k sound (inr fi) (inr fj) = fj.2 ∙ sym fi.2
 
 sound_step : (core : CoreState) (step : BuiltStep) → illegal core step ≡ None → Sound core → Sound (does core step)
 sound_step core step h sound =
-    let g = grants core step h in
+    let g = grants core step in
     record {
       given = λ j k has. given_by core (does core step) g.0 j k sound g.1.0 (g.1.1 j k has);
       alone = λ i j k hi hj. alone_by core (does core step) g.0 i j k sound (g.1.1 i k hi) (g.1.1 j k hj);
@@ -194,13 +239,13 @@ owned_by old new g i j k owns (inr fit) = let low = owns.given in let high = fit
 
 owns_step : (core : CoreState) (step : BuiltStep) (i k : ℕ) → illegal core step ≡ None → Owns core i k → Owns (does core step) i k
 owns_step core step i k h owns =
-    let g = grants core step h in
+    let g = grants core step in
     let low = owns.given in
     let grown = g.1.0 in
     record { given = omega (arith, low, grown); alone = λ j has. owned_by core (does core step) g.0 i j k owns (g.1.1 j k has) }
 
-sound_start : (workers : ℕ) → Sound (start workers)
-sound_start workers = record { given = λ j k has. absurd (neither has); alone = λ i j k hi hj. absurd (neither hi) }
+sound_start : (opening : StateValue) (workers : ℕ) → Sound (start opening workers)
+sound_start opening workers = record { given = λ j k has. absurd (neither has); alone = λ i j k hi hj. absurd (neither hi) }
   where
     neither : ⊥ ⊎ ⊥ → ⊥
     neither (inl never) = never
@@ -268,17 +313,34 @@ seat_voice : (seat : Option Seat) (payload : List ℕ) (s : SessionId) (p : List
 seat_voice None payload s p h = cc
 seat_voice (Some seat) payload s p h = let same : seat.session ≡ s = cc in ap (λ (x : SessionId). x.0) same
 
+not_asked : (message : TreeMessage) (s : SessionId) (p : List ℕ) → asked message ≡ Voice s p → ⊥
+not_asked message s p h = from (nat_lt COMMAND_LIMIT (length (payload_of message))) h
+  where
+    from : (long : Bool) → cond long (Ignore (Because TooLong)) (Ask (Tree message)) ≡ Voice s p → ⊥
+    from true h = cc
+    from false h = cc
+
+not_command : {V : Type 0} (seat : Option Seat) (message : V → TreeMessage) (read : Result V MessageFault) (s : SessionId) (p : List ℕ)
+    → after_login seat (tree_action message read) ≡ Voice s p → ⊥
+not_command None message read s p h = cc
+not_command (Some seat) message (Ok values) s p h = not_asked (message values) s p h
+not_command (Some seat) message (Err fault) s p h = cc
+
 voices : (seat : Option Seat) (kind : ℕ) (payload : List ℕ) (s : SessionId) (p : List ℕ) → action seat kind payload ≡ Voice s p → IsOf s.0 seat
 unfolding action
-voices seat kind payload s p h = from (kind == UDP_TUNNEL) (kind == VERSION) (kind == PING) (kind == AUTHENTICATE) h
+voices seat kind payload s p h = from (kind == UDP_TUNNEL) (kind == VERSION) (kind == PING) (kind == AUTHENTICATE) (kind == CHANNEL_REMOVE) (kind == CHANNEL_STATE) (kind == ACL) h
   where
-    from : (a b c d : Bool) → cond a (voice_action seat payload) (cond b (version_action (decoded version payload)) (cond c (ping_action (decoded ping payload)) (cond d (login_action (decoded authenticate payload)) (Ignore NotRead)))) ≡ Voice s p
+    from : (a b c d e f g : Bool) → cond a (voice_action seat payload) (cond b (version_action (decoded version payload)) (cond c (ping_action (decoded ping payload)) (cond d (login_action (decoded authenticate payload))
+        (cond e (after_login seat (removal_action (decoded channel_remove payload))) (cond f (after_login seat (channel_action (decoded channel_state payload))) (cond g (after_login seat (acl_action (decoded acl payload))) (Ignore NotRead))))))) ≡ Voice s p
         → IsOf s.0 seat
-    from true b c d h = seat_voice seat payload s p h
-    from false true c d h = absurd (not_version (decoded version payload) s p h)
-    from false false true d h = absurd (not_ping (decoded ping payload) s p h)
-    from false false false true h = absurd (not_login (decoded authenticate payload) s p h)
-    from false false false false h = cc
+    from true b c d e f g h = seat_voice seat payload s p h
+    from false true c d e f g h = absurd (not_version (decoded version payload) s p h)
+    from false false true d e f g h = absurd (not_ping (decoded ping payload) s p h)
+    from false false false true e f g h = absurd (not_login (decoded authenticate payload) s p h)
+    from false false false false true f g h = absurd (not_command seat _ (decoded channel_remove payload) s p h)
+    from false false false false false true g h = absurd (not_command seat _ (decoded channel_state payload) s p h)
+    from false false false false false false true h = absurd (not_command seat _ (decoded acl payload) s p h)
+    from false false false false false false false h = cc
 
 frame_from : (w k : ℕ) (core : CoreState) (c : ℕ) (a : Action) → ((s : SessionId) (p : List ℕ) → a ≡ Voice s p → IsOf s.0 (connection_at core c).seat)
     → (Without k (worker_at core w) (worker_at (frame_step.does core c a) w)) ⊎ (IsOf k (connection_at core c).seat × (w ≡ (connection_at core c).worker))
@@ -320,7 +382,8 @@ notes_without w k core v (Some revision) =
 source : (w k : ℕ) (core : CoreState) (step : BuiltStep) → illegal core step ≡ None → (of_speaker k (packet_taken w core step) ≡ []) ⊎ Source w k core
 source w k core (Open c v) h = inl (without k (worker_at core w))
 source w k core (Frame c kind payload) h = frame_source w k core c kind payload h
-source w k core (steps.Edit c) h = inl (without k (worker_at core w))
+source w k core (steps.Edit c) h =
+    inl (from_workers w k core core.workers (without k (worker_at core w)) (does core (steps.Edit c)).workers (decided_workers core c (edit_step.decision core c)))
 source w k core Publish h = inl (without k (worker_at core w))
 source w k core (Tell c revision) h = inl (notes_without w k (told_core core c) (connection_at core c).worker revision)
 source w k core (Look v revision) h =
@@ -368,10 +431,10 @@ one_of_two core (step ∷ run) v w k is sound other = from (source v k core step
     from (inl nv) (inl nw) (inl none) = inl (joined_none k (packet_taken v core step) (gathered (packet_taken v) (does core step) run) nv none)
     from (inl nv) (inl nw) (inr none) = inr (joined_none k (packet_taken w core step) (gathered (packet_taken w) (does core step) run) nw none)
 
-pub one_worker_a_speaker : (workers v w speaker : ℕ) (run : List BuiltStep) → IsRun (start workers) run → (v ≡ w → ⊥)
-    → (filter (λ held. held.speaker.0 == speaker) (gathered (packet_taken v) (start workers) run) ≡ [])
-    ⊎ (filter (λ held. held.speaker.0 == speaker) (gathered (packet_taken w) (start workers) run) ≡ [])
-one_worker_a_speaker workers v w speaker run is other = one_of_two (start workers) run v w speaker is (sound_start workers) other
+pub one_worker_a_speaker : (opening : StateValue) (workers v w speaker : ℕ) (run : List BuiltStep) → IsRun (start opening workers) run → (v ≡ w → ⊥)
+    → (filter (λ held. held.speaker.0 == speaker) (gathered (packet_taken v) (start opening workers) run) ≡ [])
+    ⊎ (filter (λ held. held.speaker.0 == speaker) (gathered (packet_taken w) (start opening workers) run) ≡ [])
+one_worker_a_speaker opening workers v w speaker run is other = one_of_two (start opening workers) run v w speaker is (sound_start opening workers) other
 
 -- ---- the connection of a session
 
@@ -383,8 +446,8 @@ owns_all : (core : CoreState) (run : List BuiltStep) (i k : ℕ) → IsRun core 
 owns_all core [] i k is owns = owns
 owns_all core (step ∷ run) i k is owns = owns_all (does core step) run i k is.1 (owns_step core step i k is.0 owns)
 
-seat_of : (o : Option Seat) (seat : Seat) (k : ℕ) → o ≡ Some seat → seat.session.0 ≡ k → IsOf k o
-seat_of o seat k e same = rw e same
+given_of : (o : Option Seat) (seat : Seat) (k : ℕ) → o ≡ Some seat → seat.session.0 ≡ k → IsOf k o
+given_of o seat k e same = rw e same
 
 seated : (core : CoreState) (c k : ℕ) → IsOf k (connection_at core c).seat → (0 < c) × Has k (conn core (c - 1))
 seated core c k has = from (nat_lt 0 c) refl has
@@ -393,13 +456,13 @@ seated core c k has = from (nat_lt 0 c) refl has
     from true e has = (ltb-true 0 c e, inl has)
     from false e has = absurd has
 
-pub one_connection_a_session : (workers c d : ℕ) (run more : List BuiltStep) (seat other : Seat) → IsRun (start workers) run → IsRun (ran (start workers) run) more
-    → (connection_at (ran (start workers) run) c).seat ≡ Some seat → (connection_at (ran (ran (start workers) run) more) d).seat ≡ Some other → seat.session.0 ≡ other.session.0 → c ≡ d
-one_connection_a_session workers c d run more seat other is later first second same =
-    let core : CoreState = ran (start workers) run in
-    let sound = sound_all (start workers) run is (sound_start workers) in
-    let here = seated core c seat.session.0 (seat_of (connection_at core c).seat seat seat.session.0 first refl) in
-    let there = seated (ran core more) d seat.session.0 (seat_of (connection_at (ran core more) d).seat other seat.session.0 second (sym same)) in
+pub one_connection_a_session : (opening : StateValue) (workers c d : ℕ) (run more : List BuiltStep) (seat other : Seat) → IsRun (start opening workers) run → IsRun (ran (start opening workers) run) more
+    → (connection_at (ran (start opening workers) run) c).seat ≡ Some seat → (connection_at (ran (ran (start opening workers) run) more) d).seat ≡ Some other → seat.session.0 ≡ other.session.0 → c ≡ d
+one_connection_a_session opening workers c d run more seat other is later first second same =
+    let core : CoreState = ran (start opening workers) run in
+    let sound = sound_all (start opening workers) run is (sound_start opening workers) in
+    let here = seated core c seat.session.0 (given_of (connection_at core c).seat seat seat.session.0 first refl) in
+    let there = seated (ran core more) d seat.session.0 (given_of (connection_at (ran core more) d).seat other seat.session.0 second (sym same)) in
     let owns : Owns core (c - 1) seat.session.0 =
     record { given = sound.given (c - 1) seat.session.0 here.1; alone = λ j has. sound.alone (c - 1) j seat.session.0 here.1 has } in
     let place : d - 1 ≡ c - 1 = (owns_all core more (c - 1) seat.session.0 later owns).alone (d - 1) there.1 in

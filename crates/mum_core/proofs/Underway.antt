@@ -11,7 +11,7 @@ use Rattle.mum_core.specs.declared.end.End.{End}
 use Rattle.mum_core.specs.declared.end.End.TheVariants.{Finished, Faulty, ReadFault, WriteFault, OutOfMemory}
 use Rattle.mum_core.specs.declared.replay.TheConstants.{INPUT_LIMIT}
 use Rattle.mum_core.specs.declared.replay.Run.{Run}
-use Rattle.mum_core.specs.Program.{Ends, WritesCounted}
+use Rattle.mum_core.specs.Program.{Ends}
 use Rattle.mum_core.specs.Runs.{Advances}
 use Rattle.mum_core.proofs.Longer.{split_filled, outcome_cons}
 use Rattle.mum_core.specs.Line.{text_of}
@@ -118,21 +118,6 @@ halts old new run after line rest behind bytes Finished u split h = absurd h
 halts old new run after line rest behind bytes ReadFault u split h = absurd h
 halts old new run after line rest behind bytes WriteFault u split h = absurd h
 
--- and no write failed in it, nor a read
-pub halts_counted : (run after : Run) (line : List ℕ) (end : End) (a b : ℕ) → Advances run line (Err end) after → b ≡ a → WritesCounted end a b
-halts_counted run after line (Faulty n fault) a b h same = same
-halts_counted run after line OutOfMemory a b h same = same
-halts_counted run after line Finished a b h same = absurd h
-halts_counted run after line ReadFault a b h same = absurd h
-halts_counted run after line WriteFault a b h same = absurd h
-
-pub halts_read : (run after : Run) (line : List ℕ) (end : End) → Advances run line (Err end) after → end ≡ ReadFault → ⊥
-halts_read run after line (Faulty n fault) h is = cc
-halts_read run after line OutOfMemory h is = cc
-halts_read run after line Finished h is = absurd h
-halts_read run after line ReadFault h is = absurd h
-halts_read run after line WriteFault h is = absurd h
-
 -- how a run ends at its last line feed
 closed : (phase : Phase) (n left : ℕ) (rest : List ℕ) (P : End → Type 0) → P Finished → ((fault : LineFault) → P (Faulty n fault)) → P (ending_of phase n left rest)
 closed Over n left [] P finished faulty = finished
@@ -148,9 +133,3 @@ closes old new phase n left rest bytes u split =
     let done = ends old new phase n left rest bytes u split in
     closed phase n left rest (λ e. e ≡ (replayed bytes).ending → Ends (replayed bytes) e old new)
     (λ is. (is, done.whole)) (λ fault is. (is, done.whole)) done.ending_is
-
-pub closes_counted : (phase : Phase) (n left : ℕ) (rest : List ℕ) (a b : ℕ) → b ≡ a → WritesCounted (ending_of phase n left rest) a b
-closes_counted phase n left rest a b same = closed phase n left rest (λ e. WritesCounted e a b) same (λ fault. same)
-
-pub closes_read : (phase : Phase) (n left : ℕ) (rest : List ℕ) → ending_of phase n left rest ≡ ReadFault → ⊥
-closes_read phase n left rest = closed phase n left rest (λ e. e ≡ ReadFault → ⊥) (λ is. cc) (λ fault is. cc)

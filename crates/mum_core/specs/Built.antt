@@ -2,7 +2,7 @@
 use Rattle.std.specs.Prelude.{ℕ, ◌==◌, ◌&&◌, not, Bool, true, false, List, [], ◌∷◌, length, Option, Some, None, is_some, nat_lt, nat_le, if◌then◌else◌}
 use Rattle.std.specs.List.{list_all, list_any}
 use Rattle.mum_frame.specs.Frame.{kind_of, payload_of}
-use Rattle.mum_frame.specs.declared.kind.TheConstants.{UDP_TUNNEL, AUTHENTICATE, CHANNEL_REMOVE, CHANNEL_STATE, USER_REMOVE, USER_STATE, TEXT_MESSAGE, ACL, VOICE_TARGET, PERMISSION_QUERY}
+use Rattle.mum_frame.specs.declared.kind.TheConstants.{UDP_TUNNEL, AUTHENTICATE, USER_REMOVE, USER_STATE, TEXT_MESSAGE, VOICE_TARGET, PERMISSION_QUERY}
 use Rattle.mum_record.specs.declared.step.Step.{Step}
 use Rattle.mum_record.specs.declared.step.Step.TheVariants as words
 use Rattle.mum_core.specs.declared.slot.TheConstants.{SLOTS}
@@ -34,7 +34,7 @@ is_plain_login others = false
 
 -- the types that the server reads and the core does not take yet
 abbrev pub unbuilt_kinds : List ℕ
-unbuilt_kinds = CHANNEL_REMOVE ∷ CHANNEL_STATE ∷ USER_REMOVE ∷ USER_STATE ∷ TEXT_MESSAGE ∷ ACL ∷ VOICE_TARGET ∷ PERMISSION_QUERY ∷ []
+unbuilt_kinds = USER_REMOVE ∷ USER_STATE ∷ TEXT_MESSAGE ∷ VOICE_TARGET ∷ PERMISSION_QUERY ∷ []
 
 abbrev pub is_built_frame : ℕ → List ℕ → Bool
 is_built_frame kind payload =

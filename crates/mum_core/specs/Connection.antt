@@ -1,6 +1,10 @@
 -- What a connection is to the steps.
-use Rattle.std.specs.Prelude.{ℕ, ◌+◌, Option, Some, None}
-use Rattle.mum_core.specs.declared.{connection.Connection.Connection, connection.Seat.Seat, connection.Verdict.Verdict, connection.Verdict.TheVariants.Accepted}
+use Rattle.std.specs.Prelude.{ℕ, ◌+◌, Bool, true, false, Option, Some, None}
+use Rattle.std.specs.Option.{option_and_then, option_map, option_or}
+use Rattle.mum_base.specs.declared.number.SessionId.{SessionId}
+use Rattle.mum_base.specs.declared.reply.Mark.{Mark}
+use Rattle.mum_base.specs.declared.reply.Mark.TheVariants.{Accepted}
+use Rattle.mum_core.specs.declared.{connection.Connection.Connection, connection.Reply.Reply, connection.Seat.Seat}
 
 -- a connection that asked for nothing yet, at this worker
 abbrev pub fresh : ℕ → Connection
@@ -14,11 +18,23 @@ count_of (Some x) = 1
 abbrev pub untold : Connection → ℕ
 untold connection = count_of connection.waiting + count_of connection.decided
 
--- the number of the edit that a verdict accepted, and the seat that it gave
-abbrev pub edit_number : Option Verdict → ℕ
-edit_number None = 0
-edit_number (Some (Accepted revision seat)) = revision
+-- the session that its told login gave it
+abbrev pub session_of : Connection → Option SessionId
+session_of connection = option_map (λ seat. seat.session) connection.seat
 
-abbrev pub seat_given : Option Verdict → Option Seat
-seat_given None = None
-seat_given (Some (Accepted revision seat)) = Some seat
+abbrev pub is_accepted : Mark → Bool
+is_accepted (Accepted revision) = true
+is_accepted others = false
+
+-- the revision of the edit that a mark tells of; 0 where it tells of none
+abbrev pub revision_of : Mark → ℕ
+revision_of (Accepted revision) = revision
+revision_of others = 0
+
+-- the seat that a reply gives
+abbrev pub seat_given : Option Reply → Option Seat
+seat_given reply = option_and_then (λ reply. reply.seat) reply
+
+-- what its reply gives it is its own once it is told
+abbrev pub told : Connection → Connection
+told connection = record connection { seat = option_or (seat_given connection.decided) connection.seat; decided = None }

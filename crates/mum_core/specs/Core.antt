@@ -1,12 +1,16 @@
 -- The core as plain data, and the changes of one connection, one worker or one outbox.
-use Rattle.std.specs.Prelude.{ℕ, ◌+◌, ◌-◌, ◌^◌, ◌&&◌, min, Bool, List, [], take, length, replicate, nat_lt, slice_index_or, if◌then◌else◌}
-use Rattle.mum_core.specs.declared.{connection.Connection.Connection, machine.Totals.Totals, edit.Edit.Edit, outbox.Parcel.Parcel, slot.TheConstants.SLOTS}
+use Rattle.std.specs.Prelude.{ℕ, ◌+◌, ◌-◌, ◌^◌, ◌&&◌, min, Bool, List, [], length, replicate, nat_lt, slice_index_or, if◌then◌else◌}
+use Rattle.mum_state.specs.declared.edit.Edit.{Edit}
+use Rattle.mum_state.specs.After.{at, led_to}
+use Rattle.mum_state.specs.State.{StateValue}
+use Rattle.mum_core.specs.declared.{connection.Connection.Connection, machine.Totals.Totals, outbox.Parcel.Parcel, slot.TheConstants.SLOTS}
 use Rattle.mum_core.specs.Connection.{fresh}
 use Rattle.mum_core.specs.Lists.{changed_at}
-use Rattle.mum_core.specs.State.{State, after}
 use Rattle.mum_core.specs.Worker.{WorkerState, idle}
 
 pub record CoreState : Type 0 where
+  -- the state before all accepted edits
+  pub opening : StateValue
   -- the accepted edits, the first of them first
   pub accepted : List Edit
   -- how many of them are published
@@ -18,10 +22,11 @@ pub record CoreState : Type 0 where
   pub outboxes : List (List Parcel)
   pub totals : Totals
 
--- the core of this many workers that nothing happened to
-abbrev pub start : ℕ → CoreState
-start workers =
+-- the core of this many workers at an opening state, that nothing happened to
+abbrev pub start : StateValue → ℕ → CoreState
+start opening workers =
     record {
+      opening = opening;
       accepted = [];
       published = 0;
       connections = [];
@@ -31,11 +36,11 @@ start workers =
     }
 
 -- the state after the first so many accepted edits, and after all of them
-abbrev pub state_at : CoreState → ℕ → State
-state_at core revision = after (take revision core.accepted)
+abbrev pub state_at : CoreState → ℕ → StateValue
+state_at core revision = at core.opening core.accepted revision
 
-abbrev pub current : CoreState → State
-current core = after core.accepted
+abbrev pub current : CoreState → StateValue
+current core = led_to core.opening core.accepted
 
 -- connections are numbered from 1
 abbrev pub is_opened : CoreState → ℕ → Bool

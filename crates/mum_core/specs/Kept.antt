@@ -1,16 +1,17 @@
 -- What the core and its parts keep true of their fields.
-use Rattle.std.specs.Prelude.{◌≡◌, ℕ, ◌≤◌, List, [], length, map, Result, Ok, Err}
+use Rattle.std.specs.Prelude.{◌≡◌, List, [], length, Result, Ok, Err}
+use Rattle.std.specs.List.{All}
 use Rattle.mum_voice.specs.declared.fault.BadVoice.{BadVoice}
 use Rattle.mum_voice.specs.Packet.{Parts}
-use Rattle.mum_core.specs.declared.{edit.Edit.Edit, edit.Edit.TheVariants.Join, edit.Session.Session, outbox.Parcel.Parcel, slot.TheConstants.SLOTS}
+use Rattle.mum_history.specs.History.{HistoryValue}
+use Rattle.mum_history.specs.View.{IsViewOf, ViewValue}
+use Rattle.mum_core.specs.declared.{outbox.Parcel.Parcel, slot.TheConstants.SLOTS}
+use Rattle.mum_core.specs.Worker.{WorkerState}
 
--- the session that an edit brings
-abbrev pub session_of : Edit → Session
-session_of (Join session slot name account tokens) = record { session = session; slot = slot; name = name }
-
-pub record IsKept (accepted : List Edit) (sessions : List Session) (published : ℕ) (outboxes : List (List Parcel)) : Type 0 where
-  pub sessions_joined : sessions ≡ map session_of accepted
-  pub published_accepted : published ≤ length accepted
+-- each worker has a view of the history, and each slot an outbox
+pub record IsKept (history : HistoryValue) (views : List ViewValue) (workers : List WorkerState) (outboxes : List (List Parcel)) : Type 0 where
+  pub views_of : All (IsViewOf history.opening history.accepted) views
+  pub a_view_each : length views ≡ length workers
   pub an_outbox_each : length outboxes ≡ SLOTS
 
 -- the parts of bytes that are a packet

@@ -1,10 +1,11 @@
 pub mod Lists
-pub mod State
+pub mod Route
 pub mod Connection
 pub mod Worker
 pub mod Core
 pub mod Case
 pub mod Line
+pub mod Reply
 pub mod Action
 pub mod steps
 pub mod Built

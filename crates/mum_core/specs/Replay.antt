@@ -6,6 +6,7 @@ use Rattle.mum_frame.specs.declared.kind.TheConstants.{AUTHENTICATE}
 use Rattle.mum_record.specs.declared.step.Step.{Step}
 use Rattle.mum_record.specs.Head.{is_head_line, workers_of, is_empty_config}
 use Rattle.mum_record.specs.Reading.{step_of}
+use Rattle.mum_state.specs.State.{empty_state}
 use Rattle.mum_core.specs.declared.{connection.TheConstants.OLDEST_VERSION, end.End.End, end.End.TheVariants.Finished, end.End.TheVariants.Faulty, end.LineFault.LineFault, replay.Login.Login, replay.Phase.Phase, replay.TheConstants.LINE_LIMIT, replay.TheConstants.INPUT_LIMIT}
 use Rattle.mum_core.specs.declared.end.LineFault.TheVariants.{TooLong, BadRecording, NotBuilt, IllegalStep}
 use Rattle.mum_core.specs.declared.replay.Phase.TheVariants.{Head, Workers, Config, Running, Over}
@@ -74,7 +75,7 @@ workers_answer (Some workers) = Goes (Config workers) []
 unfoldable pub answer : Phase → List ℕ → Answer
 answer Head line = if is_head_line line then Goes Workers [] else Stops BadRecording
 answer Workers line = workers_answer (workers_of line)
-answer (Config workers) line = if is_empty_config line then Goes (Running (start workers) []) [] else Stops BadRecording
+answer (Config workers) line = if is_empty_config line then Goes (Running (start empty_state workers) []) [] else Stops BadRecording
 answer (Running core logins) line = step_answer core logins (step_of line)
 answer Over line = Stops BadRecording
 

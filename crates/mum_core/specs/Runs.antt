@@ -39,6 +39,11 @@ abbrev pub is_end : Step → Bool
 is_end words.End = true
 is_end others = false
 
+-- whether a step is a tell, which alone may tell two lines
+abbrev pub is_tell : Step → Bool
+is_tell (words.Tell c revision) = true
+is_tell others = false
+
 -- a login as the code looks at it
 abbrev pub viewed_login : (ℕ × Bor (List ℕ)) → Login
 viewed_login (connection, payload) = record { connection = connection; payload = payload.now }

@@ -2,15 +2,21 @@
 
 ghost use Rattle.std.specs.Prelude.{◌≡◌, IfOk, Ok};
 ghost use Rattle.mum_fields.specs.Table.{decoded, parts};
-ghost use Rattle.mum_msg_state.specs.Messages.{authenticate, ping, version};
-ghost use Rattle.mum_core.specs.Action.{action, ignored_code, login_action, ping_action, version_action, voice_action};
+ghost use Rattle.mum_msg_rule.specs.Messages.{acl};
+ghost use Rattle.mum_msg_state.specs.Messages.{authenticate, channel_remove, channel_state, ping, version};
+ghost use Rattle.mum_core.specs.Action.{acl_action, action, after_login, asked, channel_action, ignored_code, login_action, ping_action, removal_action, version_action, voice_action};
 
-use crate::connection::Seat;
-use crate::payload::{read_authenticate, read_ping, read_version};
+use crate::connection::{Command, Seat};
+use crate::payload::{
+    read_acl, read_authenticate, read_channel_remove, read_channel_state, read_ping, read_version,
+};
 use mum_base::{Octets, OutOfMemory, SessionId, Text};
-use mum_frame::kind::{AUTHENTICATE, PING, UDP_TUNNEL, VERSION};
+use mum_frame::kind::{
+    ACL, AUTHENTICATE, CHANNEL_REMOVE, CHANNEL_STATE, PING, UDP_TUNNEL, VERSION,
+};
 use mum_frame::{FrameView, put_frame};
 use mum_msg_state::{Authenticate, Message};
+use mum_rules_tree::{Reason, TreeMessage, is_too_long};
 use std::alloc::Global;
 
 /// Why a frame is ignored.
@@ -20,19 +26,19 @@ pub enum Ignored {
     NotRead,
     /// Its payload is malformed.
     Malformed,
-    /// Its connection is not logged in.
-    NotLoggedIn,
+    /// A reason that a decision would give too.
+    Because(Reason),
 }
 
 impl Ignored {
-    /// The number that the transcript tells, 1 to 3.
+    /// The number that the transcript tells, 1 to 8.
     pub fn code(self) -> u8
         ensures { result ≡ ignored_code self }
     {
         match self {
             Ignored::NotRead => 1,
             Ignored::Malformed => 2,
-            Ignored::NotLoggedIn => 3,
+            Ignored::Because(reason) => reason.code(),
         }
     }
 }
@@ -40,8 +46,8 @@ impl Ignored {
 /// What a frame asks for.
 #[derive(Debug, Drop)]
 pub enum Action {
-    /// To enter under a name.
-    Ask { name: Text },
+    /// That a command is decided.
+    Ask { command: Command },
     /// That others hear a packet of this session.
     Voice { speaker: SessionId, packet: Octets },
     /// To be answered by a frame.
@@ -53,7 +59,7 @@ pub enum Action {
 
 /// The name that a login asks for; an empty one where it has none.
 fn name_in(alloc: Global, login: Authenticate) -> Text
-    ensures { login_action (Ok (parts authenticate login)) ≡ Action.Ask result }
+    ensures { login_action (Ok (parts authenticate login)) ≡ Action.Ask (Command.Login result) }
 {
     let Authenticate { username, .. } = login;
     match username {
@@ -66,9 +72,12 @@ fn login_action(alloc: Global, payload: &[u8]) -> Result<Action, OutOfMemory>
     ensures { IfOk result (λ a. a ≡ login_action (decoded authenticate payload.now)) }
 {
     match read_authenticate(alloc, payload)? {
-        Some(login) => Ok(Action::Ask {
-            name: name_in(alloc, login),
-        }),
+        Some(login) => {
+            let name = name_in(alloc, login);
+            Ok(Action::Ask {
+                command: Command::Login { name },
+            })
+        }
         None => Ok(Action::Ignore {
             why: Ignored::Malformed,
         }),
@@ -111,8 +120,70 @@ fn voice_action(alloc: Global, seat: Option<Seat>, payload: &[u8]) -> Result<Act
             packet: Octets::of(alloc, payload)?,
         }),
         None => Ok(Action::Ignore {
-            why: Ignored::NotLoggedIn,
+            why: Ignored::Because(Reason::NotLoggedIn),
         }),
+    }
+}
+
+/// What a command on channels asks for, which is too long or waits to be decided.
+fn asked(alloc: Global, message: TreeMessage) -> Result<Action, OutOfMemory>
+    ensures { IfOk result (λ a. a ≡ asked message) }
+{
+    if is_too_long(alloc, &message)? {
+        return Ok(Action::Ignore {
+            why: Ignored::Because(Reason::TooLong),
+        });
+    }
+    Ok(Action::Ask {
+        command: Command::Tree { message },
+    })
+}
+
+#[tactic(auto, using(mum_msg_state::specs::Parts::channel_remove_back))]
+fn removal_action(alloc: Global, payload: &[u8]) -> Result<Action, OutOfMemory>
+    ensures { IfOk result (λ a. a ≡ removal_action (decoded channel_remove payload.now)) }
+{
+    match read_channel_remove(alloc, payload)? {
+        Some(message) => asked(alloc, TreeMessage::Remove(message)),
+        None => Ok(Action::Ignore {
+            why: Ignored::Malformed,
+        }),
+    }
+}
+
+#[tactic(auto, using(mum_msg_state::specs::Parts::channel_state_back))]
+fn channel_action(alloc: Global, payload: &[u8]) -> Result<Action, OutOfMemory>
+    ensures { IfOk result (λ a. a ≡ channel_action (decoded channel_state payload.now)) }
+{
+    match read_channel_state(alloc, payload)? {
+        Some(message) => asked(alloc, TreeMessage::State(message)),
+        None => Ok(Action::Ignore {
+            why: Ignored::Malformed,
+        }),
+    }
+}
+
+#[tactic(auto, using(mum_msg_rule::specs::Parts::acl_back))]
+fn acl_action(alloc: Global, payload: &[u8]) -> Result<Action, OutOfMemory>
+    ensures { IfOk result (λ a. a ≡ acl_action (decoded acl payload.now)) }
+{
+    match read_acl(alloc, payload)? {
+        Some(message) => asked(alloc, TreeMessage::Acl(message)),
+        None => Ok(Action::Ignore {
+            why: Ignored::Malformed,
+        }),
+    }
+}
+
+/// The action, which comes after a login alone.
+fn after_login(seat: Option<Seat>, action: Action) -> Action
+    ensures { result ≡ after_login seat action }
+{
+    match seat {
+        Some(_) => action,
+        None => Action::Ignore {
+            why: Ignored::Because(Reason::NotLoggedIn),
+        },
     }
 }
 
@@ -130,6 +201,9 @@ pub fn action_of(
         VERSION => version_action(alloc, frame.payload),
         PING => ping_action(alloc, frame.payload),
         AUTHENTICATE => login_action(alloc, frame.payload),
+        CHANNEL_REMOVE => Ok(after_login(seat, removal_action(alloc, frame.payload)?)),
+        CHANNEL_STATE => Ok(after_login(seat, channel_action(alloc, frame.payload)?)),
+        ACL => Ok(after_login(seat, acl_action(alloc, frame.payload)?)),
         _ => Ok(Action::Ignore {
             why: Ignored::NotRead,
         }),

@@ -9,8 +9,7 @@ ghost use Rattle.mum_core.specs.Built as spec;
 
 use crate::slot::SLOTS;
 use mum_frame::kind::{
-    ACL, AUTHENTICATE, CHANNEL_REMOVE, CHANNEL_STATE, PERMISSION_QUERY, TEXT_MESSAGE, UDP_TUNNEL,
-    USER_REMOVE, USER_STATE, VOICE_TARGET,
+    AUTHENTICATE, PERMISSION_QUERY, TEXT_MESSAGE, UDP_TUNNEL, USER_REMOVE, USER_STATE, VOICE_TARGET,
 };
 use mum_frame::{FrameView, whole_frame};
 use mum_record::Step;
@@ -59,14 +58,7 @@ fn is_unbuilt(kind: u16) -> bool
 {
     matches!(
         kind,
-        CHANNEL_REMOVE
-            | CHANNEL_STATE
-            | USER_REMOVE
-            | USER_STATE
-            | TEXT_MESSAGE
-            | ACL
-            | VOICE_TARGET
-            | PERMISSION_QUERY
+        USER_REMOVE | USER_STATE | TEXT_MESSAGE | VOICE_TARGET | PERMISSION_QUERY
     )
 }
 
@@ -90,8 +82,8 @@ fn is_built_frame(frame: FrameView<'_>) -> bool
 }
 
 /// Whether the word and the form of a step are built. Not built yet are an `open` of a connection above
-/// 128, `post`, `collect` and `close`, and of frames the commands after a login, voice that is no plain
-/// talk, and a login that is more than a plain username.
+/// 128, `post`, `collect` and `close`, and of frames the commands on sessions, texts and voice targets,
+/// voice that is no plain talk, and a login that is more than a plain username.
 pub fn is_built(step: &Step) -> bool
     requires recordable { IsRecordable step.now }
     ensures { result ≡ spec.is_built step.now }

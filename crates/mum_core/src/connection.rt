@@ -2,12 +2,12 @@
 
 ghost use Rattle.std.specs.Prelude.{◌≡◌, None, Some};
 ghost use Rattle.mum_fields.specs.Message.{or_else};
-ghost use Rattle.mum_core.specs.Connection.{fresh, seat_given, untold};
+ghost use Rattle.mum_core.specs.Connection.{fresh, session_of, told, untold};
 ghost use Rattle.mum_core.specs.Lists.{changed_at};
-ghost use Rattle.mum_core.specs.declared.connection.Command.TheVariants.{Login};
 
 use crate::slot::ValidSlot;
-use mum_base::{SessionId, Text};
+use mum_base::{Mark, Octets, SessionId, Text};
+use mum_rules_tree::TreeMessage;
 
 /// The oldest version of the protocol, 1.2.0, of which a login is built.
 pub const OLDEST_VERSION: u32 = 0x0001_0200;
@@ -24,13 +24,19 @@ pub struct Seat {
 pub enum Command {
     /// To enter under this name.
     Login { name: Text },
+    /// Other channels, or other groups and entries of one.
+    Tree { message: TreeMessage },
 }
 
-/// What the control owner decided of a command, and what the connection has not been told yet.
-#[derive(Clone, Copy, Debug, PartialEq, Eq)]
-pub enum Verdict {
-    /// The command is the edit with this number, and gave this seat.
-    Accepted { revision: u64, seat: Seat },
+/// What the control owner answers to a command.
+#[derive(Debug, Drop)]
+pub struct Reply {
+    /// What it decided.
+    pub mark: Mark,
+    /// The seat of the session that joined by it.
+    pub seat: Option<Seat>,
+    /// The bytes of the frame that tells of a denial, or answers a query.
+    pub wire: Option<Octets>,
 }
 
 /// A connection of the core.
@@ -44,8 +50,8 @@ pub struct Connection {
     pub seat: Option<Seat>,
     /// The command of its last frame, until it is decided.
     pub waiting: Option<Command>,
-    /// The verdict that it waits to be told.
-    pub decided: Option<Verdict>,
+    /// The reply that it waits to be told.
+    pub decided: Option<Reply>,
 }
 
 impl Connection {
@@ -68,14 +74,33 @@ impl Connection {
     {
         u64::from(self.waiting.is_some()) + u64::from(self.decided.is_some())
     }
+
+    /// The session that its told login gave it.
+    pub fn session(&self) -> Option<SessionId>
+        ensures { result ≡ session_of self.now }
+    {
+        match self.seat {
+            Some(seat) => Some(seat.session),
+            None => None,
+        }
+    }
+
+    /// It is told its reply.
+    fn tell(&mut self)
+        ensures { self.new ≡ told self.old }
+    {
+        if let Some(reply) = self.decided.take() {
+            self.seat = reply.seat.or(self.seat);
+        }
+    }
 }
 
-/// The connection at a place asks to enter under this name.
-pub fn ask_at(connections: &mut Vec<Connection>, place: usize, name: Text)
-    ensures { connections.new.items ≡ changed_at place (λ c. record c { waiting = Some (Login name) }) connections.old.items }
+/// The connection at a place asks for this.
+pub fn ask_at(connections: &mut Vec<Connection>, place: usize, command: Command)
+    ensures { connections.new.items ≡ changed_at place (λ c. record c { waiting = Some command }) connections.old.items }
 {
     if let Some(connection) = connections.get_mut(place) {
-        connection.waiting = Some(Command::Login { name });
+        connection.waiting = Some(command);
     }
 }
 
@@ -89,24 +114,20 @@ pub fn keep_version_at(connections: &mut Vec<Connection>, place: usize, number: 
 }
 
 /// The command of the connection at a place is decided.
-pub fn decide_at(connections: &mut Vec<Connection>, place: usize, verdict: Verdict)
-    ensures { connections.new.items ≡ changed_at place (λ c. record c { waiting = None; decided = Some verdict }) connections.old.items }
+pub fn decide_at(connections: &mut Vec<Connection>, place: usize, reply: Reply)
+    ensures { connections.new.items ≡ changed_at place (λ c. record c { waiting = None; decided = Some reply }) connections.old.items }
 {
     if let Some(connection) = connections.get_mut(place) {
         connection.waiting = None;
-        connection.decided = Some(verdict);
+        connection.decided = Some(reply);
     }
 }
 
-/// The connection at a place is told its verdict.
+/// The connection at a place is told its reply.
 pub fn tell_at(connections: &mut Vec<Connection>, place: usize)
-    ensures { connections.new.items ≡ changed_at place (λ c. record c { seat = seat_given c.decided; decided = None }) connections.old.items }
+    ensures { connections.new.items ≡ changed_at place told connections.old.items }
 {
     if let Some(connection) = connections.get_mut(place) {
-        connection.seat = match connection.decided {
-            Some(Verdict::Accepted { seat, .. }) => Some(seat),
-            None => None,
-        };
-        connection.decided = None;
+        connection.tell();
     }
 }

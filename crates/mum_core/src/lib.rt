@@ -5,7 +5,6 @@
 mod action;
 mod built;
 mod connection;
-mod edit;
 mod end;
 pub mod laws;
 mod machine;
@@ -13,11 +12,11 @@ mod outbox;
 mod payload;
 mod program;
 mod replay;
+mod reply;
 mod route;
 mod slot;
 mod worker;
 
 pub use built::is_built;
-pub use edit::{Edit, Session};
 pub use machine::{Core, Effects, StepFault};
 pub use program::{murmur, out_of_memory};

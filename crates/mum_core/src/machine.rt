@@ -1,19 +1,24 @@
 //! The machine: connections, workers, outboxes and the list of accepted edits. Each step has a file of
 //! its own.
 
-ghost use Rattle.std.specs.Prelude.{◌≡◌, ◌∷◌, [], IfOk, is_some, true, replicate};
+ghost use Rattle.std.specs.Prelude.{◌≡◌, ◌∷◌, [], IfOk, length, replicate};
+ghost use Rattle.std.specs.List.{All};
+ghost use Rattle.mum_history.specs.History.{begun};
+ghost use Rattle.mum_history.specs.View.{IsViewOf};
 ghost use Rattle.mum_record.specs.Grammar.{IsRecordable};
 ghost use Rattle.mum_core.specs.declared.machine.StepFault.TheVariants.{Illegal};
 ghost use Rattle.mum_core.specs.declared.slot.TheConstants.{SLOTS as slots};
 ghost use Rattle.mum_core.specs.Worker.{idle};
 
 use crate::connection::{Connection, OLDEST_VERSION};
-use crate::edit::{Edit, Session};
 use crate::outbox::Outbox;
 use crate::slot::SLOTS;
 use crate::worker::Worker;
 use mum_base::{Items, OutOfMemory, Text};
+use mum_history::{History, View, state_after};
 use mum_record::Step;
+use mum_state::{Edit, State};
+use mum_tree::Scratch;
 use std::alloc::{AllocError, Global};
 use std::marker::Model;
 use thiserror::Error;
@@ -69,14 +74,16 @@ pub struct Totals {
 }
 
 /// The core of the server.
-#[derive(Debug, Drop)]
+#[derive(Drop)]
 pub struct Core {
     alloc: Global,
-    accepted: Vec<Edit>,
-    sessions: Vec<Session>,
-    published: u64,
+    history: History,
     connections: Vec<Connection>,
     workers: Vec<Worker>,
+    /// Where each worker reads the history.
+    views: Vec<View>,
+    /// The marks of the channels that talk covers.
+    scratch: Scratch,
     outboxes: Vec<Outbox>,
     totals: Totals,
 }
@@ -88,14 +95,23 @@ impl Model for Core {
 
     ghost use Rattle.mum_core.specs.Kept.{IsKept};
 
-    ghost view = { λ c. record { accepted = c.accepted.items; published = c.published; connections = c.connections.items; workers = c.workers.items; outboxes = c.outboxes.items; totals = c.totals } };
+    ghost view = { λ c. record {
+      opening = c.history.opening;
+      accepted = c.history.accepted;
+      published = c.history.published;
+      connections = c.connections.items;
+      workers = c.workers.items;
+      outboxes = c.outboxes.items;
+      totals = c.totals;
+    } };
 
-    ghost invariant = { λ c. IsKept c.accepted.items c.sessions.items c.published c.outboxes.items };
+    ghost invariant = { λ c. IsKept c.history c.views.items c.workers.items c.outboxes.items };
 }
 
 /// Workers that have done nothing.
 fn idle_workers(alloc: Global, count: u8) -> Result<Vec<Worker>, OutOfMemory>
-    ensures { IfOk result (λ workers. workers.items ≡ replicate count idle) }
+    ensures idle { IfOk result (λ workers. workers.items ≡ replicate count idle) }
+    ensures count { IfOk result (λ workers. length workers.items ≡ count) }
 {
     let mut workers = Vec::new(alloc);
     for _number in 0..count {
@@ -104,9 +120,22 @@ fn idle_workers(alloc: Global, count: u8) -> Result<Vec<Worker>, OutOfMemory>
     Ok(workers)
 }
 
+/// Views of the opening, one for each worker.
+fn opening_views(alloc: Global, count: u8, history: &History) -> Result<Vec<View>, OutOfMemory>
+    ensures each { IfOk result (λ views. All (IsViewOf history.now.opening history.now.accepted) views.items) }
+    ensures count { IfOk result (λ views. length views.items ≡ count) }
+{
+    let mut views = Vec::new(alloc);
+    for _number in 0..count {
+        views.push(View::of(alloc, history)?)?;
+    }
+    Ok(views)
+}
+
 /// An outbox for each slot.
 fn empty_outboxes(alloc: Global) -> Result<Vec<Outbox>, OutOfMemory>
-    ensures { IfOk result (λ outboxes. outboxes.items ≡ replicate slots []) }
+    ensures empty { IfOk result (λ outboxes. outboxes.items ≡ replicate slots []) }
+    ensures count { IfOk result (λ outboxes. length outboxes.items ≡ slots) }
 {
     let mut outboxes = Vec::new(alloc);
     for _slot in 0..SLOTS {
@@ -115,45 +144,98 @@ fn empty_outboxes(alloc: Global) -> Result<Vec<Outbox>, OutOfMemory>
     Ok(outboxes)
 }
 
+/// The history of an opening that no edit changed yet, and views of it, one for each worker.
+fn readers(alloc: Global, count: u8, opening: State) -> Result<(History, Vec<View>), OutOfMemory>
+    ensures history { IfOk result (λ readers. readers.0 ≡ begun opening) }
+    ensures each { IfOk result (λ readers. All (IsViewOf opening []) readers.1.items) }
+    ensures count { IfOk result (λ readers. length readers.1.items ≡ count) }
+{
+    let history = History::open(alloc, opening)?;
+    let views = opening_views(alloc, count, &history)?;
+    Ok((history, views))
+}
+
+/// Workers that have done nothing, and an outbox for each slot.
+fn idle_hands(alloc: Global, count: u8) -> Result<(Vec<Worker>, Vec<Outbox>), OutOfMemory>
+    ensures idle { IfOk result (λ hands. hands.0.items ≡ replicate count idle) }
+    ensures count { IfOk result (λ hands. length hands.0.items ≡ count) }
+    ensures empty { IfOk result (λ hands. hands.1.items ≡ replicate slots []) }
+    ensures slots { IfOk result (λ hands. length hands.1.items ≡ slots) }
+{
+    let workers = idle_workers(alloc, count)?;
+    let outboxes = empty_outboxes(alloc)?;
+    Ok((workers, outboxes))
+}
+
 impl Core {
-    ghost use Rattle.std.specs.Prelude.{◌≡◌, ◌++◌, ◌∷◌, [], ◌+◌, ◌<◌, IfOk, IfSome, OnOk, IsSome, is_some, true, length, map, nat_lt, string_bytes, vec_capacity, vec_len, ◌⊎◌};
+    ghost use Rattle.std.specs.Prelude.{◌≡◌, ◌++◌, ◌∷◌, [], ◌+◌, ◌<◌, IfOk, IfSome, OnOk, IsSome, IsTrue, is_some, false, true, length, map, nat_lt, string_bytes, vec_capacity, vec_len, ◌⊎◌};
     ghost use Rattle.mum_base.specs.Refusal.{Gives, Settles};
+    ghost use Rattle.mum_state.specs.After.{after, all_fit};
+    ghost use Rattle.mum_state.specs.State.{empty_state};
     ghost use Rattle.mum_record.specs.Words.{line_of_words};
     ghost use Rattle.mum_core.specs.Built.{is_built, taken};
     ghost use Rattle.mum_core.specs.Case.{IsStarved, named_cause};
     ghost use Rattle.mum_core.specs.Core.{start, is_opened, connection_at, worker_at};
+    ghost use Rattle.mum_core.specs.Kept.{IsKept};
     ghost use Rattle.mum_core.specs.Line.{joined};
     ghost use Rattle.mum_core.specs.Replay.{is_below_oldest};
+    ghost use Rattle.mum_core.specs.Runs.{is_tell};
     ghost use Rattle.mum_core.specs.Step.{does, illegal, lines};
     ghost use Rattle.mum_core.specs.Worker.{in_hand};
     ghost use Rattle.mum_core.specs.declared.machine.StepFault.TheVariants as faults;
 
-    /// A core of so many workers that nothing happened to. It takes no edits yet.
-    pub fn open(alloc: Global, workers: u8, edits: &[Edit]) -> Result<Core, OutOfMemory>
-        requires no_edits { edits.now ≡ [] }
-        ensures { IfOk result (λ core. core ≡ start workers) }
+    /// A core to which nothing was counted, of parts that fit one another.
+    fn of(
+        alloc: Global,
+        history: History,
+        views: Vec<View>,
+        workers: Vec<Worker>,
+        outboxes: Vec<Outbox>,
+        scratch: Scratch,
+    ) -> Core
+        requires { IsKept history views.items workers.items outboxes.items }
+        ensures { result ≡ record {
+          opening = history.opening;
+          accepted = history.accepted;
+          published = history.published;
+          connections = [];
+          workers = workers.items;
+          outboxes = outboxes.items;
+          totals = record { looks = 0; copies = 0; full = 0; stale = 0 };
+        } }
     {
-        let _ = edits;
-        Ok(Core {
+        Core {
             alloc,
-            accepted: Vec::new(alloc),
-            sessions: Vec::new(alloc),
-            published: 0,
+            history,
             connections: Vec::new(alloc),
-            workers: idle_workers(alloc, workers)?,
-            outboxes: empty_outboxes(alloc)?,
+            workers,
+            views,
+            scratch,
+            outboxes,
             totals: Totals {
                 looks: 0,
                 copies: 0,
                 full: 0,
                 stale: 0,
             },
-        })
+        }
+    }
+
+    /// A core of so many workers that nothing happened to, at the state after edits of which each fits
+    /// where it stands. They are no part of its accepted edits: revisions count from here on.
+    pub fn open(alloc: Global, workers: u8, edits: &[Edit]) -> Result<Core, OutOfMemory>
+        requires { IsTrue (all_fit empty_state edits.now) }
+        ensures { IfOk result (λ core. core ≡ start (after edits.now) workers) }
+    {
+        let (hands, outboxes) = idle_hands(alloc, workers)?;
+        let scratch = Scratch::new(alloc)?;
+        let (history, views) = readers(alloc, workers, state_after(alloc, edits)?)?;
+        Ok(Core::of(alloc, history, views, hands, outboxes, scratch))
     }
 
     /// Takes a step, and appends the lines that the transcript gains, parted by line feeds. A refusal
     /// leaves the core as it was: `Illegal` has the two numbers of the first case that forbids the step.
-    /// After want of memory the text may have been added to.
+    /// After a refusal the text may have been added to.
     pub fn take(&mut self, step: &Step, text: &mut String) -> Result<(), StepFault>
         requires recordable { IsRecordable step.now }
         requires built { is_built step.now ≡ true }
@@ -189,20 +271,38 @@ impl Core {
         ensures { IfSome (taken step.now) (λ step. IsStarved self.old result self.new ⊎
             Gives named_cause (illegal self.old step) (map line_of_words (lines self.old step)) (does self.old step) self.old result self.new) }
     {
+        let Step::Tell {
+            connection,
+            revision,
+        } = *step
+        else {
+            return self.step_alone(step);
+        };
+        self.step_tell(connection, revision)
+    }
+
+    /// The same of a step that tells one line.
+    fn step_alone(&mut self, step: &Step) -> Result<Effects, StepFault>
+        requires recordable { IsRecordable step.now }
+        requires built { is_built step.now ≡ true }
+        requires alone { is_tell step.now ≡ false }
+        ensures { IfSome (taken step.now) (λ step. IsStarved self.old result self.new ⊎
+            Gives named_cause (illegal self.old step) (map line_of_words (lines self.old step)) (does self.old step) self.old result self.new) }
+    {
         match Vec::with_capacity(self.alloc, 1) {
             Ok(room) => self.step_into(step, room),
             Err(_) => Err(StepFault::OutOfMemory),
         }
     }
 
-    /// The same with room for its one line.
+    /// The same with room for what it tells, as one text.
     fn step_into(&mut self, step: &Step, mut room: Vec<Text>) -> Result<Effects, StepFault>
         requires recordable { IsRecordable step.now }
         requires built { is_built step.now ≡ true }
         requires nothing { room.items ≡ [] }
         requires room { vec_len room < vec_capacity room }
         ensures { IfSome (taken step.now) (λ step.
-            Gives named_cause (illegal self.old step) (map line_of_words (lines self.old step)) (does self.old step) self.old result self.new) }
+            Gives named_cause (illegal self.old step) (joined (lines self.old step) ∷ []) (does self.old step) self.old result self.new) }
     {
         let mut text = String::new(self.alloc);
         self.take(step, &mut text)?;

@@ -2,11 +2,15 @@
 
 ghost use Rattle.std.specs.Prelude.{◌≡◌, IfOk};
 ghost use Rattle.mum_fields.specs.Table.{decoded, parts};
-ghost use Rattle.mum_msg_state.specs.Messages.{authenticate, ping, version};
+ghost use Rattle.mum_msg_rule.specs.Messages.{acl};
+ghost use Rattle.mum_msg_state.specs.Messages.{authenticate, channel_remove, channel_state, ping, version};
 ghost use Rattle.mum_core.specs.Reads.{Reads, well_formed};
 
 use mum_base::OutOfMemory;
-use mum_msg_state::{Authenticate, Message, MessageFault, Ping, Version};
+use mum_msg_rule::Acl;
+use mum_msg_state::{
+    Authenticate, ChannelRemove, ChannelState, Message, MessageFault, Ping, Version,
+};
 use std::alloc::{AllocError, Global};
 
 /// A message that was decoded. What is wrong with a malformed payload is told to nobody.
@@ -40,4 +44,28 @@ pub(crate) fn read_authenticate(
     ensures { IfOk result (λ read. Reads (parts authenticate) read (decoded authenticate payload.now)) }
 {
     well_formed(Authenticate::decode(alloc, payload))
+}
+
+pub(crate) fn read_channel_remove(
+    alloc: Global,
+    payload: &[u8],
+) -> Result<Option<ChannelRemove>, OutOfMemory>
+    ensures { IfOk result (λ read. Reads (parts channel_remove) read (decoded channel_remove payload.now)) }
+{
+    well_formed(ChannelRemove::decode(alloc, payload))
+}
+
+pub(crate) fn read_channel_state(
+    alloc: Global,
+    payload: &[u8],
+) -> Result<Option<ChannelState>, OutOfMemory>
+    ensures { IfOk result (λ read. Reads (parts channel_state) read (decoded channel_state payload.now)) }
+{
+    well_formed(ChannelState::decode(alloc, payload))
+}
+
+pub(crate) fn read_acl(alloc: Global, payload: &[u8]) -> Result<Option<Acl>, OutOfMemory>
+    ensures { IfOk result (λ read. Reads (parts acl) read (decoded acl payload.now)) }
+{
+    well_formed(Acl::decode(alloc, payload))
 }

@@ -6,6 +6,7 @@ ghost use Rattle.mum_io.specs.Outside.{Appends, AppendsFront, Rose};
 ghost use Rattle.mum_record.specs.Grammar.{IsRecordable};
 ghost use Rattle.mum_record.specs.Reading.{step_of};
 ghost use Rattle.mum_core.specs.Built.{taken};
+ghost use Rattle.mum_state.specs.State.{empty_state};
 ghost use Rattle.mum_core.specs.Core.{start};
 ghost use Rattle.mum_core.specs.Program.{Ends, WritesCounted};
 ghost use Rattle.mum_core.specs.Replay.{replayed, asks_again, ending_of, is_line_feed, login_in, logins_after, repeats};
@@ -85,7 +86,7 @@ fn keep_login(alloc: Global, logins: &mut Items<Login>, step: &Step) -> Result<(
 }
 
 /// Which lines may come next.
-#[derive(Debug, Drop)]
+#[derive(Drop)]
 pub enum Phase {
     /// The line `recording 1`.
     Head,
@@ -154,13 +155,21 @@ fn is_end(step: &Step) -> bool
 
 /// The phase of steps, at a core that nothing happened to.
 fn running(alloc: Global, workers: u8) -> Result<Phase, OutOfMemory>
-    ensures { IfOk result (λ phase. phase ≡ Phase.Running (start workers) []) }
+    ensures { IfOk result (λ phase. phase ≡ Phase.Running (start empty_state workers) []) }
 {
     let core = Core::open(alloc, workers, &[])?;
     Ok(Phase::Running(core, Items::new(alloc)))
 }
 
 impl Phase {
+    /// Goes over to another phase.
+    #[inline(never)]
+    fn turn(&mut self, next: Phase)
+        ensures { self.new ≡ next }
+    {
+        *self = next;
+    }
+
     /// Takes line `n`, which is not too long, and appends what it tells to the transcript, which has
     /// nothing yet.
     #[tactic(auto, unfolding(crate::specs::Replay::answer))]
@@ -173,19 +182,20 @@ impl Phase {
                 if !is_recording(line) {
                     return Err(faulty(n, LineFault::BadRecording));
                 }
-                *self = Phase::Workers;
+                self.turn(Phase::Workers);
             }
             Phase::Workers => {
                 let Some(workers) = read_workers(line) else {
                     return Err(faulty(n, LineFault::BadRecording));
                 };
-                *self = Phase::Config(workers);
+                self.turn(Phase::Config(workers));
             }
             Phase::Config(workers) => {
                 if !is_empty_config(line) {
                     return Err(faulty(n, LineFault::BadRecording));
                 }
-                *self = running(alloc, *workers)?;
+                let next = running(alloc, *workers)?;
+                self.turn(next);
             }
             Phase::Running(core, logins) => {
                 let step = read(alloc, n, line)?;
@@ -193,7 +203,7 @@ impl Phase {
                 if !is_end(&step) {
                     return Ok(());
                 }
-                *self = Phase::Over;
+                self.turn(Phase::Over);
                 return Ok(());
             }
             Phase::Over => return Err(faulty(n, LineFault::BadRecording)),
@@ -284,13 +294,15 @@ fn wrote<O: Sink>(output: &mut O, text: &str) -> bool
     write_all(output, text.as_bytes()).is_ok()
 }
 
-/// Writes the transcript of a recording, line by line, and tells how the run over it ended.
-pub fn replay<O: Sink>(alloc: Global, bytes: &[u8], output: &mut O) -> End
+/// Writes the transcript of a recording, line by line, from a run that took no line yet on.
+fn replay_lines<O: Sink>(alloc: Global, run: &mut Run, bytes: &[u8], output: &mut O) -> End
+    requires phase { run.old.phase ≡ Phase.Head }
+    requires line { run.old.line ≡ 1 }
+    requires left { run.old.left ≡ INPUT_LIMIT }
     ensures ends { Ends (replayed bytes.now) result (O.written output.old) (O.written output.new) }
     ensures counted { WritesCounted result (O.faults output.old) (O.faults output.new) }
     ensures no_read { result ≡ End.ReadFault → ⊥ }
 {
-    let mut run = Run::new(alloc);
     let mut rest = bytes;
     'lines: while let Some((line, behind)) = split_line(rest) {
         match run.take(alloc, line) {
@@ -303,4 +315,14 @@ pub fn replay<O: Sink>(alloc: Global, bytes: &[u8], output: &mut O) -> End
         rest = behind;
     }
     run.end(rest)
+}
+
+/// Writes the transcript of a recording, line by line, and tells how the run over it ended.
+pub fn replay<O: Sink>(alloc: Global, bytes: &[u8], output: &mut O) -> End
+    ensures ends { Ends (replayed bytes.now) result (O.written output.old) (O.written output.new) }
+    ensures counted { WritesCounted result (O.faults output.old) (O.faults output.new) }
+    ensures no_read { result ≡ End.ReadFault → ⊥ }
+{
+    let mut run = Run::new(alloc);
+    replay_lines(alloc, &mut run, bytes, output)
 }

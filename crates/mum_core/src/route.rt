@@ -1,15 +1,22 @@
 //! Who hears a packet, and the copies for them.
 
-ghost use Rattle.std.specs.Prelude.{◌≡◌, ◌<◌, Some, map, filter, IfOk, not};
-ghost use Rattle.std.specs.List.{list_any};
-ghost use Rattle.mum_core.specs.State.{route, is_session};
-ghost use Rattle.mum_core.specs.steps.Look.{audience, copies, copy_to};
+ghost use Rattle.std.specs.Prelude.{◌≡◌, ◌++◌, ◌∷◌, ◌<◌, [], Some, map, filter, IfOk, IsTrue, OnOk};
+ghost use Rattle.std.specs.List.{All};
+ghost use Rattle.mum_base.specs.Channels.{is_among};
+ghost use Rattle.mum_tree.specs.Rows.{is_there};
+ghost use Rattle.mum_tree.specs.Walks.{linked};
+ghost use Rattle.mum_core.specs.declared.slot.TheConstants.{SLOTS};
+ghost use Rattle.mum_core.specs.Route.{by_talk, hears_talk, is_deaf, is_silent, is_talked_in, may_speak_in, route, talk_of};
+ghost use Rattle.mum_core.specs.steps.Look.{audience, copy_to};
 
-use crate::edit::Session;
 use crate::outbox::CopyBytes;
 use crate::slot::ValidSlot;
 use crate::worker::{Held, Outgoing};
-use mum_base::{OutOfMemory, SessionId};
+use mum_base::{ChannelId, OutOfMemory, Perm, SessionId};
+use mum_policy::Who;
+use mum_state::State;
+use mum_tree::Scratch;
+use mum_users::User;
 use std::alloc::Global;
 use std::collections::VecDeque;
 use std::marker::Model;
@@ -55,52 +62,159 @@ pub struct Member {
     pub context: Context,
 }
 
-/// Whether the speaker is one of these sessions.
-fn is_among(sessions: &[Session], speaker: u32) -> bool
-    ensures { result ≡ list_any (is_session speaker) sessions.now }
+/// Whether nobody hears a session.
+fn is_silent(user: &User) -> bool
+    ensures { result ≡ is_silent user.now }
 {
-    sessions.iter().any(|session| session.session.0 == speaker)
+    user.mute || user.self_mute || user.suppress
 }
 
-/// The sessions but for the speaker, who hear it by talk.
-fn others(alloc: Global, sessions: &[Session], speaker: u32) -> Result<Vec<Member>, OutOfMemory>
-    ensures { IfOk result (λ members. members.items ≡ map (λ s. record { session = s.session; slot = s.slot; context = 0 }) (filter (λ s. not (is_session speaker s)) sessions.now)) }
+/// Whether a session hears nothing.
+fn is_deaf(user: &User) -> bool
+    ensures { result ≡ is_deaf user.now }
 {
-    sessions
-        .iter()
-        .filter(|session| session.session.0 != speaker)
-        .map(|session| Member {
-            session: session.session,
-            slot: session.slot,
-            context: Context::talk(),
-        })
-        .collect(alloc)
+    user.deaf || user.self_deaf
 }
 
-/// Who of these sessions hears what the speaker says to a target.
-fn route(
+fn may_speak_in(state: &State, speaker: &User, channel: ChannelId) -> bool
+    ensures { result ≡ may_speak_in state.now speaker.now channel }
+{
+    let who = Who {
+        session: speaker.session,
+        account: speaker.account,
+        channel: speaker.channel,
+        tokens: speaker.tokens.as_slice(),
+    };
+    match state.granted_to(&who, channel) {
+        Some(held) => held.has(Perm::SPEAK),
+        None => false,
+    }
+}
+
+/// Whether a channel is marked.
+fn is_marked(scratch: &Scratch, channel: ChannelId) -> bool
+    ensures { result ≡ is_among scratch.now channel }
+{
+    scratch.marked(channel)
+}
+
+/// Whether talk covers a channel, where all that links lead to from the speaker's are marked.
+fn is_talked_in(state: &State, speaker: &User, channel: ChannelId, scratch: &Scratch) -> bool
+    requires { scratch.now ≡ linked state.now.tree speaker.now.channel }
+    ensures { result ≡ is_talked_in state.now speaker.now channel }
+{
+    is_marked(scratch, channel) && may_speak_in(state, speaker, channel)
+}
+
+fn hears_talk(state: &State, speaker: &User, user: &User, scratch: &Scratch) -> bool
+    requires { scratch.now ≡ linked state.now.tree speaker.now.channel }
+    ensures { result ≡ hears_talk state.now speaker.now user.now }
+{
+    user.session.0 != speaker.session.0
+        && !is_deaf(user)
+        && is_talked_in(state, speaker, user.channel, scratch)
+}
+
+/// A session as talk reaches it.
+fn by_talk(user: &User) -> Member
+    requires { user.now.slot.0 < SLOTS }
+    ensures { result ≡ by_talk user.now }
+{
+    Member {
+        session: user.session,
+        slot: ValidSlot::new(usize::from(user.slot.0)),
+        context: Context::talk(),
+    }
+}
+
+/// Appends a session where it hears the speaker.
+fn push_hearer(
+    members: &mut Vec<Member>,
+    state: &State,
+    speaker: &User,
+    user: &User,
+    scratch: &Scratch,
+) -> Result<(), OutOfMemory>
+    requires linked { scratch.now ≡ linked state.now.tree speaker.now.channel }
+    requires slot { user.now.slot.0 < SLOTS }
+    ensures { OnOk result (members.new.items ≡ members.old.items
+        ++ map by_talk (filter (hears_talk state.now speaker.now) (user.now ∷ []))) }
+{
+    if hears_talk(state, speaker, user, scratch) {
+        members.push(by_talk(user))?;
+    }
+    Ok(())
+}
+
+/// Those of these sessions who hear the speaker.
+#[tactic(auto, using(crate::proofs::Present::kept_on))]
+fn hearers(
     alloc: Global,
-    sessions: &[Session],
-    speaker: SessionId,
-    target: u8,
+    state: &State,
+    speaker: &User,
+    users: &[User],
+    scratch: &Scratch,
 ) -> Result<Vec<Member>, OutOfMemory>
-    ensures { IfOk result (λ members. members.items ≡ route (record { sessions = sessions.now }) speaker.0 target) }
+    requires linked { scratch.now ≡ linked state.now.tree speaker.now.channel }
+    requires slots { All (λ user. user.slot.0 < SLOTS) users.now }
+    ensures { IfOk result (λ members. members.items
+        ≡ map by_talk (filter (hears_talk state.now speaker.now) users.now)) }
 {
-    if target != 0 || !is_among(sessions, speaker.0) {
+    let mut members = Vec::new(alloc);
+    for user in users {
+        push_hearer(&mut members, state, speaker, user, scratch)?;
+    }
+    Ok(members)
+}
+
+/// Who hears a session that talks.
+#[tactic(auto, using(crate::proofs::Present::slots_below))]
+fn talk_of(
+    alloc: Global,
+    state: &State,
+    speaker: &User,
+    scratch: &mut Scratch,
+) -> Result<Vec<Member>, OutOfMemory>
+    requires { IsTrue (is_there state.now.tree.channels speaker.now.channel) }
+    ensures { IfOk result (λ members. members.items ≡ talk_of state.now speaker.now) }
+{
+    if is_silent(speaker) {
         return Ok(Vec::new(alloc));
     }
-    others(alloc, sessions, speaker.0)
+    state.tree().linked(speaker.channel, scratch);
+    hearers(alloc, state, speaker, state.roster().users(), scratch)
 }
 
-/// Who of these sessions hears a packet that a worker holds.
+/// Who hears what a session says to a target.
+#[tactic(auto, using(crate::proofs::Present::channel_there))]
+fn route(
+    alloc: Global,
+    state: &State,
+    speaker: SessionId,
+    target: u8,
+    scratch: &mut Scratch,
+) -> Result<Vec<Member>, OutOfMemory>
+    ensures { IfOk result (λ members. members.items ≡ route state.now speaker target) }
+{
+    if target != 0 {
+        return Ok(Vec::new(alloc));
+    }
+    match state.roster().session(speaker) {
+        Some(user) => talk_of(alloc, state, user, scratch),
+        None => Ok(Vec::new(alloc)),
+    }
+}
+
+/// Who hears a packet that a worker holds.
 pub(crate) fn audience(
     alloc: Global,
-    sessions: &[Session],
+    state: &State,
     held: &Held,
+    scratch: &mut Scratch,
 ) -> Result<Vec<Member>, OutOfMemory>
-    ensures { IfOk result (λ members. members.items ≡ audience (record { sessions = sessions.now }) (Some held.now)) }
+    ensures { IfOk result (λ members. members.items ≡ audience state.now (Some held.now)) }
 {
-    route(alloc, sessions, held.speaker(), held.packet().target)
+    route(alloc, state, held.speaker(), held.packet().target, scratch)
 }
 
 /// The copy of a packet for one member.

@@ -3,10 +3,11 @@
 ghost use Rattle.std.specs.Prelude.{◌≡◌, ◌<◌};
 
 use mum_base::Slot;
+use mum_users::user::SESSIONS;
 use std::marker::Model;
 
-/// How many sessions there can be, and so how many slots.
-pub const SLOTS: usize = 128;
+/// As many slots as sessions there can be.
+pub const SLOTS: usize = SESSIONS;
 
 /// A slot that there is: its number is below 128.
 #[derive(Clone, Copy, Debug, PartialEq, Eq)]
@@ -36,13 +37,6 @@ impl ValidSlot {
         ValidSlot {
             slot: Slot(number as u8),
         }
-    }
-
-    /// The slot as an edit names it.
-    pub fn to_slot(self) -> Slot
-        ensures { result ≡ self }
-    {
-        self.slot
     }
 
     /// The place of the slot's outbox.

@@ -1,12 +1,12 @@
 -- A connection takes the oldest copy of its slot. One for another session is dropped.
 use Rattle.std.specs.Prelude.{ℕ, ◌==◌, Bool, List, [], ◌∷◌, drop, Option, Some, None, is_none, slice_get, codes, decimal, if◌then◌else◌}
-use Rattle.hex.specs.Hex.{encode_lower}
 use Rattle.mum_frame.specs.declared.kind.TheConstants.{UDP_TUNNEL}
 use Rattle.mum_frame.specs.Frame.{spelling_of}
 use Rattle.mum_core.specs.declared.connection.Seat.{Seat}
 use Rattle.mum_core.specs.declared.outbox.Parcel.{Parcel}
 use Rattle.mum_core.specs.Case.{Case, not_opened}
 use Rattle.mum_core.specs.Core.{CoreState, connection_at, outbox_at, at_outbox, up}
+use Rattle.mum_core.specs.Line.{wire_words}
 
 abbrev pub forbids : CoreState → ℕ → List Case
 forbids core c = not_opened core c ∷ record { stands = is_none (connection_at core c).seat; given = c; against = 0 } ∷ []
@@ -28,14 +28,11 @@ does_from core (Some seat) = takes core seat (slice_get (outbox_at core seat.slo
 abbrev pub does : CoreState → ℕ → CoreState
 does core c = does_from core (connection_at core c).seat
 
--- a copy on the wire, as the frame that carries it
-abbrev pub wire_words : ℕ → List ℕ → List (List ℕ)
-wire_words c bytes = codes "wire" ∷ decimal c ∷ encode_lower (spelling_of UDP_TUNNEL bytes) ∷ []
-
+-- a copy comes on the wire as the frame that carries it
 abbrev pub front_line : ℕ → Seat → Option Parcel → List (List ℕ)
 front_line c seat None = codes "empty" ∷ decimal c ∷ []
 front_line c seat (Some front) =
-    if is_for front seat then wire_words c front.bytes else codes "stale" ∷ decimal c ∷ []
+    if is_for front seat then wire_words c (spelling_of UDP_TUNNEL front.bytes) else codes "stale" ∷ decimal c ∷ []
 
 abbrev pub line_from : CoreState → ℕ → Option Seat → List (List ℕ)
 line_from core c None = []

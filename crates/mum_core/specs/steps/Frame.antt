@@ -5,7 +5,6 @@ use Rattle.mum_base.specs.declared.number.SessionId.{SessionId}
 use Rattle.mum_fields.specs.Message.{or_else}
 use Rattle.mum_voice.specs.declared.fault.BadVoice.{BadVoice}
 use Rattle.mum_voice.specs.Packet.{Parts, packet}
-use Rattle.mum_core.specs.declared.connection.Command.TheVariants.{Login}
 use Rattle.mum_core.specs.declared.action.Action.{Action}
 use Rattle.mum_core.specs.declared.action.Action.TheVariants.{Ask, Voice, Echo, Keep, Ignore}
 use Rattle.mum_core.specs.Action.{ignored_code}
@@ -30,7 +29,7 @@ hears core w speaker (Err fault) = core
 
 -- the last Version that has a number counts
 abbrev pub does : CoreState → ℕ → Action → CoreState
-does core c (Ask name) = at_connection c (λ connection. record connection { waiting = Some (Login name) }) core
+does core c (Ask command) = at_connection c (λ connection. record connection { waiting = Some command }) core
 does core c (Voice speaker payload) = hears core (connection_at core c).worker speaker (packet payload)
 does core c (Echo frame) = core
 does core c (Keep number) = at_connection c (λ connection. record connection { version = or_else number connection.version }) core
@@ -41,7 +40,7 @@ heard_line c (Ok parts) = codes "heard" ∷ decimal c ∷ []
 heard_line c (Err fault) = codes "bad" ∷ decimal c ∷ decimal fault.code ∷ []
 
 abbrev pub line : ℕ → Action → List (List ℕ)
-line c (Ask name) = codes "asked" ∷ decimal c ∷ []
+line c (Ask command) = codes "asked" ∷ decimal c ∷ []
 line c (Voice speaker payload) = heard_line c (packet payload)
 line c (Echo frame) = codes "echo" ∷ decimal c ∷ encode_lower frame ∷ []
 line c (Keep number) = codes "kept" ∷ decimal c ∷ []

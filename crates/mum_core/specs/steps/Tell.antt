@@ -1,15 +1,26 @@
 -- The reply to a decided command reaches the worker of its connection, with a note of a revision or without.
-use Rattle.std.specs.Prelude.{ℕ, max, List, [], ◌∷◌, Option, Some, None, is_none, nat_lt, codes, decimal}
+use Rattle.std.specs.Prelude.{ℕ, max, not, Bool, false, List, [], ◌∷◌, Option, Some, None, is_none, nat_lt, codes, decimal}
+use Rattle.std.specs.Option.{option_and_then, option_map_or}
 use Rattle.mum_record.specs.Grammar.{revision_word}
+use Rattle.mum_core.specs.declared.connection.Reply.{Reply}
 use Rattle.mum_core.specs.Case.{Case, not_opened}
-use Rattle.mum_core.specs.Connection.{edit_number, seat_given}
+use Rattle.mum_core.specs.Connection.{is_accepted, revision_of, told}
 use Rattle.mum_core.specs.Core.{CoreState, connection_at, at_connection, at_worker}
+use Rattle.mum_core.specs.Line.{wire_words}
 
--- a note holds the edit that was accepted, and is published
-abbrev pub note_cases : CoreState → ℕ → Option ℕ → List Case
-note_cases core accepted None = []
-note_cases core accepted (Some revision) =
-    record { stands = nat_lt revision accepted; given = revision; against = accepted }
+-- whether a reply tells of an accepted edit, and of which revision
+abbrev pub has_edit : Option Reply → Bool
+has_edit reply = option_map_or (λ reply. is_accepted reply.mark) reply false
+
+abbrev pub edit_revision : Option Reply → ℕ
+edit_revision reply = option_map_or (λ reply. revision_of reply.mark) reply 0
+
+-- a note comes with an edit that was accepted, holds it, and is published
+abbrev pub note_cases : CoreState → Option Reply → Option ℕ → List Case
+note_cases core reply None = []
+note_cases core reply (Some revision) =
+    record { stands = not (has_edit reply); given = revision; against = 0 }
+    ∷ record { stands = nat_lt revision (edit_revision reply); given = revision; against = edit_revision reply }
     ∷ record { stands = nat_lt core.published revision; given = revision; against = core.published }
     ∷ []
 
@@ -18,17 +29,25 @@ forbids core c revision =
     let decided = (connection_at core c).decided in
     not_opened core c
     ∷ record { stands = is_none decided; given = c; against = 0 }
-    ∷ note_cases core (edit_number decided) revision
+    ∷ note_cases core decided revision
 
 abbrev pub notes : ℕ → Option ℕ → CoreState → CoreState
 notes w None core = core
 notes w (Some revision) core = at_worker w (λ worker. record worker { told = max worker.told revision }) core
 
--- the connection knows its seat, and its worker what the note holds
+-- the connection knows the seat that it was given, and its worker what the note holds
 abbrev pub does : CoreState → ℕ → Option ℕ → CoreState
-does core c revision =
-    notes (connection_at core c).worker revision
-    (at_connection c (λ connection. record connection { seat = seat_given connection.decided; decided = None }) core)
+does core c revision = notes (connection_at core c).worker revision (at_connection c told core)
 
-abbrev pub lines : ℕ → Option ℕ → List (List (List ℕ))
-lines c revision = (codes "told" ∷ decimal c ∷ revision_word revision ∷ []) ∷ []
+abbrev pub told_words : ℕ → Option ℕ → List (List ℕ)
+told_words c revision = codes "told" ∷ decimal c ∷ revision_word revision ∷ []
+
+-- the frame of a reply that has one
+abbrev pub wire_lines : ℕ → Option (List ℕ) → List (List (List ℕ))
+wire_lines c wire = option_map_or (λ bytes. wire_words c bytes ∷ []) wire []
+
+abbrev pub wire_to : CoreState → ℕ → Option (List ℕ)
+wire_to core c = option_and_then (λ reply. reply.wire) (connection_at core c).decided
+
+abbrev pub lines : CoreState → ℕ → Option ℕ → List (List (List ℕ))
+lines core c revision = told_words c revision ∷ wire_lines c (wire_to core c)

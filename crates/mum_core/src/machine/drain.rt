@@ -3,10 +3,13 @@
 ghost use Rattle.std.specs.Prelude.{◌≡◌, ◌++◌, OnOk, string_bytes};
 ghost use Rattle.mum_base.specs.Refusal.{Settles};
 ghost use Rattle.mum_core.specs.Case.{first_that_stands, named_cause};
-ghost use Rattle.mum_core.specs.Line.{joined};
-ghost use Rattle.mum_core.specs.steps.Drain.{forbids, does, front_line, is_for, lines, wire_words};
+ghost use Rattle.mum_core.specs.Line.{joined, wire_words};
+ghost use Rattle.mum_frame.specs.declared.kind.TheConstants.{UDP_TUNNEL as udp_tunnel};
+ghost use Rattle.mum_frame.specs.Frame.{spelling_of};
+ghost use Rattle.mum_core.specs.steps.Drain.{forbids, does, front_line, is_for, lines};
 ghost use Rattle.std.specs.Prelude.{◌∷◌, [], IfOk, Some};
 
+use super::tell::push_wire;
 use super::{Core, StepFault, illegal};
 use crate::connection::Seat;
 use crate::outbox::{CopyBytes, Parcel, take_at};
@@ -24,20 +27,17 @@ fn is_for(parcel: &Parcel, seat: &Seat) -> bool
 }
 
 /// Appends the line of a copy on the wire to a connection.
-fn push_wire(
+fn push_copy(
     alloc: Global,
     text: &mut String,
     connection: u32,
     copy: &CopyBytes,
 ) -> Result<(), OutOfMemory>
-    ensures { IfOk result (λ _. string_bytes text.new ≡ string_bytes text.old ++ joined (wire_words connection copy.now ∷ [])) }
+    ensures { IfOk result (λ _. string_bytes text.new ≡ string_bytes text.old
+        ++ joined (wire_words connection (spelling_of udp_tunnel copy.now) ∷ [])) }
 {
     let frame = put_frame(alloc, UDP_TUNNEL, copy.as_slice())?;
-    let words = [
-        Word::Number(u64::from(connection)),
-        Word::Digits(frame.as_slice()),
-    ];
-    push_line(alloc, text, "wire", &words)
+    push_wire(alloc, text, connection, frame.as_slice())
 }
 
 /// Appends the line of the parcel that a connection with this seat takes.
@@ -51,7 +51,7 @@ fn push_front(
     ensures { IfOk result (λ _. string_bytes text.new ≡ string_bytes text.old ++ joined (front_line connection seat.now (Some front.now) ∷ [])) }
 {
     if is_for(front, seat) {
-        return push_wire(alloc, text, connection, &front.bytes);
+        return push_copy(alloc, text, connection, &front.bytes);
     }
     let number = Word::Number(u64::from(connection));
     push_line(alloc, text, "stale", &[number])

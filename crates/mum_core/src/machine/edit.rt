@@ -1,85 +1,147 @@
 //! The step `edit`: the control owner decides the command of a connection that waits.
 
-ghost use Rattle.std.specs.Prelude.{◌≡◌, ◌++◌, OnOk, string_bytes};
+ghost use Rattle.std.specs.Prelude.{◌≡◌, ◌++◌, ◌∷◌, [], IfOk, MatchResult, None, OnErr, OnOk, Some, decimal, string_bytes, true};
 ghost use Rattle.mum_base.specs.Refusal.{Settles};
+ghost use Rattle.mum_history.specs.History.{current};
+ghost use Rattle.mum_rules_tree.specs.Decision.{FitsWhereAccepted};
 ghost use Rattle.mum_core.specs.Case.{first_that_stands, named_cause};
-ghost use Rattle.mum_core.specs.Line.{joined};
-ghost use Rattle.std.specs.Prelude.{◌<◌, IfOk, length};
-ghost use Rattle.mum_core.specs.declared.slot.TheConstants.{SLOTS as slots};
-ghost use Rattle.mum_core.specs.Kept.{session_of};
-ghost use Rattle.mum_core.specs.steps.Edit.{forbids, does, join_of, lines, seat_for};
+ghost use Rattle.mum_core.specs.Connection.{session_of};
+ghost use Rattle.mum_core.specs.Core.{connection_at, current as core_current, is_opened};
+ghost use Rattle.mum_core.specs.Line.{joined, mark_words, said_of};
+ghost use Rattle.mum_core.specs.Reply.{edits_of};
+ghost use Rattle.mum_core.specs.steps.Edit.{forbids, does, is_decidable, lines, next_revision, with_reply};
 
 use super::{Core, StepFault, illegal};
-use crate::connection::{Command, Seat, Verdict, decide_at};
-use crate::edit::{Edit, Session};
-use crate::slot::{SLOTS, ValidSlot};
-use mum_base::{Items, OutOfMemory, SessionId, Text};
+use crate::connection::{Command, Reply, decide_at};
+use crate::reply::{decide, is_decidable, reply};
+use crate::slot::SLOTS;
+use mum_base::{Mark, OutOfMemory, SessionId};
+use mum_history::History;
 use mum_record::{Word, push_line};
+use mum_state::Verdict;
 use std::alloc::Global;
 
-/// The edit by which a session joins the root channel.
-fn join(alloc: Global, seat: &Seat, name: &Text) -> Result<Edit, OutOfMemory>
-    ensures { IfOk result (λ edit. edit ≡ join_of seat.now name.now) }
+/// Appends a line of a word, the connection and one more number.
+fn push_number(
+    alloc: Global,
+    text: &mut String,
+    verb: &str,
+    connection: u32,
+    number: u64,
+) -> Result<(), OutOfMemory>
+    ensures { IfOk result (λ _. string_bytes text.new ≡ string_bytes text.old
+        ++ joined ((verb.now ∷ decimal connection ∷ decimal number ∷ []) ∷ [])) }
 {
-    Ok(Edit::Join {
-        session: seat.session,
-        slot: seat.slot.to_slot(),
-        name: name.share()?,
-        account: None,
-        tokens: Items::new(alloc),
-    })
+    let words = [Word::Number(u64::from(connection)), Word::Number(number)];
+    push_line(alloc, text, verb, &words)
 }
 
-/// The session that such an edit brings.
-fn session(seat: &Seat, name: &Text) -> Result<Session, OutOfMemory>
-    ensures { IfOk result (λ session. session ≡ session_of (join_of seat.now name.now)) }
+/// Appends the line that tells what was decided of a connection's command.
+fn push_mark(
+    alloc: Global,
+    text: &mut String,
+    connection: u32,
+    mark: &Mark,
+) -> Result<(), OutOfMemory>
+    ensures { IfOk result (λ _. string_bytes text.new ≡ string_bytes text.old
+        ++ joined (said_of connection (mark_words mark.now) ∷ [])) }
 {
-    Ok(Session {
-        session: seat.session,
-        slot: seat.slot,
-        name: name.share()?,
-    })
+    match *mark {
+        Mark::Accepted { revision } => push_number(alloc, text, "accepted", connection, revision),
+        Mark::Lacks { perm, channel } => {
+            let words = [
+                Word::Number(u64::from(connection)),
+                Word::Number(u64::from(perm.0)),
+                Word::Number(u64::from(channel.0)),
+            ];
+            push_line(alloc, text, "lacks", &words)
+        }
+        Mark::Refused { kind } => push_number(alloc, text, "refused", connection, u64::from(kind)),
+        Mark::Rejected { kind } => {
+            push_number(alloc, text, "rejected", connection, u64::from(kind))
+        }
+        Mark::Answer => {
+            let number = Word::Number(u64::from(connection));
+            push_line(alloc, text, "answer", &[number])
+        }
+        Mark::Ignored { why } => push_number(alloc, text, "ignored", connection, u64::from(why)),
+    }
+}
+
+/// Appends the edit of a verdict, if it is one.
+fn accept(history: &mut History, verdict: Verdict) -> Result<(), OutOfMemory>
+    requires { FitsWhereAccepted (current history.old) verdict }
+    ensures ok { OnOk result (history.new ≡ record history.old { accepted = history.old.accepted ++ edits_of verdict }) }
+    ensures err { OnErr result (history.new ≡ history.old) }
+{
+    match verdict {
+        Verdict::Accepted(edit) => history.accept(edit),
+        _ => Ok(()),
+    }
 }
 
 impl Core {
-    /// The seat that the next login gets, where a slot is free.
-    #[tactic(auto, using(crate::proofs::Sessions::length_after))]
-    fn next_seat(&self) -> Seat
-        requires { length self.now.accepted < slots }
-        ensures { result ≡ seat_for self.now }
+    /// The command of a connection that this step decides.
+    fn command_of(&self, connection: u32) -> Result<&Command, StepFault>
+        ensures opened { OnOk result (is_opened self.now connection ≡ true) }
+        ensures decides { MatchResult result
+            (λ command. (first_that_stands (forbids self.now connection) ≡ None)
+            × ((connection_at self.now connection).waiting ≡ Some command.now)
+            × (is_decidable (core_current self.now) (Some command.now) ≡ true))
+            (λ fault. first_that_stands (forbids self.now connection) ≡ named_cause fault) }
     {
-        let number = self.accepted.len();
-        Seat {
-            session: SessionId(number as u32 + 1),
-            slot: ValidSlot::new(number),
+        let Some(found) = self.connection(connection) else {
+            return Err(self.unopened(connection));
+        };
+        let Some(command) = &found.waiting else {
+            return Err(illegal(u64::from(connection), 0));
+        };
+        if !is_decidable(self.history.current(), command) {
+            return Err(illegal(u64::from(connection), SLOTS as u64));
         }
+        Ok(command)
+    }
+
+    /// The session that the told login of a connection gave it.
+    fn session_of(&self, connection: u32) -> Option<SessionId>
+        ensures { result ≡ session_of (connection_at self.now connection) }
+    {
+        match self.connection(connection) {
+            Some(found) => found.session(),
+            None => None,
+        }
+    }
+
+    /// The revision of the next edit that is accepted.
+    fn next_revision(&self) -> u64
+        ensures { result ≡ next_revision self.now }
+    {
+        self.history.accepted().len() as u64 + 1
+    }
+
+    /// The command of a connection is decided so, and answered by this reply.
+    #[tactic(auto, using(mum_history::proofs::Fronts::all_views_stay))]
+    fn settle(&mut self, connection: u32, verdict: Verdict, reply: Reply) -> Result<(), OutOfMemory>
+        requires opened { is_opened self.old connection ≡ true }
+        requires fits { FitsWhereAccepted (core_current self.old) verdict }
+        ensures ok { OnOk result (self.new ≡ with_reply self.old connection (edits_of verdict) reply) }
+        ensures err { OnErr result (self.new ≡ self.old) }
+    {
+        accept(&mut self.history, verdict)?;
+        decide_at(&mut self.connections, connection as usize - 1, reply);
+        Ok(())
     }
 
     pub(super) fn take_edit(&mut self, connection: u32, text: &mut String) -> Result<(), StepFault>
         ensures settled { Settles named_cause (first_that_stands (forbids self.old connection)) (does self.old connection) self.old result self.new }
         ensures told { OnOk result (string_bytes text.new ≡ string_bytes text.old ++ joined (lines self.old connection)) }
     {
-        let Some(found) = self.connection(connection) else {
-            return Err(self.unopened(connection));
-        };
-        let Some(Command::Login { name }) = &found.waiting else {
-            return Err(illegal(u64::from(connection), 0));
-        };
-        if self.accepted.len() >= SLOTS {
-            return Err(illegal(u64::from(connection), SLOTS as u64));
-        }
-        let seat = self.next_seat();
-        let revision = self.accepted.len() as u64 + 1;
-        let words = [Word::Number(u64::from(connection)), Word::Number(revision)];
-        push_line(self.alloc, text, "accepted", &words)?;
-        let join = join(self.alloc, &seat, name)?;
-        let session = session(&seat, name)?;
-        self.accepted.reserve(1)?;
-        self.sessions.reserve(1)?;
-        self.accepted.push_reserved(join);
-        self.sessions.push_reserved(session);
-        let verdict = Verdict::Accepted { revision, seat };
-        decide_at(&mut self.connections, connection as usize - 1, verdict);
+        let command = self.command_of(connection)?;
+        let session = self.session_of(connection);
+        let verdict = decide(self.alloc, self.history.current(), session, command)?;
+        let reply = reply(self.alloc, self.next_revision(), session, &verdict)?;
+        push_mark(self.alloc, text, connection, &reply.mark)?;
+        self.settle(connection, verdict, reply)?;
         Ok(())
     }
 }

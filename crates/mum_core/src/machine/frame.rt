@@ -67,9 +67,9 @@ impl Core {
         let number = Word::Number(u64::from(connection));
         let place = connection as usize - 1;
         match action {
-            Action::Ask { name } => {
+            Action::Ask { command } => {
                 push_line(self.alloc, text, "asked", &[number])?;
-                ask_at(&mut self.connections, place, name);
+                ask_at(&mut self.connections, place, command);
             }
             Action::Voice { speaker, packet } => {
                 return self.hear(connection, worker, speaker, packet, text);

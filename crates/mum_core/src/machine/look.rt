@@ -2,19 +2,24 @@
 
 ghost use Rattle.std.specs.Prelude.{◌≡◌, ◌++◌, OnOk, string_bytes};
 ghost use Rattle.mum_base.specs.Refusal.{Settles};
-ghost use Rattle.mum_core.specs.Case.{first_that_stands, named_cause};
+ghost use Rattle.mum_core.specs.Case.{Passes, first_that_stands, named_cause};
 ghost use Rattle.mum_core.specs.Line.{joined};
-ghost use Rattle.std.specs.Prelude.{◌≤◌, ◌∷◌, [], IfOk, Some, length};
-ghost use Rattle.std.specs.List.{flat_map};
-ghost use Rattle.mum_core.specs.Core.{state_at};
-ghost use Rattle.mum_core.specs.steps.Look.{audience, forbids, does, lines, member_word, route_words};
+ghost use Rattle.std.specs.Prelude.{◌<◌, ◌≤◌, ◌∷◌, [], IfOk, IfSome, length, map, slice_get};
+ghost use Rattle.std.specs.List.{All, flat_map};
+ghost use Rattle.std.specs.Option.{option_copied, option_map_or};
+ghost use Rattle.mum_history.specs.History.{state_at};
+ghost use Rattle.mum_history.specs.View.{IsViewOf};
+ghost use Rattle.mum_core.specs.Core.{state_at as core_state_at, worker_at};
+ghost use Rattle.mum_core.specs.steps.Look.{audience, copy_to, forbids, does, lines, member_word, route_words};
 
 use super::{Core, StepFault, illegal};
 use crate::route::{Member, audience, copies};
-use crate::worker::{Held, look_at};
+use crate::worker::{Held, Outgoing, look_at};
 use mum_base::OutOfMemory;
+use mum_history::{History, View};
 use mum_record::{Word, push_line, push_word};
 use std::alloc::Global;
+use std::collections::VecDeque;
 
 /// Appends a session and how the packet reaches it, behind a space.
 fn push_member(alloc: Global, text: &mut String, member: &Member) -> Result<(), OutOfMemory>
@@ -59,16 +64,84 @@ fn push_route(
     push_members(alloc, text, members)
 }
 
+/// The view of the worker at a place goes to a revision.
+fn go_to_at(
+    views: &mut Vec<View>,
+    place: usize,
+    alloc: Global,
+    history: &History,
+    revision: u64,
+) -> Result<(), OutOfMemory>
+    requires there { place < length views.old.items }
+    requires views { All (IsViewOf history.now.opening history.now.accepted) views.old.items }
+    requires accepted { revision ≤ length history.now.accepted }
+    ensures views { All (IsViewOf history.now.opening history.now.accepted) views.new.items }
+    ensures as_many { length views.new.items ≡ length views.old.items }
+    ensures state { OnOk result (IfSome (slice_get views.new.items place) (λ view. view.state ≡ state_at history.now revision)) }
+{
+    match views.get_mut(place) {
+        Some(view) => view.go_to(alloc, history, revision),
+        None => unreachable!(),
+    }
+}
+
 impl Core {
-    /// Who hears a held packet at a revision.
-    #[tactic(auto, using(crate::proofs::Sessions::state_kept))]
-    fn audience_at(&self, revision: u64, held: &Held) -> Result<Vec<Member>, OutOfMemory>
-        requires { revision ≤ length self.now.accepted }
-        ensures { IfOk result (λ members. members.items ≡ audience (state_at self.now revision) (Some held.now)) }
+    /// Who hears the packet that a worker holds, at a revision; nobody where it holds none.
+    fn audience_at(&mut self, worker: u32, revision: u64) -> Result<Vec<Member>, OutOfMemory>
+        requires there { worker < length self.old.workers }
+        requires accepted { revision ≤ length self.old.accepted }
+        ensures members { IfOk result (λ members. members.items ≡ audience (core_state_at self.old revision) (worker_at self.old worker).held) }
+        ensures same { self.new ≡ self.old }
     {
-        audience(self.alloc, &self.sessions[..revision as usize], held)
+        let place = worker as usize;
+        go_to_at(&mut self.views, place, self.alloc, &self.history, revision)?;
+        let state = self.views[place].state();
+        match self.workers[place].held() {
+            Some(held) => audience(self.alloc, state, held, &mut self.scratch),
+            None => Ok(Vec::new(self.alloc)),
+        }
     }
 
+    /// The copies of the packet that a worker holds, for these members.
+    fn copies_for(&self, worker: u32, members: &[Member]) -> Result<VecDeque<Outgoing>, OutOfMemory>
+        ensures { IfOk result (λ left. left.items ≡ option_map_or (λ held. map (copy_to held) members.now) (worker_at self.now worker).held []) }
+    {
+        let Some(held) = self.held_by(worker) else {
+            return Ok(VecDeque::new(self.alloc));
+        };
+        copies(self.alloc, held, members)
+    }
+
+    /// The packet that a worker holds.
+    fn held_by(&self, worker: u32) -> Option<&Held>
+        ensures { option_copied result ≡ (worker_at self.now worker).held }
+    {
+        self.worker(worker)?.held()
+    }
+
+    /// Refuses a look that is not allowed.
+    fn check_look(&self, worker: u32, revision: u64) -> Result<(), StepFault>
+        ensures passes { Passes (first_that_stands (forbids self.now worker revision)) result }
+        ensures there { OnOk result (worker < length self.now.workers) }
+        ensures accepted { OnOk result (revision ≤ length self.now.accepted) }
+    {
+        let Some(looking) = self.worker(worker) else {
+            return Err(self.no_worker(worker));
+        };
+        if looking.held().is_none() {
+            return Err(illegal(u64::from(worker), 0));
+        }
+        let least = looking.least_look();
+        if revision < least {
+            return Err(illegal(revision, least));
+        }
+        if revision > self.history.published() {
+            return Err(illegal(revision, self.history.published()));
+        }
+        Ok(())
+    }
+
+    #[tactic(auto, using(crate::proofs::Routes::copies_are))]
     pub(super) fn take_look(
         &mut self,
         worker: u32,
@@ -78,23 +151,11 @@ impl Core {
         ensures settled { Settles named_cause (first_that_stands (forbids self.old worker revision)) (does self.old worker revision) self.old result self.new }
         ensures told { OnOk result (string_bytes text.new ≡ string_bytes text.old ++ joined (lines self.old worker revision)) }
     {
-        let Some(looking) = self.worker(worker) else {
-            return Err(self.no_worker(worker));
-        };
-        let Some(held) = looking.held() else {
-            return Err(illegal(u64::from(worker), 0));
-        };
-        let least = looking.least_look();
-        if revision < least {
-            return Err(illegal(revision, least));
-        }
-        if revision > self.published {
-            return Err(illegal(revision, self.published));
-        }
-        let members = self.audience_at(revision, held)?;
+        self.check_look(worker, revision)?;
+        let members = self.audience_at(worker, revision)?;
         push_route(self.alloc, text, worker, revision, &members)?;
-        let copies = copies(self.alloc, held, &members)?;
-        look_at(&mut self.workers, worker as usize, revision, copies);
+        let left = self.copies_for(worker, &members)?;
+        look_at(&mut self.workers, worker as usize, revision, left);
         self.totals.looks = self.totals.looks.saturating_add(1);
         Ok(())
     }

@@ -14,9 +14,9 @@ impl Core {
         ensures settled { Settles named_cause (first_that_stands forbids) (does self.old) self.old result self.new }
         ensures told { OnOk result (string_bytes text.new ≡ string_bytes text.old ++ joined (lines self.old)) }
     {
-        let revision = self.accepted.len() as u64;
+        let revision = self.history.revision();
         push_line(self.alloc, text, "published", &[Word::Number(revision)])?;
-        self.published = revision;
+        self.history.publish();
         Ok(())
     }
 }

@@ -1,17 +1,21 @@
 //! The step `tell`: the reply to a decided command reaches the worker of its connection.
 
 ghost use Rattle.std.specs.Prelude.{◌≡◌, ◌++◌, OnOk, string_bytes};
-ghost use Rattle.mum_base.specs.Refusal.{Settles};
-ghost use Rattle.mum_core.specs.Case.{Passes, first_that_stands, named_cause};
-ghost use Rattle.mum_core.specs.Line.{joined};
+ghost use Rattle.mum_base.specs.Refusal.{Gives, Settles};
+ghost use Rattle.mum_core.specs.Case.{IsStarved, Passes, first_that_stands, named_cause};
+ghost use Rattle.mum_core.specs.Line.{joined, wire_words};
+ghost use Rattle.std.specs.Prelude.{◌⊎◌, ◌∷◌, [], IfOk, MatchResult, None, Some, map, true};
 ghost use Rattle.mum_record.specs.Grammar.{revision_word};
-ghost use Rattle.mum_record.specs.Words.{spelled_word};
-ghost use Rattle.mum_core.specs.steps.Tell.{forbids, does, lines, note_cases};
+ghost use Rattle.mum_record.specs.Words.{line_of_words, spelled_word};
+ghost use Rattle.mum_core.specs.Core.{connection_at, is_opened};
+ghost use Rattle.mum_core.specs.steps.Tell.{forbids, does, lines, note_cases, told_words, wire_lines};
 
-use super::{Core, StepFault, illegal};
-use crate::connection::{Verdict, tell_at};
+use super::{Core, Effects, StepFault, illegal};
+use crate::connection::{Reply, tell_at};
 use crate::worker::note_at;
+use mum_base::{Items, Mark, Octets, OutOfMemory, Text};
 use mum_record::{Word, push_line};
+use std::alloc::Global;
 
 /// The word of a note: its revision, or a dash where there is none.
 fn note_word(note: Option<u64>) -> Word<'static>
@@ -23,21 +27,133 @@ fn note_word(note: Option<u64>) -> Word<'static>
     }
 }
 
+/// Appends the line that a connection was told.
+fn push_told(
+    alloc: Global,
+    text: &mut String,
+    connection: u32,
+    note: Option<u64>,
+) -> Result<(), OutOfMemory>
+    ensures { IfOk result (λ _. string_bytes text.new ≡ string_bytes text.old ++ joined (told_words connection note ∷ [])) }
+{
+    let words = [Word::Number(u64::from(connection)), note_word(note)];
+    push_line(alloc, text, "told", &words)
+}
+
+/// Appends the line of a frame on the wire to a connection.
+pub(super) fn push_wire(
+    alloc: Global,
+    text: &mut String,
+    connection: u32,
+    frame: &[u8],
+) -> Result<(), OutOfMemory>
+    ensures { IfOk result (λ _. string_bytes text.new ≡ string_bytes text.old ++ joined (wire_words connection frame.now ∷ [])) }
+{
+    let words = [Word::Number(u64::from(connection)), Word::Digits(frame)];
+    push_line(alloc, text, "wire", &words)
+}
+
+/// Appends what is told of a reply: a line, and another for its frame.
+fn push_reply(
+    alloc: Global,
+    text: &mut String,
+    connection: u32,
+    note: Option<u64>,
+    wire: &Option<Octets>,
+) -> Result<(), OutOfMemory>
+    ensures { IfOk result (λ _. string_bytes text.new ≡ string_bytes text.old
+        ++ joined (told_words connection note ∷ wire_lines connection wire.now)) }
+{
+    push_told(alloc, text, connection, note)?;
+    let Some(frame) = wire else {
+        return Ok(());
+    };
+    text.push_str("\n")?;
+    push_wire(alloc, text, connection, frame.as_slice())
+}
+
+/// The line that a connection was told, by itself.
+fn told_line(alloc: Global, connection: u32, note: Option<u64>) -> Result<Text, OutOfMemory>
+    ensures { IfOk result (λ line. line ≡ line_of_words (told_words connection note)) }
+{
+    let mut text = String::new(alloc);
+    push_told(alloc, &mut text, connection, note)?;
+    Ok(Text::from_string(text))
+}
+
+/// The line of a frame on the wire to a connection, by itself.
+fn wire_line(alloc: Global, connection: u32, frame: &Octets) -> Result<Text, OutOfMemory>
+    ensures { IfOk result (λ line. line ≡ line_of_words (wire_words connection frame.now)) }
+{
+    let mut text = String::new(alloc);
+    push_wire(alloc, &mut text, connection, frame.as_slice())?;
+    Ok(Text::from_string(text))
+}
+
+/// What is told of a reply, each line by itself.
+fn reply_lines(
+    alloc: Global,
+    connection: u32,
+    note: Option<u64>,
+    wire: &Option<Octets>,
+) -> Result<Effects, OutOfMemory>
+    ensures { IfOk result (λ told. told ≡ map line_of_words (told_words connection note ∷ wire_lines connection wire.now)) }
+{
+    let mut told = Items::new(alloc);
+    told.push(told_line(alloc, connection, note)?)?;
+    if let Some(frame) = wire {
+        told.push(wire_line(alloc, connection, frame)?)?;
+    }
+    Ok(told)
+}
+
 impl Core {
-    /// Refuses a note that does not hold the accepted edit, or that is not published.
-    fn check_note(&self, note: Option<u64>, accepted: u64) -> Result<(), StepFault>
-        ensures { Passes (first_that_stands (note_cases self.now accepted note)) result }
+    /// Refuses a note where no edit was accepted, or that does not hold it, or that is not published.
+    fn check_note(&self, reply: &Reply, note: Option<u64>) -> Result<(), StepFault>
+        ensures { Passes (first_that_stands (note_cases self.now (Some reply.now) note)) result }
     {
         let Some(revision) = note else {
             return Ok(());
         };
+        let Mark::Accepted { revision: accepted } = reply.mark else {
+            return Err(illegal(revision, 0));
+        };
         if revision < accepted {
             return Err(illegal(revision, accepted));
         }
-        if revision > self.published {
-            return Err(illegal(revision, self.published));
+        if revision > self.history.published() {
+            return Err(illegal(revision, self.history.published()));
         }
         Ok(())
+    }
+
+    /// The reply that a connection is told by this step.
+    fn reply_to(&self, connection: u32, note: Option<u64>) -> Result<&Reply, StepFault>
+        ensures { MatchResult result
+            (λ reply. (first_that_stands (forbids self.now connection note) ≡ None) × ((connection_at self.now connection).decided ≡ Some reply.now))
+            (λ fault. first_that_stands (forbids self.now connection note) ≡ named_cause fault) }
+    {
+        let Some(found) = self.connection(connection) else {
+            return Err(self.unopened(connection));
+        };
+        let Some(reply) = &found.decided else {
+            return Err(illegal(u64::from(connection), 0));
+        };
+        self.check_note(reply, note)?;
+        Ok(reply)
+    }
+
+    /// A connection is told its reply, and its worker the note.
+    fn tell(&mut self, connection: u32, note: Option<u64>)
+        requires { is_opened self.old connection ≡ true }
+        ensures { self.new ≡ does self.old connection note }
+    {
+        let place = connection as usize - 1;
+        let worker = self.connections[place].worker as usize;
+        tell_at(&mut self.connections, place);
+        if let Some(revision) = note {
+            note_at(&mut self.workers, worker, revision);
+        }
     }
 
     pub(super) fn take_tell(
@@ -47,22 +163,28 @@ impl Core {
         text: &mut String,
     ) -> Result<(), StepFault>
         ensures settled { Settles named_cause (first_that_stands (forbids self.old connection note)) (does self.old connection note) self.old result self.new }
-        ensures told { OnOk result (string_bytes text.new ≡ string_bytes text.old ++ joined (lines connection note)) }
+        ensures told { OnOk result (string_bytes text.new ≡ string_bytes text.old ++ joined (lines self.old connection note)) }
     {
-        let Some(found) = self.connection(connection) else {
-            return Err(self.unopened(connection));
-        };
-        let Some(Verdict::Accepted { revision, .. }) = found.decided else {
-            return Err(illegal(u64::from(connection), 0));
-        };
-        let worker = found.worker as usize;
-        self.check_note(note, revision)?;
-        let words = [Word::Number(u64::from(connection)), note_word(note)];
-        push_line(self.alloc, text, "told", &words)?;
-        tell_at(&mut self.connections, connection as usize - 1);
-        if let Some(revision) = note {
-            note_at(&mut self.workers, worker, revision);
-        }
+        let reply = self.reply_to(connection, note)?;
+        push_reply(self.alloc, text, connection, note, &reply.wire)?;
+        self.tell(connection, note);
         Ok(())
+    }
+
+    /// The same, with each line by itself.
+    pub(super) fn step_tell(
+        &mut self,
+        connection: u32,
+        note: Option<u64>,
+    ) -> Result<Effects, StepFault>
+        ensures { IsStarved self.old result self.new
+            ⊎ Gives named_cause (first_that_stands (forbids self.old connection note))
+            (map line_of_words (lines self.old connection note)) (does self.old connection note)
+            self.old result self.new }
+    {
+        let reply = self.reply_to(connection, note)?;
+        let told = reply_lines(self.alloc, connection, note, &reply.wire)?;
+        self.tell(connection, note);
+        Ok(told)
     }
 }

@@ -1,4 +1,4 @@
-use Rattle.mum_core.proofs.Orders.{sent_is_heard}
+use Rattle.mum_core.proofs.Seated.{none_sent_to_absent, sent_is_heard}
 use Rattle.mum_core.proofs.Origins.{copies_follow_packets}
 use Rattle.mum_core.proofs.Places.{connections_stay}
 use Rattle.mum_core.proofs.Speakers.{one_connection_a_session, one_worker_a_speaker}
@@ -18,3 +18,6 @@ returns-clause-sent c = copies_follow_packets
 
 pub returns-clause-heard : goal.returns-clause-heard
 returns-clause-heard c = sent_is_heard
+
+pub returns-clause-only_there : goal.returns-clause-only_there
+returns-clause-only_there c = none_sent_to_absent

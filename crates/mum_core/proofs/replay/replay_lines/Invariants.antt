@@ -1,6 +1,6 @@
 use Rattle.std.proofs.Common.{◌≡◌, length}
 use Rattle.mum_core.proofs.Underway.{Underway}
-use Rattle.mum_core.proofs.replay.replay.Given as goal
+use Rattle.mum_core.proofs.replay.replay_lines.Given as goal
 
 abbrev pub invariant-lines : goal.invariant-lines
 invariant-lines g l =

@@ -5,13 +5,12 @@ use Rattle.mum_core.specs.declared.end.End.{End}
 use Rattle.mum_core.specs.Program.{Ends}
 use Rattle.mum_core.specs.Replay.{replayed}
 use Rattle.mum_core.proofs.Underway.{starts, goes, breaks, halts, closes}
-use Rattle.mum_core.proofs.replay.replay.Goals as goal
+use Rattle.mum_core.proofs.replay.replay_lines.Goals as goal
 
 pub lines-init : goal.lines-init
 lines-init g c =
-    let begun = c.new-run.ensures in
     record {
-      underway = rw (begun.phase, begun.line, begun.left) (starts (g.O.Sink.written c.args.output.now) c.args.bytes.now);
+      underway = rw (c.requires.phase, c.requires.line, c.requires.left) (starts (g.O.Sink.written c.args.output.now) c.args.bytes.now);
       no_fault = refl;
     }
 

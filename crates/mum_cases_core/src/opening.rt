@@ -1,0 +1,57 @@
+//! Openings of a core, as tables spell them: edits that fit one after another.
+
+ghost use Rattle.std.specs.Prelude.{◌≡◌, IfOk};
+ghost use Rattle.mum_state.specs.State.{empty_state};
+
+use anyhow::{Result, ensure};
+use mum_cases_words::{calls_of, edit_of};
+use mum_core::Core;
+use mum_history::History;
+use mum_state::{Edit, State};
+use std::alloc::Global;
+
+/// Adds an edit, which has to fit.
+fn add(history: &mut History, edit: Edit, call: &str) -> Result<()>
+    ensures { history.new.opening ≡ history.old.opening }
+{
+    ensure!(history.current().fits(&edit), "does not fit: {call}");
+    history.accept(edit)?;
+    Ok(())
+}
+
+/// Adds the edits that a line spells; none where it is empty.
+fn add_all(alloc: Global, history: &mut History, line: &str) -> Result<()>
+    ensures { history.new.opening ≡ history.old.opening }
+{
+    if line.is_empty() {
+        return Ok(());
+    }
+    let calls = calls_of(alloc, line)?;
+    for call in &calls {
+        let edit = edit_of(alloc, history.current(), call.as_str())?;
+        add(history, edit, call.as_str())?;
+    }
+    Ok(())
+}
+
+/// The history of the empty state with the edits that a line spells.
+fn opening(alloc: Global, line: &str) -> Result<History>
+    ensures { IfOk result (λ history. history.opening ≡ empty_state) }
+{
+    let mut history = History::open(alloc, State::empty(alloc)?)?;
+    add_all(alloc, &mut history, line)?;
+    Ok(history)
+}
+
+/// A core of one worker at the state to which a history led.
+fn core_after(alloc: Global, history: &History) -> Result<Core>
+    requires { history.now.opening ≡ empty_state }
+{
+    Ok(Core::open(alloc, 1, history.accepted())?)
+}
+
+/// A core of one worker that opens with the edits that a line spells.
+pub fn core_at(alloc: Global, line: &str) -> Result<Core> {
+    let history = opening(alloc, line)?;
+    core_after(alloc, &history)
+}

@@ -1,0 +1,15 @@
+use Rattle.std.proofs.Common.{◌∙◌, ap}
+use Rattle.mum_state.specs.State.{StateValue}
+use Rattle.mum_history.specs.History.{begun}
+use Rattle.mum_core.proofs.Begun.{is_start, kept_at_start}
+use Rattle.mum_core.proofs.machine.Core.open.Goals as goal
+
+pub of-requires : goal.of-requires
+of-requires c =
+    kept_at_start _ _ _ _ _ _ c.in_ok-history.ensures.history c.in_ok-history.ensures.each c.in_ok-history.ensures.count c.in_ok-hands.ensures.count
+    c.in_ok-hands.ensures.slots
+
+pub returns : goal.returns
+returns c =
+    is_start _ _ _ _ _ _ c.of.ensures (c.in_ok-history.ensures.history ∙ ap (λ (state : StateValue). begun state) c.in_ok-state_after.ensures)
+    c.in_ok-hands.ensures.idle c.in_ok-hands.ensures.empty

@@ -3,10 +3,13 @@
 #![tactic(auto)]
 
 mod acl;
+mod config;
+mod decide;
 mod frames;
 mod messages;
 mod outbox;
 mod roster;
+mod state;
 mod tree;
 mod voice;
 
@@ -28,7 +31,10 @@ fn checksum<R: Wait + Threads + Copy + Send + 'static>(
     match words {
         [word, kind, length, count] => match word.as_str() {
             "acl" => acl::walks(alloc, kind.as_str(), number(length)?, number(count)?),
+            "config" => config::work(alloc, kind.as_str(), number(length)?, number(count)?),
+            "decide" => decide::work(alloc, kind.as_str(), number(length)?, number(count)?),
             "roster" => roster::work(alloc, kind.as_str(), number(length)?, number(count)?),
+            "state" => state::work(alloc, kind.as_str(), number(length)?, number(count)?),
             "tree" => tree::work(alloc, kind.as_str(), number(length)?, number(count)?),
             _ => bail!("no such workload"),
         },

@@ -93,22 +93,24 @@ fn policy_of(groups: Items<Group>, acls: Items<AclEntry>) -> ChannelPolicy {
     }
 }
 
+/// The policy of a channel: entries where it is on the path, and the group where it is the root.
+fn list_of(alloc: Global, kind: &str, number: u32) -> Result<ChannelPolicy> {
+    if number >= PATH_LENGTH as u32 {
+        return Ok(policy_of(Items::new(alloc), Items::new(alloc)));
+    }
+    let acls = entries(alloc, kind)?;
+    if number > 0 {
+        return Ok(policy_of(Items::new(alloc), acls));
+    }
+    Ok(policy_of(groups(alloc)?, acls))
+}
+
 fn lists_of(alloc: Global, kind: &str) -> Result<Lists> {
     let mut numbers = Vec::new(alloc);
     let mut policies = Vec::new(alloc);
     for number in 0..CHANNELS {
         numbers.push(number)?;
-        let groups = if number == 0 {
-            groups(alloc)?
-        } else {
-            Items::new(alloc)
-        };
-        let acls = if number < PATH_LENGTH as u32 {
-            entries(alloc, kind)?
-        } else {
-            Items::new(alloc)
-        };
-        policies.push(policy_of(groups, acls))?;
+        policies.push(list_of(alloc, kind, number)?)?;
     }
     Ok(Lists {
         numbers,

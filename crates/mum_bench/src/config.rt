@@ -1,6 +1,6 @@
 //! Configurations as documents.
 
-use anyhow::{Result, bail};
+use anyhow::{Result, bail, ensure};
 use mum_config::read_config;
 use serde_json::Value;
 use std::alloc::Global;
@@ -19,17 +19,24 @@ fn document(alloc: Global, channels: usize) -> Result<String> {
     Ok(text)
 }
 
-/// The edits of the document, or the bytes of it that the kit's `serde_json` read.
+/// The edits of the document.
+fn edits_of(alloc: Global, text: &[u8]) -> Result<u64> {
+    match read_config(alloc, text) {
+        Ok(config) => Ok(config.edits.as_slice().len() as u64),
+        Err(_) => bail!("no configuration"),
+    }
+}
+
+/// The bytes of the document, which the kit's `serde_json` read.
+fn bytes_of(alloc: Global, text: &[u8]) -> Result<u64> {
+    ensure!(Value::from_slice(alloc, text).is_ok(), "no JSON");
+    Ok(text.len() as u64)
+}
+
 fn read(alloc: Global, kind: &str, text: &[u8]) -> Result<u64> {
     match kind {
-        "read" => match read_config(alloc, text) {
-            Ok(config) => Ok(config.edits.as_slice().len() as u64),
-            Err(_) => bail!("no configuration"),
-        },
-        "json" => match Value::from_slice(alloc, text) {
-            Ok(_) => Ok(text.len() as u64),
-            Err(_) => bail!("no JSON"),
-        },
+        "read" => edits_of(alloc, text),
+        "json" => bytes_of(alloc, text),
         _ => bail!("no such kind"),
     }
 }

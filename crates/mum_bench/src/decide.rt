@@ -130,6 +130,7 @@ fn settle(alloc: Global, state: &mut State, length: usize) -> Result<ChannelId> 
     add_leaves(alloc, state, parent)
 }
 
+/// So many decisions on the channels at the end, the first of which is this.
 fn asked(alloc: Global, state: &State, kind: &str, first: ChannelId, count: usize) -> Result<u64> {
     let session = session_at(state, 0)?;
     if kind == "walk" {
@@ -138,6 +139,18 @@ fn asked(alloc: Global, state: &State, kind: &str, first: ChannelId, count: usiz
     let last = ChannelId(first.0.saturating_add(LEAVES - 1));
     let message = message_of(alloc, kind, first, last)?;
     decided(alloc, state, session, &message, count)
+}
+
+/// The same, in a state that is empty before.
+fn settle_and_ask(
+    alloc: Global,
+    state: &mut State,
+    kind: &str,
+    length: usize,
+    count: usize,
+) -> Result<u64> {
+    let first = settle(alloc, state, length)?;
+    asked(alloc, state, kind, first, count)
 }
 
 /// So many decisions, in a state with a path of so many channels, the root among them, at whose end are
@@ -149,6 +162,5 @@ pub fn work(alloc: Global, kind: &str, length: usize, count: usize) -> Result<u6
     ensure!(length > 1, "a path has the root and one more");
     ensure!(length <= PATH_LIMIT, "a path has at most 33 channels");
     let mut state = State::empty(alloc)?;
-    let first = settle(alloc, &mut state, length)?;
-    asked(alloc, &state, kind, first, count)
+    settle_and_ask(alloc, &mut state, kind, length, count)
 }

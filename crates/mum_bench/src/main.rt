@@ -23,40 +23,73 @@ fn number(word: &str) -> Result<usize> {
     word.parse::<usize>().context("a size is a number")
 }
 
+/// A workload of a kind: so much of it, so many times.
+fn of_kind(alloc: Global, word: &str, kind: &str, length: usize, count: usize) -> Result<u64> {
+    match word {
+        "acl" => acl::walks(alloc, kind, length, count),
+        "config" => config::work(alloc, kind, length, count),
+        "decide" => decide::work(alloc, kind, length, count),
+        "roster" => roster::work(alloc, kind, length, count),
+        "state" => state::work(alloc, kind, length, count),
+        "tree" => tree::work(alloc, kind, length, count),
+        _ => bail!("no such workload"),
+    }
+}
+
+/// A workload of a kind: so much of it.
+fn of_one_kind<R: Wait + Threads + Copy + Send + 'static>(
+    rt: R,
+    alloc: Global,
+    word: &str,
+    kind: &str,
+    size: usize,
+) -> Result<u64> {
+    match word {
+        "messages" => messages::work(alloc, kind, size),
+        "outbox" => outbox::work(rt, alloc, kind, size),
+        "copy-messages" => messages::copied(alloc, kind, size),
+        _ => in_pieces(alloc, word, number(kind)?, size),
+    }
+}
+
+/// A workload of so many pieces, or of pieces of so many bytes.
+fn in_pieces(alloc: Global, word: &str, piece: usize, size: usize) -> Result<u64> {
+    match word {
+        "frames" => frames::small(alloc, piece, size),
+        "copy" => frames::copied(alloc, piece, size),
+        "copy-roster" => roster::copied(alloc, piece, size),
+        "copy-tree" => tree::copied(alloc, piece, size),
+        _ => bail!("no such workload"),
+    }
+}
+
+/// A workload of which there is one kind.
+fn of_size(alloc: Global, word: &str, size: usize) -> Result<u64> {
+    match word {
+        "large" => frames::large(alloc, size),
+        "voice" => voice::copies(false, size),
+        "voice-position" => voice::copies(true, size),
+        "copy-packets" => voice::copied_packets(size),
+        "hostile" => messages::hostile(alloc, size),
+        "copy-blocks" => messages::copied_blocks(alloc, size),
+        _ => bail!("no such workload"),
+    }
+}
+
 fn checksum<R: Wait + Threads + Copy + Send + 'static>(
     rt: R,
     alloc: Global,
     words: &[String],
 ) -> Result<u64> {
     match words {
-        [word, kind, length, count] => match word.as_str() {
-            "acl" => acl::walks(alloc, kind.as_str(), number(length)?, number(count)?),
-            "config" => config::work(alloc, kind.as_str(), number(length)?, number(count)?),
-            "decide" => decide::work(alloc, kind.as_str(), number(length)?, number(count)?),
-            "roster" => roster::work(alloc, kind.as_str(), number(length)?, number(count)?),
-            "state" => state::work(alloc, kind.as_str(), number(length)?, number(count)?),
-            "tree" => tree::work(alloc, kind.as_str(), number(length)?, number(count)?),
-            _ => bail!("no such workload"),
-        },
-        [word, piece, size] => match word.as_str() {
-            "frames" => frames::small(alloc, number(piece)?, number(size)?),
-            "copy" => frames::copied(alloc, number(piece)?, number(size)?),
-            "copy-roster" => roster::copied(alloc, number(piece)?, number(size)?),
-            "copy-tree" => tree::copied(alloc, number(piece)?, number(size)?),
-            "messages" => messages::work(alloc, piece.as_str(), number(size)?),
-            "outbox" => outbox::work(rt, alloc, piece.as_str(), number(size)?),
-            "copy-messages" => messages::copied(alloc, piece.as_str(), number(size)?),
-            _ => bail!("no such workload"),
-        },
-        [word, size] => match word.as_str() {
-            "large" => frames::large(alloc, number(size)?),
-            "voice" => voice::copies(false, number(size)?),
-            "voice-position" => voice::copies(true, number(size)?),
-            "copy-packets" => voice::copied_packets(number(size)?),
-            "hostile" => messages::hostile(alloc, number(size)?),
-            "copy-blocks" => messages::copied_blocks(alloc, number(size)?),
-            _ => bail!("no such workload"),
-        },
+        [word, kind, length, count] => {
+            let (length, count) = (number(length)?, number(count)?);
+            of_kind(alloc, word.as_str(), kind.as_str(), length, count)
+        }
+        [word, kind, size] => {
+            of_one_kind(rt, alloc, word.as_str(), kind.as_str(), number(size)?)
+        }
+        [word, size] => of_size(alloc, word.as_str(), number(size)?),
         _ => bail!("mum_bench WORKLOAD [KIND] [PIECE] SIZE"),
     }
 }

@@ -1,7 +1,7 @@
 //! Messages, decoded and encoded.
 
 use anyhow::{Result, bail};
-use mum_base::{Octets, Text};
+use mum_base::{Items, Octets, Text};
 use mum_fields::Message;
 use mum_msg_rule::{Acl, AclGroup, AclLine};
 use mum_msg_state::{ChannelState, UserState};
@@ -20,40 +20,53 @@ fn text(alloc: Global, text: &str) -> Result<Option<Text>> {
     Ok(Some(Text::of(alloc, text)?))
 }
 
+/// The numbers from one up to another, which is left out.
+fn numbers(alloc: Global, first: u32, end: u32) -> Result<Items<u32>> {
+    let mut numbers = Items::new(alloc);
+    for number in first..end {
+        numbers.push(number)?;
+    }
+    Ok(numbers)
+}
+
 fn channel(alloc: Global) -> Result<ChannelState> {
+    let name = text(alloc, "Lobby")?;
+    let description = text(alloc, "Where everybody comes in")?;
+    let links = numbers(alloc, 8, 12)?;
     let mut channel = ChannelState::new(alloc);
     channel.channel_id = Some(7);
     channel.parent = Some(2);
-    channel.name = text(alloc, "Lobby")?;
-    for linked in 8..12 {
-        channel.links.push(linked)?;
-    }
-    channel.description = text(alloc, "Where everybody comes in")?;
+    channel.name = name;
+    channel.links = links;
+    channel.description = description;
     channel.position = Some(-1);
     channel.max_users = Some(100);
     Ok(channel)
 }
 
 fn user(alloc: Global) -> Result<UserState> {
+    let name = text(alloc, "carol")?;
+    let comment = text(alloc, "Back at eight")?;
+    let listened = numbers(alloc, 9, 10)?;
     let mut user = UserState::new(alloc);
     user.session = Some(3);
     user.actor = Some(3);
-    user.name = text(alloc, "carol")?;
+    user.name = name;
     user.user_id = Some(17);
     user.channel_id = Some(7);
     user.self_mute = Some(true);
     user.self_deaf = Some(false);
-    user.comment = text(alloc, "Back at eight")?;
-    user.listening_channel_add.push(9)?;
+    user.comment = comment;
+    user.listening_channel_add = listened;
     Ok(user)
 }
 
 fn group(alloc: Global) -> Result<AclGroup> {
+    let name = text(alloc, "admin")?;
+    let accounts = numbers(alloc, 0, GROUPS)?;
     let mut group = AclGroup::new(alloc);
-    group.name = text(alloc, "admin")?;
-    for account in 0..GROUPS {
-        group.add.push(account)?;
-    }
+    group.name = name;
+    group.add = accounts;
     Ok(group)
 }
 
@@ -103,27 +116,49 @@ fn copied_payload(alloc: Global, payload: &Octets, count: usize) -> Result<u64> 
     Ok(sum)
 }
 
+/// The payload of a message, where there was memory for it.
+fn payload_of<M: Message>(alloc: Global, message: Result<M>) -> Result<Octets> {
+    let message = message?;
+    Ok(message.encode(alloc)?)
+}
+
+fn decode<M: Message>(alloc: Global, message: Result<M>, count: usize) -> Result<u64> {
+    let payload = payload_of(alloc, message)?;
+    decoded::<M>(alloc, &payload, count)
+}
+
+fn encode<M: Message>(alloc: Global, message: Result<M>, count: usize) -> Result<u64> {
+    let message = message?;
+    encoded(alloc, &message, count)
+}
+
 /// Decodes or encodes a message so many times.
 pub fn work(alloc: Global, kind: &str, count: usize) -> Result<u64> {
     match kind {
-        "decode-channel" => decoded::<ChannelState>(alloc, &channel(alloc)?.encode(alloc)?, count),
-        "decode-user" => decoded::<UserState>(alloc, &user(alloc)?.encode(alloc)?, count),
-        "decode-acl" => decoded::<Acl>(alloc, &list(alloc)?.encode(alloc)?, count),
-        "encode-channel" => encoded(alloc, &channel(alloc)?, count),
-        "encode-user" => encoded(alloc, &user(alloc)?, count),
-        "encode-acl" => encoded(alloc, &list(alloc)?, count),
-        _ => bail!("no such message: {kind}"),
+        "decode-channel" => return decode(alloc, channel(alloc), count),
+        "decode-user" => return decode(alloc, user(alloc), count),
+        "decode-acl" => return decode(alloc, list(alloc), count),
+        "encode-channel" => return encode(alloc, channel(alloc), count),
+        "encode-user" => return encode(alloc, user(alloc), count),
+        "encode-acl" => return encode(alloc, list(alloc), count),
+        _ => {}
     }
+    bail!("no such message: {kind}")
+}
+
+fn copy<M: Message>(alloc: Global, message: Result<M>, count: usize) -> Result<u64> {
+    let payload = payload_of(alloc, message)?;
+    copied_payload(alloc, &payload, count)
 }
 
 /// Copies the bytes of the same payload so many times.
 pub fn copied(alloc: Global, kind: &str, count: usize) -> Result<u64> {
-    let payload = match kind {
-        "decode-channel" | "encode-channel" => channel(alloc)?.encode(alloc)?,
-        "decode-user" | "encode-user" => user(alloc)?.encode(alloc)?,
-        _ => list(alloc)?.encode(alloc)?,
-    };
-    copied_payload(alloc, &payload, count)
+    match kind {
+        "decode-channel" | "encode-channel" => return copy(alloc, channel(alloc), count),
+        "decode-user" | "encode-user" => return copy(alloc, user(alloc), count),
+        _ => {}
+    }
+    copy(alloc, list(alloc), count)
 }
 
 fn empty_blocks(alloc: Global, size: usize) -> Result<Octets> {

@@ -90,6 +90,14 @@ fn asked(roster: &Roster, sessions: usize, count: usize) -> u64 {
     sum
 }
 
+/// Lets a session join, with its listening and its targets.
+fn come(alloc: Global, roster: &mut Roster, round: usize) -> Result<SessionId> {
+    let name = format!(in alloc; "again {round}")?;
+    let session = roster.join(name.as_str(), None, &[])?;
+    settle(alloc, roster, session)?;
+    Ok(session)
+}
+
 /// Lets a session leave and another join in its place, so many times.
 fn leaves(alloc: Global, roster: &mut Roster, count: usize) -> Result<u64> {
     let mut sum: u64 = 0;
@@ -100,12 +108,36 @@ fn leaves(alloc: Global, roster: &mut Roster, count: usize) -> Result<u64> {
         };
         let session = user.session;
         roster.leave(session)?;
-        let name = format!(in alloc; "again {round}")?;
-        let next = roster.join(name.as_str(), None, &[])?;
-        settle(alloc, roster, next)?;
+        let next = come(alloc, roster, round)?;
         sum = sum.wrapping_add(u64::from(next.0));
     }
     Ok(sum)
+}
+
+/// Makes the roster so many times.
+fn joins(alloc: Global, sessions: usize, count: usize) -> Result<u64> {
+    let mut sum: u64 = 0;
+    for _ in 0..count {
+        let roster = settled(alloc, sessions)?;
+        sum = sum.wrapping_add(roster.users().len() as u64);
+    }
+    Ok(sum)
+}
+
+/// Work on a roster of so many sessions.
+fn work_on(
+    alloc: Global,
+    roster: &mut Roster,
+    kind: &str,
+    sessions: usize,
+    count: usize,
+) -> Result<u64> {
+    match kind {
+        "listen" => listens_again(roster, sessions, count),
+        "listens" => Ok(asked(roster, sessions, count)),
+        "leave" => leaves(alloc, roster, count),
+        _ => bail!("no such work on a roster"),
+    }
 }
 
 /// So many times what the word says, of a roster of so many sessions, each of which listens to 32 channels
@@ -115,20 +147,10 @@ pub fn work(alloc: Global, kind: &str, sessions: usize, count: usize) -> Result<
     ensure!(sessions > 0, "a workload has sessions");
     ensure!(sessions <= SESSIONS, "a roster has at most 128 sessions");
     if kind == "join" {
-        let mut sum: u64 = 0;
-        for _ in 0..count {
-            let roster = settled(alloc, sessions)?;
-            sum = sum.wrapping_add(roster.users().len() as u64);
-        }
-        return Ok(sum);
+        return joins(alloc, sessions, count);
     }
     let mut roster = settled(alloc, sessions)?;
-    match kind {
-        "listen" => listens_again(&mut roster, sessions, count),
-        "listens" => Ok(asked(&roster, sessions, count)),
-        "leave" => leaves(alloc, &mut roster, count),
-        _ => bail!("no such work on a roster"),
-    }
+    work_on(alloc, &mut roster, kind, sessions, count)
 }
 
 /// Copies the same roster so many times.

@@ -310,15 +310,14 @@ fn set_policies(alloc: Global, state: &mut State, channels: usize) -> Result<()>
     Ok(())
 }
 
-/// A state of this size.
-fn settled(alloc: Global, size: Size) -> Result<State> {
-    let mut state = State::empty(alloc)?;
-    add_channels(alloc, &mut state, size.channels)?;
-    set_policies(alloc, &mut state, size.channels)?;
+/// What makes the empty state one of this size.
+fn fill(alloc: Global, state: &mut State, size: Size) -> Result<()> {
+    add_channels(alloc, state, size.channels)?;
+    set_policies(alloc, state, size.channels)?;
     for place in 0..size.sessions {
-        settle(alloc, &mut state, size, place)?;
+        settle(alloc, state, size, place)?;
     }
-    Ok(state)
+    Ok(())
 }
 
 fn leave(session: SessionId) -> Result<Edit> {
@@ -503,13 +502,12 @@ pub fn add_path(
 }
 
 /// Asks so many times what a session may do in the last channel of a path of so many, each with a policy.
-fn questions(alloc: Global, length: usize, count: usize) -> Result<u64> {
+fn questions(alloc: Global, state: &mut State, length: usize, count: usize) -> Result<u64> {
     ensure!(length <= PATH_LIMIT, "a path has at most 33 channels");
-    let mut state = State::empty(alloc)?;
-    let last = add_path(alloc, &mut state, length, OPEN)?;
-    add_session(alloc, &mut state)?;
-    let session = session_at(&state, 0)?;
-    Ok(asked::<Brand>(Blank::new(1), &state, session, last, count))
+    let last = add_path(alloc, state, length, OPEN)?;
+    add_session(alloc, state)?;
+    let session = session_at(state, 0)?;
+    Ok(asked::<Brand>(Blank::new(1), state, session, last, count))
 }
 
 /// Asks so many times what a session, each in turn, may do where it is.
@@ -540,6 +538,32 @@ fn copies(alloc: Global, state: &State, count: usize) -> Result<u64> {
     Ok(sum)
 }
 
+/// Rounds of the kind so many times, in a state that is of this size.
+fn rounds(alloc: Global, state: &mut State, kind: &str, size: Size, count: usize) -> Result<u64> {
+    for number in 0..count {
+        one_round(alloc, state, kind, size, number)?;
+    }
+    let stamps = state.stamps();
+    Ok(stamps.policy.wrapping_mul(31).wrapping_add(stamps.routing))
+}
+
+/// The same of what is no question of permissions, in a state that is empty before.
+fn work_on(
+    alloc: Global,
+    state: &mut State,
+    kind: &str,
+    channels: usize,
+    count: usize,
+) -> Result<u64> {
+    let size = Size::of(channels)?;
+    fill(alloc, state, size)?;
+    match kind {
+        "copy" => copies(alloc, state, count),
+        "walk" => walks(state, count),
+        _ => rounds(alloc, state, kind, size, count),
+    }
+}
+
 /// So many times what the word says, of a state of so many channels but one and twice as many sessions,
 /// 128 at most; for `permissions`, of a path of so many channels. Each channel has a policy of 4 entries;
 /// each session is in a channel, listens to another, and has a voice target. `leave` and `kick` let a
@@ -548,20 +572,9 @@ fn copies(alloc: Global, state: &State, count: usize) -> Result<u64> {
 /// `move`, `edit` (of a position), `tokens`, `target`, `acl`, `say`, `server` and `account` are one edit;
 /// `copy` copies the state, and `walk` asks what a session may do where it is.
 pub fn work(alloc: Global, kind: &str, channels: usize, count: usize) -> Result<u64> {
-    if kind == "permissions" {
-        return questions(alloc, channels, count);
+    let mut state = State::empty(alloc)?;
+    match kind {
+        "permissions" => questions(alloc, &mut state, channels, count),
+        _ => work_on(alloc, &mut state, kind, channels, count),
     }
-    let size = Size::of(channels)?;
-    let mut state = settled(alloc, size)?;
-    if kind == "copy" {
-        return copies(alloc, &state, count);
-    }
-    if kind == "walk" {
-        return walks(&state, count);
-    }
-    for number in 0..count {
-        one_round(alloc, &mut state, kind, size, number)?;
-    }
-    let stamps = state.stamps();
-    Ok(stamps.policy.wrapping_mul(31).wrapping_add(stamps.routing))
 }

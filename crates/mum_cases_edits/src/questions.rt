@@ -142,24 +142,34 @@ fn slots(alloc: Global, state: &State, word: &str) -> Result<String> {
 /// What the state has under a name, or `none`.
 fn found(alloc: Global, state: &State, name: &str) -> Result<String> {
     let lines = told(alloc, state)?;
-    Ok(String::from_str(alloc, line_of(lines.as_slice(), name).unwrap_or("none"))?)
+    let text = line_of(lines.as_slice(), name).unwrap_or("none");
+    Ok(String::from_str(alloc, text)?)
 }
 
-/// What a question is answered by; none where the call is no question.
-pub fn asked(alloc: Global, state: &State, call: &str) -> Result<Option<String>> {
-    let (word, rest) = word_of(call);
-    let text = match word {
-        "may" => may(alloc, state, rest)?,
-        "granted" => granted(alloc, state, rest)?,
-        "named" => named(alloc, state, rest)?,
-        "listens" => listens(alloc, state, rest)?,
-        "target-of" => target_in(alloc, state, rest)?,
-        "channels" => channels(alloc, state)?,
-        "sessions" | "where" | "suppressed" => sessions(alloc, state, word)?,
-        "slots" => slots(alloc, state, rest)?,
+/// Whether a call with this word asks, and changes nothing.
+pub fn is_question(word: &str) -> bool {
+    match word {
+        "may" | "granted" | "named" | "listens" | "target-of" => true,
+        "channels" | "sessions" | "where" | "suppressed" | "slots" => true,
         "settings" | "channel" | "place" | "policy" | "links" | "session" | "counts" | "next" =>
-            found(alloc, state, call)?,
-        _ => return Ok(None),
-    };
-    Ok(Some(text))
+            true,
+        _ => false,
+    }
+}
+
+/// What a question is answered by.
+pub fn asked(alloc: Global, state: &State, call: &str) -> Result<String> {
+    let (word, rest) = word_of(call);
+    match word {
+        "may" => return may(alloc, state, rest),
+        "granted" => return granted(alloc, state, rest),
+        "named" => return named(alloc, state, rest),
+        "listens" => return listens(alloc, state, rest),
+        "target-of" => return target_in(alloc, state, rest),
+        "channels" => return channels(alloc, state),
+        "sessions" | "where" | "suppressed" => return sessions(alloc, state, word),
+        "slots" => return slots(alloc, state, rest),
+        _ => {}
+    }
+    found(alloc, state, call)
 }

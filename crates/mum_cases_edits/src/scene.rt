@@ -1,6 +1,6 @@
 //! A line of calls on a state.
 
-use crate::questions::asked;
+use crate::questions::{asked, is_question};
 use anyhow::Result;
 use mum_cases_words::calls::edit;
 use mum_cases_words::lines::changes;
@@ -8,7 +8,7 @@ use mum_cases_words::words::word_of;
 use mum_cases_words::{calls_of, edit_of, told};
 use mum_state::State;
 use std::alloc::Global;
-use std::mem::swap;
+use std::mem::{replace, swap};
 
 /// What a line speaks of: the state that its calls go to, as it is and as it was before the last edit,
 /// another beside it, and what its calls have said.
@@ -21,15 +21,20 @@ struct Scene {
     said: String,
 }
 
-/// The names of what two states say another of, or `nothing`.
-fn differences(alloc: Global, before: &State, after: &State) -> Result<String> {
-    let before = told(alloc, before)?;
-    let after = told(alloc, after)?;
-    let text = changes(alloc, before.as_slice(), after.as_slice())?;
+/// A list, or `nothing` where it is empty.
+fn or_nothing(alloc: Global, text: Result<String>) -> Result<String> {
+    let text = text?;
     if text.is_empty() {
         return Ok(String::from_str(alloc, "nothing")?);
     }
     Ok(text)
+}
+
+/// The names of what two states say another of, or `nothing`.
+fn differences(alloc: Global, before: &State, after: &State) -> Result<String> {
+    let before = told(alloc, before)?;
+    let after = told(alloc, after)?;
+    or_nothing(alloc, changes(alloc, before.as_slice(), after.as_slice()))
 }
 
 impl Scene {
@@ -52,6 +57,12 @@ impl Scene {
         Ok(())
     }
 
+    /// The same of a text, where there was memory for it.
+    fn say_text(&mut self, text: Result<String>) -> Result<()> {
+        let text = text?;
+        self.say(text.as_str())
+    }
+
     /// From here on the calls go to an equal state.
     fn copy(&mut self) -> Result<()> {
         self.other = self.state.copy(self.alloc)?;
@@ -68,14 +79,20 @@ impl Scene {
 
     /// What is another since before the last edit.
     fn say_changes(&mut self) -> Result<()> {
-        let text = differences(self.alloc, &self.before, &self.state)?;
-        self.say(text.as_str())
+        let text = differences(self.alloc, &self.before, &self.state);
+        self.say_text(text)
     }
 
     /// What the state has else than the other.
     fn say_differs(&mut self) -> Result<()> {
-        let text = differences(self.alloc, &self.other, &self.state)?;
-        self.say(text.as_str())
+        let text = differences(self.alloc, &self.other, &self.state);
+        self.say_text(text)
+    }
+
+    /// What a question is answered by.
+    fn say_asked(&mut self, call: &str) -> Result<()> {
+        let text = asked(self.alloc, &self.state, call);
+        self.say_text(text)
     }
 
     fn edit(&mut self, call: &str) -> Result<()> {
@@ -88,6 +105,9 @@ impl Scene {
 
     fn call(&mut self, call: &str) -> Result<()> {
         let (word, rest) = word_of(call);
+        if is_question(word) {
+            return self.say_asked(call);
+        }
         match word {
             "copy" => self.copy(),
             "other" => {
@@ -97,11 +117,19 @@ impl Scene {
             "fits" => self.say_fits(rest),
             "changes" => self.say_changes(),
             "differs" => self.say_differs(),
-            _ => match asked(self.alloc, &self.state, call)? {
-                Some(text) => self.say(text.as_str()),
-                None => self.edit(call),
-            },
+            _ => self.edit(call),
         }
+    }
+
+    /// What these calls say, or `done`.
+    fn calls(&mut self, calls: &[String]) -> Result<String> {
+        for call in calls {
+            self.call(call.as_str())?;
+        }
+        if self.said.is_empty() {
+            self.say("done")?;
+        }
+        Ok(replace(&mut self.said, String::new(self.alloc)))
     }
 }
 
@@ -109,11 +137,5 @@ impl Scene {
 pub fn answer(alloc: Global, line: &str) -> Result<String> {
     let calls = calls_of(alloc, line)?;
     let mut scene = Scene::new(alloc)?;
-    for call in &calls {
-        scene.call(call.as_str())?;
-    }
-    if scene.said.is_empty() {
-        scene.say("done")?;
-    }
-    Ok(scene.said)
+    scene.calls(calls.as_slice())
 }

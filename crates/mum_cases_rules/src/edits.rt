@@ -1,7 +1,7 @@
 //! Edits that messages on channels are, as tables tell them.
 
 use anyhow::{Result, bail};
-use mum_base::{AccountId, Perm};
+use mum_base::AccountId;
 use mum_cases_words::perms::names_text;
 use mum_cases_words::pieces::{
     add, add_actor, add_channels, add_number, add_position, add_text, shown,
@@ -81,29 +81,31 @@ fn entry_text(alloc: Global, entry: &AclEntry) -> Result<String> {
     Ok(text)
 }
 
+/// A part, where there was memory for its text.
+fn add_text_of(text: &mut String, part: Result<String>) -> Result<()> {
+    let part = part?;
+    add(text, part.as_str())
+}
+
 /// The parts of a policy; only how many there are of groups and entries where there are many.
-fn policy_text(alloc: Global, policy: &ChannelPolicy) -> Result<String> {
-    let mut text = String::new(alloc);
+fn add_policy(alloc: Global, text: &mut String, policy: &ChannelPolicy) -> Result<()> {
     if !policy.inherit_acls {
-        add(&mut text, "anew")?;
+        add(text, "anew")?;
     }
     let groups = policy.groups.as_slice();
     let entries = policy.acls.as_slice();
     if groups.len() > 4 || entries.len() > 4 {
         let (groups, entries) = (groups.len(), entries.len());
-        add(
-            &mut text,
-            format!(in alloc; "{groups} groups, {entries} entries")?.as_str(),
-        )?;
-        return Ok(text);
+        let counts = format!(in alloc; "{groups} groups, {entries} entries")?;
+        return add(text, counts.as_str());
     }
     for group in groups {
-        add(&mut text, group_text(alloc, group)?.as_str())?;
+        add_text_of(text, group_text(alloc, group))?;
     }
     for entry in entries {
-        add(&mut text, entry_text(alloc, entry)?.as_str())?;
+        add_text_of(text, entry_text(alloc, entry))?;
     }
-    Ok(text)
+    Ok(())
 }
 
 fn make_text(alloc: Global, edit: &Edit) -> Result<String> {
@@ -173,17 +175,18 @@ fn acl_text(alloc: Global, edit: &Edit) -> Result<String> {
     };
     let mut text = format!(in alloc; "acl {}", channel.0)?;
     add_actor(alloc, &mut text, *actor)?;
-    text.push_str(policy_text(alloc, policy)?.as_str())?;
+    add_policy(alloc, &mut text, policy)?;
     Ok(text)
 }
 
 /// An edit as the calls of a line spell it.
 pub fn edit_text(alloc: Global, edit: &Edit) -> Result<String> {
     match edit {
-        Edit::MakeChannel { .. } => make_text(alloc, edit),
-        Edit::EditChannel { .. } => change_text(alloc, edit),
-        Edit::RemoveChannel { .. } => removal_text(alloc, edit),
-        Edit::SetAcl { .. } => acl_text(alloc, edit),
-        _ => bail!("no edit of a channel"),
+        Edit::MakeChannel { .. } => return make_text(alloc, edit),
+        Edit::EditChannel { .. } => return change_text(alloc, edit),
+        Edit::RemoveChannel { .. } => return removal_text(alloc, edit),
+        Edit::SetAcl { .. } => return acl_text(alloc, edit),
+        _ => {}
     }
+    bail!("no edit of a channel")
 }

@@ -6,7 +6,7 @@
 use anyhow::Result;
 use mum_base::{AccountId, Items, Text};
 use mum_cases_words::policies::policy_of;
-use mum_cases_words::words::text_of;
+use mum_cases_words::words::given_text;
 use mum_msg_rule::{Acl, AclGroup, AclLine};
 use mum_policy::{AclEntry, Group, Whom};
 use std::alloc::Global;
@@ -39,13 +39,15 @@ fn group_of(
     inherited: Option<bool>,
     whole: bool,
 ) -> Result<AclGroup> {
+    let add = numbers(alloc, group.add.as_slice())?;
+    let remove = numbers(alloc, group.remove.as_slice())?;
     Ok(AclGroup {
         name: Some(group.name.share()?),
         inherited,
         inherit: said(group.inherit, whole),
         inheritable: said(group.inheritable, whole),
-        add: numbers(alloc, group.add.as_slice())?,
-        remove: numbers(alloc, group.remove.as_slice())?,
+        add,
+        remove,
         inherited_members: Items::new(alloc),
     })
 }
@@ -86,30 +88,70 @@ fn origin(part: &str) -> (Option<bool>, &str) {
     }
 }
 
-fn add_part(alloc: Global, message: &mut Acl, part: &str) -> Result<()> {
+/// What a part says of each of its groups and entries beside what they are.
+#[derive(Clone, Copy)]
+struct Beside<'a> {
+    inherited: Option<bool>,
+    whole: bool,
+    alias: Option<&'a str>,
+}
+
+/// The same, and the part without it.
+fn beside_of(part: &str) -> (Beside<'_>, &str) {
     let (inherited, part) = origin(part);
     let (whole, part) = match part.strip_prefix("whole ") {
         Some(rest) => (true, rest),
         None => (false, part),
     };
     let (part, alias) = match part.split_once(" as ") {
-        Some((part, name)) => (part, Some(text_of(alloc, name)?)),
+        Some((part, name)) => (part, Some(name)),
         None => (part, None),
     };
-    let policy = policy_of(alloc, part)?;
-    for group in policy.groups.as_slice() {
-        message
-            .groups
-            .push(group_of(alloc, group, inherited, whole)?)?;
-    }
-    if let [entry] = policy.acls.as_slice() {
-        message.acls.push(line_of(entry, inherited, whole, alias)?)?;
-        return Ok(());
-    }
-    for entry in policy.acls.as_slice() {
-        message.acls.push(line_of(entry, inherited, whole, None)?)?;
+    let beside = Beside {
+        inherited,
+        whole,
+        alias,
+    };
+    (beside, part)
+}
+
+fn add_groups(
+    alloc: Global,
+    message: &mut Acl,
+    groups: &[Group],
+    beside: Beside<'_>,
+) -> Result<()> {
+    for group in groups {
+        let group = group_of(alloc, group, beside.inherited, beside.whole)?;
+        message.groups.push(group)?;
     }
     Ok(())
+}
+
+/// An alias stands beside an entry that is alone.
+fn add_entries(
+    alloc: Global,
+    message: &mut Acl,
+    entries: &[AclEntry],
+    beside: Beside<'_>,
+) -> Result<()> {
+    for entry in entries {
+        let alias = match entries {
+            [_] => given_text(alloc, beside.alias)?,
+            _ => None,
+        };
+        message
+            .acls
+            .push(line_of(entry, beside.inherited, beside.whole, alias)?)?;
+    }
+    Ok(())
+}
+
+fn add_part(alloc: Global, message: &mut Acl, part: &str) -> Result<()> {
+    let (beside, part) = beside_of(part);
+    let policy = policy_of(alloc, part)?;
+    add_groups(alloc, message, policy.groups.as_slice(), beside)?;
+    add_entries(alloc, message, policy.acls.as_slice(), beside)
 }
 
 /// The ACL message that sets a policy. `anew` says that the channel does not inherit, `follows` that it

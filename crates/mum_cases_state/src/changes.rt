@@ -41,6 +41,11 @@ fn set_texts(roster: &mut Roster, session: SessionId, words: &str) -> Done {
     roster.set_texts(session, behind(words, "comment"), context)
 }
 
+fn set_tokens(alloc: Global, roster: &mut Roster, session: SessionId, words: &str) -> Result<Done> {
+    let tokens = texts(alloc, words)?;
+    Ok(roster.set_tokens(session, tokens.as_slice()))
+}
+
 fn set_target(alloc: Global, roster: &mut Roster, session: SessionId, rest: &str) -> Result<Done> {
     let (id, items) = word_of(rest);
     let target = target_of(alloc, items)?;
@@ -48,12 +53,14 @@ fn set_target(alloc: Global, roster: &mut Roster, session: SessionId, rest: &str
 }
 
 fn edit(alloc: Global, roster: &mut Roster, session: SessionId, parts: &str) -> Result<Done> {
+    let channel = given_channel(part(parts, "channel"))?;
+    let flags = flags(part(parts, "flags").unwrap_or(""))?;
     let listen = channels(alloc, part(parts, "listen").unwrap_or(""))?;
     let unlisten = channels(alloc, part(parts, "unlisten").unwrap_or(""))?;
     let comment = Text::of_given(alloc, part(parts, "comment"))?;
     let change = UserChange {
-        channel: given_channel(part(parts, "channel"))?,
-        flags: flags(part(parts, "flags").unwrap_or(""))?,
+        channel,
+        flags,
         comment: comment.as_ref(),
         context: part(parts, "context").map(|text| text.as_bytes()),
         listen: listen.as_slice(),
@@ -94,7 +101,7 @@ fn change(
         "leave" => Ok(roster.leave(session)),
         "place" => Ok(roster.place(session, channel(rest)?)),
         "flags" => Ok(roster.set_flags(session, flags(rest)?)),
-        "tokens" => Ok(roster.set_tokens(session, texts(alloc, rest)?.as_slice())),
+        "tokens" => set_tokens(alloc, roster, session, rest),
         "texts" => Ok(set_texts(roster, session, rest)),
         "listen" => listen_to(roster, session, rest),
         "unlisten" => Ok(roster.unlisten(session, channel(rest)?)),
@@ -154,22 +161,25 @@ fn change_each(
     Ok(text)
 }
 
+fn close(alloc: Global, roster: &mut Roster, rest: &str) -> Result<String> {
+    let channels = channels(alloc, rest)?;
+    roster.close(&Gone { channels });
+    Ok(String::from_str(alloc, "ok")?)
+}
+
+fn joins(alloc: Global, roster: &mut Roster, rest: &str) -> Result<String> {
+    join_many(alloc, roster, number(rest)?)?;
+    Ok(String::from_str(alloc, "ok")?)
+}
+
 /// What a change answers: `ok`, the flags after it, the number of who joined, or the fault.
 pub fn answer(alloc: Global, roster: &mut Roster, word: &str, rest: &str) -> Result<String> {
     match word {
-        "joins" => {
-            join_many(alloc, roster, number(rest)?)?;
-            Ok(String::from_str(alloc, "ok")?)
-        }
-        "join" => join(alloc, roster, rest),
-        "close" => {
-            let channels = channels(alloc, rest)?;
-            roster.close(&Gone { channels });
-            Ok(String::from_str(alloc, "ok")?)
-        }
-        _ => {
-            let (sessions, rest) = word_of(rest);
-            change_each(alloc, roster, word, sessions, rest)
-        }
+        "joins" => return joins(alloc, roster, rest),
+        "join" => return join(alloc, roster, rest),
+        "close" => return close(alloc, roster, rest),
+        _ => {}
     }
+    let (sessions, rest) = word_of(rest);
+    change_each(alloc, roster, word, sessions, rest)
 }

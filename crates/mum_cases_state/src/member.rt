@@ -41,6 +41,14 @@ fn met(
     Ok(text)
 }
 
+/// The same where who asks and the channel of the entry are spelled.
+fn met_by(alloc: Global, lists: &Lists, who: &str, at: &str, names: &str) -> Result<String> {
+    let acl_at = lists.channel(at)?.0 as usize;
+    let path = lists.path(alloc)?;
+    let asker = asker_of(alloc, lists, who)?;
+    met(alloc, lists, path.as_slice(), acl_at, &asker.who(), names)
+}
+
 impl Table for Names {
     const NAME: &'static str = "member";
 
@@ -49,9 +57,6 @@ impl Table for Names {
         let (who, asked) = rest.split_once(" | at ").context("nothing is asked")?;
         let (at, names) = asked.split_once(':').context("no name is asked")?;
         let lists = path_of(alloc, channels)?;
-        let asker = asker_of(alloc, &lists, who)?;
-        let path = lists.path(alloc)?;
-        let acl_at = lists.channel(at)?.0 as usize;
-        met(alloc, &lists, path.as_slice(), acl_at, &asker.who(), names)
+        met_by(alloc, &lists, who, at, names)
     }
 }

@@ -40,19 +40,24 @@ fn listed(alloc: Global, lists: &Lists, path: &[ChannelId]) -> Result<String> {
     Ok(text)
 }
 
+/// The same, asked in each channel of the path in turn.
+fn listed_in_each(alloc: Global, lists: &Lists, path: &[ChannelId]) -> Result<String> {
+    let mut text = String::new(alloc);
+    for end in 0..path.len() {
+        if end > 0 {
+            text.push_str("; ")?;
+        }
+        text.push_str(listed(alloc, lists, &path[..end + 1])?.as_str())?;
+    }
+    Ok(text)
+}
+
 impl Table for Definitions {
     const NAME: &'static str = "members";
 
     fn answer(alloc: Global, question: &str) -> Result<String> {
         let lists = path_of(alloc, question)?;
         let path = lists.path(alloc)?;
-        let mut text = String::new(alloc);
-        for end in 0..path.len() {
-            if end > 0 {
-                text.push_str("; ")?;
-            }
-            text.push_str(listed(alloc, &lists, &path[..end + 1])?.as_str())?;
-        }
-        Ok(text)
+        listed_in_each(alloc, &lists, path.as_slice())
     }
 }

@@ -55,6 +55,25 @@ impl Lists {
         }
         Ok(path)
     }
+
+    /// The policy of the channel that comes next.
+    fn add_policy(&mut self, policy: ChannelPolicy) -> Result<()> {
+        if self.names.is_empty() {
+            self.root = policy;
+            return Ok(());
+        }
+        self.below.push(policy)?;
+        Ok(())
+    }
+
+    /// `A: PART, PART`
+    fn add(&mut self, alloc: Global, channel: &str) -> Result<()> {
+        let (name, parts) = channel.split_once(':').unwrap_or((channel, ""));
+        let policy = policy_of(alloc, parts)?;
+        self.add_policy(policy.copy(alloc)?)?;
+        self.names.push(String::from_str(alloc, name.trim())?)?;
+        Ok(())
+    }
 }
 
 /// Whether the path begins at the root.
@@ -75,14 +94,7 @@ pub fn path_of(alloc: Global, text: &str) -> Result<Lists> {
         below: Vec::new(alloc),
     };
     for channel in text.split(';') {
-        let (name, parts) = channel.split_once(':').unwrap_or((channel, ""));
-        let policy = policy_of(alloc, parts)?.copy(alloc)?;
-        if lists.names.is_empty() {
-            lists.root = policy;
-        } else {
-            lists.below.push(policy)?;
-        }
-        lists.names.push(String::from_str(alloc, name.trim())?)?;
+        lists.add(alloc, channel)?;
     }
     Ok(lists)
 }

@@ -38,6 +38,26 @@ fn set_in(lists: &Lists, path: &[ChannelId], who: &Who) -> Perm {
     counted::<Brand>(Blank::new(1), lists, path, who)
 }
 
+/// The same, which is counted and uncounted one set.
+fn checked_set(lists: &Lists, path: &[ChannelId], who: &Who) -> Result<Perm> {
+    let set = set_in(lists, path, who);
+    ensure!(uncounted(lists, path, who) == set, "one set");
+    Ok(set)
+}
+
+/// The same in each channel of the path in turn.
+fn sets_in_each(alloc: Global, lists: &Lists, path: &[ChannelId], who: &Who) -> Result<String> {
+    let mut text = String::new(alloc);
+    for end in 0..path.len() {
+        let set = checked_set(lists, &path[..end + 1], who)?;
+        if end > 0 {
+            text.push_str("; ")?;
+        }
+        text.push_str(set_text(alloc, set)?.as_str())?;
+    }
+    Ok(text)
+}
+
 impl Table for Walks {
     const NAME: &'static str = "permissions";
 
@@ -46,18 +66,6 @@ impl Table for Walks {
         let lists = path_of(alloc, channels)?;
         let asker = asker_of(alloc, &lists, who)?;
         let path = lists.path(alloc)?;
-        let mut text = String::new(alloc);
-        for end in 0..path.len() {
-            let set = set_in(&lists, &path[..end + 1], &asker.who());
-            ensure!(
-                uncounted(&lists, &path[..end + 1], &asker.who()) == set,
-                "one set"
-            );
-            if end > 0 {
-                text.push_str("; ")?;
-            }
-            text.push_str(set_text(alloc, set)?.as_str())?;
-        }
-        Ok(text)
+        sets_in_each(alloc, &lists, path.as_slice(), &asker.who())
     }
 }

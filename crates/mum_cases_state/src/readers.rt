@@ -118,30 +118,40 @@ fn context_text(alloc: Global, word: &str) -> Result<String> {
     yes_or_no(alloc, is_context(bytes.as_slice()))
 }
 
-/// What a reader answers of who is where and who listens; none where the word is no reader's.
-fn read_lists(alloc: Global, roster: &Roster, word: &str, rest: &str) -> Result<Option<String>> {
-    let text = match word {
-        "channels-of" => channels_text(alloc, roster, session(rest)?)?,
-        "listeners-of" => listeners_text(alloc, roster, channel(rest)?)?,
-        "members-of" => members_text(alloc, roster, channel(rest)?)?,
-        "has-member" => yes_or_no(alloc, roster.has_member(channel(rest)?))?,
-        "good-tokens" => tokens_text(alloc, rest)?,
-        "good-context" => context_text(alloc, rest)?,
-        _ => return Ok(None),
-    };
-    Ok(Some(text))
+/// Whether a call with this word asks, and changes nothing.
+pub fn is_reader(word: &str) -> bool {
+    match word {
+        "next" | "row" | "slot" | "listens" | "target-of" | "code" => true,
+        "channels-of" | "listeners-of" | "members-of" | "has-member" => true,
+        "good-tokens" | "good-context" => true,
+        _ => false,
+    }
 }
 
-/// What a reader answers; none where the word is no reader's.
-pub fn read(alloc: Global, roster: &Roster, word: &str, rest: &str) -> Result<Option<String>> {
-    let text = match word {
-        "next" => next_text(alloc, roster)?,
-        "row" => row_of(alloc, roster, session(rest)?)?,
-        "slot" => session_in(alloc, roster, Slot(small(rest)?))?,
-        "listens" => listens_text(alloc, roster, rest)?,
-        "target-of" => target_in(alloc, roster, rest)?,
-        "code" => code_text(alloc, rest)?,
-        _ => return read_lists(alloc, roster, word, rest),
-    };
-    Ok(Some(text))
+/// What a reader answers of who is where and who listens.
+fn read_lists(alloc: Global, roster: &Roster, word: &str, rest: &str) -> Result<String> {
+    match word {
+        "channels-of" => return channels_text(alloc, roster, session(rest)?),
+        "listeners-of" => return listeners_text(alloc, roster, channel(rest)?),
+        "members-of" => return members_text(alloc, roster, channel(rest)?),
+        "has-member" => return yes_or_no(alloc, roster.has_member(channel(rest)?)),
+        "good-tokens" => return tokens_text(alloc, rest),
+        "good-context" => return context_text(alloc, rest),
+        _ => {}
+    }
+    bail!("no reader: {word}")
+}
+
+/// What a reader answers.
+pub fn read(alloc: Global, roster: &Roster, word: &str, rest: &str) -> Result<String> {
+    match word {
+        "next" => return next_text(alloc, roster),
+        "row" => return row_of(alloc, roster, session(rest)?),
+        "slot" => return session_in(alloc, roster, Slot(small(rest)?)),
+        "listens" => return listens_text(alloc, roster, rest),
+        "target-of" => return target_in(alloc, roster, rest),
+        "code" => return code_text(alloc, rest),
+        _ => {}
+    }
+    read_lists(alloc, roster, word, rest)
 }

@@ -1,7 +1,7 @@
 //! The table `roster`.
 
 use crate::changes;
-use crate::readers::read;
+use crate::readers::{is_reader, read};
 use anyhow::{Context, Result, ensure};
 use mum_cases::Table;
 use mum_cases_words::words::word_of;
@@ -29,8 +29,8 @@ impl Two {
             mem::swap(&mut self.now, &mut self.aside);
             return Ok(String::from_str(alloc, "ok")?);
         }
-        if let Some(text) = read(alloc, &self.now, word, rest)? {
-            return Ok(text);
+        if is_reader(word) {
+            return read(alloc, &self.now, word, rest);
         }
         changes::answer(alloc, &mut self.now, word, rest)
     }
@@ -44,6 +44,27 @@ impl Two {
         }
         Ok(())
     }
+
+    /// What each of these calls answers.
+    fn answers(&mut self, alloc: Global, calls: &str) -> Result<String> {
+        let mut text = String::new(alloc);
+        for call in calls.split("; ") {
+            if !text.is_empty() {
+                text.push_str("; ")?;
+            }
+            text.push_str(self.answer(alloc, call)?.as_str())?;
+        }
+        Ok(text)
+    }
+
+    /// The same of those behind ` | `, where calls that must go well stand before it.
+    fn line(&mut self, alloc: Global, line: &str) -> Result<String> {
+        let Some((before, calls)) = line.split_once(" | ") else {
+            return self.answers(alloc, line);
+        };
+        self.prepare(alloc, before)?;
+        self.answers(alloc, calls)
+    }
 }
 
 impl Table for Calls {
@@ -54,18 +75,6 @@ impl Table for Calls {
             now: Roster::new(alloc)?,
             aside: Roster::new(alloc)?,
         };
-        let mut asked = question;
-        if let Some((before, calls)) = question.split_once(" | ") {
-            two.prepare(alloc, before)?;
-            asked = calls;
-        }
-        let mut text = String::new(alloc);
-        for call in asked.split("; ") {
-            if !text.is_empty() {
-                text.push_str("; ")?;
-            }
-            text.push_str(two.answer(alloc, call)?.as_str())?;
-        }
-        Ok(text)
+        two.line(alloc, question)
     }
 }

@@ -5,11 +5,11 @@ use mum_base::{ChannelId, Text};
 use mum_cases::{Table, number};
 use mum_cases_words::channels::{channel_text, links_text};
 use mum_cases_words::words::{
-    add_number, channel, channels, number_of, or_none, position, word_of,
+    add_number, channel, channels, head_of, number_of, or_none, position, word_of,
 };
 use mum_tree::{ChannelChange, ChannelInfo, Scratch, Tree, TreeFault};
 use std::alloc::Global;
-use std::mem::swap;
+use std::mem::{replace, swap};
 
 pub struct Trees;
 
@@ -70,6 +70,17 @@ impl<'a> Parts<'a> {
             _ => bail!("no part of a change: {part}"),
         }
         Ok(())
+    }
+
+    /// The parts behind the number of the channel, if there are any.
+    fn of(alloc: Global, words: &'a str) -> Result<Parts<'a>> {
+        let mut parts = Parts::none(alloc);
+        if !words.is_empty() {
+            for part in words.split(", ") {
+                parts.set(alloc, part)?;
+            }
+        }
+        Ok(parts)
     }
 }
 
@@ -139,14 +150,14 @@ impl Bench {
         let (name, kind) = word_of(rest);
         let id = self.channel(id, round)?;
         let parent = self.channel(parent, round)?;
-        let own = format!(in self.alloc; "{}", id.0)?;
-        let name = if name.is_empty() { own.as_str() } else { name };
         let Some(next) = self.tree.next_id() else {
             bail!("no number is left");
         };
         if id.0 < next.0 {
             bail!("the number was used");
         }
+        let own = format!(in self.alloc; "{}", id.0)?;
+        let name = if name.is_empty() { own.as_str() } else { name };
         let outcome = self.tree.add(id, parent, name, kind == "temporary");
         if outcome.is_ok() {
             self.last = id;
@@ -183,15 +194,9 @@ impl Bench {
 
     /// `ID` and the parts, each after a comma.
     fn edit(&mut self, words: &str, round: u32) -> Result<()> {
-        let mut parts = Parts::none(self.alloc);
-        let mut id = words;
-        if let Some((first, rest)) = words.split_once(", ") {
-            id = first;
-            for part in rest.split(", ") {
-                parts.set(self.alloc, part)?;
-            }
-        }
+        let (id, rest) = head_of(words);
         let id = self.channel(id, round)?;
+        let parts = Parts::of(self.alloc, rest)?;
         let description = Text::of_given(self.alloc, parts.description)?;
         let change = ChannelChange {
             name: parts.name,
@@ -371,6 +376,17 @@ impl Bench {
         }
         Ok(())
     }
+
+    /// What the calls of a line say, or `done`.
+    fn answer(&mut self, line: &str) -> Result<String> {
+        for call in line.split("; ") {
+            self.calls(call)?;
+        }
+        if self.said.is_empty() {
+            self.say("done")?;
+        }
+        Ok(replace(&mut self.said, String::new(self.alloc)))
+    }
 }
 
 impl Table for Trees {
@@ -378,12 +394,6 @@ impl Table for Trees {
 
     fn answer(alloc: Global, question: &str) -> Result<String> {
         let mut bench = Bench::new(alloc)?;
-        for call in question.split("; ") {
-            bench.calls(call)?;
-        }
-        if bench.said.is_empty() {
-            bench.say("done")?;
-        }
-        Ok(bench.said)
+        bench.answer(question)
     }
 }

@@ -34,19 +34,22 @@ fn digest_of(password: &str) -> Result<[u8; 32]> {
 pub fn account_edit(alloc: Global, rest: &str) -> Result<Edit> {
     let (head, parts) = head_of(rest);
     let (number, name) = word_of(head);
+    let account = account(number)?;
     let password = part(parts, "password").context("an account has a password")?;
+    let digest = digest_of(password)?;
     Ok(Edit::AddAccount {
-        account: account(number)?,
+        account,
         name: text_of(alloc, name)?,
-        digest: digest_of(password)?,
+        digest,
     })
 }
 
 /// `abc`: the password of the server.
 pub fn server_edit(alloc: Global, password: &str) -> Result<Edit> {
+    let digest = digest_of(password)?;
     Ok(Edit::SetServer {
         welcome: Text::empty(alloc),
         bandwidth: DEFAULT_BANDWIDTH,
-        password: Some(digest_of(password)?),
+        password: Some(digest),
     })
 }

@@ -93,6 +93,20 @@ fn said_text(alloc: Global, key: &str, bytes: &[u8]) -> Result<String> {
     Ok(format!(in alloc; "{key} {words}")?)
 }
 
+fn add_said(alloc: Global, text: &mut String, key: &str, bytes: &[u8]) -> Result<()> {
+    let said = said_text(alloc, key, bytes)?;
+    add(text, said.as_str())
+}
+
+fn add_flags(alloc: Global, text: &mut String, edit: &Edit) -> Result<()> {
+    let flags = flags_text(alloc, edit)?;
+    if flags.is_empty() {
+        return Ok(());
+    }
+    let flags = format!(in alloc; "flags{flags}")?;
+    add(text, flags.as_str())
+}
+
 /// `user 2, by 1, channel 3, flags +mute, cleared, comment hello, context game, listen 4, unlisten 6`
 fn user_text(alloc: Global, edit: &Edit) -> Result<String> {
     let Edit::SetUser {
@@ -117,24 +131,15 @@ fn user_text(alloc: Global, edit: &Edit) -> Result<String> {
         "channel",
         channel.map(|channel| channel.0),
     )?;
-    let flags = flags_text(alloc, edit)?;
-    if !flags.is_empty() {
-        add(&mut text, format!(in alloc; "flags{flags}")?.as_str())?;
-    }
+    add_flags(alloc, &mut text, edit)?;
     if *clear_suppress {
         add(&mut text, "cleared")?;
     }
     if let Some(comment) = comment {
-        add(
-            &mut text,
-            said_text(alloc, "comment", comment.as_slice())?.as_str(),
-        )?;
+        add_said(alloc, &mut text, "comment", comment.as_slice())?;
     }
     if let Some(context) = context {
-        add(
-            &mut text,
-            said_text(alloc, "context", context.as_slice())?.as_str(),
-        )?;
+        add_said(alloc, &mut text, "context", context.as_slice())?;
     }
     add_channels(alloc, &mut text, "listen", listen.as_slice())?;
     add_channels(alloc, &mut text, "unlisten", unlisten.as_slice())?;
@@ -211,26 +216,39 @@ fn items_text(alloc: Global, target: &Target) -> Result<String> {
     Ok(format!(in alloc; "items {count}")?)
 }
 
+fn leave_text(alloc: Global, session: SessionId) -> Result<String> {
+    Ok(format!(in alloc; "leave {}", session.0)?)
+}
+
+/// `tokens 1 one two`
+fn set_tokens_text(alloc: Global, session: SessionId, tokens: &[Text]) -> Result<String> {
+    let tokens = tokens_text(alloc, tokens)?;
+    Ok(format!(in alloc; "tokens {} {tokens}", session.0)?)
+}
+
+/// `target 1 7 channel 3 links`
+fn set_target_text(alloc: Global, session: SessionId, id: u8, target: &Target) -> Result<String> {
+    let items = items_text(alloc, target)?;
+    Ok(format!(in alloc; "target {} {id} {items}", session.0)?)
+}
+
 /// An edit as the calls of a line spell it.
 pub fn edit_text(alloc: Global, edit: &Edit) -> Result<String> {
     match edit {
-        Edit::Join { .. } => join_text(alloc, edit),
-        Edit::Leave { session } => Ok(format!(in alloc; "leave {}", session.0)?),
-        Edit::Kick { .. } => kick_text(alloc, edit),
-        Edit::SetUser { .. } => user_text(alloc, edit),
+        Edit::Join { .. } => return join_text(alloc, edit),
+        Edit::Leave { session } => return leave_text(alloc, *session),
+        Edit::Kick { .. } => return kick_text(alloc, edit),
+        Edit::SetUser { .. } => return user_text(alloc, edit),
         Edit::SetTokens { session, tokens } => {
-            let tokens = tokens_text(alloc, tokens.as_slice())?;
-            Ok(format!(in alloc; "tokens {} {tokens}", session.0)?)
+            return set_tokens_text(alloc, *session, tokens.as_slice());
         }
         Edit::SetTarget {
             session,
             id,
             target,
-        } => {
-            let items = items_text(alloc, target)?;
-            Ok(format!(in alloc; "target {} {id} {items}", session.0)?)
-        }
-        Edit::Text { .. } => say_text(alloc, edit),
-        _ => bail!("no edit of a user"),
+        } => return set_target_text(alloc, *session, *id, target),
+        Edit::Text { .. } => return say_text(alloc, edit),
+        _ => {}
     }
+    bail!("no edit of a user")
 }

@@ -5,12 +5,12 @@ use mum_base::{Items, Octets, Text};
 use mum_cases_words::flags::flags;
 use mum_cases_words::targets::target_of;
 use mum_cases_words::words::{
-    given_number, given_text, head_of, number_of, numbers, part, string_of, text_of, texts, word_of,
+    given_number, given_text, head_of, number_of, numbers, part, string_of, texts, word_of,
 };
 use mum_msg_rule::{PermissionQuery, TargetBlock, TextMessage, VoiceTarget};
 use mum_msg_state::{Authenticate, UserRemove, UserState};
 use mum_rules_user::UserMessage;
-use mum_users::TargetItem;
+use mum_users::{FlagChange, TargetItem};
 use std::alloc::Global;
 
 /// `4 5 100..131`
@@ -67,9 +67,11 @@ fn login(alloc: Global, rest: &str) -> Result<UserMessage> {
         Some(word) => Some(version_of(word)?),
         None => None,
     };
+    let username = given_text(alloc, said(name))?;
+    let password = given_text(alloc, part(parts, "password"))?;
     let message = Authenticate {
-        username: given_text(alloc, said(name))?,
-        password: given_text(alloc, part(parts, "password"))?,
+        username,
+        password,
         tokens: tokens_of(alloc, part(parts, "tokens").unwrap_or(""))?,
         celt_versions: Items::new(alloc),
         opus: None,
@@ -87,39 +89,106 @@ fn given_octets(alloc: Global, words: Option<&str>) -> Result<Option<Octets>> {
     }
 }
 
-/// `2, channel 3, flags +mute -deaf, comment hello, context game, listen 4 5, unlisten 6, once key`; no
-/// session where it is `-`.
-fn user(alloc: Global, rest: &str) -> Result<UserMessage> {
-    let (who, parts) = head_of(rest);
-    let flags = flags(part(parts, "flags").unwrap_or(""))?;
-    Ok(UserMessage::User(UserState {
+/// The texts and bytes of a UserState.
+#[derive(Drop)]
+struct Texts {
+    name: Option<Text>,
+    comment: Option<Text>,
+    identity: Option<Text>,
+    context: Option<Octets>,
+}
+
+fn texts_in(alloc: Global, parts: &str) -> Result<Texts> {
+    let name = given_text(alloc, part(parts, "name"))?;
+    let comment = given_text(alloc, part(parts, "comment"))?;
+    let identity = given_text(alloc, part(parts, "identity"))?;
+    Ok(Texts {
+        name,
+        comment,
+        identity,
+        context: given_octets(alloc, part(parts, "context"))?,
+    })
+}
+
+/// Its lists.
+#[derive(Drop)]
+struct Lists {
+    once: Items<Text>,
+    listen: Items<u32>,
+    unlisten: Items<u32>,
+}
+
+fn lists_in(alloc: Global, parts: &str) -> Result<Lists> {
+    let listen = listed(alloc, parts, "listen")?;
+    let unlisten = listed(alloc, parts, "unlisten")?;
+    Ok(Lists {
+        once: tokens_of(alloc, part(parts, "once").unwrap_or(""))?,
+        listen,
+        unlisten,
+    })
+}
+
+/// Its numbers.
+#[derive(Clone, Copy)]
+struct Numbers {
+    session: Option<u32>,
+    actor: Option<u32>,
+    account: Option<u32>,
+    channel: Option<u32>,
+}
+
+fn numbers_in(who: &str, parts: &str) -> Result<Numbers> {
+    Ok(Numbers {
         session: given_number(said(who))?,
         actor: given_number(part(parts, "actor"))?,
-        name: given_text(alloc, part(parts, "name"))?,
-        user_id: given_number(part(parts, "id"))?,
-        channel_id: given_number(part(parts, "channel"))?,
+        account: given_number(part(parts, "id"))?,
+        channel: given_number(part(parts, "channel"))?,
+    })
+}
+
+/// A UserState of its numbers, flags, texts and lists.
+fn user_of(numbers: Numbers, flags: FlagChange, texts: Texts, lists: Lists) -> UserMessage {
+    UserMessage::User(UserState {
+        session: numbers.session,
+        actor: numbers.actor,
+        name: texts.name,
+        user_id: numbers.account,
+        channel_id: numbers.channel,
         mute: flags.mute,
         deaf: flags.deaf,
         suppress: flags.suppress,
         self_mute: flags.self_mute,
         self_deaf: flags.self_deaf,
-        plugin_context: given_octets(alloc, part(parts, "context"))?,
-        plugin_identity: given_text(alloc, part(parts, "identity"))?,
-        comment: given_text(alloc, part(parts, "comment"))?,
+        plugin_context: texts.context,
+        plugin_identity: texts.identity,
+        comment: texts.comment,
         priority_speaker: flags.priority,
         recording: flags.recording,
-        temporary_access_tokens: tokens_of(alloc, part(parts, "once").unwrap_or(""))?,
-        listening_channel_add: listed(alloc, parts, "listen")?,
-        listening_channel_remove: listed(alloc, parts, "unlisten")?,
-    }))
+        temporary_access_tokens: lists.once,
+        listening_channel_add: lists.listen,
+        listening_channel_remove: lists.unlisten,
+    })
+}
+
+/// `2, channel 3, flags +mute -deaf, comment hello, context game, listen 4 5, unlisten 6, once key`; no
+/// session where it is `-`.
+fn user(alloc: Global, rest: &str) -> Result<UserMessage> {
+    let (who, parts) = head_of(rest);
+    let flags = flags(part(parts, "flags").unwrap_or(""))?;
+    let numbers = numbers_in(who, parts)?;
+    let texts = texts_in(alloc, parts)?;
+    let lists = lists_in(alloc, parts)?;
+    Ok(user_of(numbers, flags, texts, lists))
 }
 
 /// `2, reason words, ban`; `ban no` says that it is none.
 fn kick(alloc: Global, rest: &str) -> Result<UserMessage> {
     let (who, parts) = head_of(rest);
+    let session = given_number(said(who))?;
+    let actor = given_number(part(parts, "actor"))?;
     Ok(UserMessage::Kick(UserRemove {
-        session: given_number(said(who))?,
-        actor: given_number(part(parts, "actor"))?,
+        session,
+        actor,
         reason: given_text(alloc, part(parts, "reason"))?,
         ban: part(parts, "ban").map(|word| word != "no"),
     }))
@@ -128,16 +197,20 @@ fn kick(alloc: Global, rest: &str) -> Result<UserMessage> {
 /// `words, sessions 2 3, channels 4, trees 5`; no text at all where it is `-`.
 fn text(alloc: Global, rest: &str) -> Result<UserMessage> {
     let (words, parts) = head_of(rest);
-    let message = match words {
+    let words = match words {
         "-" => None,
-        words => Some(text_of(alloc, words)?),
+        words => Some(words),
     };
+    let actor = given_number(part(parts, "actor"))?;
+    let session = listed(alloc, parts, "sessions")?;
+    let channel_id = listed(alloc, parts, "channels")?;
+    let tree_id = listed(alloc, parts, "trees")?;
     Ok(UserMessage::Text(TextMessage {
-        actor: given_number(part(parts, "actor"))?,
-        session: listed(alloc, parts, "sessions")?,
-        channel_id: listed(alloc, parts, "channels")?,
-        tree_id: listed(alloc, parts, "trees")?,
-        message,
+        actor,
+        session,
+        channel_id,
+        tree_id,
+        message: given_text(alloc, words)?,
     }))
 }
 
@@ -165,16 +238,29 @@ fn block_of(alloc: Global, item: &TargetItem) -> Result<TargetBlock> {
     })
 }
 
+fn blocks_of(alloc: Global, items: &[TargetItem]) -> Result<Items<TargetBlock>> {
+    let mut blocks = Items::new(alloc);
+    for item in items {
+        blocks.push(block_of(alloc, item)?)?;
+    }
+    Ok(blocks)
+}
+
 /// `7 channel 3 links / session 4`; no number where it is `-`.
 fn target(alloc: Global, rest: &str) -> Result<UserMessage> {
     let (id, items) = word_of(rest);
-    let mut targets = Items::new(alloc);
-    for item in target_of(alloc, items)?.items.as_slice() {
-        targets.push(block_of(alloc, item)?)?;
-    }
-    Ok(UserMessage::Target(VoiceTarget {
-        id: given_number(said(id))?,
-        targets,
+    let id = given_number(said(id))?;
+    let target = target_of(alloc, items)?;
+    let targets = blocks_of(alloc, target.items.as_slice())?;
+    Ok(UserMessage::Target(VoiceTarget { id, targets }))
+}
+
+fn query(rest: &str) -> Result<UserMessage> {
+    let channel_id = given_number(said(rest))?;
+    Ok(UserMessage::Query(PermissionQuery {
+        channel_id,
+        permissions: None,
+        flush: None,
     }))
 }
 
@@ -182,17 +268,14 @@ fn target(alloc: Global, rest: &str) -> Result<UserMessage> {
 pub fn message_of(alloc: Global, words: &str) -> Result<UserMessage> {
     let (word, rest) = word_of(words);
     match word {
-        "login" => login(alloc, rest),
-        "user" => user(alloc, rest),
-        "kick" => kick(alloc, rest),
-        "text" => text(alloc, rest),
-        "target" => target(alloc, rest),
-        "query" => Ok(UserMessage::Query(PermissionQuery {
-            channel_id: given_number(said(rest))?,
-            permissions: None,
-            flush: None,
-        })),
-        "leave" => Ok(UserMessage::Leave),
-        _ => bail!("no message: {words}"),
+        "login" => return login(alloc, rest),
+        "user" => return user(alloc, rest),
+        "kick" => return kick(alloc, rest),
+        "text" => return text(alloc, rest),
+        "target" => return target(alloc, rest),
+        "query" => return query(rest),
+        "leave" => return Ok(UserMessage::Leave),
+        _ => {}
     }
+    bail!("no message: {words}")
 }

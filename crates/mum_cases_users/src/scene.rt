@@ -5,6 +5,7 @@ use crate::edits::edit_text;
 use crate::messages::message_of;
 use anyhow::Result;
 use mum_base::SessionId;
+use mum_cases_words::calls::make;
 use mum_cases_words::edits::edit_of;
 use mum_cases_words::scene::Decisions;
 use mum_cases_words::words::word_of;
@@ -21,10 +22,11 @@ pub struct OnUsers;
 fn edit_by(alloc: Global, state: &State, call: &str) -> Result<Edit> {
     let (word, rest) = word_of(call);
     match word {
-        "owner" => account_edit(alloc, rest),
-        "guarded" => server_edit(alloc, rest),
-        _ => edit_of(alloc, state, call),
+        "owner" => return account_edit(alloc, rest),
+        "guarded" => return server_edit(alloc, rest),
+        _ => {}
     }
+    edit_of(alloc, state, call)
 }
 
 impl Decisions for OnUsers {
@@ -48,10 +50,6 @@ impl Decisions for OnUsers {
 
     fn make(alloc: Global, state: &mut State, call: &str) -> Result<bool> {
         let edit = edit_by(alloc, state, call)?;
-        if !state.fits(&edit) {
-            return Ok(false);
-        }
-        state.apply(&edit)?;
-        Ok(true)
+        make(state, &edit)
     }
 }

@@ -50,42 +50,63 @@ fn stream_of(alloc: Global, frames: &[Frame]) -> Result<Vec<u8>> {
     Ok(stream)
 }
 
+/// Adds the frames that a framer has whole, at most so many.
+fn take_all(framer: &mut Framer, frames: &mut Vec<Frame>, most: usize) -> Result<()> {
+    for _ in 0..most {
+        let Some(frame) = framer.next()? else {
+            break;
+        };
+        frames.push(frame)?;
+    }
+    Ok(())
+}
+
 /// All that a framer gives of a stream that comes in pieces of this many bytes.
 fn given(alloc: Global, stream: &[u8], size: usize) -> Result<Vec<Frame>> {
     let mut framer = Framer::new(alloc);
     let mut frames = Vec::new(alloc);
     for piece in stream.chunks(size.max(1)) {
         framer.feed(piece)?;
-        for _ in 0..stream.len() {
-            let Some(frame) = framer.next()? else {
-                break;
-            };
-            frames.push(frame)?;
-        }
+        take_all(&mut framer, &mut frames, stream.len())?;
     }
     Ok(frames)
+}
+
+/// All that a framer gives of frames that come in pieces of this many bytes.
+fn given_again(alloc: Global, frames: &[Frame], size: usize) -> Result<Vec<Frame>> {
+    let stream = stream_of(alloc, frames)?;
+    given(alloc, &stream, size.min(stream.len()))
 }
 
 fn is_same(one: &Frame, other: &Frame) -> bool {
     one.kind == other.kind && one.payload.as_slice() == other.payload.as_slice()
 }
 
-/// That the frames come out as they were sent, in pieces of this many bytes.
-fn frames_in_pieces(alloc: Global, text: &str, size: usize) -> Result<String> {
-    let sent = sent(alloc, text)?;
-    let stream = stream_of(alloc, &sent)?;
-    let given = given(alloc, &stream, size.min(stream.len()))?;
+/// How many frames there are, where each was given as it was sent.
+fn same_frames(sent: &[Frame], given: &[Frame]) -> Result<u64> {
     if given.len() != sent.len() {
         bail!("{} frames of {}", given.len(), sent.len());
     }
     let mut number = 0u64;
-    for (one, other) in sent.iter().zip(&given) {
+    for (one, other) in sent.iter().zip(given) {
         number = number.saturating_add(1);
         if !is_same(one, other) {
             bail!("frame {number} differs");
         }
     }
+    Ok(number)
+}
+
+fn same_text(alloc: Global, sent: &[Frame], given: &[Frame]) -> Result<String> {
+    let number = same_frames(sent, given)?;
     Ok(format!(in alloc; "{number} frames as they were sent")?)
+}
+
+/// That the frames come out as they were sent, in pieces of this many bytes.
+fn frames_in_pieces(alloc: Global, text: &str, size: usize) -> Result<String> {
+    let sent = sent(alloc, text)?;
+    let given = given_again(alloc, &sent, size)?;
+    same_text(alloc, &sent, &given)
 }
 
 /// That the copy of a packet is its kind and the context, the session, and the rest as it came.
@@ -112,23 +133,50 @@ fn check_copy(packet: &[u8], session: SessionId, spelling: &[u8], context: u8) -
     }
 }
 
-/// That each voice packet is copied so for a session, in each context.
-fn copies(alloc: Global, text: &str, session: SessionId, spelling: &[u8]) -> Result<String> {
+/// The same in each context.
+fn check_copies(packet: &[u8], session: SessionId, spelling: &[u8]) -> Result<()> {
+    for context in 0..4u8 {
+        check_copy(packet, session, spelling, context)?;
+    }
+    Ok(())
+}
+
+/// How many voice packets there are, where each is copied so for a session, in each context.
+fn copied(frames: &[Frame], session: SessionId, spelling: &[u8]) -> Result<u64> {
     let mut packets = 0u64;
-    for frame in &sent(alloc, text)? {
+    for frame in frames {
         if frame.kind != UDP_TUNNEL {
             continue;
         }
         packets = packets.saturating_add(1);
-        for context in 0..4u8 {
-            check_copy(frame.payload.as_slice(), session, spelling, context)?;
-        }
+        check_copies(frame.payload.as_slice(), session, spelling)?;
     }
+    Ok(packets)
+}
+
+fn copies_text(
+    alloc: Global,
+    frames: &[Frame],
+    session: SessionId,
+    spelling: &[u8],
+) -> Result<String> {
+    let packets = copied(frames, session, spelling)?;
     Ok(format!(in alloc; "{packets} packets with the session put in")?)
 }
 
+/// That each voice packet is copied so for a session: `SESSION spelled BYTES`.
+fn copies(alloc: Global, text: &str, rest: &str) -> Result<String> {
+    let Some((session, spelling)) = rest.split_once(" spelled ") else {
+        bail!("no session: {rest}");
+    };
+    let session = SessionId(u32::try_from(number(session)?)?);
+    let spelling = bytes_of(alloc, spelling)?;
+    let frames = sent(alloc, text)?;
+    copies_text(alloc, &frames, session, &spelling)
+}
+
 /// Counts of voice packets: all, those to a target, and those that end a transmission.
-#[derive(Default, Drop)]
+#[derive(Clone, Copy, Default)]
 struct VoiceCounts {
     packets: u64,
     targeted: u64,
@@ -159,18 +207,35 @@ impl VoiceCounts {
     }
 }
 
-/// What the voice packets of a conversation are.
-fn spoken(alloc: Global, text: &str) -> Result<String> {
+/// What the voice packets among frames are.
+fn counted(frames: &[Frame]) -> Result<VoiceCounts> {
     let mut spoken = VoiceCounts::default();
-    for frame in &sent(alloc, text)? {
+    for frame in frames {
         if frame.kind == UDP_TUNNEL {
             spoken.count(frame.payload.as_slice())?;
         }
     }
+    Ok(spoken)
+}
+
+fn counts_text(alloc: Global, frames: &[Frame]) -> Result<String> {
+    let spoken = counted(frames)?;
     let (all, to_target, last) = (spoken.packets, spoken.targeted, spoken.last);
     Ok(format!(in alloc;
         "{all} packets of Opus, {to_target} to a target, {last} end a transmission"
     )?)
+}
+
+/// What the voice packets of a conversation are.
+fn spoken(alloc: Global, text: &str) -> Result<String> {
+    let frames = sent(alloc, text)?;
+    counts_text(alloc, &frames)
+}
+
+/// `in pieces of SIZE`
+fn in_pieces(alloc: Global, text: &str, size: &str) -> Result<String> {
+    let size = usize::try_from(number(size)?)?;
+    frames_in_pieces(alloc, text, size)
 }
 
 impl FileTable for Clients {
@@ -178,21 +243,16 @@ impl FileTable for Clients {
 
     fn answer(alloc: Global, text: &str, question: &str) -> Result<String> {
         if let Some(size) = question.strip_prefix("in pieces of ") {
-            return frames_in_pieces(alloc, text, usize::try_from(number(size)?)?);
+            return in_pieces(alloc, text, size);
         }
-        if question == "in one piece" {
-            return frames_in_pieces(alloc, text, usize::MAX);
+        if let Some(rest) = question.strip_prefix("copied from ") {
+            return copies(alloc, text, rest);
         }
-        if question == "spoken" {
-            return spoken(alloc, text);
+        match question {
+            "in one piece" => return frames_in_pieces(alloc, text, usize::MAX),
+            "spoken" => return spoken(alloc, text),
+            _ => {}
         }
-        let Some(rest) = question.strip_prefix("copied from ") else {
-            bail!("no question: {question}");
-        };
-        let Some((session, spelling)) = rest.split_once(" spelled ") else {
-            bail!("no session: {rest}");
-        };
-        let session = SessionId(u32::try_from(number(session)?)?);
-        copies(alloc, text, session, &bytes_of(alloc, spelling)?)
+        bail!("no question: {question}")
     }
 }

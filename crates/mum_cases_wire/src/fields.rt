@@ -8,6 +8,7 @@ use mum_fields::{
     FaultKind, Field, MessageFault, Packed, Reader, Value, VarintType, Writer, read_text,
 };
 use std::alloc::Global;
+use std::fmt::Display;
 
 fn add_field(alloc: Global, told: &mut String, field: &Field<'_>) -> Result<()> {
     let number = field.number;
@@ -87,16 +88,21 @@ fn text(alloc: Global, place: u32, block: &[u8]) -> Result<String> {
     }
 }
 
+fn shown<N: Display + Drop>(alloc: Global, number: N) -> Result<String> {
+    Ok(format!(in alloc; "{number}")?)
+}
+
 /// What a varint stands for in a field of a type.
 fn value(alloc: Global, kind: &str, word: &str) -> Result<String> {
     let varint = number(word)?;
-    Ok(match kind {
-        "u32" => format!(in alloc; "{}", u32::from_varint(varint))?,
-        "u64" => format!(in alloc; "{}", u64::from_varint(varint))?,
-        "i32" => format!(in alloc; "{}", i32::from_varint(varint))?,
-        "bool" => format!(in alloc; "{}", bool::from_varint(varint))?,
-        _ => bail!("no such type: {kind}"),
-    })
+    match kind {
+        "u32" => return shown(alloc, u32::from_varint(varint)),
+        "u64" => return shown(alloc, u64::from_varint(varint)),
+        "i32" => return shown(alloc, i32::from_varint(varint)),
+        "bool" => return shown(alloc, bool::from_varint(varint)),
+        _ => {}
+    }
+    bail!("no such type: {kind}")
 }
 
 /// The varint that a value of a type is written as.
@@ -176,31 +182,45 @@ fn placed(text: &str) -> Result<(u32, &str)> {
     Ok((place.parse::<u32>().context("a place")?, digits))
 }
 
+/// The answer about a block that begins at a place of a payload.
+fn answer_at(alloc: Global, verb: &str, place: u32, block: &[u8]) -> Result<String> {
+    match verb {
+        "places" => return places(alloc, place, block),
+        "packed" => return packed_numbers(alloc, place, block),
+        "text" => return text(alloc, place, block),
+        _ => {}
+    }
+    bail!("no such question: {verb}")
+}
+
+fn all_fields(alloc: Global, rest: &str) -> Result<String> {
+    let bytes = payload(alloc, rest)?;
+    each_field(alloc, bytes.as_slice())
+}
+
+fn value_of(alloc: Global, rest: &str) -> Result<String> {
+    let (kind, word) = rest.split_once(' ').context("a type and a number")?;
+    value(alloc, kind, word)
+}
+
+fn varint_of(alloc: Global, rest: &str) -> Result<String> {
+    let (kind, word) = rest.split_once(' ').context("a type and a number")?;
+    varint(alloc, kind, word)
+}
+
 fn answer_to(alloc: Global, question: &str) -> Result<String> {
     let (verb, rest) = question.split_once(' ').unwrap_or((question, ""));
     match verb {
-        "fields" => each_field(alloc, payload(alloc, rest)?.as_slice()),
-        "write" => written(alloc, rest),
-        "code" => code(alloc, rest),
-        "value" | "varint" => {
-            let (kind, word) = rest.split_once(' ').context("a type and a number")?;
-            if verb == "value" {
-                value(alloc, kind, word)
-            } else {
-                varint(alloc, kind, word)
-            }
-        }
-        _ => {
-            let (place, digits) = placed(rest)?;
-            let block = bytes_of(alloc, digits)?;
-            match verb {
-                "places" => places(alloc, place, block.as_slice()),
-                "packed" => packed_numbers(alloc, place, block.as_slice()),
-                "text" => text(alloc, place, block.as_slice()),
-                _ => bail!("no such question: {verb}"),
-            }
-        }
+        "fields" => return all_fields(alloc, rest),
+        "write" => return written(alloc, rest),
+        "code" => return code(alloc, rest),
+        "value" => return value_of(alloc, rest),
+        "varint" => return varint_of(alloc, rest),
+        _ => {}
     }
+    let (place, digits) = placed(rest)?;
+    let block = bytes_of(alloc, digits)?;
+    answer_at(alloc, verb, place, block.as_slice())
 }
 
 pub struct Fields;

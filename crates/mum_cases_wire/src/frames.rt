@@ -1,7 +1,7 @@
 //! The table `frames`.
 
 use crate::words::{add, bytes_or_text, shown_bytes};
-use anyhow::{Result, bail};
+use anyhow::{Result, bail, ensure};
 use mum_cases::{Table, number};
 use mum_frame::{Frame, FrameFault, Framer, PAYLOAD_LIMIT, ROOM_LIMIT, put_frame, whole_frame};
 use std::alloc::Global;
@@ -55,33 +55,64 @@ fn answers(alloc: Global, calls: &str) -> Result<String> {
     Ok(answer)
 }
 
+fn add_frame(alloc: Global, answer: &mut String, frame: &Frame) -> Result<()> {
+    let part = shown(alloc, frame)?;
+    add(answer, "; ", part.as_str())
+}
+
+/// The frames that a framer has whole, at most so many.
+fn add_all(alloc: Global, answer: &mut String, framer: &mut Framer, most: usize) -> Result<()> {
+    for _ in 0..most {
+        let Some(frame) = framer.next()? else {
+            break;
+        };
+        add_frame(alloc, answer, &frame)?;
+    }
+    Ok(())
+}
+
 /// The frames of a stream that comes in pieces of this many bytes.
 fn in_pieces(alloc: Global, stream: &[u8], size: usize) -> Result<String> {
     let mut framer = Framer::new(alloc);
     let mut answer = String::new(alloc);
     for piece in stream.chunks(size.max(1)) {
         framer.feed(piece)?;
-        for _ in 0..stream.len() {
-            let Some(frame) = framer.next()? else {
-                break;
-            };
-            let part = shown(alloc, &frame)?;
-            add(&mut answer, "; ", part.as_str())?;
-        }
+        add_all(alloc, &mut answer, &mut framer, stream.len())?;
     }
     Ok(answer)
+}
+
+fn check_pieces(alloc: Global, stream: &[u8], size: usize, whole: &str) -> Result<()> {
+    let cut = in_pieces(alloc, stream, size)?;
+    if cut.as_str() != whole {
+        bail!("{cut} in pieces of {size}");
+    }
+    Ok(())
 }
 
 /// The frames of a stream, the same in pieces of every size.
 fn in_all_pieces(alloc: Global, stream: &[u8]) -> Result<String> {
     let whole = in_pieces(alloc, stream, stream.len())?;
     for size in 1..stream.len() {
-        let cut = in_pieces(alloc, stream, size)?;
-        if cut.as_str() != whole.as_str() {
-            bail!("{cut} in pieces of {size}");
-        }
+        check_pieces(alloc, stream, size, whole.as_str())?;
     }
     Ok(whole)
+}
+
+/// What comes of a frame in two parts, of which the first is none.
+fn waits_at(alloc: Global, framer: &mut Framer, before: &[u8], rest: &[u8]) -> Result<String> {
+    framer.feed(before)?;
+    check_none(framer)?;
+    framer.feed(rest)?;
+    let answer = shown_next(alloc, framer)?;
+    check_none(framer)?;
+    Ok(answer)
+}
+
+fn check_none(framer: &mut Framer) -> Result<()> {
+    let next = framer.next()?;
+    ensure!(next.is_none(), "a frame that is not whole");
+    Ok(())
 }
 
 /// What comes of a frame that is cut at each place: none before its last byte.
@@ -89,15 +120,7 @@ fn waits(alloc: Global, wire: &[u8]) -> Result<String> {
     let mut answer = String::new(alloc);
     for cut in 0..wire.len() {
         let mut framer = Framer::new(alloc);
-        framer.feed(&wire[..cut])?;
-        if framer.next()?.is_some() {
-            bail!("a frame of {cut} bytes");
-        }
-        framer.feed(&wire[cut..])?;
-        answer = shown_next(alloc, &mut framer)?;
-        if framer.next()?.is_some() {
-            bail!("a second frame");
-        }
+        answer = waits_at(alloc, &mut framer, &wire[..cut], &wire[cut..])?;
     }
     Ok(answer)
 }
@@ -126,6 +149,17 @@ fn put(alloc: Global, rest: &str) -> Result<String> {
     written(alloc, kind, &bytes_or_text(alloc, payload)?)
 }
 
+/// The answer about a stream or a frame.
+fn answer_about(alloc: Global, verb: &str, bytes: &[u8]) -> Result<String> {
+    match verb {
+        "pieces" => return in_all_pieces(alloc, bytes),
+        "waits" => return waits(alloc, bytes),
+        "alone" => return alone(alloc, bytes),
+        _ => {}
+    }
+    bail!("no question: {verb}")
+}
+
 impl Table for Frames {
     const NAME: &'static str = "frames";
 
@@ -134,13 +168,12 @@ impl Table for Frames {
             bail!("no question: {question}");
         };
         match verb {
-            "framer" => answers(alloc, rest),
-            "pieces" => in_all_pieces(alloc, &bytes_or_text(alloc, rest)?),
-            "waits" => waits(alloc, &bytes_or_text(alloc, rest)?),
-            "alone" => alone(alloc, &bytes_or_text(alloc, rest)?),
-            "put" => put(alloc, rest),
-            "fault" => shown_fault(alloc, FrameFault::OutOfMemory),
-            _ => bail!("no question: {verb}"),
+            "framer" => return answers(alloc, rest),
+            "put" => return put(alloc, rest),
+            "fault" => return shown_fault(alloc, FrameFault::OutOfMemory),
+            _ => {}
         }
+        let bytes = bytes_or_text(alloc, rest)?;
+        answer_about(alloc, verb, bytes.as_slice())
     }
 }

@@ -75,10 +75,11 @@ impl Table for Lists {
             bail!("no way to make a list: {question}");
         };
         match list {
-            "octets" => octets(alloc, way, words),
-            "text" => text(alloc, way, words),
-            "items" => items(alloc, way, words),
-            _ => bail!("no list: {list}"),
+            "octets" => return octets(alloc, way, words),
+            "text" => return text(alloc, way, words),
+            "items" => return items(alloc, way, words),
+            _ => {}
         }
+        bail!("no list: {list}")
     }
 }

@@ -47,51 +47,53 @@ fn again<M: Told>(alloc: Global, payload: &[u8]) -> Result<Octets> {
 /// What a payload decodes to.
 pub fn decoded(alloc: Global, name: &str, payload: &[u8]) -> Result<String> {
     match name {
-        "Version" => told::<Version>(alloc, payload),
-        "Authenticate" => told::<Authenticate>(alloc, payload),
-        "Ping" => told::<Ping>(alloc, payload),
-        "Reject" => told::<Reject>(alloc, payload),
-        "ServerSync" => told::<ServerSync>(alloc, payload),
-        "ChannelRemove" => told::<ChannelRemove>(alloc, payload),
-        "ChannelState" => told::<ChannelState>(alloc, payload),
-        "UserRemove" => told::<UserRemove>(alloc, payload),
-        "UserState" => told::<UserState>(alloc, payload),
-        "CodecVersion" => told::<CodecVersion>(alloc, payload),
-        "TextMessage" => told::<TextMessage>(alloc, payload),
-        "PermissionDenied" => told::<PermissionDenied>(alloc, payload),
-        "ACL" => told::<Acl>(alloc, payload),
-        "ChanGroup" => told::<AclGroup>(alloc, payload),
-        "ChanACL" => told::<AclLine>(alloc, payload),
-        "VoiceTarget" => told::<VoiceTarget>(alloc, payload),
-        "Target" => told::<TargetBlock>(alloc, payload),
-        "PermissionQuery" => told::<PermissionQuery>(alloc, payload),
-        _ => bail!("no such message: {name}"),
+        "Version" => return told::<Version>(alloc, payload),
+        "Authenticate" => return told::<Authenticate>(alloc, payload),
+        "Ping" => return told::<Ping>(alloc, payload),
+        "Reject" => return told::<Reject>(alloc, payload),
+        "ServerSync" => return told::<ServerSync>(alloc, payload),
+        "ChannelRemove" => return told::<ChannelRemove>(alloc, payload),
+        "ChannelState" => return told::<ChannelState>(alloc, payload),
+        "UserRemove" => return told::<UserRemove>(alloc, payload),
+        "UserState" => return told::<UserState>(alloc, payload),
+        "CodecVersion" => return told::<CodecVersion>(alloc, payload),
+        "TextMessage" => return told::<TextMessage>(alloc, payload),
+        "PermissionDenied" => return told::<PermissionDenied>(alloc, payload),
+        "ACL" => return told::<Acl>(alloc, payload),
+        "ChanGroup" => return told::<AclGroup>(alloc, payload),
+        "ChanACL" => return told::<AclLine>(alloc, payload),
+        "VoiceTarget" => return told::<VoiceTarget>(alloc, payload),
+        "Target" => return told::<TargetBlock>(alloc, payload),
+        "PermissionQuery" => return told::<PermissionQuery>(alloc, payload),
+        _ => {}
     }
+    bail!("no such message: {name}")
 }
 
 /// The payload that the message of a payload is written as.
 pub fn written(alloc: Global, name: &str, payload: &[u8]) -> Result<Octets> {
     match name {
-        "Version" => again::<Version>(alloc, payload),
-        "Authenticate" => again::<Authenticate>(alloc, payload),
-        "Ping" => again::<Ping>(alloc, payload),
-        "Reject" => again::<Reject>(alloc, payload),
-        "ServerSync" => again::<ServerSync>(alloc, payload),
-        "ChannelRemove" => again::<ChannelRemove>(alloc, payload),
-        "ChannelState" => again::<ChannelState>(alloc, payload),
-        "UserRemove" => again::<UserRemove>(alloc, payload),
-        "UserState" => again::<UserState>(alloc, payload),
-        "CodecVersion" => again::<CodecVersion>(alloc, payload),
-        "TextMessage" => again::<TextMessage>(alloc, payload),
-        "PermissionDenied" => again::<PermissionDenied>(alloc, payload),
-        "ACL" => again::<Acl>(alloc, payload),
-        "ChanGroup" => again::<AclGroup>(alloc, payload),
-        "ChanACL" => again::<AclLine>(alloc, payload),
-        "VoiceTarget" => again::<VoiceTarget>(alloc, payload),
-        "Target" => again::<TargetBlock>(alloc, payload),
-        "PermissionQuery" => again::<PermissionQuery>(alloc, payload),
-        _ => bail!("no such message: {name}"),
+        "Version" => return again::<Version>(alloc, payload),
+        "Authenticate" => return again::<Authenticate>(alloc, payload),
+        "Ping" => return again::<Ping>(alloc, payload),
+        "Reject" => return again::<Reject>(alloc, payload),
+        "ServerSync" => return again::<ServerSync>(alloc, payload),
+        "ChannelRemove" => return again::<ChannelRemove>(alloc, payload),
+        "ChannelState" => return again::<ChannelState>(alloc, payload),
+        "UserRemove" => return again::<UserRemove>(alloc, payload),
+        "UserState" => return again::<UserState>(alloc, payload),
+        "CodecVersion" => return again::<CodecVersion>(alloc, payload),
+        "TextMessage" => return again::<TextMessage>(alloc, payload),
+        "PermissionDenied" => return again::<PermissionDenied>(alloc, payload),
+        "ACL" => return again::<Acl>(alloc, payload),
+        "ChanGroup" => return again::<AclGroup>(alloc, payload),
+        "ChanACL" => return again::<AclLine>(alloc, payload),
+        "VoiceTarget" => return again::<VoiceTarget>(alloc, payload),
+        "Target" => return again::<TargetBlock>(alloc, payload),
+        "PermissionQuery" => return again::<PermissionQuery>(alloc, payload),
+        _ => {}
     }
+    bail!("no such message: {name}")
 }
 
 /// One more run of cuts that end alike.
@@ -136,6 +138,12 @@ fn whole(alloc: Global, around: &Option<Around>, piece: &[u8]) -> Result<Vec<u8>
     Ok(bytes)
 }
 
+/// What becomes of a payload or a block of which this is left.
+fn cut_at(alloc: Global, name: &str, around: &Option<Around>, left: &[u8]) -> Result<String> {
+    let bytes = whole(alloc, around, left)?;
+    outcome(alloc, name, bytes.as_slice())
+}
+
 /// What becomes of a payload or a block at every place where it may be cut, by the bytes that are
 /// left.
 fn cuts(alloc: Global, name: &str, around: &Option<Around>, payload: &[u8]) -> Result<String> {
@@ -143,8 +151,7 @@ fn cuts(alloc: Global, name: &str, around: &Option<Around>, payload: &[u8]) -> R
     let mut first = 0;
     let mut before = String::new(alloc);
     for (length, _byte) in payload.iter().enumerate() {
-        let bytes = whole(alloc, around, &payload[..length])?;
-        let now = outcome(alloc, name, bytes.as_slice())?;
+        let now = cut_at(alloc, name, around, &payload[..length])?;
         if length > 0 && now.as_str() != before.as_str() {
             add_run(&mut told, first, length - 1, before.as_str())?;
             first = length;
@@ -152,17 +159,22 @@ fn cuts(alloc: Global, name: &str, around: &Option<Around>, payload: &[u8]) -> R
         before = now;
     }
     let length = payload.len();
-    let bytes = whole(alloc, around, payload)?;
     if length > 0 {
         add_run(&mut told, first, length - 1, before.as_str())?;
     }
-    add_run(
-        &mut told,
-        length,
-        length,
-        outcome(alloc, name, bytes.as_slice())?.as_str(),
-    )?;
+    let now = cut_at(alloc, name, around, payload)?;
+    add_run(&mut told, length, length, now.as_str())?;
     Ok(told)
+}
+
+fn framed_by(alloc: Global, before: &str, digits: &str, after: &str) -> Result<Around> {
+    let number = number(digits)?;
+    let before = payload(alloc, before)?;
+    Ok(Around {
+        before,
+        number,
+        after: payload(alloc, after)?,
+    })
 }
 
 /// `PAYLOAD | NUMBER | BLOCK | PAYLOAD`, the block cut at every place.
@@ -170,17 +182,9 @@ fn cuts_inside(alloc: Global, name: &str, question: &str) -> Result<String> {
     let (before, rest) = question.split_once(" | ").context("a payload")?;
     let (digits, rest) = rest.split_once(" | ").context("a number")?;
     let (block, after) = rest.split_once(" | ").context("a block and a payload")?;
-    let around = Around {
-        before: payload(alloc, before)?,
-        number: number(digits)?,
-        after: payload(alloc, after)?,
-    };
-    cuts(
-        alloc,
-        name,
-        &Some(around),
-        payload(alloc, block)?.as_slice(),
-    )
+    let block = payload(alloc, block)?;
+    let around = framed_by(alloc, before, digits, after)?;
+    cuts(alloc, name, &Some(around), block.as_slice())
 }
 
 /// A payload with one more field.
@@ -191,14 +195,26 @@ fn with_field(alloc: Global, payload: &[u8], key: u64, value: &[u8]) -> Result<V
     Ok(bytes)
 }
 
+/// What a payload decodes to with one more field.
+fn decoded_with(
+    alloc: Global,
+    name: &str,
+    payload: &[u8],
+    key: u64,
+    value: &[u8],
+) -> Result<String> {
+    let bytes = with_field(alloc, payload, key, value)?;
+    decoded(alloc, name, bytes.as_slice())
+}
+
 /// The fields that change what a payload decodes to, of all numbers up to 31 and all wire types.
 fn takes(alloc: Global, name: &str, payload: &[u8]) -> Result<String> {
     let without = decoded(alloc, name, payload)?;
     let mut told = String::new(alloc);
     for number in 1..=TRIED {
         for (wire, kind, value) in VALUES {
-            let bytes = with_field(alloc, payload, number * 8 + wire, value)?;
-            if decoded(alloc, name, bytes.as_slice())?.as_str() != without.as_str() {
+            let with = decoded_with(alloc, name, payload, number * 8 + wire, value)?;
+            if with.as_str() != without.as_str() {
                 write!(told, "{number} {kind}, ")?;
             }
         }
@@ -217,8 +233,13 @@ fn is_written(alloc: Global, name: &str, question: &str) -> Result<String> {
     if written.as_slice() != expected.as_slice() {
         return hex_of(alloc, written.as_slice());
     }
-    let first = decoded(alloc, name, bytes.as_slice())?;
-    let second = decoded(alloc, name, written.as_slice())?;
+    is_read_alike(alloc, name, bytes.as_slice(), written.as_slice())
+}
+
+/// `so` where two payloads are read alike, else `again`.
+fn is_read_alike(alloc: Global, name: &str, one: &[u8], other: &[u8]) -> Result<String> {
+    let first = decoded(alloc, name, one)?;
+    let second = decoded(alloc, name, other)?;
     let answer = if first.as_str() == second.as_str() {
         "so"
     } else {
@@ -239,12 +260,18 @@ fn answer_to(alloc: Global, question: &str) -> Result<String> {
         return cuts_inside(alloc, name, text);
     }
     let bytes = payload(alloc, text)?;
+    asked(alloc, verb, name, bytes.as_slice())
+}
+
+/// The answer about a payload.
+fn asked(alloc: Global, verb: &str, name: &str, payload: &[u8]) -> Result<String> {
     match verb {
-        "decode" => decoded(alloc, name, bytes.as_slice()),
-        "cuts" => cuts(alloc, name, &None, bytes.as_slice()),
-        "takes" => takes(alloc, name, bytes.as_slice()),
-        _ => bail!("no such question: {verb}"),
+        "decode" => return decoded(alloc, name, payload),
+        "cuts" => return cuts(alloc, name, &None, payload),
+        "takes" => return takes(alloc, name, payload),
+        _ => {}
     }
+    bail!("no such question: {verb}")
 }
 
 pub struct Messages;

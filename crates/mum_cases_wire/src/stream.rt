@@ -175,13 +175,14 @@ impl Table for Streams {
         let detail = words.next().unwrap_or("-");
         let failing = words.next().unwrap_or("-");
         match verb {
-            "reads" => reads(alloc, text, detail, failing),
-            "up-to" => reads_up_to(alloc, text, detail, failing, false),
-            "up-to-in-bytes" => reads_up_to(alloc, text, detail, failing, true),
-            "writes" => writes(alloc, text, detail),
-            "all" => writes_all(alloc, text, detail),
-            "all-in-bytes" => writes_all_narrow(alloc, text, detail),
-            _ => bail!("no call: {verb}"),
+            "reads" => return reads(alloc, text, detail, failing),
+            "up-to" => return reads_up_to(alloc, text, detail, failing, false),
+            "up-to-in-bytes" => return reads_up_to(alloc, text, detail, failing, true),
+            "writes" => return writes(alloc, text, detail),
+            "all" => return writes_all(alloc, text, detail),
+            "all-in-bytes" => return writes_all_narrow(alloc, text, detail),
+            _ => {}
         }
+        bail!("no call: {verb}")
     }
 }

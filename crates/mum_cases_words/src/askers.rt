@@ -1,7 +1,7 @@
 //! Who asks, as tables spell it: `guest in 3 with key word`, or `account 7`.
 
 use crate::words::{account, texts};
-use anyhow::{Context, Result};
+use anyhow::{Result, bail};
 use mum_base::{AccountId, ChannelId, SessionId, Text};
 use mum_policy::Who;
 use std::alloc::Global;
@@ -38,17 +38,17 @@ fn account_of(text: &str) -> Result<Option<AccountId>> {
     if text == "guest" {
         return Ok(None);
     }
-    let word = text
-        .strip_prefix("account ")
-        .context("a guest or an account")?;
+    let Some(word) = text.strip_prefix("account ") else {
+        bail!("a guest or an account");
+    };
     Ok(Some(account(word)?))
 }
 
 /// Who asks, where it is, if that is said, and its tokens.
 pub fn asker_parts(text: &str) -> (&str, Option<&str>, &str) {
     let (text, tokens) = text.split_once(" with ").unwrap_or((text, ""));
-    match text.split_once(" in ") {
-        Some((who, place)) => (who, Some(place), tokens),
-        None => (text, None, tokens),
-    }
+    let Some((who, place)) = text.split_once(" in ") else {
+        return (text, None, tokens);
+    };
+    (who, Some(place), tokens)
 }

@@ -65,10 +65,12 @@ fn set_server(alloc: Global, parts: &str) -> Result<Edit> {
 fn add_account(alloc: Global, rest: &str) -> Result<Edit> {
     let (head, parts) = head_of(rest);
     let (number, name) = word_of(head);
+    let account = account(number)?;
+    let digest = digest(part(parts, "digest").unwrap_or("0"))?;
     Ok(Edit::AddAccount {
-        account: account(number)?,
+        account,
         name: text_of(alloc, name)?,
-        digest: digest(part(parts, "digest").unwrap_or("0"))?,
+        digest,
     })
 }
 
@@ -146,28 +148,64 @@ fn new_parent(state: &State, word: Option<&str>) -> Result<ChannelId> {
 }
 
 fn info_of(alloc: Global, parts: &str) -> Result<ChannelInfo> {
+    let position = given_position(part(parts, "position"))?;
+    let max_users = given_number(part(parts, "users"))?;
     Ok(ChannelInfo {
-        description: text_of(alloc, part(parts, "text").unwrap_or(""))?,
-        position: given_position(part(parts, "position"))?.unwrap_or(0),
-        max_users: given_number(part(parts, "users"))?.unwrap_or(0),
+        description: text_behind(alloc, parts, "text")?,
+        position: position.unwrap_or(0),
+        max_users: max_users.unwrap_or(0),
     })
 }
 
 fn make_channel(alloc: Global, state: &State, rest: &str) -> Result<Edit> {
     let (name, parts) = head_of(rest);
+    let id = new_channel(state, part(parts, "number"))?;
+    let parent = new_parent(state, part(parts, "under"))?;
+    let maker = given_session(part(parts, "by"))?;
+    let name = text_of(alloc, name)?;
     Ok(Edit::MakeChannel {
-        id: new_channel(state, part(parts, "number"))?,
-        parent: new_parent(state, part(parts, "under"))?,
-        name: text_of(alloc, name)?,
+        id,
+        parent,
+        name,
         temporary: part(parts, "temporary").is_some(),
         info: info_of(alloc, parts)?,
-        maker: given_session(part(parts, "by"))?,
+        maker,
     })
 }
 
 /// The channels that are listed behind a key.
 fn listed(alloc: Global, parts: &str, key: &str) -> Result<Items<ChannelId>> {
     Ok(Items::from_vec(channels(alloc, part(parts, key).unwrap_or(""))?))
+}
+
+/// The channels that are listed behind two keys.
+#[derive(Drop)]
+struct Lists {
+    first: Items<ChannelId>,
+    second: Items<ChannelId>,
+}
+
+fn listed_both(alloc: Global, parts: &str, first: &str, second: &str) -> Result<Lists> {
+    let first = listed(alloc, parts, first)?;
+    Ok(Lists {
+        first,
+        second: listed(alloc, parts, second)?,
+    })
+}
+
+/// The texts that are given behind two keys.
+#[derive(Drop)]
+struct Texts {
+    first: Option<Text>,
+    second: Option<Text>,
+}
+
+fn given_texts(alloc: Global, parts: &str, first: &str, second: &str) -> Result<Texts> {
+    let first = given_text(alloc, part(parts, first))?;
+    Ok(Texts {
+        first,
+        second: given_text(alloc, part(parts, second))?,
+    })
 }
 
 fn edit_channel(alloc: Global, rest: &str) -> Result<Edit> {
@@ -177,25 +215,26 @@ fn edit_channel(alloc: Global, rest: &str) -> Result<Edit> {
     let parent = given_channel(part(parts, "parent"))?;
     let position = given_position(part(parts, "position"))?;
     let max_users = given_number(part(parts, "users"))?;
+    let texts = given_texts(alloc, parts, "name", "text")?;
+    let links = listed_both(alloc, parts, "links", "unlinks")?;
     Ok(Edit::EditChannel {
         id,
         actor,
-        name: given_text(alloc, part(parts, "name"))?,
+        name: texts.first,
         parent,
-        description: given_text(alloc, part(parts, "text"))?,
+        description: texts.second,
         position,
         max_users,
-        links_add: listed(alloc, parts, "links")?,
-        links_remove: listed(alloc, parts, "unlinks")?,
+        links_add: links.first,
+        links_remove: links.second,
     })
 }
 
 fn remove_channel(rest: &str) -> Result<Edit> {
     let (id, parts) = head_of(rest);
-    Ok(Edit::RemoveChannel {
-        id: channel(id)?,
-        actor: actor_of(parts)?,
-    })
+    let id = channel(id)?;
+    let actor = actor_of(parts)?;
+    Ok(Edit::RemoveChannel { id, actor })
 }
 
 fn given_octets(alloc: Global, words: Option<&str>) -> Result<Option<Octets>> {
@@ -212,10 +251,15 @@ fn set_user(alloc: Global, rest: &str) -> Result<Edit> {
     let (who, parts) = head_of(rest);
     let session = session(who)?;
     let flags = flags(part(parts, "flags").unwrap_or(""))?;
+    let actor = given_session(part(parts, "by"))?;
+    let channel = given_channel(part(parts, "channel"))?;
+    let comment = given_text(alloc, part(parts, "comment"))?;
+    let context = given_octets(alloc, part(parts, "context"))?;
+    let listened = listed_both(alloc, parts, "listen", "unlisten")?;
     Ok(Edit::SetUser {
         session,
-        actor: given_session(part(parts, "by"))?.unwrap_or(session),
-        channel: given_channel(part(parts, "channel"))?,
+        actor: actor.unwrap_or(session),
+        channel,
         mute: flags.mute,
         deaf: flags.deaf,
         clear_suppress: part(parts, "cleared").is_some(),
@@ -223,17 +267,18 @@ fn set_user(alloc: Global, rest: &str) -> Result<Edit> {
         self_mute: flags.self_mute,
         self_deaf: flags.self_deaf,
         recording: flags.recording,
-        comment: given_text(alloc, part(parts, "comment"))?,
-        context: given_octets(alloc, part(parts, "context"))?,
-        listen: listed(alloc, parts, "listen")?,
-        unlisten: listed(alloc, parts, "unlisten")?,
+        comment,
+        context,
+        listen: listened.first,
+        unlisten: listened.second,
     })
 }
 
 fn set_tokens(alloc: Global, rest: &str) -> Result<Edit> {
     let (who, words) = word_of(rest);
+    let session = session(who)?;
     Ok(Edit::SetTokens {
-        session: session(who)?,
+        session,
         tokens: tokens_of(alloc, words)?,
     })
 }
@@ -241,9 +286,11 @@ fn set_tokens(alloc: Global, rest: &str) -> Result<Edit> {
 fn set_target(alloc: Global, rest: &str) -> Result<Edit> {
     let (who, rest) = word_of(rest);
     let (id, items) = word_of(rest);
+    let session = session(who)?;
+    let id = small(id)?;
     Ok(Edit::SetTarget {
-        session: session(who)?,
-        id: small(id)?,
+        session,
+        id,
         target: target_of(alloc, items)?,
     })
 }
@@ -251,21 +298,27 @@ fn set_target(alloc: Global, rest: &str) -> Result<Edit> {
 fn set_acl(alloc: Global, rest: &str) -> Result<Edit> {
     let (head, policy) = rest.split_once(':').context("a policy is set")?;
     let (id, parts) = head_of(head);
+    let channel = channel(id)?;
+    let actor = given_session(part(parts, "by"))?;
     Ok(Edit::SetAcl {
-        channel: channel(id)?,
-        actor: given_session(part(parts, "by"))?,
+        channel,
+        actor,
         policy: policy_of(alloc, policy)?,
     })
 }
 
 fn say(alloc: Global, rest: &str) -> Result<Edit> {
     let (who, parts) = head_of(rest);
+    let actor = session(who)?;
+    let message = text_behind(alloc, parts, "message")?;
+    let sessions = sessions(alloc, part(parts, "sessions").unwrap_or(""))?;
+    let told = listed_both(alloc, parts, "channels", "trees")?;
     Ok(Edit::Text {
-        actor: session(who)?,
-        sessions: sessions(alloc, part(parts, "sessions").unwrap_or(""))?,
-        channels: listed(alloc, parts, "channels")?,
-        trees: listed(alloc, parts, "trees")?,
-        message: text_of(alloc, part(parts, "message").unwrap_or(""))?,
+        actor,
+        sessions,
+        channels: told.first,
+        trees: told.second,
+        message,
     })
 }
 

@@ -85,13 +85,16 @@ pub fn denied_text(alloc: Global, verdict: &Verdict) -> Result<String> {
     }
 }
 
-/// The type and the payload of a frame, or `nothing`.
-pub fn frame_text(alloc: Global, frame: &Option<Frame>) -> Result<String> {
+/// The type and the payload of a frame.
+pub fn frame_text(alloc: Global, frame: &Frame) -> Result<String> {
+    let payload = hex_of(alloc, frame.payload.as_slice())?;
+    Ok(format!(in alloc; "{} {payload}", frame.kind)?)
+}
+
+/// The same, or `nothing`.
+pub fn given_frame_text(alloc: Global, frame: &Option<Frame>) -> Result<String> {
     match frame {
-        Some(frame) => {
-            let payload = hex_of(alloc, frame.payload.as_slice())?;
-            Ok(format!(in alloc; "{} {payload}", frame.kind)?)
-        }
+        Some(frame) => frame_text(alloc, frame),
         None => Ok(String::from_str(alloc, "nothing")?),
     }
 }

@@ -18,6 +18,19 @@ fn add_accounts(list: &mut Items<AccountId>, word: &str) -> Result<()> {
     Ok(())
 }
 
+/// Takes a word of a group; whether the accounts behind it are removed.
+fn take_word(group: &mut Group, word: &str, removing: bool) -> Result<bool> {
+    match word {
+        "adds" => return Ok(false),
+        "removes" => return Ok(true),
+        "not-inheriting" => group.inherit = false,
+        "not-inheritable" => group.inheritable = false,
+        accounts if removing => add_accounts(&mut group.remove, accounts)?,
+        accounts => add_accounts(&mut group.add, accounts)?,
+    }
+    Ok(removing)
+}
+
 /// `NAME adds 5 6 removes 7 not-inheriting not-inheritable`
 fn group_of(alloc: Global, text: &str) -> Result<Group> {
     let (name, rest) = text.split_once(' ').unwrap_or((text, ""));
@@ -30,14 +43,7 @@ fn group_of(alloc: Global, text: &str) -> Result<Group> {
     };
     let mut removing = false;
     for word in rest.split_whitespace() {
-        match word {
-            "adds" => removing = false,
-            "removes" => removing = true,
-            "not-inheriting" => group.inherit = false,
-            "not-inheritable" => group.inheritable = false,
-            accounts if removing => add_accounts(&mut group.remove, accounts)?,
-            accounts => add_accounts(&mut group.add, accounts)?,
-        }
+        removing = take_word(&mut group, word, removing)?;
     }
     Ok(group)
 }

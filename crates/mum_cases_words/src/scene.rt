@@ -1,13 +1,14 @@
 //! A line of calls: edits that lead to a state, and messages that are decided there.
 
-use crate::calls::calls_of;
-use crate::pieces::{denied_text, frame_text};
+use crate::calls::{calls_of, make};
+use crate::pieces::{denied_text, frame_text, given_frame_text};
 use crate::words::{session, word_of};
 use anyhow::{Result, bail, ensure};
 use mum_base::SessionId;
 use mum_frame::Frame;
 use mum_state::{Edit, State, Verdict};
 use std::alloc::Global;
+use std::mem::replace;
 
 /// What decides the messages of a table, and how the table spells them and the edits that they are.
 pub trait Decisions {
@@ -56,15 +57,25 @@ fn verdict_text<D: Decisions>(alloc: Global, verdict: &Verdict) -> Result<String
     }
 }
 
-/// The frame of an answer or a denial.
-fn frame_of<D: Decisions>(
+/// The frame that tells of a verdict that denies.
+fn denial_text<D: Decisions>(
     alloc: Global,
     actor: Option<SessionId>,
-    verdict: Verdict,
-) -> Result<Option<Frame>> {
+    verdict: &Verdict,
+) -> Result<String> {
+    let frame = D::denial(alloc, actor, verdict)?;
+    given_frame_text(alloc, &frame)
+}
+
+/// The frame of an answer or a denial.
+fn told_frame<D: Decisions>(
+    alloc: Global,
+    actor: Option<SessionId>,
+    verdict: &Verdict,
+) -> Result<String> {
     match verdict {
-        Verdict::Answer(frame) => Ok(Some(frame)),
-        denied => D::denial(alloc, actor, &denied),
+        Verdict::Answer(frame) => frame_text(alloc, frame),
+        denied => denial_text::<D>(alloc, actor, denied),
     }
 }
 
@@ -78,29 +89,39 @@ impl Scene {
         Ok(())
     }
 
+    /// The same of a text, where there was memory for it.
+    fn say_text(&mut self, text: Result<String>) -> Result<()> {
+        let text = text?;
+        self.say(text.as_str())
+    }
+
     /// What is decided of a message.
     fn say_verdict<D: Decisions>(&mut self, actor: Option<SessionId>, words: &str) -> Result<()> {
         let verdict = D::decide(self.alloc, &self.state, actor, words)?;
-        let text = verdict_text::<D>(self.alloc, &verdict)?;
-        self.say(text.as_str())
+        let text = verdict_text::<D>(self.alloc, &verdict);
+        self.say_text(text)
     }
 
     /// The frame that tells the asker.
     fn say_frame<D: Decisions>(&mut self, actor: Option<SessionId>, words: &str) -> Result<()> {
         let verdict = D::decide(self.alloc, &self.state, actor, words)?;
-        let frame = frame_of::<D>(self.alloc, actor, verdict)?;
-        let text = frame_text(self.alloc, &frame)?;
-        self.say(text.as_str())
+        let text = told_frame::<D>(self.alloc, actor, &verdict);
+        self.say_text(text)
+    }
+
+    /// Makes the edit of a verdict that accepts.
+    fn make_accepted(&mut self, verdict: &Verdict) -> Result<()> {
+        let Verdict::Accepted(edit) = verdict else {
+            return self.say("not accepted");
+        };
+        ensure!(make(&mut self.state, edit)?, "does not fit");
+        Ok(())
     }
 
     /// Makes the edit that an accepted message is.
     fn make<D: Decisions>(&mut self, actor: Option<SessionId>, words: &str) -> Result<()> {
-        let Verdict::Accepted(edit) = D::decide(self.alloc, &self.state, actor, words)? else {
-            return self.say("not accepted");
-        };
-        ensure!(self.state.fits(&edit), "does not fit");
-        self.state.apply(&edit)?;
-        Ok(())
+        let verdict = D::decide(self.alloc, &self.state, actor, words)?;
+        self.make_accepted(&verdict)
     }
 
     /// Makes the edit that a call spells.
@@ -122,17 +143,23 @@ impl Scene {
             _ => self.make_call::<D>(call),
         }
     }
+
+    /// What these calls say.
+    fn calls<D: Decisions>(&mut self, calls: &[String]) -> Result<String> {
+        for call in calls {
+            self.call::<D>(call.as_str())?;
+        }
+        Ok(replace(&mut self.said, String::new(self.alloc)))
+    }
 }
 
 /// What the calls of a line say.
 pub fn answer<D: Decisions>(alloc: Global, line: &str) -> Result<String> {
+    let calls = calls_of(alloc, line)?;
     let mut scene = Scene {
         alloc,
         state: State::empty(alloc)?,
         said: String::new(alloc),
     };
-    for call in &calls_of(alloc, line)? {
-        scene.call::<D>(call.as_str())?;
-    }
-    Ok(scene.said)
+    scene.calls::<D>(calls.as_slice())
 }

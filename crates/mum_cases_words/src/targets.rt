@@ -37,6 +37,17 @@ fn add_sessions(item: &mut TargetItem, times: u64, id: SessionId) -> Result<()> 
     Ok(())
 }
 
+/// Takes a word of an item; what the next one says.
+fn take_word(alloc: Global, item: &mut TargetItem, key: Key, word: &str) -> Result<Key> {
+    match key {
+        Key::Field => return key_of(item, word),
+        Key::Channel => item.channel = Some(channel(word)?),
+        Key::Group => item.group = text_of(alloc, word)?,
+        Key::Sessions(times) => add_sessions(item, times, session(word)?)?,
+    }
+    Ok(Key::Field)
+}
+
 fn item_of(alloc: Global, text: &str) -> Result<TargetItem> {
     let mut item = TargetItem {
         sessions: Items::new(alloc),
@@ -47,18 +58,25 @@ fn item_of(alloc: Global, text: &str) -> Result<TargetItem> {
     };
     let mut key = Key::Field;
     for word in text.split_whitespace() {
-        match key {
-            Key::Field => {
-                key = key_of(&mut item, word)?;
-                continue;
-            }
-            Key::Channel => item.channel = Some(channel(word)?),
-            Key::Group => item.group = text_of(alloc, word)?,
-            Key::Sessions(times) => add_sessions(&mut item, times, session(word)?)?,
-        }
-        key = Key::Field;
+        key = take_word(alloc, &mut item, key, word)?;
     }
     Ok(item)
+}
+
+/// How often an item comes, and the item.
+fn times_of(part: &str) -> Result<(u64, &str)> {
+    if part.contains("* ") || part.ends_with('*') {
+        return repeated(part);
+    }
+    Ok((1, part))
+}
+
+fn add_items(alloc: Global, items: &mut Items<TargetItem>, part: &str) -> Result<()> {
+    let (times, item) = times_of(part)?;
+    for _ in 0..times {
+        items.push(item_of(alloc, item)?)?;
+    }
+    Ok(())
 }
 
 pub fn target_of(alloc: Global, text: &str) -> Result<Target> {
@@ -67,15 +85,7 @@ pub fn target_of(alloc: Global, text: &str) -> Result<Target> {
         return Ok(Target { items });
     }
     for part in text.split('/') {
-        let part = part.trim();
-        let (times, item) = if part.contains("* ") || part.ends_with('*') {
-            repeated(part)?
-        } else {
-            (1, part)
-        };
-        for _ in 0..times {
-            items.push(item_of(alloc, item)?)?;
-        }
+        add_items(alloc, &mut items, part.trim())?;
     }
     Ok(Target { items })
 }

@@ -153,19 +153,28 @@ pub fn text_of(alloc: Global, words: &str) -> Result<Text> {
     Ok(Text::of(alloc, string_of(alloc, words)?.as_str())?)
 }
 
-/// `key word`, or `64 of key` for so many of one.
-pub fn texts(alloc: Global, words: &str) -> Result<Vec<Text>> {
+fn each_text(alloc: Global, words: &str) -> Result<Vec<Text>> {
     let mut texts = Vec::new(alloc);
-    if let Some((count, word)) = words.split_once(" of ") {
-        for _ in 0..number(count)? {
-            texts.push(text_of(alloc, word)?)?;
-        }
-        return Ok(texts);
-    }
     for word in words.split_whitespace() {
         texts.push(text_of(alloc, word)?)?;
     }
     Ok(texts)
+}
+
+fn same_texts(alloc: Global, count: u64, word: &str) -> Result<Vec<Text>> {
+    let mut texts = Vec::new(alloc);
+    for _ in 0..count {
+        texts.push(text_of(alloc, word)?)?;
+    }
+    Ok(texts)
+}
+
+/// `key word`, or `64 of key` for so many of one.
+pub fn texts(alloc: Global, words: &str) -> Result<Vec<Text>> {
+    let Some((count, word)) = words.split_once(" of ") else {
+        return each_text(alloc, words);
+    };
+    same_texts(alloc, number(count)?, word)
 }
 
 /// One more in a list that is parted by spaces.

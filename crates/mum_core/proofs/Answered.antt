@@ -9,7 +9,6 @@ use Rattle.mum_record.specs.Head.{is_empty_config}
 use Rattle.mum_record.specs.Reading.{step_of}
 use Rattle.mum_record.specs.Words.{line_of_words}
 use Rattle.mum_core.specs.declared.machine.StepFault.{StepFault}
-use Rattle.mum_core.specs.declared.replay.Login.{Login}
 use Rattle.mum_core.specs.declared.replay.Phase.{Phase}
 use Rattle.mum_core.specs.declared.replay.Phase.TheVariants.{Config, Running, Over}
 use Rattle.mum_core.specs.Built.{BuiltStep, taken}
@@ -17,7 +16,7 @@ use Rattle.mum_core.specs.Built as steps
 use Rattle.mum_core.specs.Case.{IsStarved, named_cause}
 use Rattle.mum_core.specs.Core.{CoreState, start}
 use Rattle.mum_core.specs.Line.{joined, text_of}
-use Rattle.mum_core.specs.Replay.{Goes, answer, step_answer, phase_after, logins_after}
+use Rattle.mum_core.specs.Replay.{Goes, answer, step_answer, phase_after}
 use Rattle.mum_state.specs.State.{empty_state}
 use Rattle.mum_core.specs.Runs.{is_end, is_tell}
 use Rattle.mum_core.specs.Step.{does, illegal, lines}
@@ -34,7 +33,7 @@ line_alone core (words.Offer w) other = refl
 line_alone core words.Post other = tt
 line_alone core (words.Drain c) other = refl
 line_alone core (words.Collect c) other = tt
-line_alone core (words.Close c cause) other = tt
+line_alone core (words.Close c cause) other = refl
 line_alone core words.End other = refl
 
 -- an answer that is another by name
@@ -63,66 +62,54 @@ alone_gives core new step answered other given =
     given (line_alone core step other)
 
 -- the configuration's line
-pub config_goes : (w : ℕ) (line : List ℕ) (phase : Phase) → is_empty_config line ≡ true → phase ≡ Running (start empty_state w) [] → answer (Config w) line ≡ Goes phase []
+pub config_goes : (w : ℕ) (line : List ℕ) (phase : Phase) → is_empty_config line ≡ true → phase ≡ Running (start empty_state w) → answer (Config w) line ≡ Goes phase []
 unfolding answer
 config_goes w line phase h e = rw (h, e) refl
 
-abbrev pub IsDone : CoreState → List Login → Step → List ℕ → CoreState → List Login → List ℕ → BuiltStep → Type 0
-IsDone core logins step old new after text s =
-    (step_answer core logins (Some step) ≡ Goes (phase_after core logins s) (lines core s))
-    × (new ≡ does core s) × (after ≡ logins_after logins s) × (text ≡ old ++ text_of (lines core s))
+abbrev pub IsDone : CoreState → Step → List ℕ → CoreState → List ℕ → BuiltStep → Type 0
+IsDone core step old new text s =
+    (step_answer core (Some step) ≡ Goes (phase_after core s) (lines core s)) × (new ≡ does core s) × (text ≡ old ++ text_of (lines core s))
 
-goes_by : (core new : CoreState) (logins after : List Login) (step : Step) (line old text : List ℕ) (phase : Phase) (s : BuiltStep)
-    → step_of line ≡ Some step → old ≡ [] → IsDone core logins step old new after text s → phase ≡ phase_after core logins s
-    → (told : List (List (List ℕ))) × (answer (Running core logins) line ≡ Goes phase told) × (text ≡ text_of told)
+goes_by : (core new : CoreState) (step : Step) (line old text : List ℕ) (phase : Phase) (s : BuiltStep)
+    → step_of line ≡ Some step → old ≡ [] → IsDone core step old new text s → phase ≡ phase_after core s
+    → (told : List (List (List ℕ))) × (answer (Running core) line ≡ Goes phase told) × (text ≡ text_of told)
 unfolding answer
-goes_by core new logins after step line old text phase s said none h is = (
+goes_by core new step line old text phase s said none h is = (
   lines core s,
-  ap (step_answer core logins) said ∙ h.0 ∙ ap (λ (p : Phase). Goes p (lines core s)) (sym is),
-  h.3 ∙ ap (λ (xs : List ℕ). xs ++ text_of (lines core s)) none,
+  ap (step_answer core) said ∙ h.0 ∙ ap (λ (p : Phase). Goes p (lines core s)) (sym is),
+  h.2 ∙ ap (λ (xs : List ℕ). xs ++ text_of (lines core s)) none,
 )
 
-going : (core new : CoreState) (logins after : List Login) (s : BuiltStep) → new ≡ does core s → after ≡ logins_after logins s → Running new after ≡ Running (does core s) (logins_after logins s)
-going core new logins after s e f = rw (e, f) refl
-
 -- a step that is not the last leaves the phase of steps
-pub step_goes : (core new : CoreState) (logins after : List Login) (step : Step) (line old text : List ℕ) → step_of line ≡ Some step → is_end step ≡ false
-    → old ≡ [] → MatchOption (taken step) ⊥ (IsDone core logins step old new after text)
-    → (told : List (List (List ℕ))) × (answer (Running core logins) line ≡ Goes (Running new after) told) × (text ≡ text_of told)
-step_goes core new logins after (words.Open c w) line old text said more none h =
-    goes_by core new logins after (words.Open c w) line old text (Running new after) (steps.Open c w) said none h (going core new logins after (steps.Open c w) h.1 h.2)
-step_goes core new logins after (words.Frame c bytes) line old text said more none h =
-    goes_by core new logins after (words.Frame c bytes) line old text (Running new after) (steps.Frame c (kind_of bytes) (payload_of bytes)) said none h (going core new logins after (steps.Frame c (kind_of bytes) (payload_of bytes)) h.1 h.2)
-step_goes core new logins after (words.Edit c) line old text said more none h =
-    goes_by core new logins after (words.Edit c) line old text (Running new after) (steps.Edit c) said none h (going core new logins after (steps.Edit c) h.1 h.2)
-step_goes core new logins after words.Publish line old text said more none h =
-    goes_by core new logins after words.Publish line old text (Running new after) steps.Publish said none h (going core new logins after steps.Publish h.1 h.2)
-step_goes core new logins after (words.Tell c revision) line old text said more none h =
-    goes_by core new logins after (words.Tell c revision) line old text (Running new after) (steps.Tell c revision) said none h (going core new logins after (steps.Tell c revision) h.1 h.2)
-step_goes core new logins after (words.Look w revision) line old text said more none h =
-    goes_by core new logins after (words.Look w revision) line old text (Running new after) (steps.Look w revision) said none h (going core new logins after (steps.Look w revision) h.1 h.2)
-step_goes core new logins after (words.Offer w) line old text said more none h =
-    goes_by core new logins after (words.Offer w) line old text (Running new after) (steps.Offer w) said none h (going core new logins after (steps.Offer w) h.1 h.2)
-step_goes core new logins after (words.Drain c) line old text said more none h =
-    goes_by core new logins after (words.Drain c) line old text (Running new after) (steps.Drain c) said none h (going core new logins after (steps.Drain c) h.1 h.2)
-step_goes core new logins after words.End line old text said more none h = cc
-step_goes core new logins after words.Post line old text said more none h = absurd h
-step_goes core new logins after (words.Collect c) line old text said more none h = absurd h
-step_goes core new logins after (words.Close c cause) line old text said more none h = absurd h
+pub step_goes : (core new : CoreState) (step : Step) (line old text : List ℕ) → step_of line ≡ Some step → is_end step ≡ false
+    → old ≡ [] → MatchOption (taken step) ⊥ (IsDone core step old new text)
+    → (told : List (List (List ℕ))) × (answer (Running core) line ≡ Goes (Running new) told) × (text ≡ text_of told)
+step_goes core new (words.Open c w) line old text said more none h = goes_by core new (words.Open c w) line old text (Running new) (steps.Open c w) said none h (ap Running h.1)
+step_goes core new (words.Frame c bytes) line old text said more none h = goes_by core new (words.Frame c bytes) line old text (Running new) (steps.Frame c (kind_of bytes) (payload_of bytes)) said none h (ap Running h.1)
+step_goes core new (words.Edit c) line old text said more none h = goes_by core new (words.Edit c) line old text (Running new) (steps.Edit c) said none h (ap Running h.1)
+step_goes core new words.Publish line old text said more none h = goes_by core new words.Publish line old text (Running new) steps.Publish said none h (ap Running h.1)
+step_goes core new (words.Tell c revision) line old text said more none h = goes_by core new (words.Tell c revision) line old text (Running new) (steps.Tell c revision) said none h (ap Running h.1)
+step_goes core new (words.Look w revision) line old text said more none h = goes_by core new (words.Look w revision) line old text (Running new) (steps.Look w revision) said none h (ap Running h.1)
+step_goes core new (words.Offer w) line old text said more none h = goes_by core new (words.Offer w) line old text (Running new) (steps.Offer w) said none h (ap Running h.1)
+step_goes core new (words.Drain c) line old text said more none h = goes_by core new (words.Drain c) line old text (Running new) (steps.Drain c) said none h (ap Running h.1)
+step_goes core new (words.Close c cause) line old text said more none h = goes_by core new (words.Close c cause) line old text (Running new) (steps.Close c cause) said none h (ap Running h.1)
+step_goes core new words.End line old text said more none h = cc
+step_goes core new words.Post line old text said more none h = absurd h
+step_goes core new (words.Collect c) line old text said more none h = absurd h
 
 -- the last one leaves none
-pub step_ends : (core new : CoreState) (logins after : List Login) (step : Step) (line old text : List ℕ) → step_of line ≡ Some step → is_end step ≡ true
-    → old ≡ [] → MatchOption (taken step) ⊥ (IsDone core logins step old new after text)
-    → (told : List (List (List ℕ))) × (answer (Running core logins) line ≡ Goes Over told) × (text ≡ text_of told)
-step_ends core new logins after (words.Open c w) line old text said last none h = cc
-step_ends core new logins after (words.Frame c bytes) line old text said last none h = cc
-step_ends core new logins after (words.Edit c) line old text said last none h = cc
-step_ends core new logins after words.Publish line old text said last none h = cc
-step_ends core new logins after (words.Tell c revision) line old text said last none h = cc
-step_ends core new logins after (words.Look w revision) line old text said last none h = cc
-step_ends core new logins after (words.Offer w) line old text said last none h = cc
-step_ends core new logins after (words.Drain c) line old text said last none h = cc
-step_ends core new logins after words.End line old text said last none h = goes_by core new logins after words.End line old text Over steps.End said none h refl
-step_ends core new logins after words.Post line old text said last none h = absurd h
-step_ends core new logins after (words.Collect c) line old text said last none h = absurd h
-step_ends core new logins after (words.Close c cause) line old text said last none h = absurd h
+pub step_ends : (core new : CoreState) (step : Step) (line old text : List ℕ) → step_of line ≡ Some step → is_end step ≡ true
+    → old ≡ [] → MatchOption (taken step) ⊥ (IsDone core step old new text)
+    → (told : List (List (List ℕ))) × (answer (Running core) line ≡ Goes Over told) × (text ≡ text_of told)
+step_ends core new words.End line old text said last none h = goes_by core new words.End line old text Over steps.End said none h refl
+step_ends core new words.Post line old text said last none h = absurd h
+step_ends core new (words.Collect c) line old text said last none h = absurd h
+step_ends core new (words.Open c w) line old text said last none h = cc
+step_ends core new (words.Frame c bytes) line old text said last none h = cc
+step_ends core new (words.Edit c) line old text said last none h = cc
+step_ends core new words.Publish line old text said last none h = cc
+step_ends core new (words.Tell c revision) line old text said last none h = cc
+step_ends core new (words.Look w revision) line old text said last none h = cc
+step_ends core new (words.Offer w) line old text said last none h = cc
+step_ends core new (words.Drain c) line old text said last none h = cc
+step_ends core new (words.Close c cause) line old text said last none h = cc

@@ -18,6 +18,7 @@ core_of history workers outboxes = record {
   workers = workers;
   outboxes = outboxes;
   totals = record { looks = 0; copies = 0; full = 0; stale = 0 };
+  line = 3;
 }
 
 pub is_start : (opening : StateValue) (count : ℕ) (history : HistoryValue) (workers : List WorkerState) (outboxes : List (List Parcel)) (core : CoreState)

@@ -1,9 +1,9 @@
 -- Each copy of a look is sent, or found its outbox full, or is left.
-use Rattle.std.proofs.Common.{◌≡◌, ℕ, zero, suc, ◌+◌, ◌-◌, ◌≤◌, ◌<◌, ◌^◌, min, Bool, true, false, cond, List, [], ◌∷◌, length, drop, get_or, Option, Some, None, Result, Ok, Err, refl, sym, ap, ◌∙◌, arith, inl, inr}
+use Rattle.std.proofs.Common.{◌≡◌, ℕ, zero, suc, ◌+◌, ◌-◌, ◌≤◌, ◌<◌, ◌^◌, min, Bool, true, false, cond, List, [], ◌∷◌, length, drop, get_or, Option, Some, None, Result, Ok, Err, refl, sym, ap, ◌∙◌, arith}
 use Rattle.std.specs.Prelude.{not, is_none, is_some, nat_lt, sum_by, slice_get, slice_index_or, slice_set, replicate, if◌then◌else◌}
 use Rattle.std.specs.Option.{option_map_or}
-use Rattle.std.proofs.lemmas.Bool.{cases_eq, ltb-false, ltb-true}
-use Rattle.std.proofs.lemmas.List.{length-map, get_or-set_same, get_or-set_other}
+use Rattle.std.proofs.lemmas.Bool.{ltb-false, ltb-true}
+use Rattle.std.proofs.lemmas.List.{length-map}
 use Rattle.std.proofs.lemmas.List.Sums.{sum_by-set}
 use Rattle.std.proofs.lemmas.Option.{slice_get_within, get_or_from_slice_get, slice_get-get_or}
 use Rattle.mum_base.specs.declared.number.SessionId.{SessionId}
@@ -18,8 +18,8 @@ use Rattle.mum_core.specs.declared.action.Action.{Action}
 use Rattle.mum_core.specs.declared.action.Action.TheVariants.{Ask, Voice, Echo, Keep, Ignore}
 use Rattle.mum_core.specs.Action.{action}
 use Rattle.mum_core.specs.Built as steps
-use Rattle.mum_core.specs.Built.{BuiltStep, Open, Frame, Publish, Tell, Look, Offer, Drain, End}
-use Rattle.mum_core.specs.Connection.{untold}
+use Rattle.mum_core.specs.Built.{BuiltStep, Open, Frame, Publish, Tell, Look, Offer, Drain, Close, End}
+use Rattle.mum_core.specs.Connection.{is_untold}
 use Rattle.mum_core.specs.Core.{CoreState, start, connection_at, worker_at, outbox_at, state_at, is_opened}
 use Rattle.mum_core.specs.Laws.{IsRun, ran, looked}
 use Rattle.mum_core.specs.Lists.{changed_at, with_found}
@@ -31,7 +31,8 @@ use Rattle.mum_core.specs.steps.Look as look_step
 use Rattle.mum_core.specs.steps.Offer as offer_step
 use Rattle.mum_core.specs.steps.Drain as drain_step
 use Rattle.mum_core.specs.steps.Tell as tell_step
-use Rattle.mum_core.proofs.RunLaws.{none_stands, not_false, told_core, taken_core, puts_workers, first_of}
+use Rattle.mum_core.proofs.Changed.{changed-by}
+use Rattle.mum_core.proofs.RunLaws.{decided_workers, drain_workers, first_of, none_stands, not_false, puts_workers, taken_core, told_core}
 
 -- ---- a worker that holds a packet has no copies
 
@@ -43,35 +44,26 @@ AreClean workers = (w : ℕ) → IsClean (slice_index_or workers w idle)
 
 clean-at : (workers : List WorkerState) (i : ℕ) (change : WorkerState → WorkerState)
     → ((x : WorkerState) → slice_get workers i ≡ Some x → IsClean (change x)) → AreClean workers → AreClean (changed_at i change workers)
-clean-at workers i change h clean w = from (slice_get workers i) refl
-  where
-    from : (o : Option WorkerState) → slice_get workers i ≡ o → IsClean (slice_index_or (with_found workers i change o) w idle)
-    from None e = clean w
-    from (Some x) e = elim (cases_eq w i) [
-      | inl same ↦
-          let there : get_or (slice_set workers i (change x)) w idle ≡ change x = rw same (get_or-set_same workers i (change x) idle (slice_get_within workers i x e)) in
-          rw there (h x e)
-      | inr other ↦
-          let there : get_or (slice_set workers i (change x)) w idle ≡ get_or workers w idle = get_or-set_other workers i w (change x) idle other in
-          rw there (clean w)
-    ]
+clean-at workers i change h clean w = changed-by (λ old new. IsClean old → IsClean new) (λ x was. was) workers i w change idle (λ x at here was. h x at) (clean w)
 
 no_copies : (copies : List Outgoing) → length copies ≤ 0 → copies ≡ []
 no_copies [] h = refl
 no_copies (copy ∷ copies) h = absurd (omega arith)
 
-idle_hands : (held : Option HeldPacket) (copies : List Outgoing) → (if is_some held then 1 else length copies) ≤ 0 → copies ≡ []
-idle_hands None copies h = no_copies copies h
+idle_hands : (held : Option HeldPacket) (copies : List Outgoing) → (if is_some held then 1 else length copies) ≤ 0 → (held ≡ None) × (copies ≡ [])
+idle_hands None copies h = (refl, no_copies copies h)
 idle_hands (Some held) copies h = absurd (omega arith)
 
 -- the worker of a frame that is allowed has nothing in hand
-pub frame_hands : (core : CoreState) (c kind : ℕ) (payload : List ℕ) → illegal core (Frame c kind payload) ≡ None → (worker_at core (connection_at core c).worker).copies ≡ []
+pub frame_hands : (core : CoreState) (c kind : ℕ) (payload : List ℕ) → illegal core (Frame c kind payload) ≡ None
+    → ((worker_at core (connection_at core c).worker).held ≡ None) × ((worker_at core (connection_at core c).worker).copies ≡ [])
 frame_hands core c kind payload h =
     let worker : WorkerState = worker_at core (connection_at core c).worker in
     let first = none_stands (not (is_opened core c)) _ _ h in
-    let second = none_stands (nat_lt 0 (untold (connection_at core c))) _ _ first.1 in
-    let third = none_stands (nat_lt 0 (in_hand worker)) _ _ second.1 in
-    idle_hands worker.held worker.copies (ltb-false 0 (in_hand worker) third.0)
+    let second = none_stands (is_some (connection_at core c).closed) _ _ first.1 in
+    let third = none_stands (is_untold (connection_at core c)) _ _ second.1 in
+    let fourth = none_stands (nat_lt 0 (in_hand worker)) _ _ third.1 in
+    idle_hands worker.held worker.copies (ltb-false 0 (in_hand worker) fourth.0)
 
 clean_hears : (core : CoreState) (w : ℕ) (speaker : SessionId) (read : Result Parts BadVoice) → (worker_at core w).copies ≡ [] → AreClean core.workers → AreClean (frame_step.hears core w speaker read).workers
 clean_hears core w speaker (Ok parts) none clean =
@@ -80,7 +72,7 @@ clean_hears core w speaker (Ok parts) none clean =
 clean_hears core w speaker (Err fault) none clean = clean
 
 clean_frame : (core : CoreState) (c : ℕ) (a : Action) → (worker_at core (connection_at core c).worker).copies ≡ [] → AreClean core.workers → AreClean (frame_step.does core c a).workers
-clean_frame core c (Ask name) none clean = clean
+clean_frame core c (Ask command) none clean = clean
 clean_frame core c (Voice speaker payload) none clean = clean_hears core (connection_at core c).worker speaker (packet payload) none clean
 clean_frame core c (Echo frame) none clean = clean
 clean_frame core c (Keep number) none clean = clean
@@ -91,28 +83,12 @@ clean_notes core w None clean = clean
 clean_notes core w (Some revision) clean =
     clean-at core.workers w _ (λ x at. let here : worker_at core w ≡ x = get_or_from_slice_get core.workers w x idle at in rw here at (clean w)) clean
 
-cond_workers : (b : Bool) (core x y : CoreState) → x.workers ≡ core.workers → y.workers ≡ core.workers → (cond b x y).workers ≡ core.workers
-cond_workers true core x y hx hy = hx
-cond_workers false core x y hx hy = hy
-
-takes_workers : (core : CoreState) (seat : Seat) (front : Option Parcel) → (drain_step.takes core seat front).workers ≡ core.workers
-takes_workers core seat None = refl
-takes_workers core seat (Some front) = cond_workers (drain_step.is_for front seat) core _ _ refl refl
-
-pub drain_workers : (core : CoreState) (seat : Option Seat) → (drain_step.does_from core seat).workers ≡ core.workers
-drain_workers core None = refl
-drain_workers core (Some seat) = takes_workers core seat (slice_get (outbox_at core seat.slot.0) 0)
-
-pub decided_workers : (core : CoreState) (c : ℕ) (verdict : Option Verdict) → (option_map_or (edit_step.decides core c) verdict core).workers ≡ core.workers
-decided_workers core c None = refl
-decided_workers core c (Some verdict) = refl
-
 clean_by : (old new : List WorkerState) → new ≡ old → AreClean old → AreClean new
 clean_by old new same clean w = rw same (clean w)
 
 pub clean_step : (core : CoreState) (step : BuiltStep) → illegal core step ≡ None → AreClean core.workers → AreClean (does core step).workers
 clean_step core (Open c w) h clean = clean
-clean_step core (Frame c kind payload) h clean = clean_frame core c (action (connection_at core c).seat kind payload) (frame_hands core c kind payload h) clean
+clean_step core (Frame c kind payload) h clean = clean_frame core c (action (connection_at core c) kind payload) (frame_hands core c kind payload h).1 clean
 clean_step core (steps.Edit c) h clean = clean_by core.workers (does core (steps.Edit c)).workers (decided_workers core c (edit_step.decision core c)) clean
 clean_step core Publish h clean = clean
 clean_step core (Tell c revision) h clean = clean_notes (told_core core c) (connection_at core c).worker revision clean
@@ -125,6 +101,7 @@ clean_step core (Offer w) h clean =
     let none : IsClean x = rw here at (clean w) in
     ap (drop 1) (none yes)) clean)
 clean_step core (Drain c) h clean = clean_by core.workers (does core (Drain c)).workers (drain_workers core (connection_at core c).seat) clean
+clean_step core (Close c cause) h clean = clean
 clean_step core End h clean = clean
 
 pub clean_start : (workers : ℕ) → AreClean (replicate workers idle)
@@ -166,7 +143,7 @@ hears_same core w speaker (Ok parts) = (refl, refl, left-same core.workers w (λ
 hears_same core w speaker (Err fault) = (refl, refl, refl)
 
 frame_same : (core : CoreState) (c : ℕ) (a : Action) → Same core (frame_step.does core c a)
-frame_same core c (Ask name) = (refl, refl, refl)
+frame_same core c (Ask command) = (refl, refl, refl)
 frame_same core c (Voice speaker payload) = hears_same core (connection_at core c).worker speaker (packet payload)
 frame_same core c (Echo frame) = (refl, refl, refl)
 frame_same core c (Keep number) = (refl, refl, refl)
@@ -222,11 +199,12 @@ looked-cons core (Tell c revision) run = omega arith
 looked-cons core (Look w revision) run = refl
 looked-cons core (Offer w) run = omega arith
 looked-cons core (Drain c) run = omega arith
+looked-cons core (Close c cause) run = omega arith
 looked-cons core End run = omega arith
 
 length-copies : (state : StateValue) (held : Option HeldPacket) → length (look_step.copies state held) ≡ length (look_step.audience state held)
 length-copies state None = refl
-length-copies state (Some held) = length-map (look_step.audience state (Some held)) (look_step.copy_to held)
+length-copies state (Some held) = length-map (look_step.audience state (Some held)) (look_step.copy_to state held)
 
 -- what a step adds: at most one to the counts, and to the total what its look finds
 pub record Adds (old new : CoreState) (more : ℕ) : Type 0 where
@@ -247,7 +225,7 @@ held_there (Some x) h = refl
 
 adds : (core : CoreState) (step : BuiltStep) → illegal core step ≡ None → AreClean core.workers → core.totals.copies + core.totals.full < 2 ^ 64 - 1 → Adds core (does core step) (found core step)
 adds core (Open c w) h clean room = adds_none core (does core (Open c w)) (refl, refl, refl)
-adds core (Frame c kind payload) h clean room = adds_none core (does core (Frame c kind payload)) (frame_same core c (action (connection_at core c).seat kind payload))
+adds core (Frame c kind payload) h clean room = adds_none core (does core (Frame c kind payload)) (frame_same core c (action (connection_at core c) kind payload))
 adds core (steps.Edit c) h clean room = adds_none core (does core (steps.Edit c)) (decided_same core c (edit_step.decision core c))
 adds core Publish h clean room = adds_none core (does core Publish) (refl, refl, refl)
 adds core (Tell c revision) h clean room = adds_none core (does core (Tell c revision)) (notes_same (told_core core c) (connection_at core c).worker revision)
@@ -273,6 +251,7 @@ adds core (Offer w) h clean room =
     let longer : length (worker_at core w).copies ≡ suc (length (drop 1 (worker_at core w).copies)) = ap length some.1 in
     rw next (record { counted = omega (arith, one.0); total_is = omega (arith, one.0, one.1, sum, longer) })
 adds core (Drain c) h clean room = adds_none core (does core (Drain c)) (drain_same core (connection_at core c).seat)
+adds core (Close c cause) h clean room = adds_none core (does core (Close c cause)) (refl, refl, refl)
 adds core End h clean room = adds_none core (does core End) (refl, refl, refl)
 
 counted_from : (core : CoreState) (run : List BuiltStep) → IsRun core run → AreClean core.workers → core.totals.copies + core.totals.full + length run < 2 ^ 64 - 1

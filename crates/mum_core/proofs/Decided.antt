@@ -1,23 +1,24 @@
--- The seat that a decision gives is below the limit.
-use Rattle.std.proofs.Common.{◌≡◌, ℕ, ◌<◌, Bool, true, false, List, length, Option, Some, None, refl, sym, subst, arith}
-use Rattle.std.specs.Prelude.{IfSome, is_none, if◌then◌else◌}
+-- The seat that an accepted edit gives is below the limit.
+use Rattle.std.proofs.Common.{◌≡◌, ℕ, ◌<◌, ◌&&◌, Bool, true, false, List, length, None, Some, refl, arith}
+use Rattle.std.specs.Prelude.{◌==◌, IfSome, is_none, if◌then◌else◌}
 use Rattle.std.specs.List.{list_any}
-use Rattle.std.proofs.lemmas.Bool.{leb-false}
-use Rattle.mum_base.specs.declared.number.SessionId.{SessionId}
+use Rattle.std.proofs.lemmas.Bool.{and_parts, eqb-true, leb-false}
 use Rattle.mum_users.specs.declared.user.TheConstants.{SESSIONS}
 use Rattle.mum_users.specs.declared.fault.UserFault.TheVariants.{NameInUse, Full, SessionsUsedUp}
-use Rattle.mum_users.specs.Sessions.{free_slot, is_full, is_used_up, join_fault}
-use Rattle.mum_users.specs.State.{RosterState, has_name}
+use Rattle.mum_users.specs.Sessions.{free_slot, is_full, is_used_up, join_fault, next_number, next_slot}
+use Rattle.mum_users.specs.State.{RosterState, are_tokens, has_name}
 use Rattle.mum_users.proofs.Slots.{free_slot_from-le}
+use Rattle.mum_state.specs.declared.edit.Edit.{Edit}
+use Rattle.mum_state.specs.declared.edit.Edit.TheVariants.{Join}
 use Rattle.mum_state.specs.declared.verdict.Verdict.{Verdict}
+use Rattle.mum_state.specs.declared.verdict.Verdict.TheVariants.{Accepted}
+use Rattle.mum_state.specs.Fits.{gives_right_numbers, is_countable, sets_properly}
+use Rattle.mum_state.specs.Named.{names_there}
+use Rattle.mum_state.specs.Proper.{is_short}
 use Rattle.mum_state.specs.State.{StateValue}
-use Rattle.mum_core.specs.declared.connection.Command.{Command}
-use Rattle.mum_core.specs.declared.connection.Command.TheVariants.{Login, Tree}
-use Rattle.mum_core.specs.declared.connection.Seat.{Seat}
+use Rattle.mum_rules_tree.specs.Decision.{FitsWhereAccepted}
 use Rattle.mum_core.specs.declared.slot.TheConstants.{SLOTS}
-use Rattle.mum_core.specs.Reply.{seat_of, verdict}
-use Rattle.mum_core.specs.steps.Edit.{is_decidable}
-use Rattle.mum_core.proofs.Lower.{login_unrefused, tree_seats_nobody}
+use Rattle.mum_core.specs.Reply.{seat_of}
 
 not_full : (a b c : Bool) → is_none (if a then Some NameInUse else if b then Some Full else if c then Some SessionsUsedUp else None) ≡ true → b ≡ false
 not_full true b c none = cc
@@ -31,15 +32,18 @@ free_below roster name none =
     let low = free_slot_from-le 0 roster.sessions in
     omega arith
 
-seat_below : (state : StateValue) (session : Option SessionId) (command : Command) → is_decidable state (Some command) ≡ true
-    → IfSome (seat_of (verdict state session command)) (λ seat. seat.slot.0 < SLOTS)
-seat_below state session (Login name) decidable = free_below state.roster name (login_unrefused state name decidable)
-seat_below state None (Tree message) decidable = tt
-seat_below state (Some session) (Tree message) decidable =
-    subst (λ (o : Option Seat). IfSome o (λ seat. seat.slot.0 < SLOTS)) (sym (tree_seats_nobody state session message)) tt
-
-pub decided_seat : (current state : StateValue) (session : Option SessionId) (command : Command) (decided : Verdict)
-    → is_decidable current (Some command) ≡ true → state ≡ current → decided ≡ verdict state session command
-    → IfSome (seat_of decided) (λ seat. seat.slot.0 < SLOTS)
-decided_seat current state session command decided decidable same is =
-    rw is (seat_below state session command (subst (λ (at : StateValue). is_decidable at (Some command) ≡ true) (sym same) decidable))
+-- a session that joins takes the least free slot
+pub fitting_seat : (state : StateValue) (decided : Verdict) → FitsWhereAccepted state decided → IfSome (seat_of decided) (λ seat. seat.slot.0 < SLOTS)
+fitting_seat state (Accepted (Join session slot name account tokens)) fit =
+    let edit : Edit = Join session slot name account tokens in
+    let counted = and_parts (names_there state edit && gives_right_numbers state edit && sets_properly state edit) (is_countable state edit) fit in
+    let sets = and_parts (names_there state edit && gives_right_numbers state edit) (sets_properly state edit) counted.0 in
+    let right = and_parts (names_there state edit) (gives_right_numbers state edit) sets.0 in
+    let numbers = and_parts (session.0 == (next_number state.roster).0) (slot.0 == (next_slot state.roster).0) right.1 in
+    let named = and_parts (is_none (join_fault SESSIONS state.roster name) && is_short name) (are_tokens tokens) sets.1 in
+    let none = and_parts (is_none (join_fault SESSIONS state.roster name)) (is_short name) named.0 in
+    let at : slot.0 ≡ free_slot state.roster = eqb-true slot.0 (next_slot state.roster).0 numbers.1 in
+    let low = free_below state.roster name none.0 in
+    omega arith
+fitting_seat state (Accepted other) fit = tt
+fitting_seat state others fit = tt

@@ -1,42 +1,38 @@
--- Each accepted edit of a run fits where it stands, so the states of a run are proper.
-use Rattle.std.proofs.Common.{◌≡◌, ℕ, zero, suc, true, List, [], ◌∷◌, ◌++◌, take, Option, Some, None, refl, subst}
-use Rattle.std.specs.Prelude.{not, is_none, IsTrue}
+-- Each accepted edit of a run fits where it stands, so the states of a run are proper, and whoever is there in two of them is in one slot.
+use Rattle.std.proofs.Common.{◌≡◌, ℕ, zero, suc, ◌+◌, ◌-◌, ◌≤◌, List, [], ◌∷◌, ◌++◌, length, take, drop, Option, Some, None, refl, sym, ap, ◌∙◌, subst, arith, inl, inr}
+use Rattle.std.specs.Prelude.{IsTrue}
 use Rattle.std.specs.Option.{option_map, option_map_or}
-use Rattle.std.proofs.lemmas.Bool.{and_parts}
-use Rattle.std.proofs.lemmas.List.{append-nil}
+use Rattle.std.proofs.lemmas.Bool.{and_parts, cases_lt}
+use Rattle.std.proofs.lemmas.List.{append-nil, take-append-le}
+use Rattle.std.proofs.lemmas.List.Sums.{fold-append}
+use lib.Seq.{take-add}
 use Rattle.mum_base.specs.declared.number.SessionId.{SessionId}
+use Rattle.mum_base.specs.declared.number.Slot.{Slot}
 use Rattle.mum_state.specs.declared.edit.Edit.{Edit}
 use Rattle.mum_state.specs.declared.verdict.Verdict.{Verdict}
 use Rattle.mum_state.specs.declared.verdict.Verdict.TheVariants.{Accepted, Lacks, Refused, Rejected, Answer, Ignored}
-use Rattle.mum_state.specs.After.{all_fit, led_to}
+use Rattle.mum_state.specs.After.{all_fit, at, led_to}
 use Rattle.mum_state.specs.Applied.{applied}
 use Rattle.mum_state.specs.Fits.{fits}
+use Rattle.mum_state.specs.Laws.{IsInSlot}
 use Rattle.mum_state.specs.Proper.{IsProper}
 use Rattle.mum_state.specs.State.{StateValue}
+use Rattle.mum_state.proofs.Seats.{seats_stand_lem}
 use Rattle.mum_history.proofs.Fronts.{all_fit_on}
 use Rattle.mum_rules_tree.specs.Decision.{FitsWhereAccepted}
 use Rattle.mum_core.specs.declared.connection.Command.{Command}
-use Rattle.mum_core.specs.declared.connection.Command.TheVariants.{Login, Tree}
 use Rattle.mum_core.specs.Action.{action}
 use Rattle.mum_core.specs.Built as steps
-use Rattle.mum_core.specs.Built.{BuiltStep, Open, Frame, Publish, Tell, Look, Offer, Drain, End}
-use Rattle.mum_core.specs.Connection.{session_of}
-use Rattle.mum_core.specs.Core.{CoreState, start, connection_at, current, state_at, is_opened}
+use Rattle.mum_core.specs.Built.{BuiltStep, Open, Frame, Publish, Tell, Look, Offer, Drain, Close, End}
+use Rattle.mum_core.specs.Connection.{next_command, session_of}
+use Rattle.mum_core.specs.Core.{CoreState, start, connection_at, current, state_at}
 use Rattle.mum_core.specs.Laws.{IsRun, ran}
 use Rattle.mum_core.specs.Reply.{edits_of, verdict}
-use Rattle.mum_core.specs.Step.{does, illegal}
+use Rattle.mum_core.specs.Step.{does}
 use Rattle.mum_core.specs.steps.Edit as edit_step
 use Rattle.mum_core.specs.steps.Offer as offer_step
-use Rattle.mum_core.proofs.Lower.{keeps_proper, tree_fits}
-use Rattle.mum_core.proofs.RunLaws.{none_stands, not_false, told_core, taken_core, frame_keeps, notes_keep, puts_keep, drain_keeps, same_opening, opening_stays}
-
--- ---- what is decided fits
-
-pub decided_fits : (state : StateValue) (session : Option SessionId) (command : Command) → IsProper state → edit_step.is_decidable state (Some command) ≡ true
-    → FitsWhereAccepted state (verdict state session command)
-decided_fits state session (Login name) proper decidable = decidable
-decided_fits state None (Tree message) proper decidable = tt
-decided_fits state (Some session) (Tree message) proper decidable = tree_fits state session message proper
+use Rattle.mum_core.proofs.Lower.{keeps_proper, verdict_fits}
+use Rattle.mum_core.proofs.RunLaws.{told_core, taken_core, frame_keeps, notes_keep, puts_keep, drain_keeps, same_opening, opening_stays, accepted_grows}
 
 -- ---- accepted edits fit
 
@@ -55,38 +51,33 @@ more_fit opening edits (Rejected kind) fit next = rw (append-nil edits) fit
 more_fit opening edits (Answer frame) fit next = rw (append-nil edits) fit
 more_fit opening edits (Ignored why) fit next = rw (append-nil edits) fit
 
-edit_fits : (core : CoreState) (c : ℕ) (waiting : Option Command) → IsProper core.opening → IsFitted core → edit_step.is_decidable (current core) waiting ≡ true
-    → IsFitted (option_map_or (edit_step.decides core c) (option_map (verdict (current core) (session_of (connection_at core c))) waiting) core)
-edit_fits core c None proper fit decidable = fit
-edit_fits core c (Some command) proper fit decidable =
+edit_fits : (core : CoreState) (c : ℕ) (next : Option Command) → IsProper core.opening → IsFitted core
+    → IsFitted (option_map_or (edit_step.decides core c) (option_map (verdict (current core) (session_of (connection_at core c))) next) core)
+edit_fits core c None proper fit = fit
+edit_fits core c (Some command) proper fit =
     let state : StateValue = current core in
     let session : Option SessionId = session_of (connection_at core c) in
-    more_fit core.opening core.accepted (verdict state session command) fit
-    (decided_fits state session command (keeps_proper core.opening core.accepted proper fit) decidable)
+    more_fit core.opening core.accepted (verdict state session command) fit (verdict_fits state session command (keeps_proper core.opening core.accepted proper fit))
 
-fitted : (core : CoreState) (step : BuiltStep) → illegal core step ≡ None → IsProper core.opening → IsFitted core → IsFitted (does core step)
-fitted core (Open c w) h proper fit = fit
-fitted core (Frame c kind payload) h proper fit =
-    let keeps = frame_keeps core c (action (connection_at core c).seat kind payload) in
+fitted : (core : CoreState) (step : BuiltStep) → IsProper core.opening → IsFitted core → IsFitted (does core step)
+fitted core (Open c w) proper fit = fit
+fitted core (Frame c kind payload) proper fit =
+    let keeps = frame_keeps core c (action (connection_at core c) kind payload) in
     fitted_by core (does core (Frame c kind payload)) keeps.2 keeps.0 fit
-fitted core (steps.Edit c) h proper fit =
-    let waiting : Option Command = (connection_at core c).waiting in
-    let first = none_stands (not (is_opened core c)) _ _ h in
-    let second = none_stands (is_none waiting) _ _ first.1 in
-    let third = none_stands (not (edit_step.is_decidable (current core) waiting)) _ _ second.1 in
-    edit_fits core c waiting proper fit (not_false (edit_step.is_decidable (current core) waiting) third.0)
-fitted core Publish h proper fit = fit
-fitted core (Tell c revision) h proper fit =
+fitted core (steps.Edit c) proper fit = edit_fits core c (next_command (connection_at core c)) proper fit
+fitted core Publish proper fit = fit
+fitted core (Tell c revision) proper fit =
     let keeps = notes_keep (told_core core c) (connection_at core c).worker revision in
     fitted_by core (does core (Tell c revision)) keeps.2 keeps.0 fit
-fitted core (Look w revision) h proper fit = fit
-fitted core (Offer w) h proper fit =
+fitted core (Look w revision) proper fit = fit
+fitted core (Offer w) proper fit =
     let keeps = puts_keep (taken_core core w) (offer_step.next_copy core w) in
     fitted_by core (does core (Offer w)) keeps.2 keeps.0 fit
-fitted core (Drain c) h proper fit =
+fitted core (Drain c) proper fit =
     let keeps = drain_keeps core (connection_at core c).seat in
     fitted_by core (does core (Drain c)) keeps.2 keeps.0 fit
-fitted core End h proper fit = fit
+fitted core (Close c cause) proper fit = fit
+fitted core End proper fit = fit
 
 -- ---- lawful cores
 
@@ -95,13 +86,12 @@ pub record IsLawful (core : CoreState) : Type 0 where
   pub proper : IsProper core.opening
   pub fit : IsFitted core
 
-pub lawful_step : (core : CoreState) (step : BuiltStep) → illegal core step ≡ None → IsLawful core → IsLawful (does core step)
-lawful_step core step h lawful =
-    record { proper = rw (same_opening core step) lawful.proper; fit = fitted core step h lawful.proper lawful.fit }
+pub lawful_step : (core : CoreState) (step : BuiltStep) → IsLawful core → IsLawful (does core step)
+lawful_step core step lawful = record { proper = rw (same_opening core step) lawful.proper; fit = fitted core step lawful.proper lawful.fit }
 
-pub lawful_all : (core : CoreState) (run : List BuiltStep) → IsRun core run → IsLawful core → IsLawful (ran core run)
-lawful_all core [] is lawful = lawful
-lawful_all core (step ∷ run) is lawful = lawful_all (does core step) run is.1 (lawful_step core step is.0 lawful)
+pub lawful_all : (core : CoreState) (run : List BuiltStep) → IsLawful core → IsLawful (ran core run)
+lawful_all core [] lawful = lawful
+lawful_all core (step ∷ run) lawful = lawful_all (does core step) run (lawful_step core step lawful)
 
 pub lawful_start : (opening : StateValue) (workers : ℕ) → IsProper opening → IsLawful (start opening workers)
 lawful_start opening workers proper = record { proper = proper; fit = refl }
@@ -109,21 +99,59 @@ lawful_start opening workers proper = record { proper = proper; fit = refl }
 pub edits_fit : (opening : StateValue) (workers : ℕ) (run : List BuiltStep) → IsProper opening → IsRun (start opening workers) run
     → IsTrue (all_fit opening (ran (start opening workers) run).accepted)
 edits_fit opening workers run proper is =
-    let lawful = lawful_all (start opening workers) run is (lawful_start opening workers proper) in
+    let lawful = lawful_all (start opening workers) run (lawful_start opening workers proper) in
     subst (λ (state : StateValue). IsTrue (all_fit state (ran (start opening workers) run).accepted)) (opening_stays (start opening workers) run) lawful.fit
 
 -- ---- their states are proper
 
-front_fits : (opening : StateValue) (edits : List Edit) (n : ℕ) → IsTrue (all_fit opening edits) → IsTrue (all_fit opening (take n edits))
-front_fits opening edits zero fit = refl
-front_fits opening [] (suc n) fit = refl
-front_fits opening (edit ∷ edits) (suc n) fit =
+-- the parts of a list of edits that fits
+record ArePartsFit (opening : StateValue) (n : ℕ) (edits : List Edit) : Type 0 where
+  front : IsTrue (all_fit opening (take n edits))
+  rest : IsTrue (all_fit (at opening edits n) (drop n edits))
+
+parts_fit : (opening : StateValue) (n : ℕ) (edits : List Edit) → IsTrue (all_fit opening edits) → ArePartsFit opening n edits
+parts_fit opening zero edits fit = record { front = refl; rest = fit }
+parts_fit opening (suc n) [] fit = record { front = refl; rest = refl }
+parts_fit opening (suc n) (edit ∷ edits) fit =
     let parts = and_parts (fits opening edit) (all_fit (applied opening edit) edits) fit in
-    let later = front_fits (applied opening edit) edits n parts.1 in
-    rw (parts.0, later) refl
+    let later = parts_fit (applied opening edit) n edits parts.1 in
+    record { front = rw parts.0 later.front; rest = later.rest }
 
 pub state_proper : (core : CoreState) (revision : ℕ) → IsLawful core → IsProper (state_at core revision)
-state_proper core revision lawful = keeps_proper core.opening (take revision core.accepted) lawful.proper (front_fits core.opening core.accepted revision lawful.fit)
+state_proper core revision lawful =
+    keeps_proper core.opening (take revision core.accepted) lawful.proper (parts_fit core.opening revision core.accepted lawful.fit).front
 
 pub current_proper : (core : CoreState) → IsLawful core → IsProper (current core)
 current_proper core lawful = keeps_proper core.opening core.accepted lawful.proper lawful.fit
+
+-- ---- a session is in one slot in all states of a run
+
+-- a later state is led to from an earlier one
+at_later : (opening : StateValue) (edits : List Edit) (n more : ℕ) → at opening edits (n + more) ≡ led_to (at opening edits n) (take more (drop n edits))
+at_later opening edits n more = ap (led_to opening) (take-add n more edits) ∙ fold-append applied opening (take n edits) (take more (drop n edits))
+
+one_slot_later : (core : CoreState) (low more : ℕ) (session : SessionId) (slot other : Slot) → IsLawful core
+    → IsInSlot (state_at core low) session slot → IsInSlot (state_at core (low + more)) session other → slot ≡ other
+one_slot_later core low more session slot other lawful here there =
+    let parts = parts_fit core.opening low core.accepted lawful.fit in
+    let between = parts_fit (state_at core low) more (drop low core.accepted) parts.rest in
+    (seats_stand_lem (state_at core low) (take more (drop low core.accepted)) (state_proper core low lawful) between.front).0 session slot other here
+    (subst (λ (state : StateValue). IsInSlot state session other) (at_later core.opening core.accepted low more) there)
+
+pub one_slot : (core : CoreState) (one two : ℕ) (session : SessionId) (slot other : Slot) → IsLawful core
+    → IsInSlot (state_at core one) session slot → IsInSlot (state_at core two) session other → slot ≡ other
+one_slot core one two session slot other lawful here there = elim (cases_lt one two) [
+  | inl lt ↦
+      let up : one + (two - one) ≡ two = omega arith in
+      one_slot_later core one (two - one) session slot other lawful here (subst (λ (n : ℕ). IsInSlot (state_at core n) session other) (sym up) there)
+  | inr le ↦
+      let up : two + (one - two) ≡ one = omega arith in
+      sym (one_slot_later core two (one - two) session other slot lawful there (subst (λ (n : ℕ). IsInSlot (state_at core n) session slot) (sym up) here))
+]
+
+-- a state stays what it was once its edits are accepted
+pub state_stays : (core : CoreState) (run : List BuiltStep) (revision : ℕ) → revision ≤ length core.accepted → state_at (ran core run) revision ≡ state_at core revision
+state_stays core run revision le =
+    let more = accepted_grows core run in
+    let same : take revision (ran core run).accepted ≡ take revision core.accepted = ap (take revision) more.1 ∙ take-append-le revision core.accepted more.0 le in
+    ap (λ (state : StateValue). at state (ran core run).accepted revision) (opening_stays core run) ∙ ap (led_to core.opening) same

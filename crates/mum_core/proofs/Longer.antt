@@ -84,7 +84,7 @@ ending_cut : (phase : Phase) (n left x : ℕ) (xs : List ℕ) → ending_of phas
 ending_cut Head n left x xs = refl
 ending_cut Workers n left x xs = refl
 ending_cut (Config w) n left x xs = refl
-ending_cut (Running core logins) n left x xs = refl
+ending_cut (Running core) n left x xs = refl
 ending_cut Over n left x xs = refl
 
 ending_long : (phase : Phase) (n left : ℕ) (rest : List ℕ) → left < length rest → ending_of phase n left rest ≡ Faulty n TooLong

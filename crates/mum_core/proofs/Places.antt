@@ -1,76 +1,93 @@
--- A connection stays at its worker.
-use Rattle.std.proofs.Common.{◌≡◌, ℕ, zero, suc, ◌-◌, ◌<◌, Bool, true, false, cond, List, [], ◌∷◌, ◌++◌, length, get_or, Option, Some, None, Result, Ok, Err, refl, ap, ◌∙◌, arith, inl, inr}
-use Rattle.std.specs.Prelude.{nat_lt, slice_get, slice_index_or, slice_set, ◌&&◌}
-use Rattle.std.specs.Option.{option_map_or}
-use Rattle.std.proofs.lemmas.Bool.{cases_eq, ltb-true}
-use Rattle.std.proofs.lemmas.List.{get_or-set_same, get_or-set_other}
-use Rattle.std.proofs.lemmas.Option.{slice_get_within, get_or_from_slice_get}
+-- What a step makes of each connection. A connection stays at its worker.
+use Rattle.std.proofs.Common.{◌≡◌, ℕ, zero, suc, ◌+◌, ◌-◌, ◌<◌, ◌≤◌, Bool, true, false, cond, List, [], ◌∷◌, ◌++◌, length, Option, Some, None, Result, Ok, Err, refl, sym, ap, ◌∙◌, subst, arith, inl, inr, length-append}
+use Rattle.std.specs.Prelude.{◌⊎◌, IfSome, nat_lt, slice_get, slice_index_or}
+use Rattle.std.specs.Option.{option_map, option_map_or}
+use Rattle.std.proofs.lemmas.Bool.{and_parts, lt-ltb, ltb-true}
+use Rattle.std.proofs.lemmas.Option.{get_or_from_slice_get}
 use Rattle.mum_base.specs.declared.number.SessionId.{SessionId}
+use Rattle.mum_fields.specs.Message.{or_else}
 use Rattle.mum_state.specs.declared.verdict.Verdict.{Verdict}
 use Rattle.mum_voice.specs.declared.fault.BadVoice.{BadVoice}
 use Rattle.mum_voice.specs.Packet.{Parts, packet}
 use Rattle.mum_core.specs.declared.action.Action.{Action}
 use Rattle.mum_core.specs.declared.action.Action.TheVariants.{Ask, Voice, Echo, Keep, Ignore}
+use Rattle.mum_core.specs.declared.connection.Command.{Command}
 use Rattle.mum_core.specs.declared.connection.Connection.{Connection}
+use Rattle.mum_core.specs.declared.connection.Reply.{Reply}
 use Rattle.mum_core.specs.declared.connection.Seat.{Seat}
 use Rattle.mum_core.specs.declared.outbox.Parcel.{Parcel}
 use Rattle.mum_core.specs.declared.worker.Outgoing.{Outgoing}
 use Rattle.mum_core.specs.Action.{action}
 use Rattle.mum_core.specs.Built as steps
-use Rattle.mum_core.specs.Built.{BuiltStep, Open, Frame, Publish, Tell, Look, Offer, Drain, End}
-use Rattle.mum_core.specs.Connection.{fresh}
-use Rattle.mum_core.specs.Core.{CoreState, connection_at, outbox_at, is_opened}
+use Rattle.mum_core.specs.Built.{BuiltStep, Open, Frame, Publish, Tell, Look, Offer, Drain, Close, End}
+use Rattle.mum_core.specs.Connection.{answered, closed_at, fresh, told}
+use Rattle.mum_core.specs.Core.{CoreState, connection_at, outbox_at, is_opened, up}
 use Rattle.mum_core.specs.Laws.{ran}
-use Rattle.mum_core.specs.Lists.{changed_at, with_found}
+use Rattle.mum_core.specs.Lists.{changed_at}
 use Rattle.mum_core.specs.Step.{does}
 use Rattle.mum_core.specs.steps.Drain as drain_step
 use Rattle.mum_core.specs.steps.Edit as edit_step
 use Rattle.mum_core.specs.steps.Frame as frame_step
 use Rattle.mum_core.specs.steps.Offer as offer_step
 use Rattle.mum_core.specs.steps.Tell as tell_step
-use Rattle.mum_core.proofs.Orders.{length-changed}
+use Rattle.mum_core.proofs.Changed.{changed-by, length-changed}
 use Rattle.mum_core.proofs.RunLaws.{told_core, taken_core}
 
-abbrev Stay : List Connection → List Connection → Type 0
-Stay old new = (i : ℕ) → i < length old → (i < length new) × ((slice_index_or new i (fresh 0)).worker ≡ (slice_index_or old i (fresh 0)).worker)
+-- the connection at a place
+abbrev pub conn : CoreState → ℕ → Connection
+conn core i = slice_index_or core.connections i (fresh 0)
 
-stay_same : (old new : List Connection) → new ≡ old → Stay old new
-stay_same old new same i within = rw same (within, refl)
+pub at_place : (core : CoreState) (c i : ℕ) → c ≡ i + 1 → connection_at core c ≡ conn core i
+at_place core c i is =
+    let first : nat_lt 0 c ≡ true = lt-ltb 0 c (omega (arith, is)) in
+    let place : c - 1 ≡ i = omega (arith, is) in
+    rw (first, place) refl
 
-stay-changed : (xs : List Connection) (k : ℕ) (change : Connection → Connection) → ((x : Connection) → (change x).worker ≡ x.worker) → Stay xs (changed_at k change xs)
-stay-changed xs k change same i within = (rw (length-changed xs k change) within, from (slice_get xs k) refl)
-  where
-    from : (o : Option Connection) → slice_get xs k ≡ o → (slice_index_or (with_found xs k change o) i (fresh 0)).worker ≡ (slice_index_or xs i (fresh 0)).worker
-    from None e = refl
-    from (Some x) e = elim (cases_eq i k) [
-      | inl here ↦
-          let old : get_or xs i (fresh 0) ≡ x = rw here (get_or_from_slice_get xs k x (fresh 0) e) in
-          let new : get_or (slice_set xs k (change x)) i (fresh 0) ≡ change x = rw here (get_or-set_same xs k (change x) (fresh 0) (slice_get_within xs k x e)) in
-          rw (old, new) (same x)
-      | inr other ↦ ap (λ (x : Connection). x.worker) (get_or-set_other xs k i (change x) (fresh 0) other)
-    ]
+pub placed : (core : CoreState) (c : ℕ) → nat_lt 0 c ≡ true → connection_at core c ≡ conn core (c - 1)
+placed core c first = ap (λ (b : Bool). cond b (conn core (c - 1)) (fresh 0)) first
 
-stay-cond : (xs : List Connection) (b : Bool) (k : ℕ) (change : Connection → Connection) → ((x : Connection) → (change x).worker ≡ x.worker) → Stay xs (cond b (changed_at k change xs) xs)
-stay-cond xs true k change same = stay-changed xs k change same
-stay-cond xs false k change same = stay_same xs xs refl
+-- ---- what a step changes of the connections
 
-stay-pushed : (xs : List Connection) (x : Connection) → Stay xs (xs ++ x ∷ [])
-stay-pushed [] x i within = absurd (omega arith)
-stay-pushed (y ∷ ys) x zero within = (omega arith, refl)
-stay-pushed (y ∷ ys) x (suc i) within = let later = stay-pushed ys x i (omega arith) in let low = later.0 in (omega arith, later.1)
+-- the number of a connection, and what becomes of it
+abbrev pub Change : Type 0
+Change = ℕ × (Connection → Connection)
 
-pub hears_connections : (core : CoreState) (w : ℕ) (speaker : SessionId) (read : Result Parts BadVoice) → (frame_step.hears core w speaker read).connections ≡ core.connections
+abbrev pub change_by : ℕ → Action → Option Change
+change_by c (Ask command) = Some (c, λ connection. record connection { waiting = Some command })
+change_by c (Keep number) = Some (c, λ connection. record connection { version = or_else number connection.version })
+change_by c others = None
+
+-- the change that a verdict makes of who asked
+abbrev pub change_to : CoreState → ℕ → Verdict → Change
+change_to core c verdict = (c, λ connection. answered connection.waiting (edit_step.reply_to core c verdict) connection)
+
+abbrev pub change_of : CoreState → BuiltStep → Option Change
+change_of core (Frame c kind payload) = change_by c (action (connection_at core c) kind payload)
+change_of core (steps.Edit c) = option_map (change_to core c) (edit_step.decision core c)
+change_of core (Tell c revision) = Some (c, told)
+change_of core (Close c cause) = Some (c, closed_at (up core.line))
+change_of core others = None
+
+abbrev with_change : List Connection → Option Change → List Connection
+with_change xs None = xs
+with_change xs (Some (c, change)) = cond (nat_lt 0 c) (changed_at (c - 1) change xs) xs
+
+-- one is opened behind those that are there, or one at most changes
+abbrev Becomes : List Connection → Option Change → List Connection → Type 0
+Becomes old change new = ((w : ℕ) × (new ≡ old ++ fresh w ∷ [])) ⊎ (new ≡ with_change old change)
+
+hears_connections : (core : CoreState) (w : ℕ) (speaker : SessionId) (read : Result Parts BadVoice) → (frame_step.hears core w speaker read).connections ≡ core.connections
 hears_connections core w speaker (Ok parts) = refl
 hears_connections core w speaker (Err fault) = refl
 
-stay_frame : (core : CoreState) (c : ℕ) (a : Action) → Stay core.connections (frame_step.does core c a).connections
-stay_frame core c (Ask name) = stay-cond core.connections (nat_lt 0 c) (c - 1) _ (λ x. refl)
-stay_frame core c (Voice speaker payload) = stay_same core.connections _ (hears_connections core (connection_at core c).worker speaker (packet payload))
-stay_frame core c (Echo frame) = stay_same core.connections core.connections refl
-stay_frame core c (Keep number) = stay-cond core.connections (nat_lt 0 c) (c - 1) _ (λ x. refl)
-stay_frame core c (Ignore why) = stay_same core.connections core.connections refl
+frame_connections : (core : CoreState) (c : ℕ) (a : Action) → (frame_step.does core c a).connections ≡ with_change core.connections (change_by c a)
+frame_connections core c (Ask command) = refl
+frame_connections core c (Voice speaker payload) = hears_connections core (connection_at core c).worker speaker (packet payload)
+frame_connections core c (Echo frame) = refl
+frame_connections core c (Keep number) = refl
+frame_connections core c (Ignore why) = refl
 
-pub notes_connections : (core : CoreState) (w : ℕ) (revision : Option ℕ) → (tell_step.notes w revision core).connections ≡ core.connections
+notes_connections : (core : CoreState) (w : ℕ) (revision : Option ℕ) → (tell_step.notes w revision core).connections ≡ core.connections
 notes_connections core w None = refl
 notes_connections core w (Some revision) = refl
 
@@ -78,7 +95,7 @@ cond_connections : (b : Bool) (core x y : CoreState) → x.connections ≡ core.
 cond_connections true core x y hx hy = hx
 cond_connections false core x y hx hy = hy
 
-pub puts_connections : (core : CoreState) (next : Option Outgoing) → (offer_step.puts core next).connections ≡ core.connections
+puts_connections : (core : CoreState) (next : Option Outgoing) → (offer_step.puts core next).connections ≡ core.connections
 puts_connections core None = refl
 puts_connections core (Some next) = cond_connections (offer_step.has_room core next.slot.0) core _ _ refl refl
 
@@ -86,46 +103,121 @@ takes_connections : (core : CoreState) (seat : Seat) (front : Option Parcel) →
 takes_connections core seat None = refl
 takes_connections core seat (Some front) = cond_connections (drain_step.is_for front seat) core _ _ refl refl
 
-pub drain_connections : (core : CoreState) (seat : Option Seat) → (drain_step.does_from core seat).connections ≡ core.connections
+drain_connections : (core : CoreState) (seat : Option Seat) → (drain_step.does_from core seat).connections ≡ core.connections
 drain_connections core None = refl
 drain_connections core (Some seat) = takes_connections core seat (slice_get (outbox_at core seat.slot.0) 0)
 
-stay_tell : (core : CoreState) (c : ℕ) (revision : Option ℕ) → Stay core.connections (does core (Tell c revision)).connections
-stay_tell core c revision =
-    let same = notes_connections (told_core core c) (connection_at core c).worker revision in
-    rw same (stay-cond core.connections (nat_lt 0 c) (c - 1) _ (λ x. refl))
+edit_connections : (core : CoreState) (c : ℕ) (decided : Option Verdict)
+    → (option_map_or (edit_step.decides core c) decided core).connections ≡ with_change core.connections (option_map (change_to core c) decided)
+edit_connections core c None = refl
+edit_connections core c (Some verdict) = refl
 
-stay_edit : (core : CoreState) (c : ℕ) (verdict : Option Verdict) → Stay core.connections (option_map_or (edit_step.decides core c) verdict core).connections
-stay_edit core c None = stay_same core.connections core.connections refl
-stay_edit core c (Some verdict) = stay-cond core.connections (nat_lt 0 c) (c - 1) _ (λ x. refl)
+become : (core : CoreState) (step : BuiltStep) → Becomes core.connections (change_of core step) (does core step).connections
+become core (Open c w) = inl (w, refl)
+become core (Frame c kind payload) = inr (frame_connections core c (action (connection_at core c) kind payload))
+become core (steps.Edit c) = inr (edit_connections core c (edit_step.decision core c))
+become core Publish = inr refl
+become core (Tell c revision) = inr (notes_connections (told_core core c) (connection_at core c).worker revision)
+become core (Look w revision) = inr refl
+become core (Offer w) = inr (puts_connections (taken_core core w) (offer_step.next_copy core w))
+become core (Drain c) = inr (drain_connections core (connection_at core c).seat)
+become core (Close c cause) = inr refl
+become core End = inr refl
 
-pub stay_step : (core : CoreState) (step : BuiltStep) → Stay core.connections (does core step).connections
-stay_step core (Open c w) = stay-pushed core.connections (fresh w)
-stay_step core (Frame c kind payload) = stay_frame core c (action (connection_at core c).seat kind payload)
-stay_step core (steps.Edit c) = stay_edit core c (edit_step.decision core c)
-stay_step core Publish = stay_same core.connections core.connections refl
-stay_step core (Tell c revision) = stay_tell core c revision
-stay_step core (Look w revision) = stay_same core.connections core.connections refl
-stay_step core (Offer w) = stay_same core.connections _ (puts_connections (taken_core core w) (offer_step.next_copy core w))
-stay_step core (Drain c) = stay_same core.connections _ (drain_connections core (connection_at core c).seat)
-stay_step core End = stay_same core.connections core.connections refl
+-- ---- what holds of each connection and what it becomes
 
-stay_all : (core : CoreState) (run : List BuiltStep) → Stay core.connections (ran core run).connections
-stay_all core [] i within = (within, refl)
-stay_all core (step ∷ run) i within =
-    let first = stay_step core step i within in
-    let later = stay_all (does core step) run i first.0 in
-    (later.0, later.1 ∙ first.1)
+pushed-by : (R : Connection → Connection → Type 0) → ((x : Connection) → R x x) → (xs : List Connection) (w i : ℕ)
+    → (length xs ≤ i → R (fresh 0) (fresh w)) → R (slice_index_or xs i (fresh 0)) (slice_index_or (xs ++ fresh w ∷ []) i (fresh 0))
+pushed-by R same [] w zero new = new (omega arith)
+pushed-by R same [] w (suc i) new = same (fresh 0)
+pushed-by R same (x ∷ xs) w zero new = same x
+pushed-by R same (x ∷ xs) w (suc i) new = pushed-by R same xs w i (λ past. new (omega (arith, past)))
 
-both : (a b : Bool) → a && b ≡ true → b ≡ true
-both true b h = h
-both false b h = cc
+with_change-by : (R : Connection → Connection → Type 0) → ((x : Connection) → R x x) → (xs : List Connection) (i : ℕ) (change : Option Change)
+    → IfSome change (λ one. one.0 ≡ i + 1 → R (slice_index_or xs i (fresh 0)) (one.1 (slice_index_or xs i (fresh 0))))
+    → R (slice_index_or xs i (fresh 0)) (slice_index_or (with_change xs change) i (fresh 0))
+with_change-by R same xs i None h = same (slice_index_or xs i (fresh 0))
+with_change-by R same xs i (Some (c, change)) h = from (nat_lt 0 c) refl
+  where
+    from : (b : Bool) → nat_lt 0 c ≡ b → R (slice_index_or xs i (fresh 0)) (slice_index_or (cond b (changed_at (c - 1) change xs) xs) i (fresh 0))
+    from false e = same (slice_index_or xs i (fresh 0))
+    from true e = changed-by R same xs (c - 1) i change (fresh 0) (λ x at here.
+        let low : 0 < c = ltb-true 0 c e in
+        let is : slice_index_or xs i (fresh 0) ≡ x = rw here (get_or_from_slice_get xs (c - 1) x (fresh 0) at) in
+        subst (λ (y : Connection). R y (change y)) is (h (omega (arith, low, here))))
 
-cond_worker : (b : Bool) (x y z : Connection) → x.worker ≡ y.worker → (cond b x z).worker ≡ (cond b y z).worker
-cond_worker true x y z same = same
-cond_worker false x y z same = refl
+-- what holds of each connection and itself, of one that is opened, and of the one that the step changes, holds of each
+pub each_step : (R : Connection → Connection → Type 0) → ((x : Connection) → R x x) → (core : CoreState) (step : BuiltStep) (i : ℕ)
+    → ((w : ℕ) → length core.connections ≤ i → R (fresh 0) (fresh w))
+    → IfSome (change_of core step) (λ one. one.0 ≡ i + 1 → R (conn core i) (one.1 (conn core i)))
+    → R (conn core i) (conn (does core step) i)
+each_step R same core step i new h = from (does core step).connections (become core step)
+  where
+    from : (after : List Connection) → Becomes core.connections (change_of core step) after → R (conn core i) (slice_index_or after i (fresh 0))
+    from after (inl opened) =
+        subst (λ (xs : List Connection). R (conn core i) (slice_index_or xs i (fresh 0))) (sym opened.1) (pushed-by R same core.connections opened.0 i (new opened.0))
+    from after (inr changed) =
+        subst (λ (xs : List Connection). R (conn core i) (slice_index_or xs i (fresh 0))) (sym changed) (with_change-by R same core.connections i (change_of core step) h)
+
+-- ---- how many there are
+
+length-with_change : (xs : List Connection) (change : Option Change) → length (with_change xs change) ≡ length xs
+length-with_change xs None = refl
+length-with_change xs (Some (c, change)) = from (nat_lt 0 c)
+  where
+    from : (b : Bool) → length (cond b (changed_at (c - 1) change xs) xs) ≡ length xs
+    from true = length-changed xs (c - 1) change
+    from false = refl
+
+pub no_fewer : (core : CoreState) (step : BuiltStep) → length core.connections ≤ length (does core step).connections
+no_fewer core step = from (does core step).connections (become core step)
+  where
+    from : (after : List Connection) → Becomes core.connections (change_of core step) after → length core.connections ≤ length after
+    from after (inl opened) = let more = length-append core.connections (fresh opened.0 ∷ []) in omega (arith, ap length opened.1, more)
+    from after (inr changed) = let same = length-with_change core.connections (change_of core step) in omega (arith, ap length changed, same)
+
+-- ---- the worker
+
+answered_worker : (command : Option Command) (reply : Reply) (x : Connection) → (answered command reply x).worker ≡ x.worker
+answered_worker None reply x = refl
+answered_worker (Some command) reply x = refl
+
+abbrev KeepsWorker : Option Change → ℕ → Connection → Type 0
+KeepsWorker change i x = IfSome change (λ one. one.0 ≡ i + 1 → (one.1 x).worker ≡ x.worker)
+
+frame_keeps_worker : (c i : ℕ) (a : Action) (x : Connection) → KeepsWorker (change_by c a) i x
+frame_keeps_worker c i (Ask command) x = λ is. refl
+frame_keeps_worker c i (Keep number) x = λ is. refl
+frame_keeps_worker c i others x = tt
+
+edit_keeps_worker : (core : CoreState) (c i : ℕ) (decided : Option Verdict) (x : Connection) → KeepsWorker (option_map (change_to core c) decided) i x
+edit_keeps_worker core c i None x = tt
+edit_keeps_worker core c i (Some verdict) x = λ is. answered_worker x.waiting (edit_step.reply_to core c verdict) x
+
+keeps_worker : (core : CoreState) (step : BuiltStep) (i : ℕ) (x : Connection) → KeepsWorker (change_of core step) i x
+keeps_worker core (Frame c kind payload) i x = frame_keeps_worker c i (action (connection_at core c) kind payload) x
+keeps_worker core (steps.Edit c) i x = edit_keeps_worker core c i (edit_step.decision core c) x
+keeps_worker core (Tell c revision) i x = λ is. refl
+keeps_worker core (Close c cause) i x = λ is. refl
+keeps_worker core others i x = tt
+
+-- one that is there is there after the step, at its worker
+pub place_stays : (core : CoreState) (step : BuiltStep) (i : ℕ) → i < length core.connections
+    → (i < length (does core step).connections) × ((conn (does core step) i).worker ≡ (conn core i).worker)
+place_stays core step i within =
+    let more = no_fewer core step in (
+      omega (arith, within, more),
+      each_step (λ old new. new.worker ≡ old.worker) (λ x. refl) core step i (λ w past. absurd (omega (arith, within, past))) (keeps_worker core step i (conn core i)),
+    )
+
+pub worker_stays : (core : CoreState) (run : List BuiltStep) (i : ℕ) → i < length core.connections → (conn (ran core run) i).worker ≡ (conn core i).worker
+worker_stays core [] i within = refl
+worker_stays core (step ∷ run) i within =
+    let first = place_stays core step i within in
+    worker_stays (does core step) run i first.0 ∙ first.1
 
 pub connections_stay : (core : CoreState) (run : List BuiltStep) (c : ℕ) → is_opened core c ≡ true → (connection_at (ran core run) c).worker ≡ (connection_at core c).worker
 connections_stay core run c opened =
-    let within : c - 1 < length core.connections = ltb-true (c - 1) (length core.connections) (both (nat_lt 0 c) (nat_lt (c - 1) (length core.connections)) opened) in
-    cond_worker (nat_lt 0 c) _ _ (fresh 0) (stay_all core run (c - 1) within).1
+    let parts = and_parts (nat_lt 0 c) (nat_lt (c - 1) (length core.connections)) opened in
+    let within : c - 1 < length core.connections = ltb-true (c - 1) (length core.connections) parts.1 in
+    ap (λ (x : Connection). x.worker) (placed (ran core run) c parts.0) ∙ worker_stays core run (c - 1) within ∙ sym (ap (λ (x : Connection). x.worker) (placed core c parts.0))

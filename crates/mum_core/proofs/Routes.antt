@@ -1,15 +1,12 @@
 -- The line that tells who hears a packet.
-use Rattle.std.proofs.Common.{◌≡◌, ℕ, List, [], ◌∷◌, ◌++◌, length, map, Option, Some, None, refl, sym, ap, ◌∙◌, append_assoc}
+use Rattle.std.proofs.Common.{◌≡◌, ℕ, List, [], ◌∷◌, ◌++◌, length, map, sym, ap, ◌∙◌, append_assoc}
 use Rattle.std.proofs.lemmas.List.{append-nil}
 use Rattle.std.specs.Prelude.{codes, decimal}
 use Rattle.std.specs.List.{flat_map}
-use Rattle.std.specs.Option.{option_map_or}
 use Rattle.mum_record.specs.Words.{line_of_words}
 use Rattle.mum_core.specs.declared.route.Member.{Member}
-use Rattle.mum_state.specs.State.{StateValue}
 use Rattle.mum_core.specs.Line.{joined}
-use Rattle.mum_core.specs.Worker.{HeldPacket}
-use Rattle.mum_core.specs.steps.Look.{audience, copies, copy_to, member_word, route_words}
+use Rattle.mum_core.specs.steps.Look.{member_word, route_words}
 
 words_more : (word : List ℕ) (members : List Member) → line_of_words (word ∷ map member_word members) ≡ word ++ flat_map (λ m. 32 ∷ member_word m) members
 words_more word [] = sym (append-nil word)
@@ -23,8 +20,3 @@ pub route_line : (w revision : ℕ) (members : List Member)
 route_line w revision members =
     regroup (codes "route") (decimal w) (decimal revision) (decimal (length members)) (flat_map (λ m. 32 ∷ member_word m) members)
     ∙ ap (λ (xs : List ℕ). codes "route" ++ 32 ∷ (decimal w ++ 32 ∷ (decimal revision ++ 32 ∷ xs))) (sym (words_more (decimal (length members)) members))
-
--- the copies of a held packet for its audience
-pub copies_are : (state : StateValue) (held : Option HeldPacket) → option_map_or (λ packet. map (copy_to packet) (audience state held)) held [] ≡ copies state held
-copies_are state None = refl
-copies_are state (Some held) = refl

@@ -125,7 +125,7 @@ closed Over n left (x ∷ xs) P finished faulty = faulty _
 closed Head n left rest P finished faulty = faulty _
 closed Workers n left rest P finished faulty = faulty _
 closed (Config w) n left rest P finished faulty = faulty _
-closed (Running core logins) n left rest P finished faulty = faulty _
+closed (Running core) n left rest P finished faulty = faulty _
 
 pub closes : (old new : Option (List ℕ)) (phase : Phase) (n left : ℕ) (rest bytes : List ℕ) → Underway old new phase n left rest bytes
     → slice_split is_line_feed rest ≡ rest ∷ [] → Ends (replayed bytes) (ending_of phase n left rest) old new

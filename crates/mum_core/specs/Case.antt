@@ -1,8 +1,8 @@
 -- When a step is not allowed: its cases, in the order in which they are tested.
-use Rattle.std.specs.Prelude.{Bool, Err, IsSome, List, None, Ok, Option, Result, Some, [], if◌then◌else◌, length, nat_lt, not, ℕ, ⊤, ◌∷◌, ◌≡◌}
+use Rattle.std.specs.Prelude.{Bool, Err, IsSome, List, None, Ok, Option, Result, Some, [], if◌then◌else◌, is_some, length, nat_lt, not, unwrap_or, ℕ, ⊤, ◌∷◌, ◌≡◌}
 use Rattle.mum_core.specs.declared.machine.StepFault.{StepFault}
 use Rattle.mum_core.specs.declared.machine.StepFault.TheVariants.{Illegal, OutOfMemory}
-use Rattle.mum_core.specs.Core.{CoreState, is_opened}
+use Rattle.mum_core.specs.Core.{CoreState, connection_at, is_opened}
 
 -- a case: whether it stands, and the numbers given and against
 pub record Case : Type 0 where
@@ -31,6 +31,11 @@ IsStarved old result new = (result ≡ Err OutOfMemory) × (new ≡ old)
 
 abbrev pub not_opened : CoreState → ℕ → Case
 not_opened core c = record { stands = not (is_opened core c); given = c; against = length core.connections }
+
+abbrev pub is_closed : CoreState → ℕ → Case
+is_closed core c =
+    let closed = (connection_at core c).closed in
+    record { stands = is_some closed; given = c; against = unwrap_or closed 0 }
 
 abbrev pub no_worker : CoreState → ℕ → Case
 no_worker core w = record { stands = not (nat_lt w (length core.workers)); given = w; against = length core.workers }

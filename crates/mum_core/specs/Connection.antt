@@ -1,14 +1,36 @@
 -- What a connection is to the steps.
-use Rattle.std.specs.Prelude.{ℕ, ◌+◌, Bool, true, false, Option, Some, None}
-use Rattle.std.specs.Option.{option_and_then, option_map, option_or}
+use Rattle.std.specs.Prelude.{ℕ, ◌+◌, ◌||◌, Bool, true, false, Option, Some, None, is_some}
+use Rattle.std.specs.Option.{option_and_then, option_map, option_map_or, option_or}
 use Rattle.mum_base.specs.declared.number.SessionId.{SessionId}
 use Rattle.mum_base.specs.declared.reply.Mark.{Mark}
-use Rattle.mum_base.specs.declared.reply.Mark.TheVariants.{Accepted}
-use Rattle.mum_core.specs.declared.{connection.Connection.Connection, connection.Reply.Reply, connection.Seat.Seat}
+use Rattle.mum_base.specs.declared.reply.Mark.TheVariants.{Accepted, Rejected}
+use Rattle.mum_rules_user.specs.declared.message.UserMessage.TheVariants as messages
+use Rattle.mum_core.specs.declared.{connection.Command.Command, connection.Command.TheVariants.User, connection.Connection.Connection, connection.Leave.Leave, connection.Reply.Reply, connection.Seat.Seat}
+use Rattle.mum_core.specs.declared.connection.Leave.TheVariants.{Stays, Waits, Decided}
 
 -- a connection that asked for nothing yet, at this worker
 abbrev pub fresh : ℕ → Connection
-fresh worker = record { worker = worker; version = None; seat = None; waiting = None; decided = None }
+fresh worker = record {
+  worker = worker;
+  version = None;
+  seat = None;
+  rejected = false;
+  waiting = None;
+  decided = None;
+  leave = Stays;
+  closed = None;
+}
+
+-- ---- what it asked for
+
+-- its leave, where that waits to be decided
+abbrev pub leave_waiting : Leave → Option Command
+leave_waiting Waits = Some (User messages.Leave)
+leave_waiting others = None
+
+-- the command of it that is decided next: that of its frame, and then its leave
+abbrev pub next_command : Connection → Option Command
+next_command connection = option_or connection.waiting (leave_waiting connection.leave)
 
 abbrev pub count_of : {A : Type 0} → Option A → ℕ
 count_of None = 0
@@ -16,15 +38,21 @@ count_of (Some x) = 1
 
 -- its commands that were not decided yet, or not told
 abbrev pub untold : Connection → ℕ
-untold connection = count_of connection.waiting + count_of connection.decided
+untold connection = count_of connection.waiting + count_of (leave_waiting connection.leave) + count_of connection.decided
 
--- the session that its told login gave it
-abbrev pub session_of : Connection → Option SessionId
-session_of connection = option_map (λ seat. seat.session) connection.seat
+-- whether the command of a frame of it was not told yet; a leave is not told
+abbrev pub is_untold : Connection → Bool
+is_untold connection = is_some connection.waiting || is_some connection.decided
+
+-- ---- who it is
 
 abbrev pub is_accepted : Mark → Bool
 is_accepted (Accepted revision) = true
 is_accepted others = false
+
+abbrev pub is_rejected : Mark → Bool
+is_rejected (Rejected kind) = true
+is_rejected others = false
 
 -- the revision of the edit that a mark tells of; 0 where it tells of none
 abbrev pub revision_of : Mark → ℕ
@@ -35,6 +63,37 @@ revision_of others = 0
 abbrev pub seat_given : Option Reply → Option Seat
 seat_given reply = option_and_then (λ reply. reply.seat) reply
 
--- what its reply gives it is its own once it is told
+-- the seat that its accepted login gave it, told or not
+abbrev pub seat_accepted : Connection → Option Seat
+seat_accepted connection = option_or (seat_given connection.decided) connection.seat
+
+-- the session that its accepted login gave it, told or not: who asks by it
+abbrev pub session_of : Connection → Option SessionId
+session_of connection = option_map (λ seat. seat.session) (seat_accepted connection)
+
+abbrev pub rejects : Option Reply → Bool
+rejects reply = option_map_or (λ reply. is_rejected reply.mark) reply false
+
+-- ---- what becomes of it
+
+-- what its reply gives it is its own once it is told, and a rejection is told once and for all
 abbrev pub told : Connection → Connection
-told connection = record connection { seat = option_or (seat_given connection.decided) connection.seat; decided = None }
+told connection = record connection {
+  seat = seat_accepted connection;
+  rejected = connection.rejected || rejects connection.decided;
+  decided = None;
+}
+
+-- the command of its frame is answered by a reply that waits to be told; its leave is answered by none
+abbrev pub answered : Option Command → Reply → Connection → Connection
+answered (Some command) reply connection = record connection { waiting = None; decided = Some reply }
+answered None reply connection = record connection { leave = Decided }
+
+-- a leave is put behind what waits of it, once
+abbrev pub leaving : Leave → Leave
+leaving Stays = Waits
+leaving others = others
+
+-- it is closed at a line of the recording
+abbrev pub closed_at : ℕ → Connection → Connection
+closed_at line connection = record connection { leave = leaving connection.leave; closed = Some line }

@@ -21,6 +21,8 @@ pub record CoreState : Type 0 where
   -- the voice copies that wait for the connection of each slot, the oldest first
   pub outboxes : List (List Parcel)
   pub totals : Totals
+  -- the number of the last line that was taken: the steps stand behind the three lines of the head
+  pub line : ℕ
 
 -- the core of this many workers at an opening state, that nothing happened to
 abbrev pub start : StateValue → ℕ → CoreState
@@ -33,6 +35,7 @@ start opening workers =
       workers = replicate workers idle;
       outboxes = replicate SLOTS [];
       totals = record { looks = 0; copies = 0; full = 0; stale = 0 };
+      line = 3;
     }
 
 -- the state after the first so many accepted edits, and after all of them

@@ -1,47 +1,18 @@
 -- What the program makes of a recording: its transcript, and how the run ends.
-use Rattle.std.specs.Prelude.{ℕ, ◌+◌, ◌-◌, ◌==◌, ◌||◌, Bool, false, List, [], ◌∷◌, ◌++◌, length, Option, Some, None, option_to_list, nat_lt, if◌then◌else◌}
-use Rattle.std.specs.List.{list_any, slice_split}
-use Rattle.std.specs.Str.{bytes_eq}
-use Rattle.mum_frame.specs.declared.kind.TheConstants.{AUTHENTICATE}
+use Rattle.std.specs.Prelude.{ℕ, ◌+◌, ◌-◌, ◌==◌, ◌||◌, Bool, List, [], ◌∷◌, ◌++◌, length, Option, Some, None, nat_lt, if◌then◌else◌}
+use Rattle.std.specs.List.{slice_split}
 use Rattle.mum_record.specs.declared.step.Step.{Step}
 use Rattle.mum_record.specs.Head.{is_head_line, workers_of, is_empty_config}
 use Rattle.mum_record.specs.Reading.{step_of}
 use Rattle.mum_state.specs.State.{empty_state}
-use Rattle.mum_core.specs.declared.{connection.TheConstants.OLDEST_VERSION, end.End.End, end.End.TheVariants.Finished, end.End.TheVariants.Faulty, end.LineFault.LineFault, replay.Login.Login, replay.Phase.Phase, replay.TheConstants.LINE_LIMIT, replay.TheConstants.INPUT_LIMIT}
+use Rattle.mum_core.specs.declared.{end.End.End, end.End.TheVariants.Finished, end.End.TheVariants.Faulty, end.LineFault.LineFault, replay.Phase.Phase, replay.TheConstants.LINE_LIMIT, replay.TheConstants.INPUT_LIMIT}
 use Rattle.mum_core.specs.declared.end.LineFault.TheVariants.{TooLong, BadRecording, NotBuilt, IllegalStep}
 use Rattle.mum_core.specs.declared.replay.Phase.TheVariants.{Head, Workers, Config, Running, Over}
-use Rattle.mum_core.specs.Built.{BuiltStep, Frame, is_built, taken}
+use Rattle.mum_core.specs.Built.{BuiltStep, is_built, taken}
 use Rattle.mum_core.specs.Built as steps
-use Rattle.mum_core.specs.Core.{CoreState, connection_at, start}
+use Rattle.mum_core.specs.Core.{CoreState, start}
 use Rattle.mum_core.specs.Line.{text_of}
 use Rattle.mum_core.specs.Step.{does, illegal, lines}
-
--- ---- what is not built because of what earlier lines asked: a second login of a connection, one under a name that
--- was asked for, and one of a connection whose version is too old
-
-abbrev pub is_below_oldest : Option ℕ → Bool
-is_below_oldest None = false
-is_below_oldest (Some number) = nat_lt number OLDEST_VERSION
-
--- a login of this connection, or the same from another
-abbrev pub repeats : ℕ → List ℕ → Login → Bool
-repeats c payload login = (login.connection == c) || bytes_eq login.payload payload
-
--- the login that a step asks for
-abbrev pub login_in : BuiltStep → Option Login
-login_in (Frame c kind payload) = if kind == AUTHENTICATE then Some (record { connection = c; payload = payload }) else None
-login_in others = None
-
-abbrev pub is_refused : CoreState → List Login → Option Login → Bool
-is_refused core logins None = false
-is_refused core logins (Some login) =
-    is_below_oldest (connection_at core login.connection).version || list_any (repeats login.connection login.payload) logins
-
-abbrev pub asks_again : CoreState → List Login → BuiltStep → Bool
-asks_again core logins step = is_refused core logins (login_in step)
-
-abbrev pub logins_after : List Login → BuiltStep → List Login
-logins_after logins step = logins ++ option_to_list (login_in step)
 
 -- ---- one line
 
@@ -50,22 +21,21 @@ pub data Answer : Type 0 where
   Goes : (phase : Phase) (told : List (List (List ℕ))) → Answer
   Stops : (fault : LineFault) → Answer
 
-abbrev pub phase_after : CoreState → List Login → BuiltStep → Phase
-phase_after core logins steps.End = Over
-phase_after core logins step = Running (does core step) (logins_after logins step)
+abbrev pub phase_after : CoreState → BuiltStep → Phase
+phase_after core steps.End = Over
+phase_after core step = Running (does core step)
 
-abbrev pub allowed_answer : CoreState → List Login → BuiltStep → Option (ℕ × ℕ) → Answer
-allowed_answer core logins step (Some numbers) = Stops (IllegalStep numbers.0 numbers.1)
-allowed_answer core logins step None = Goes (phase_after core logins step) (lines core step)
+abbrev pub allowed_answer : CoreState → BuiltStep → Option (ℕ × ℕ) → Answer
+allowed_answer core step (Some numbers) = Stops (IllegalStep numbers.0 numbers.1)
+allowed_answer core step None = Goes (phase_after core step) (lines core step)
 
-abbrev pub built_answer : CoreState → List Login → Option BuiltStep → Answer
-built_answer core logins None = Stops NotBuilt
-built_answer core logins (Some step) =
-    if asks_again core logins step then Stops NotBuilt else allowed_answer core logins step (illegal core step)
+abbrev pub built_answer : CoreState → Option BuiltStep → Answer
+built_answer core None = Stops NotBuilt
+built_answer core (Some step) = allowed_answer core step (illegal core step)
 
-abbrev pub step_answer : CoreState → List Login → Option Step → Answer
-step_answer core logins None = Stops BadRecording
-step_answer core logins (Some step) = if is_built step then built_answer core logins (taken step) else Stops NotBuilt
+abbrev pub step_answer : CoreState → Option Step → Answer
+step_answer core None = Stops BadRecording
+step_answer core (Some step) = if is_built step then built_answer core (taken step) else Stops NotBuilt
 
 abbrev pub workers_answer : Option ℕ → Answer
 workers_answer None = Stops BadRecording
@@ -75,8 +45,8 @@ workers_answer (Some workers) = Goes (Config workers) []
 unfoldable pub answer : Phase → List ℕ → Answer
 answer Head line = if is_head_line line then Goes Workers [] else Stops BadRecording
 answer Workers line = workers_answer (workers_of line)
-answer (Config workers) line = if is_empty_config line then Goes (Running (start empty_state workers) []) [] else Stops BadRecording
-answer (Running core logins) line = step_answer core logins (step_of line)
+answer (Config workers) line = if is_empty_config line then Goes (Running (start empty_state workers)) [] else Stops BadRecording
+answer (Running core) line = step_answer core (step_of line)
 answer Over line = Stops BadRecording
 
 -- ---- all lines

@@ -7,8 +7,6 @@ use Rattle.mum_base.specs.declared.reply.Mark.TheVariants as marks
 use Rattle.mum_frame.specs.declared.frame.Frame.{Frame}
 use Rattle.mum_frame.specs.declared.frame.TheConstants.{PAYLOAD_LIMIT}
 use Rattle.mum_frame.specs.Frame.{frame_spelling}
-use Rattle.mum_users.specs.Sessions.{next_number, next_slot}
-use Rattle.mum_users.specs.State.{RosterState}
 use Rattle.mum_state.specs.declared.edit.Edit.{Edit}
 use Rattle.mum_state.specs.declared.edit.Edit.TheVariants.{Join}
 use Rattle.mum_state.specs.declared.verdict.Verdict.{Verdict}
@@ -18,20 +16,17 @@ use Rattle.mum_rules_tree.specs.Codes.{reason_code}
 use Rattle.mum_rules_tree.specs.declared.reason.Reason.TheVariants.{NotLoggedIn}
 use Rattle.mum_rules_tree.specs.Denial.{denial}
 use Rattle.mum_rules_tree.specs.Verdict.{tree_verdict}
+use Rattle.mum_rules_user.specs.Verdict.{user_verdict}
 use Rattle.mum_core.specs.declared.{connection.Command.Command, connection.Reply.Reply, connection.Seat.Seat}
-use Rattle.mum_core.specs.declared.connection.Command.TheVariants.{Login, Tree}
+use Rattle.mum_core.specs.declared.connection.Command.TheVariants.{Tree, User}
 
 -- ---- what is decided
 
--- the edit by which a session joins under a name: it is of no account
-abbrev pub login_edit : RosterState → List ℕ → Edit
-login_edit roster name = Join (next_number roster) (next_slot roster) name None []
-
 -- what is decided at a state of a command of a connection, which may have a session
-abbrev pub verdict : StateValue → Option SessionId → Command → Verdict
-verdict state session (Login name) = Accepted (login_edit state.roster name)
+unfoldable pub verdict : StateValue → Option SessionId → Command → Verdict
 verdict state None (Tree message) = Ignored (reason_code NotLoggedIn)
 verdict state (Some session) (Tree message) = tree_verdict state session message
+verdict state session (User message) = user_verdict state session message
 
 abbrev pub edits_of : Verdict → List Edit
 edits_of (Accepted edit) = edit ∷ []

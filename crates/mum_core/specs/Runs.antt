@@ -4,12 +4,12 @@ use Rattle.std.specs.List.{slice_split}
 use Rattle.std.specs.Borrow.{Bor}
 use Rattle.mum_record.specs.declared.step.Step.{Step}
 use Rattle.mum_record.specs.declared.step.Step.TheVariants as words
-use Rattle.mum_core.specs.declared.{end.End.End, end.End.TheVariants.Faulty, end.End.TheVariants.OutOfMemory, end.LineFault.TheVariants.BadRecording, replay.Login.Login, replay.Phase.Phase, replay.Run.Run}
+use Rattle.mum_core.specs.declared.{end.End.End, end.End.TheVariants.Faulty, end.End.TheVariants.OutOfMemory, end.LineFault.TheVariants.BadRecording, replay.Phase.Phase, replay.Run.Run}
 use Rattle.mum_core.specs.Built.{taken}
 use Rattle.mum_core.specs.Core.{CoreState}
 use Rattle.mum_core.specs.Line.{text_of}
 use Rattle.mum_core.specs.Step.{does, lines}
-use Rattle.mum_core.specs.Replay.{Goes, Stops, answer, step_answer, phase_after, logins_after, line_answer, is_line_feed}
+use Rattle.mum_core.specs.Replay.{Goes, Stops, answer, step_answer, phase_after, line_answer, is_line_feed}
 
 -- line n was taken, with these bytes told; or it is where the run ends
 abbrev pub Answers : ℕ → Phase → List ℕ → Result ⊤ End → Phase → List ℕ → Type 0
@@ -26,13 +26,13 @@ Says n said (Err OutOfMemory) = Unit {0}
 Says n said (Err others) = ⊥
 
 -- the step of line n does what the definition says
-abbrev pub StepAnswers : ℕ → CoreState → List Login → Step → List ℕ → Result ⊤ End → CoreState → List Login → List ℕ → Type 0
-StepAnswers n core logins step old (Ok done) new after text =
-    MatchOption (taken step) ⊥ (λ s. (step_answer core logins (Some step) ≡ Goes (phase_after core logins s) (lines core s))
-    × (new ≡ does core s) × (after ≡ logins_after logins s) × (text ≡ old ++ text_of (lines core s)))
-StepAnswers n core logins step old (Err (Faulty m fault)) new after text = (step_answer core logins (Some step) ≡ Stops fault) × (m ≡ n)
-StepAnswers n core logins step old (Err OutOfMemory) new after text = Unit {0}
-StepAnswers n core logins step old (Err others) new after text = ⊥
+abbrev pub StepAnswers : ℕ → CoreState → Step → List ℕ → Result ⊤ End → CoreState → List ℕ → Type 0
+StepAnswers n core step old (Ok done) new text =
+    MatchOption (taken step) ⊥ (λ s. (step_answer core (Some step) ≡ Goes (phase_after core s) (lines core s))
+    × (new ≡ does core s) × (text ≡ old ++ text_of (lines core s)))
+StepAnswers n core step old (Err (Faulty m fault)) new text = (step_answer core (Some step) ≡ Stops fault) × (m ≡ n)
+StepAnswers n core step old (Err OutOfMemory) new text = Unit {0}
+StepAnswers n core step old (Err others) new text = ⊥
 
 -- whether a step is the last
 abbrev pub is_end : Step → Bool
@@ -43,10 +43,6 @@ is_end others = false
 abbrev pub is_tell : Step → Bool
 is_tell (words.Tell c revision) = true
 is_tell others = false
-
--- a login as the code looks at it
-abbrev pub viewed_login : (ℕ × Bor (List ℕ)) → Login
-viewed_login (connection, payload) = record { connection = connection; payload = payload.now }
 
 -- a run took its next line
 pub record IsNext (old new : Run) (line : List ℕ) : Type 0 where

@@ -7,4 +7,5 @@ pub mod Tell
 pub mod Look
 pub mod Offer
 pub mod Drain
+pub mod Close
 pub mod End

@@ -9,7 +9,7 @@ use mum_record::{Word, push_line};
 use std::alloc::{AllocError, Global};
 
 /// What is wrong with a line.
-#[derive(Clone, Copy, Debug, PartialEq, Eq)]
+#[derive(Clone, Copy)]
 pub enum LineFault {
     /// It has more than `LINE_LIMIT` bytes, or the recording passes `INPUT_LIMIT` bytes in it.
     TooLong,
@@ -22,7 +22,7 @@ pub enum LineFault {
 }
 
 /// How the program ends.
-#[derive(Clone, Copy, Debug, PartialEq, Eq)]
+#[derive(Clone, Copy)]
 pub enum End {
     /// The recording was run to its end.
     Finished,

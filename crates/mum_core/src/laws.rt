@@ -1,7 +1,7 @@
 //! What follows from the definitions of the steps for every run of them. These functions do
 //! nothing: each contract is a theorem.
 
-ghost use Rattle.std.specs.Prelude.{◌≡◌, ◌==◌, ◌≤◌, ◌<◌, ◌+◌, ◌-◌, ◌^◌, ◌⊎◌, ◌++◌, ◌∷◌, ℕ, List, [], filter, length, map, sum_by, IsTrue, None, Some, true};
+ghost use Rattle.std.specs.Prelude.{◌≡◌, ◌==◌, ◌≤◌, ◌<◌, ◌+◌, ◌-◌, ◌^◌, ◌⊎◌, ◌++◌, ◌∷◌, ℕ, List, [], filter, length, map, sum_by, IsSome, IsTrue, None, Some, true};
 ghost use Rattle.std.specs.List.{AllByRecursion, AllPairs};
 ghost use Rattle.mum_base.specs.declared.number.SessionId.{SessionId};
 ghost use Rattle.mum_base.specs.declared.number.Slot.{Slot};
@@ -11,30 +11,29 @@ ghost use Rattle.mum_state.specs.After.{all_fit};
 ghost use Rattle.mum_state.specs.Laws.{IsInSlot};
 ghost use Rattle.mum_state.specs.Proper.{IsProper};
 ghost use Rattle.mum_state.specs.State.{StateValue};
-ghost use Rattle.mum_voice.specs.Packet.{copy};
+ghost use Rattle.mum_route.specs.Route.{route};
+ghost use Rattle.mum_route.specs.declared.routes.TheConstants.{LOOPBACK};
 ghost use Rattle.mum_core.specs.declared.connection.Seat.{Seat};
 ghost use Rattle.mum_core.specs.declared.worker.Outgoing.{Outgoing};
-ghost use Rattle.mum_core.specs.Built.{BuiltStep, Look, Offer};
-ghost use Rattle.mum_core.specs.Core.{CoreState, start, state_at, connection_at, current, is_opened, outbox_at, worker_at};
-ghost use Rattle.mum_core.specs.Laws.{IsRun, IsSubsequence, gathered, heard, looked, packet_taken, ran, sent};
-ghost use Rattle.mum_core.specs.Route.{route};
+ghost use Rattle.mum_core.specs.Built.{BuiltStep, Drain, Frame, Look, Offer};
+ghost use Rattle.mum_core.specs.Core.{CoreState, start, state_at, connection_at, is_opened, outbox_at, worker_at};
+ghost use Rattle.mum_core.specs.Laws.{IsOfferOf, IsParcelOf, IsRun, IsSubsequence, IsSubsequenceBy, gathered, heard, is_by, looked, packet_taken, ran, removed, sent, wired};
+ghost use Rattle.mum_core.specs.Route.{members};
 ghost use Rattle.mum_core.specs.Step.{does, illegal};
 ghost use Rattle.mum_core.specs.Worker.{HeldPacket};
 ghost use Rattle.mum_core.specs.steps.Look.{copy_to};
 
-use crate::connection::OLDEST_VERSION;
 use crate::outbox::OUTBOX_CAPACITY;
 use crate::replay::{INPUT_LIMIT, LINE_LIMIT};
 use crate::slot::SLOTS;
 
 /// The numbers for which the limits stand: slots of the server, copies of an outbox, bytes of a line
-/// and of a recording, and the oldest version of the protocol, 1.2.0.
+/// and of a recording.
 pub fn limits()
     ensures slots { SLOTS ≡ 128 }
     ensures outbox { OUTBOX_CAPACITY ≡ 128 }
     ensures line { LINE_LIMIT ≡ 131200 }
     ensures input { INPUT_LIMIT ≡ 67108864 }
-    ensures version { OLDEST_VERSION ≡ 0x10200 }
 {}
 
 /// Accepted edits are only added to, at their end, and the opening stays. Each of them fits where
@@ -64,45 +63,61 @@ pub fn looks_go_on()
         × (revision ≤ core.published) }
 {}
 
-/// A look leaves one copy for each member of the route at its revision, in their order, and none
-/// for the speaker; the members' slots rise and no two are one session, so each is there once; an
-/// offer takes the first copy that is left, and no other.
+/// A look leaves one copy for each member of the route at its revision, in their order; the members'
+/// slots rise and no two are one session, so each is there once; none is the speaker, but for loopback,
+/// where nobody else is one; an offer takes the first copy that is left, and no other.
 pub fn copies_are_offered_once()
     ensures route { (core : CoreState) (w revision : ℕ) (held : HeldPacket) →
         illegal core (Look w revision) ≡ None → (worker_at core w).held ≡ Some held →
+        let state = state_at core revision in
         (worker_at (does core (Look w revision)) w).copies
-        ≡ map (copy_to held) (route (state_at core revision) held.speaker held.parts.target) }
+        ≡ map (copy_to state held) (members state held.speaker held.parts.target) }
+    ensures each_is_there { (state : StateValue) (speaker : SessionId) (target : ℕ) →
+        route state speaker target ≡ map (λ m. (m.session, m.context)) (members state speaker target) }
     ensures not_the_speaker { (state : StateValue) (speaker : SessionId) (target : ℕ) →
-        AllByRecursion (λ m. m.session.0 ≡ speaker.0 → ⊥) (route state speaker target) }
+        (target ≡ LOOPBACK → ⊥) →
+        AllByRecursion (λ m. m.session.0 ≡ speaker.0 → ⊥) (members state speaker target) }
+    ensures loopback { (state : StateValue) (speaker : SessionId) →
+        AllByRecursion (λ m. m.session.0 ≡ speaker.0) (members state speaker LOOPBACK) }
     ensures each_once { (opening : StateValue) (workers : ℕ) (steps : List BuiltStep)
         (revision : ℕ) (speaker : SessionId) (target : ℕ) →
         IsProper opening → IsRun (start opening workers) steps →
         AllPairs (λ m other. (m.slot.0 < other.slot.0) × (m.session.0 ≡ other.session.0 → ⊥))
-        (route (state_at (ran (start opening workers) steps) revision) speaker target) }
+        (members (state_at (ran (start opening workers) steps) revision) speaker target) }
     ensures in_order { (core : CoreState) (w : ℕ) → illegal core (Offer w) ≡ None →
         (copy : Outgoing)
         × ((worker_at core w).copies ≡ copy ∷ (worker_at (does core (Offer w)) w).copies) }
 {}
 
 /// The copies that were sent, those that found their outbox full, and those that workers have left
-/// add up to the audiences that were looked for, until a count stands at the end of its type.
+/// add up to the audiences that were looked for; and those that were sent are the copies that were told
+/// to connections, those that were dropped, and those that wait: until a count stands at the end of its
+/// type.
 pub fn each_copy_is_counted()
-    ensures { (opening : StateValue) (workers : ℕ) (steps : List BuiltStep) →
+    ensures offered { (opening : StateValue) (workers : ℕ) (steps : List BuiltStep) →
         IsRun (start opening workers) steps → length steps < 2 ^ 64 - 1 →
         let core = ran (start opening workers) steps in
         core.totals.copies + core.totals.full + sum_by (λ worker. length worker.copies) core.workers
         ≡ looked (start opening workers) steps }
+    ensures drained { (opening : StateValue) (workers : ℕ) (steps : List BuiltStep) →
+        IsProper opening → IsRun (start opening workers) steps → length steps < 2 ^ 64 - 1 →
+        let core = ran (start opening workers) steps in
+        length (gathered wired (start opening workers) steps) + core.totals.stale
+        + sum_by length core.outboxes
+        ≡ core.totals.copies }
 {}
 
-/// A connection stays at its worker, a session is never of two connections, and the packets of one
-/// speaker are all taken by one worker. What a worker sends to a session are copies of the packets
-/// that it took, in their order, one at most of each, and none is sent to a session that is not there.
-/// What was sent to a session that is in a slot is what its connection drained, in this order, and then
-/// what waits in the slot's outbox: from the offer that has room to the drain no copy is lost, doubled,
-/// changed or overtaken. (No session leaves by what is built so far.)
-pub fn copies_keep_their_order()
+/// A connection stays at its worker and keeps the seat that it was told; a session is never of two
+/// connections, and the packets of one speaker are all taken by one worker. A connection that is closed
+/// stays closed: none of its frames is taken, and nothing is drained for it.
+pub fn connections_stay_as_they_are()
     ensures stays { (core : CoreState) (steps : List BuiltStep) (c : ℕ) → is_opened core c ≡ true →
         (connection_at (ran core steps) c).worker ≡ (connection_at core c).worker }
+    ensures seat_stays { (opening : StateValue) (workers c : ℕ) (steps more : List BuiltStep)
+        (seat : Seat) →
+        let core = ran (start opening workers) steps in
+        IsRun (start opening workers) steps → IsRun core more →
+        (connection_at core c).seat ≡ Some seat → (connection_at (ran core more) c).seat ≡ Some seat }
     ensures one_connection { (opening : StateValue) (workers c d : ℕ) (steps more : List BuiltStep)
         (seat other : Seat) →
         let core = ran (start opening workers) steps in
@@ -114,26 +129,64 @@ pub fn copies_keep_their_order()
         let taken = λ (worker : ℕ). filter (λ held. held.speaker.0 == speaker)
         (gathered (packet_taken worker) (start opening workers) steps) in
         IsRun (start opening workers) steps → (v ≡ w → ⊥) → (taken v ≡ []) ⊎ (taken w ≡ []) }
+    ensures closed_stays { (core : CoreState) (c line : ℕ) (steps : List BuiltStep) →
+        IsRun core steps → (connection_at core c).closed ≡ Some line →
+        (connection_at (ran core steps) c).closed ≡ Some line }
+    ensures closed_is_silent { (core : CoreState) (c line kind : ℕ) (payload : List ℕ) →
+        (connection_at core c).closed ≡ Some line →
+        IsSome (illegal core (Frame c kind payload)) × IsSome (illegal core (Drain c)) }
+{}
+
+/// What a worker sends to a session are copies of the packets that it took, in their order, one at most
+/// of each, and none is sent to a session that was never there. What was sent to a session left the outbox
+/// of its slot in this order, or waits there: from the offer that has room to the drain no copy is lost,
+/// doubled, changed or overtaken. Its own connection is told what it drains of that; what another
+/// connection of the slot drains is dropped, and where there is no other, it drains all.
+pub fn copies_keep_their_order()
     ensures sent { (opening : StateValue) (workers w n : ℕ) (steps : List BuiltStep) →
         IsProper opening → IsRun (start opening workers) steps →
         let offers = filter (λ offer. offer.0 == w)
         (gathered (sent n) (start opening workers) steps) in
         let packets = gathered (packet_taken w) (start opening workers) steps in
-        IsSubsequence (map (λ offer. offer.1.bytes) offers)
-        (map (λ held. copy held.parts held.speaker.0 0 true) packets) }
+        IsSubsequenceBy IsOfferOf offers packets }
     ensures only_there { (opening : StateValue) (workers : ℕ) (session : SessionId)
         (steps : List BuiltStep) →
         let core = ran (start opening workers) steps in
         IsProper opening → IsRun (start opening workers) steps →
-        session_of (current core).roster session ≡ None →
+        ((revision : ℕ) → session_of (state_at core revision).roster session ≡ None) →
         gathered (sent session.0) (start opening workers) steps ≡ [] }
-    ensures heard { (opening : StateValue) (workers : ℕ) (session : SessionId) (slot : Slot)
-        (steps : List BuiltStep) →
+    ensures conserved { (opening : StateValue) (workers revision : ℕ) (session : SessionId)
+        (slot : Slot) (steps : List BuiltStep) →
         let core = ran (start opening workers) steps in
         let offers = gathered (sent session.0) (start opening workers) steps in
-        let drained = gathered (heard session.0) (start opening workers) steps in
+        let gone = gathered (removed session.0) (start opening workers) steps in
+        let left = filter (λ parcel. parcel.to.0 == session.0) (outbox_at core slot.0) in
         IsProper opening → IsRun (start opening workers) steps →
-        IsInSlot (current core) session slot →
-        map (λ offer. offer.1.bytes) offers
-        ≡ map (λ parcel. parcel.bytes) (drained ++ outbox_at core slot.0) }
+        IsInSlot (state_at core revision) session slot →
+        map (λ offer. offer.1.bytes) offers ≡ map (λ parcel. parcel.bytes) (gone ++ left) }
+    ensures drained { (opening : StateValue) (workers n : ℕ) (steps : List BuiltStep) →
+        IsSubsequence (gathered (heard n) (start opening workers) steps)
+        (gathered (removed n) (start opening workers) steps) }
+    ensures own { (core : CoreState) (n c : ℕ) (seat : Seat) →
+        (connection_at core c).seat ≡ Some seat → (seat.session.0 ≡ n → ⊥) → heard n core (Drain c) ≡ [] }
+    ensures alone { (opening : StateValue) (workers c : ℕ) (seat : Seat) (steps : List BuiltStep) →
+        let core = ran (start opening workers) steps in
+        IsProper opening → IsRun (start opening workers) steps →
+        (connection_at core c).seat ≡ Some seat →
+        ((d : ℕ) (other : Seat) → (connection_at core d).seat ≡ Some other →
+        other.slot.0 ≡ seat.slot.0 → d ≡ c) →
+        gathered (heard seat.session.0) (start opening workers) steps
+        ≡ gathered (removed seat.session.0) (start opening workers) steps }
+{}
+
+/// What a connection is told of one speaker are copies of packets that this speaker sent, in their order,
+/// one at most of each: one worker took all of that speaker's packets.
+pub fn speakers_are_heard_in_order()
+    ensures { (opening : StateValue) (workers n speaker : ℕ) (steps : List BuiltStep) →
+        let sent_by = λ (worker : ℕ). filter (λ held. held.speaker.0 == speaker)
+        (gathered (packet_taken worker) (start opening workers) steps) in
+        let told = filter (λ parcel. is_by speaker parcel.bytes)
+        (gathered (heard n) (start opening workers) steps) in
+        IsProper opening → IsRun (start opening workers) steps →
+        (w : ℕ) × ((v : ℕ) → (v ≡ w → ⊥) → sent_by v ≡ []) × IsSubsequenceBy IsParcelOf told (sent_by w) }
 {}

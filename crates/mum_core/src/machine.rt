@@ -10,7 +10,7 @@ ghost use Rattle.mum_core.specs.declared.machine.StepFault.TheVariants.{Illegal}
 ghost use Rattle.mum_core.specs.declared.slot.TheConstants.{SLOTS as slots};
 ghost use Rattle.mum_core.specs.Worker.{idle};
 
-use crate::connection::{Connection, OLDEST_VERSION};
+use crate::connection::Connection;
 use crate::outbox::Outbox;
 use crate::slot::SLOTS;
 use crate::worker::Worker;
@@ -23,6 +23,7 @@ use std::alloc::{AllocError, Global};
 use std::marker::Model;
 use thiserror::Error;
 
+mod close;
 mod drain;
 mod edit;
 mod end;
@@ -65,13 +66,16 @@ fn illegal(given: u64, against: u64) -> StepFault
 }
 
 /// How much was looked for, sent, and not sent. Each count stands still at the end of its type.
-#[derive(Clone, Copy, Debug, PartialEq, Eq)]
+#[derive(Clone, Copy)]
 pub struct Totals {
     pub looks: u64,
     pub copies: u64,
     pub full: u64,
     pub stale: u64,
 }
+
+/// The lines of a recording before its first step.
+const HEAD_LINES: u64 = 3;
 
 /// The core of the server.
 #[derive(Drop)]
@@ -86,6 +90,8 @@ pub struct Core {
     scratch: Scratch,
     outboxes: Vec<Outbox>,
     totals: Totals,
+    /// The number of the last line that was taken.
+    line: u64,
 }
 
 impl Model for Core {
@@ -103,6 +109,7 @@ impl Model for Core {
       workers = c.workers.items;
       outboxes = c.outboxes.items;
       totals = c.totals;
+      line = c.line;
     } };
 
     ghost invariant = { λ c. IsKept c.history c.views.items c.workers.items c.outboxes.items };
@@ -175,12 +182,11 @@ impl Core {
     ghost use Rattle.mum_record.specs.Words.{line_of_words};
     ghost use Rattle.mum_core.specs.Built.{is_built, taken};
     ghost use Rattle.mum_core.specs.Case.{IsStarved, named_cause};
-    ghost use Rattle.mum_core.specs.Core.{start, is_opened, connection_at, worker_at};
+    ghost use Rattle.mum_core.specs.Core.{start, is_opened, connection_at, up, worker_at};
     ghost use Rattle.mum_core.specs.Kept.{IsKept};
     ghost use Rattle.mum_core.specs.Line.{joined};
-    ghost use Rattle.mum_core.specs.Replay.{is_below_oldest};
     ghost use Rattle.mum_core.specs.Runs.{is_tell};
-    ghost use Rattle.mum_core.specs.Step.{does, illegal, lines};
+    ghost use Rattle.mum_core.specs.Step.{changes, does, illegal, lines};
     ghost use Rattle.mum_core.specs.Worker.{in_hand};
     ghost use Rattle.mum_core.specs.declared.machine.StepFault.TheVariants as faults;
 
@@ -202,6 +208,7 @@ impl Core {
           workers = workers.items;
           outboxes = outboxes.items;
           totals = record { looks = 0; copies = 0; full = 0; stale = 0 };
+          line = 3;
         } }
     {
         Core {
@@ -218,6 +225,7 @@ impl Core {
                 full: 0,
                 stale: 0,
             },
+            line: HEAD_LINES,
         }
     }
 
@@ -244,6 +252,27 @@ impl Core {
         ensures told { IfSome (taken step.now) (λ step.
             OnOk result (string_bytes text.new ≡ string_bytes text.old ++ joined (lines self.old step))) }
     {
+        self.change(step, text)?;
+        self.count_line();
+        Ok(())
+    }
+
+    /// One line more was taken.
+    fn count_line(&mut self)
+        ensures { self.new ≡ record self.old { line = up self.old.line } }
+    {
+        self.line = self.line.saturating_add(1);
+    }
+
+    /// Makes the change of a step, but for the line that it takes.
+    fn change(&mut self, step: &Step, text: &mut String) -> Result<(), StepFault>
+        requires recordable { IsRecordable step.now }
+        requires built { is_built step.now ≡ true }
+        ensures settled { IfSome (taken step.now) (λ step.
+            Settles named_cause (illegal self.old step) (changes self.old step) self.old result self.new) }
+        ensures told { IfSome (taken step.now) (λ step.
+            OnOk result (string_bytes text.new ≡ string_bytes text.old ++ joined (lines self.old step))) }
+    {
         match step {
             Step::Open { connection, worker } => self.take_open(*connection, *worker, text),
             Step::Frame { connection, bytes } => {
@@ -258,8 +287,9 @@ impl Core {
             Step::Look { worker, revision } => self.take_look(*worker, *revision, text),
             Step::Offer { worker } => self.take_offer(*worker, text),
             Step::Drain { connection } => self.take_drain(*connection, text),
+            Step::Close { connection, cause } => self.take_close(*connection, *cause, text),
             Step::End => self.take_end(text),
-            Step::Post | Step::Collect { .. } | Step::Close { .. } => unreachable!(),
+            Step::Post | Step::Collect { .. } => unreachable!(),
         }
     }
 
@@ -278,7 +308,9 @@ impl Core {
         else {
             return self.step_alone(step);
         };
-        self.step_tell(connection, revision)
+        let told = self.step_tell(connection, revision)?;
+        self.count_line();
+        Ok(told)
     }
 
     /// The same of a step that tells one line.
@@ -348,16 +380,6 @@ impl Core {
         match self.worker(worker) {
             Some(worker) => worker.in_hand(),
             None => 0,
-        }
-    }
-
-    /// Whether a connection told a version below the oldest of which a login is built.
-    pub(crate) fn is_old(&self, connection: u32) -> bool
-        ensures { result ≡ is_below_oldest (connection_at self.now connection).version }
-    {
-        match self.connection(connection) {
-            Some(found) => found.version.is_some_and(|number| number < OLDEST_VERSION),
-            None => false,
         }
     }
 }

@@ -14,7 +14,7 @@ use std::marker::Model;
 pub const OUTBOX_CAPACITY: usize = 128;
 
 /// The bytes of a copy: a voice packet as its recipient takes it, of at most 1,025 bytes.
-#[derive(Debug, Drop)]
+#[derive(Drop)]
 pub struct CopyBytes {
     bytes: Octets,
 }
@@ -49,14 +49,14 @@ impl CopyBytes {
 }
 
 /// A copy on its way to a session.
-#[derive(Debug, Drop)]
+#[derive(Drop)]
 pub struct Parcel {
     pub to: SessionId,
     pub bytes: CopyBytes,
 }
 
 /// The copies that wait for the connection of one slot, the oldest first.
-#[derive(Debug, Drop)]
+#[derive(Drop)]
 pub struct Outbox {
     parcels: VecDeque<Parcel>,
 }

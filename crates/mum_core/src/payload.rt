@@ -2,14 +2,15 @@
 
 ghost use Rattle.std.specs.Prelude.{◌≡◌, IfOk};
 ghost use Rattle.mum_fields.specs.Table.{decoded, parts};
-ghost use Rattle.mum_msg_rule.specs.Messages.{acl};
-ghost use Rattle.mum_msg_state.specs.Messages.{authenticate, channel_remove, channel_state, ping, version};
+ghost use Rattle.mum_msg_rule.specs.Messages.{acl, permission_query, voice_target};
+ghost use Rattle.mum_msg_state.specs.Messages.{authenticate, channel_remove, channel_state, ping, user_remove, user_state, version};
 ghost use Rattle.mum_core.specs.Reads.{Reads, well_formed};
 
 use mum_base::OutOfMemory;
-use mum_msg_rule::Acl;
+use mum_msg_rule::{Acl, PermissionQuery, VoiceTarget};
 use mum_msg_state::{
-    Authenticate, ChannelRemove, ChannelState, Message, MessageFault, Ping, Version,
+    Authenticate, ChannelRemove, ChannelState, Message, MessageFault, Ping, UserRemove, UserState,
+    Version,
 };
 use std::alloc::{AllocError, Global};
 
@@ -68,4 +69,40 @@ pub(crate) fn read_acl(alloc: Global, payload: &[u8]) -> Result<Option<Acl>, Out
     ensures { IfOk result (λ read. Reads (parts acl) read (decoded acl payload.now)) }
 {
     well_formed(Acl::decode(alloc, payload))
+}
+
+pub(crate) fn read_user_remove(
+    alloc: Global,
+    payload: &[u8],
+) -> Result<Option<UserRemove>, OutOfMemory>
+    ensures { IfOk result (λ read. Reads (parts user_remove) read (decoded user_remove payload.now)) }
+{
+    well_formed(UserRemove::decode(alloc, payload))
+}
+
+pub(crate) fn read_user_state(
+    alloc: Global,
+    payload: &[u8],
+) -> Result<Option<UserState>, OutOfMemory>
+    ensures { IfOk result (λ read. Reads (parts user_state) read (decoded user_state payload.now)) }
+{
+    well_formed(UserState::decode(alloc, payload))
+}
+
+pub(crate) fn read_voice_target(
+    alloc: Global,
+    payload: &[u8],
+) -> Result<Option<VoiceTarget>, OutOfMemory>
+    ensures { IfOk result (λ read. Reads (parts voice_target) read (decoded voice_target payload.now)) }
+{
+    well_formed(VoiceTarget::decode(alloc, payload))
+}
+
+pub(crate) fn read_permission_query(
+    alloc: Global,
+    payload: &[u8],
+) -> Result<Option<PermissionQuery>, OutOfMemory>
+    ensures { IfOk result (λ read. Reads (parts permission_query) read (decoded permission_query payload.now)) }
+{
+    well_formed(PermissionQuery::decode(alloc, payload))
 }

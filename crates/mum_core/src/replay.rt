@@ -1,24 +1,20 @@
 //! A recording, line by line: its transcript, and how the run over it ends.
 
 ghost use Rattle.std.specs.Prelude.{position, ◌≡◌, ◌+◌, ◌<◌, ◌^◌, [], IfOk, IfSome, OnOk, false, length, option_map, string_bytes, true};
-ghost use Rattle.std.specs.List.{list_any};
 ghost use Rattle.mum_io.specs.Outside.{Appends, AppendsFront, Rose};
 ghost use Rattle.mum_record.specs.Grammar.{IsRecordable};
 ghost use Rattle.mum_record.specs.Reading.{step_of};
-ghost use Rattle.mum_core.specs.Built.{taken};
 ghost use Rattle.mum_state.specs.State.{empty_state};
 ghost use Rattle.mum_core.specs.Core.{start};
 ghost use Rattle.mum_core.specs.Program.{Ends, WritesCounted};
-ghost use Rattle.mum_core.specs.Replay.{replayed, asks_again, ending_of, is_line_feed, login_in, logins_after, repeats};
-ghost use Rattle.mum_core.specs.Runs.{Answers, Says, Advances, IsSplit, StepAnswers, is_end, viewed_login};
+ghost use Rattle.mum_core.specs.Replay.{replayed, ending_of, is_line_feed};
+ghost use Rattle.mum_core.specs.Runs.{Answers, Says, Advances, IsSplit, StepAnswers, is_end};
 ghost use Rattle.mum_core.specs.declared.replay.TheConstants.{INPUT_LIMIT};
 
-use crate::built::{frame_of, is_built};
-use crate::connection::OLDEST_VERSION;
+use crate::built::is_built;
 use crate::end::{End, LineFault};
 use crate::machine::{Core, StepFault};
-use mum_base::{Items, Octets, OutOfMemory};
-use mum_frame::kind::AUTHENTICATE;
+use mum_base::OutOfMemory;
 use mum_io::{Sink, write_all};
 use mum_record::{Step, is_empty_config, is_recording, read_step, read_workers};
 use std::alloc::Global;
@@ -29,62 +25,6 @@ pub const LINE_LIMIT: usize = 131_200;
 /// The most bytes of a recording.
 pub const INPUT_LIMIT: usize = 67_108_864;
 
-/// A login that an earlier line asked for.
-#[derive(Debug, Drop)]
-pub struct Login {
-    pub connection: u32,
-    pub payload: Octets,
-}
-
-/// Whether a login is of this connection, or the same.
-fn repeats(logins: &[Login], connection: u32, payload: &[u8]) -> bool
-    ensures { result ≡ list_any (repeats connection payload.now) logins.now }
-{
-    logins.iter().any(|login| login.connection == connection || login.payload.as_slice() == payload)
-}
-
-/// The login that a step asks for: its connection and its payload.
-fn login_in(step: &Step) -> Option<(u32, &[u8])>
-    requires { IsRecordable step.now }
-    ensures { IfSome (taken step.now) (λ step. option_map viewed_login result ≡ login_in step) }
-{
-    let Step::Frame { connection, bytes } = step else {
-        return None;
-    };
-    let frame = frame_of(bytes.as_slice());
-    if frame.kind != AUTHENTICATE {
-        return None;
-    }
-    Some((*connection, frame.payload))
-}
-
-/// Whether a step asks for a login that is not built, because of what earlier lines asked.
-fn asks_again(core: &Core, logins: &[Login], step: &Step) -> bool
-    requires { IsRecordable step.now }
-    ensures { IfSome (taken step.now) (λ step. result ≡ asks_again core.now logins.now step) }
-{
-    match login_in(step) {
-        Some((connection, payload)) => {
-            core.is_old(connection) || repeats(logins, connection, payload)
-        }
-        None => false,
-    }
-}
-
-/// Keeps the login that a step asked for.
-fn keep_login(alloc: Global, logins: &mut Items<Login>, step: &Step) -> Result<(), OutOfMemory>
-    requires { IsRecordable step.now }
-    ensures { IfSome (taken step.now) (λ step. OnOk result (logins.new ≡ logins_after logins.old step)) }
-{
-    match login_in(step) {
-        Some((connection, payload)) => logins.push(Login {
-            connection,
-            payload: Octets::of(alloc, payload)?,
-        }),
-        None => Ok(()),
-    }
-}
-
 /// Which lines may come next.
 #[derive(Drop)]
 pub enum Phase {
@@ -94,8 +34,8 @@ pub enum Phase {
     Workers,
     /// The line of the configuration.
     Config(u8),
-    /// The lines of steps, behind those that asked for these logins.
-    Running(Core, Items<Login>),
+    /// The lines of steps.
+    Running(Core),
     /// None.
     Over,
 }
@@ -120,18 +60,11 @@ fn read(alloc: Global, n: u64, line: &[u8]) -> Result<Step, End>
 }
 
 /// Takes line `n`, which says a step, and appends what it tells.
-fn take_step(
-    alloc: Global,
-    core: &mut Core,
-    logins: &mut Items<Login>,
-    n: u64,
-    step: &Step,
-    text: &mut String,
-) -> Result<(), End>
+fn take_step(core: &mut Core, n: u64, step: &Step, text: &mut String) -> Result<(), End>
     requires { IsRecordable step.now }
-    ensures { StepAnswers n core.old logins.old step.now (string_bytes text.old) result core.new logins.new (string_bytes text.new) }
+    ensures { StepAnswers n core.old step.now (string_bytes text.old) result core.new (string_bytes text.new) }
 {
-    if !is_built(step) || asks_again(core, logins.as_slice(), step) {
+    if !is_built(step) {
         return Err(faulty(n, LineFault::NotBuilt));
     }
     match core.take(step, text) {
@@ -142,7 +75,6 @@ fn take_step(
         Err(StepFault::OutOfMemory) => return Err(End::OutOfMemory),
     }
     text.push_str("\n")?;
-    keep_login(alloc, logins, step)?;
     Ok(())
 }
 
@@ -155,10 +87,9 @@ fn is_end(step: &Step) -> bool
 
 /// The phase of steps, at a core that nothing happened to.
 fn running(alloc: Global, workers: u8) -> Result<Phase, OutOfMemory>
-    ensures { IfOk result (λ phase. phase ≡ Phase.Running (start empty_state workers) []) }
+    ensures { IfOk result (λ phase. phase ≡ Phase.Running (start empty_state workers)) }
 {
-    let core = Core::open(alloc, workers, &[])?;
-    Ok(Phase::Running(core, Items::new(alloc)))
+    Ok(Phase::Running(Core::open(alloc, workers, &[])?))
 }
 
 impl Phase {
@@ -197,9 +128,9 @@ impl Phase {
                 let next = running(alloc, *workers)?;
                 self.turn(next);
             }
-            Phase::Running(core, logins) => {
+            Phase::Running(core) => {
                 let step = read(alloc, n, line)?;
-                take_step(alloc, core, logins, n, &step, text)?;
+                take_step(core, n, &step, text)?;
                 if !is_end(&step) {
                     return Ok(());
                 }

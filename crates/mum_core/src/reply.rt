@@ -1,60 +1,25 @@
 //! What the control owner decides of a command, and what it answers.
 
-ghost use Rattle.std.specs.Prelude.{◌≡◌, ◌<◌, IfOk, IfSome, Some, true};
-ghost use Rattle.std.specs.Option.{option_and_then};
-ghost use Rattle.mum_state.specs.Fits.{fits};
+ghost use Rattle.std.specs.Prelude.{◌≡◌, ◌<◌, IfOk, IfSome, Some, is_some, true};
+ghost use Rattle.std.specs.Option.{option_and_then, option_map};
 ghost use Rattle.mum_rules_tree.specs.Decision.{FitsWhereAccepted};
 ghost use Rattle.mum_rules_tree.specs.Denial.{denial};
 ghost use Rattle.mum_core.specs.declared.slot.TheConstants.{SLOTS as slots};
-ghost use Rattle.mum_core.specs.Reply.{frame_of, login_edit, mark, reply, seat_of, sendable, verdict};
-ghost use Rattle.mum_core.specs.steps.Edit.{is_decidable};
+ghost use Rattle.mum_core.specs.Connection.{next_command, session_of};
+ghost use Rattle.mum_core.specs.Reply.{frame_of, mark, reply, seat_of, sendable, verdict};
 
-use crate::connection::{Command, Reply, Seat};
+use crate::connection::{Command, Connection, Reply, Seat};
 use crate::slot::ValidSlot;
-use mum_base::name::NAME_LIMIT;
-use mum_base::{Items, Mark, Octets, OutOfMemory, SessionId, Text};
+use mum_base::{Mark, Octets, OutOfMemory, SessionId};
 use mum_frame::{Frame, PAYLOAD_LIMIT, put_frame};
 use mum_rules_tree::{Reason, TreeMessage, decide_tree, denial};
-use mum_state::{EDIT_LIMIT, Edit, State, Verdict};
+use mum_rules_user::{UserMessage, decide_user};
+use mum_state::{Edit, State, Verdict};
 use std::alloc::Global;
 
-/// Whether a session may join under a name. It takes no memory.
-#[tactic(auto, using(crate::proofs::Lower::login_fits))]
-fn fits_login(state: &State, name: &Text) -> bool
-    ensures { result ≡ fits state.now (login_edit state.now.roster name.now) }
-{
-    let cause = state.roster().cause_against_joining(name.as_str());
-    cause.is_none() && name.as_slice().len() <= NAME_LIMIT && state.revision() < EDIT_LIMIT
-}
-
-/// Whether a command is decided: each but a login that would be rejected. It takes no memory.
-pub(crate) fn is_decidable(state: &State, command: &Command) -> bool
-    ensures { result ≡ is_decidable state.now (Some command.now) }
-{
-    match command {
-        Command::Login { name } => fits_login(state, name),
-        Command::Tree { .. } => true,
-    }
-}
-
-/// The edit by which a session joins under a name.
-#[tactic(auto, using(crate::proofs::Lower::none_fits))]
-fn login_edit(alloc: Global, state: &State, name: &Text) -> Result<Edit, OutOfMemory>
-    requires { fits state.now (login_edit state.now.roster name.now) ≡ true }
-    ensures { IfOk result (λ edit. edit ≡ login_edit state.now.roster name.now) }
-{
-    let (session, slot) = state.roster().next_join().unwrap();
-    Ok(Edit::Join {
-        session,
-        slot,
-        name: name.share()?,
-        account: None,
-        tokens: Items::new(alloc),
-    })
-}
-
-/// What is decided of a command on channels.
-fn decide_message(
+/// What is decided of a message on channels.
+#[tactic(auto, unfolding(crate::specs::Reply::verdict))]
+fn decide_on_channels(
     alloc: Global,
     state: &State,
     session: Option<SessionId>,
@@ -69,28 +34,50 @@ fn decide_message(
     }
 }
 
-/// What is decided of a login that is not rejected.
-fn decide_login(alloc: Global, state: &State, name: &Text) -> Result<Verdict, OutOfMemory>
-    requires { fits state.now (login_edit state.now.roster name.now) ≡ true }
-    ensures { IfOk result (λ decided. decided ≡ Verdict.Accepted (login_edit state.now.roster name.now)) }
+/// What is decided of a message on users.
+#[tactic(auto, unfolding(crate::specs::Reply::verdict))]
+fn decide_on_users(
+    alloc: Global,
+    state: &State,
+    session: Option<SessionId>,
+    message: &UserMessage,
+) -> Result<Verdict, OutOfMemory>
+    ensures verdict { IfOk result (λ decided. decided ≡ verdict state.now session (Command.User message.now)) }
+    ensures fits { IfOk result (FitsWhereAccepted state.now) }
 {
-    Ok(Verdict::Accepted(login_edit(alloc, state, name)?))
+    decide_user(alloc, state, session, message)
 }
 
 /// What is decided at a state of a command of a connection, which may have a session.
-pub(crate) fn decide(
+fn decide(
     alloc: Global,
     state: &State,
     session: Option<SessionId>,
     command: &Command,
 ) -> Result<Verdict, OutOfMemory>
-    requires { is_decidable state.now (Some command.now) ≡ true }
     ensures verdict { IfOk result (λ decided. decided ≡ verdict state.now session command.now) }
     ensures fits { IfOk result (FitsWhereAccepted state.now) }
 {
     match command {
-        Command::Login { name } => decide_login(alloc, state, name),
-        Command::Tree { message } => decide_message(alloc, state, session, message),
+        Command::Tree { message } => decide_on_channels(alloc, state, session, message),
+        Command::User { message } => decide_on_users(alloc, state, session, message),
+    }
+}
+
+/// What is decided at a state of the next command of a connection: that of its frame, or else its leave.
+pub(crate) fn decide_next(
+    alloc: Global,
+    state: &State,
+    connection: &Connection,
+) -> Result<Verdict, OutOfMemory>
+    requires { is_some (next_command connection.now) ≡ true }
+    ensures verdict { IfOk result (λ decided. option_map (verdict state.now (session_of connection.now)) (next_command connection.now) ≡ Some decided) }
+    ensures fits { IfOk result (FitsWhereAccepted state.now) }
+{
+    let session = connection.session();
+    match &connection.waiting {
+        Some(command) => decide(alloc, state, session, command),
+        None => decide_on_users(alloc, state, session, &UserMessage::Leave),
     }
 }
 

@@ -1,28 +1,27 @@
 //! Who hears a packet, and the copies for them.
 
-ghost use Rattle.std.specs.Prelude.{◌≡◌, ◌++◌, ◌∷◌, ◌<◌, [], Some, map, filter, IfOk, IsTrue, OnOk};
-ghost use Rattle.std.specs.List.{All};
-ghost use Rattle.mum_base.specs.Channels.{is_among};
-ghost use Rattle.mum_tree.specs.Rows.{is_there};
-ghost use Rattle.mum_tree.specs.Walks.{linked};
-ghost use Rattle.mum_core.specs.declared.slot.TheConstants.{SLOTS};
-ghost use Rattle.mum_core.specs.Route.{by_talk, hears_talk, is_deaf, is_silent, is_talked_in, may_speak_in, route, talk_of};
-ghost use Rattle.mum_core.specs.steps.Look.{audience, copy_to};
+ghost use Rattle.std.specs.Prelude.{◌≡◌, ◌++◌, ◌∷◌, ◌<◌, ◌≤◌, [], Some, map, IfOk, OnOk};
+ghost use Rattle.std.specs.List.{filter_map};
+ghost use Rattle.mum_route.specs.Route.{route};
+ghost use Rattle.mum_route.specs.declared.routes.TheConstants.{LOOPBACK};
+ghost use Rattle.mum_core.specs.Route.{in_its_slot, members, share_context};
+ghost use Rattle.mum_core.specs.steps.Look.{audience, copies, copy_to};
 
 use crate::outbox::CopyBytes;
 use crate::slot::ValidSlot;
 use crate::worker::{Held, Outgoing};
-use mum_base::{ChannelId, OutOfMemory, Perm, SessionId};
-use mum_policy::Who;
+use mum_base::{OutOfMemory, SessionId, Steps};
+use mum_route::{Audience, route};
 use mum_state::State;
 use mum_tree::Scratch;
-use mum_users::User;
 use std::alloc::Global;
 use std::collections::VecDeque;
-use std::marker::Model;
+use std::marker::{Brand, Model};
+use std::sync::ledger::{Blank, Ledger};
 
-/// How a packet reaches a session: 0 by talk, the other numbers below 4 as the voice protocol has them.
-#[derive(Clone, Copy, Debug, PartialEq, Eq)]
+/// How a packet reaches a session: by talk, by a whisper to its channel or to itself, or by listening, as the
+/// voice protocol numbers them from 0 to 3.
+#[derive(Clone, Copy)]
 pub struct Context {
     number: u8,
 }
@@ -40,10 +39,11 @@ impl Model for Context {
 }
 
 impl Context {
-    pub fn talk() -> Context
-        ensures { result ≡ 0 }
+    pub fn of(number: u8) -> Context
+        requires { number < 4 }
+        ensures { result ≡ number }
     {
-        Context { number: 0 }
+        Context { number }
     }
 
     pub fn number(self) -> u8
@@ -55,158 +55,82 @@ impl Context {
 }
 
 /// A session that hears a packet.
-#[derive(Clone, Copy, Debug, PartialEq, Eq)]
+#[derive(Clone, Copy)]
 pub struct Member {
     pub session: SessionId,
     pub slot: ValidSlot,
     pub context: Context,
 }
 
-/// Whether nobody hears a session.
-fn is_silent(user: &User) -> bool
-    ensures { result ≡ is_silent user.now }
+/// The route of a packet, over a counter of its own.
+fn counted<L: Ledger>(
+    blank: Blank,
+    state: &State,
+    speaker: SessionId,
+    target: u8,
+    scratch: &mut Scratch,
+) -> Audience
+    requires name { blank.name ≡ L.name }
+    requires parts { blank.parts ≡ L.parts }
+    requires some { 0 < blank.parts }
+    requires target { target ≤ LOOPBACK }
+    ensures { result ≡ route state.now speaker target }
 {
-    user.mute || user.self_mute || user.suppress
+    let mut steps = Steps::<L>::new(blank);
+    route(state, speaker, target, scratch, &mut steps)
 }
 
-/// Whether a session hears nothing.
-fn is_deaf(user: &User) -> bool
-    ensures { result ≡ is_deaf user.now }
+/// Who hears what a session says to a target, for those who count no steps.
+fn routed(state: &State, speaker: SessionId, target: u8, scratch: &mut Scratch) -> Audience
+    requires { target ≤ LOOPBACK }
+    ensures { result ≡ route state.now speaker target }
 {
-    user.deaf || user.self_deaf
+    counted::<Brand>(Blank::new(1), state, speaker, target, scratch)
 }
 
-fn may_speak_in(state: &State, speaker: &User, channel: ChannelId) -> bool
-    ensures { result ≡ may_speak_in state.now speaker.now channel }
-{
-    let who = Who {
-        session: speaker.session,
-        account: speaker.account,
-        channel: speaker.channel,
-        tokens: speaker.tokens.as_slice(),
-    };
-    match state.granted_to(&who, channel) {
-        Some(held) => held.has(Perm::SPEAK),
-        None => false,
-    }
-}
-
-/// Whether a channel is marked.
-fn is_marked(scratch: &Scratch, channel: ChannelId) -> bool
-    ensures { result ≡ is_among scratch.now channel }
-{
-    scratch.marked(channel)
-}
-
-/// Whether talk covers a channel, where all that links lead to from the speaker's are marked.
-fn is_talked_in(state: &State, speaker: &User, channel: ChannelId, scratch: &Scratch) -> bool
-    requires { scratch.now ≡ linked state.now.tree speaker.now.channel }
-    ensures { result ≡ is_talked_in state.now speaker.now channel }
-{
-    is_marked(scratch, channel) && may_speak_in(state, speaker, channel)
-}
-
-fn hears_talk(state: &State, speaker: &User, user: &User, scratch: &Scratch) -> bool
-    requires { scratch.now ≡ linked state.now.tree speaker.now.channel }
-    ensures { result ≡ hears_talk state.now speaker.now user.now }
-{
-    user.session.0 != speaker.session.0
-        && !is_deaf(user)
-        && is_talked_in(state, speaker, user.channel, scratch)
-}
-
-/// A session as talk reaches it.
-fn by_talk(user: &User) -> Member
-    requires { user.now.slot.0 < SLOTS }
-    ensures { result ≡ by_talk user.now }
-{
-    Member {
-        session: user.session,
-        slot: ValidSlot::new(usize::from(user.slot.0)),
-        context: Context::talk(),
-    }
-}
-
-/// Appends a session where it hears the speaker.
-fn push_hearer(
+/// Appends a session that a packet reaches in a context, with its slot.
+fn push_member(
     members: &mut Vec<Member>,
     state: &State,
-    speaker: &User,
-    user: &User,
-    scratch: &Scratch,
+    session: SessionId,
+    context: u8,
 ) -> Result<(), OutOfMemory>
-    requires linked { scratch.now ≡ linked state.now.tree speaker.now.channel }
-    requires slot { user.now.slot.0 < SLOTS }
+    requires { context < 4 }
     ensures { OnOk result (members.new.items ≡ members.old.items
-        ++ map by_talk (filter (hears_talk state.now speaker.now) (user.now ∷ []))) }
+        ++ filter_map (in_its_slot state.now) ((session, context) ∷ [])) }
 {
-    if hears_talk(state, speaker, user, scratch) {
-        members.push(by_talk(user))?;
+    if let Some(user) = state.roster().session(session) {
+        members.push(Member {
+            session,
+            slot: ValidSlot::new(usize::from(user.slot.0)),
+            context: Context::of(context),
+        })?;
     }
     Ok(())
 }
 
-/// Those of these sessions who hear the speaker.
-#[tactic(auto, using(crate::proofs::Present::kept_on))]
-fn hearers(
-    alloc: Global,
-    state: &State,
-    speaker: &User,
-    users: &[User],
-    scratch: &Scratch,
-) -> Result<Vec<Member>, OutOfMemory>
-    requires linked { scratch.now ≡ linked state.now.tree speaker.now.channel }
-    requires slots { All (λ user. user.slot.0 < SLOTS) users.now }
-    ensures { IfOk result (λ members. members.items
-        ≡ map by_talk (filter (hears_talk state.now speaker.now) users.now)) }
-{
-    let mut members = Vec::new(alloc);
-    for user in users {
-        push_hearer(&mut members, state, speaker, user, scratch)?;
-    }
-    Ok(members)
-}
-
-/// Who hears a session that talks.
-#[tactic(auto, using(crate::proofs::Present::slots_below))]
-fn talk_of(
-    alloc: Global,
-    state: &State,
-    speaker: &User,
-    scratch: &mut Scratch,
-) -> Result<Vec<Member>, OutOfMemory>
-    requires { IsTrue (is_there state.now.tree.channels speaker.now.channel) }
-    ensures { IfOk result (λ members. members.items ≡ talk_of state.now speaker.now) }
-{
-    if is_silent(speaker) {
-        return Ok(Vec::new(alloc));
-    }
-    state.tree().linked(speaker.channel, scratch);
-    hearers(alloc, state, speaker, state.roster().users(), scratch)
-}
-
-/// Who hears what a session says to a target.
-#[tactic(auto, using(crate::proofs::Present::channel_there))]
-fn route(
+/// Who hears what a session says to a target, each with its slot.
+fn members(
     alloc: Global,
     state: &State,
     speaker: SessionId,
     target: u8,
     scratch: &mut Scratch,
 ) -> Result<Vec<Member>, OutOfMemory>
-    ensures { IfOk result (λ members. members.items ≡ route state.now speaker target) }
+    requires { target ≤ LOOPBACK }
+    ensures { IfOk result (λ listed. listed.items ≡ members state.now speaker target) }
 {
-    if target != 0 {
-        return Ok(Vec::new(alloc));
+    let audience = routed(state, speaker, target, scratch);
+    let mut members = Vec::with_capacity(alloc, audience.len())?;
+    for i in 0..audience.len() {
+        let (session, context) = audience.at(i);
+        push_member(&mut members, state, session, context)?;
     }
-    match state.roster().session(speaker) {
-        Some(user) => talk_of(alloc, state, user, scratch),
-        None => Ok(Vec::new(alloc)),
-    }
+    Ok(members)
 }
 
 /// Who hears a packet that a worker holds.
-pub(crate) fn audience(
+fn audience(
     alloc: Global,
     state: &State,
     held: &Held,
@@ -214,17 +138,36 @@ pub(crate) fn audience(
 ) -> Result<Vec<Member>, OutOfMemory>
     ensures { IfOk result (λ members. members.items ≡ audience state.now (Some held.now)) }
 {
-    route(alloc, state, held.speaker(), held.packet().target, scratch)
+    members(alloc, state, held.speaker(), held.packet().target, scratch)
+}
+
+/// Whether two sessions are in the same context of their plugins.
+fn share_context(state: &State, one: SessionId, other: SessionId) -> bool
+    ensures { result ≡ share_context state.now one other }
+{
+    let Some(speaker) = state.roster().session(one) else {
+        return false;
+    };
+    let Some(hearer) = state.roster().session(other) else {
+        return false;
+    };
+    speaker.context.as_slice() == hearer.context.as_slice()
 }
 
 /// The copy of a packet for one member.
-fn copy_for(alloc: Global, held: &Held, member: &Member) -> Result<Outgoing, OutOfMemory>
-    ensures { IfOk result (λ copy. copy ≡ copy_to held.now member.now) }
+fn copy_for(
+    alloc: Global,
+    state: &State,
+    held: &Held,
+    member: &Member,
+) -> Result<Outgoing, OutOfMemory>
+    ensures { IfOk result (λ copy. copy ≡ copy_to state.now held.now member.now) }
 {
-    let context = member.context;
+    let speaker = held.speaker();
+    let with_position = share_context(state, speaker, member.session);
     let bytes = held
         .packet()
-        .copy_for(held.speaker(), context.number(), true);
+        .copy_for(speaker, member.context.number(), with_position);
     Ok(Outgoing {
         to: member.session,
         slot: member.slot,
@@ -234,16 +177,32 @@ fn copy_for(alloc: Global, held: &Held, member: &Member) -> Result<Outgoing, Out
 }
 
 /// A copy for each member, in their order.
-pub(crate) fn copies(
+fn copies(
     alloc: Global,
+    state: &State,
     held: &Held,
     members: &[Member],
 ) -> Result<VecDeque<Outgoing>, OutOfMemory>
-    ensures { IfOk result (λ copies. copies.items ≡ map (copy_to held.now) members.now) }
+    ensures { IfOk result (λ copies. copies.items ≡ map (copy_to state.now held.now) members.now) }
 {
     let mut copies = Vec::with_capacity(alloc, members.len())?;
     for member in members {
-        copies.push(copy_for(alloc, held, member)?)?;
+        copies.push(copy_for(alloc, state, held, member)?)?;
     }
     Ok(VecDeque::from_vec(copies))
+}
+
+/// Who hears a packet that a worker holds, and the copies for them.
+pub(crate) fn heard(
+    alloc: Global,
+    state: &State,
+    held: &Held,
+    scratch: &mut Scratch,
+) -> Result<(Vec<Member>, VecDeque<Outgoing>), OutOfMemory>
+    ensures members { IfOk result (λ heard. heard.0.items ≡ audience state.now (Some held.now)) }
+    ensures copies { IfOk result (λ heard. heard.1.items ≡ copies state.now (Some held.now)) }
+{
+    let members = audience(alloc, state, held, scratch)?;
+    let copies = copies(alloc, state, held, &members)?;
+    Ok((members, copies))
 }

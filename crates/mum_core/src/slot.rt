@@ -10,7 +10,7 @@ use std::marker::Model;
 pub const SLOTS: usize = SESSIONS;
 
 /// A slot that there is: its number is below 128.
-#[derive(Clone, Copy, Debug, PartialEq, Eq)]
+#[derive(Clone, Copy)]
 pub struct ValidSlot {
     slot: Slot,
 }

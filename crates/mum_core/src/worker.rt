@@ -17,7 +17,7 @@ use std::collections::VecDeque;
 use std::marker::Model;
 
 /// A voice packet that a worker took from a connection and has not looked for yet.
-#[derive(Debug, Drop)]
+#[derive(Drop)]
 pub struct Held {
     speaker: SessionId,
     bytes: Octets,
@@ -60,7 +60,7 @@ impl Held {
 }
 
 /// A copy of a packet that is still to be offered.
-#[derive(Debug, Drop)]
+#[derive(Drop)]
 pub struct Outgoing {
     pub to: SessionId,
     pub slot: ValidSlot,
@@ -69,7 +69,7 @@ pub struct Outgoing {
 }
 
 /// A voice worker of the core.
-#[derive(Debug, Drop)]
+#[derive(Drop)]
 pub struct Worker {
     /// The revision of its last look.
     seen: u64,

@@ -14,4 +14,4 @@ pub use head::{is_empty_config, is_recording, read_workers};
 pub use line::{Word, push_line, push_word, push_words};
 pub use read::{read_step, reading_is_the_grammar};
 pub use step::{LineFault, Step};
-pub use write::write_step;
+pub use write::{cause_name, write_step};

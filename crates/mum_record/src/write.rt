@@ -9,7 +9,7 @@ use mum_base::{Cause, Octets, OutOfMemory};
 use std::alloc::Global;
 
 /// The word for why a connection ended.
-fn cause_name(cause: Cause) -> &'static str
+pub fn cause_name(cause: Cause) -> &'static str
     ensures { result.now ≡ cause_word cause }
 {
     match cause {

@@ -4,12 +4,12 @@ use Rattle.mum_frame.specs.declared.kind.TheConstants.{UDP_TUNNEL}
 use Rattle.mum_frame.specs.Frame.{spelling_of}
 use Rattle.mum_core.specs.declared.connection.Seat.{Seat}
 use Rattle.mum_core.specs.declared.outbox.Parcel.{Parcel}
-use Rattle.mum_core.specs.Case.{Case, not_opened}
+use Rattle.mum_core.specs.Case.{Case, is_closed, not_opened}
 use Rattle.mum_core.specs.Core.{CoreState, connection_at, outbox_at, at_outbox, up}
 use Rattle.mum_core.specs.Line.{wire_words}
 
 abbrev pub forbids : CoreState → ℕ → List Case
-forbids core c = not_opened core c ∷ record { stands = is_none (connection_at core c).seat; given = c; against = 0 } ∷ []
+forbids core c = not_opened core c ∷ is_closed core c ∷ record { stands = is_none (connection_at core c).seat; given = c; against = 0 } ∷ []
 
 abbrev pub is_for : Parcel → Seat → Bool
 is_for parcel seat = parcel.to.0 == seat.session.0

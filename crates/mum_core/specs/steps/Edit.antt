@@ -1,34 +1,21 @@
 -- The control owner decides the command of a connection that waits, at the state after all accepted edits.
-use Rattle.std.specs.Prelude.{ℕ, ◌+◌, not, Bool, true, List, [], ◌∷◌, ◌++◌, length, Option, Some, None, is_none}
+use Rattle.std.specs.Prelude.{ℕ, ◌+◌, List, [], ◌∷◌, ◌++◌, length, Option, is_none}
 use Rattle.std.specs.Option.{option_map, option_map_or}
 use Rattle.mum_state.specs.declared.edit.Edit.{Edit}
 use Rattle.mum_state.specs.declared.verdict.Verdict.{Verdict}
-use Rattle.mum_state.specs.Fits.{fits}
-use Rattle.mum_state.specs.State.{StateValue}
-use Rattle.mum_core.specs.declared.{connection.Command.Command, connection.Command.TheVariants.Login, connection.Reply.Reply, slot.TheConstants.SLOTS}
+use Rattle.mum_core.specs.declared.connection.Reply.{Reply}
 use Rattle.mum_core.specs.Case.{Case, not_opened}
-use Rattle.mum_core.specs.Connection.{session_of}
+use Rattle.mum_core.specs.Connection.{answered, next_command, session_of}
 use Rattle.mum_core.specs.Core.{CoreState, connection_at, current, at_connection}
 use Rattle.mum_core.specs.Line.{said_of, mark_words}
-use Rattle.mum_core.specs.Reply.{edits_of, login_edit, mark, reply, verdict}
+use Rattle.mum_core.specs.Reply.{edits_of, mark, reply, verdict}
 
--- logins that would be rejected are not built: whoever waits asks for what is decided, or for a name and a slot that are free
-abbrev pub is_decidable : StateValue → Option Command → Bool
-is_decidable state (Some (Login name)) = fits state (login_edit state.roster name)
-is_decidable state others = true
-
--- no recording comes to the last case, since it has at most 128 connections with one login each, of different names
 abbrev pub forbids : CoreState → ℕ → List Case
-forbids core c =
-    let waiting = (connection_at core c).waiting in
-    not_opened core c
-    ∷ record { stands = is_none waiting; given = c; against = 0 }
-    ∷ record { stands = not (is_decidable (current core) waiting); given = c; against = SLOTS }
-    ∷ []
+forbids core c = not_opened core c ∷ record { stands = is_none (next_command (connection_at core c)); given = c; against = 0 } ∷ []
 
 -- what is decided of the command of a connection, if one waits
 abbrev pub decision : CoreState → ℕ → Option Verdict
-decision core c = option_map (verdict (current core) (session_of (connection_at core c))) (connection_at core c).waiting
+decision core c = option_map (verdict (current core) (session_of (connection_at core c))) (next_command (connection_at core c))
 
 -- the revision of the next edit that is accepted
 abbrev pub next_revision : CoreState → ℕ
@@ -41,7 +28,7 @@ reply_to core c verdict = reply (next_revision core) (session_of (connection_at 
 -- the command is decided, with these edits accepted and this reply to tell
 abbrev pub with_reply : CoreState → ℕ → List Edit → Reply → CoreState
 with_reply core c edits reply =
-    record (at_connection c (λ connection. record connection { waiting = None; decided = Some reply }) core)
+    record (at_connection c (λ connection. answered connection.waiting reply connection) core)
     { accepted = core.accepted ++ edits }
 
 -- an accepted edit is appended, and no other

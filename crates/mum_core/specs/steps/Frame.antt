@@ -8,8 +8,8 @@ use Rattle.mum_voice.specs.Packet.{Parts, packet}
 use Rattle.mum_core.specs.declared.action.Action.{Action}
 use Rattle.mum_core.specs.declared.action.Action.TheVariants.{Ask, Voice, Echo, Keep, Ignore}
 use Rattle.mum_core.specs.Action.{ignored_code}
-use Rattle.mum_core.specs.Case.{Case, not_opened}
-use Rattle.mum_core.specs.Connection.{untold}
+use Rattle.mum_core.specs.Case.{Case, is_closed, not_opened}
+use Rattle.mum_core.specs.Connection.{is_untold, untold}
 use Rattle.mum_core.specs.Core.{CoreState, connection_at, worker_at, at_connection, at_worker}
 use Rattle.mum_core.specs.Worker.{in_hand}
 
@@ -18,7 +18,8 @@ forbids core c =
     let connection = connection_at core c in
     let left = in_hand (worker_at core connection.worker) in
     not_opened core c
-    ∷ record { stands = nat_lt 0 (untold connection); given = c; against = untold connection }
+    ∷ is_closed core c
+    ∷ record { stands = is_untold connection; given = c; against = untold connection }
     ∷ record { stands = nat_lt 0 left; given = connection.worker; against = left }
     ∷ []
 

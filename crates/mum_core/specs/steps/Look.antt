@@ -1,12 +1,12 @@
 -- A worker enters the published state for the packet that it holds.
-use Rattle.std.specs.Prelude.{ℕ, List, [], ◌∷◌, ◌++◌, length, map, true, Option, Some, None, is_none, nat_lt, codes, decimal}
+use Rattle.std.specs.Prelude.{ℕ, List, [], ◌∷◌, ◌++◌, length, map, Option, Some, None, is_none, nat_lt, codes, decimal}
 use Rattle.mum_voice.specs.Packet.{copy}
 use Rattle.mum_state.specs.State.{StateValue}
 use Rattle.mum_core.specs.declared.route.Member.{Member}
 use Rattle.mum_core.specs.declared.worker.Outgoing.{Outgoing}
 use Rattle.mum_core.specs.Case.{Case, no_worker}
 use Rattle.mum_core.specs.Core.{CoreState, worker_at, state_at, at_worker, up}
-use Rattle.mum_core.specs.Route.{route}
+use Rattle.mum_core.specs.Route.{members, share_context}
 use Rattle.mum_core.specs.Worker.{HeldPacket, least_look}
 
 abbrev pub forbids : CoreState → ℕ → ℕ → List Case
@@ -21,16 +21,21 @@ forbids core w revision =
 -- who hears the packet, if there is one
 abbrev pub audience : StateValue → Option HeldPacket → List Member
 audience state None = []
-audience state (Some held) = route state held.speaker held.parts.target
+audience state (Some held) = members state held.speaker held.parts.target
 
--- the copy for a member: the speaker and the member's context are set. No plugin context differs from
--- another, so the position comes along
-abbrev pub copy_to : HeldPacket → Member → Outgoing
-copy_to held m = record { to = m.session; slot = m.slot; context = m.context; bytes = copy held.parts held.speaker.0 m.context true }
+-- the copy for a member: the speaker and the member's context are set, and the position comes along where the
+-- two are in the same context of their plugins
+abbrev pub copy_to : StateValue → HeldPacket → Member → Outgoing
+copy_to state held m = record {
+  to = m.session;
+  slot = m.slot;
+  context = m.context;
+  bytes = copy held.parts held.speaker.0 m.context (share_context state held.speaker m.session);
+}
 
 abbrev pub copies : StateValue → Option HeldPacket → List Outgoing
 copies state None = []
-copies state (Some held) = map (copy_to held) (audience state (Some held))
+copies state (Some held) = map (copy_to state held) (audience state (Some held))
 
 abbrev pub does : CoreState → ℕ → ℕ → CoreState
 does core w revision =

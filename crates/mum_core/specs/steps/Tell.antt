@@ -1,5 +1,5 @@
 -- The reply to a decided command reaches the worker of its connection, with a note of a revision or without.
-use Rattle.std.specs.Prelude.{ℕ, max, not, Bool, false, List, [], ◌∷◌, Option, Some, None, is_none, nat_lt, codes, decimal}
+use Rattle.std.specs.Prelude.{ℕ, max, not, Bool, false, List, [], ◌∷◌, Option, Some, None, is_none, is_some, nat_lt, codes, decimal, if◌then◌else◌}
 use Rattle.std.specs.Option.{option_and_then, option_map_or}
 use Rattle.mum_record.specs.Grammar.{revision_word}
 use Rattle.mum_core.specs.declared.connection.Reply.{Reply}
@@ -46,8 +46,11 @@ told_words c revision = codes "told" ∷ decimal c ∷ revision_word revision �
 abbrev pub wire_lines : ℕ → Option (List ℕ) → List (List (List ℕ))
 wire_lines c wire = option_map_or (λ bytes. wire_words c bytes ∷ []) wire []
 
+-- nothing comes on the wire of a connection that is closed
 abbrev pub wire_to : CoreState → ℕ → Option (List ℕ)
-wire_to core c = option_and_then (λ reply. reply.wire) (connection_at core c).decided
+wire_to core c =
+    let connection = connection_at core c in
+    if is_some connection.closed then None else option_and_then (λ reply. reply.wire) connection.decided
 
 abbrev pub lines : CoreState → ℕ → Option ℕ → List (List (List ℕ))
 lines core c revision = told_words c revision ∷ wire_lines c (wire_to core c)

@@ -65,6 +65,9 @@ impl Core {
         let Some(found) = self.connection(connection) else {
             return Err(self.unopened(connection));
         };
+        if let Some(line) = found.closed {
+            return Err(illegal(u64::from(connection), line));
+        }
         let Some(seat) = found.seat else {
             return Err(illegal(u64::from(connection), 0));
         };

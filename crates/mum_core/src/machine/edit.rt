@@ -1,21 +1,20 @@
 //! The step `edit`: the control owner decides the command of a connection that waits.
 
-ghost use Rattle.std.specs.Prelude.{◌≡◌, ◌++◌, ◌∷◌, [], IfOk, MatchResult, None, OnErr, OnOk, Some, decimal, string_bytes, true};
+ghost use Rattle.std.specs.Prelude.{◌≡◌, ◌++◌, ◌∷◌, [], IfOk, MatchResult, None, OnErr, OnOk, decimal, is_some, string_bytes, true};
 ghost use Rattle.mum_base.specs.Refusal.{Settles};
 ghost use Rattle.mum_history.specs.History.{current};
 ghost use Rattle.mum_rules_tree.specs.Decision.{FitsWhereAccepted};
 ghost use Rattle.mum_core.specs.Case.{first_that_stands, named_cause};
-ghost use Rattle.mum_core.specs.Connection.{session_of};
+ghost use Rattle.mum_core.specs.Connection.{next_command};
 ghost use Rattle.mum_core.specs.Core.{connection_at, current as core_current, is_opened};
 ghost use Rattle.mum_core.specs.Line.{joined, mark_words, said_of};
 ghost use Rattle.mum_core.specs.Reply.{edits_of};
-ghost use Rattle.mum_core.specs.steps.Edit.{forbids, does, is_decidable, lines, next_revision, with_reply};
+ghost use Rattle.mum_core.specs.steps.Edit.{forbids, does, lines, next_revision, with_reply};
 
 use super::{Core, StepFault, illegal};
-use crate::connection::{Command, Reply, decide_at};
-use crate::reply::{decide, is_decidable, reply};
-use crate::slot::SLOTS;
-use mum_base::{Mark, OutOfMemory, SessionId};
+use crate::connection::{Connection, Reply, answer_at};
+use crate::reply::{decide_next, reply};
+use mum_base::{Mark, OutOfMemory};
 use mum_history::History;
 use mum_record::{Word, push_line};
 use mum_state::Verdict;
@@ -81,35 +80,22 @@ fn accept(history: &mut History, verdict: Verdict) -> Result<(), OutOfMemory>
 }
 
 impl Core {
-    /// The command of a connection that this step decides.
-    fn command_of(&self, connection: u32) -> Result<&Command, StepFault>
+    /// The connection whose next command this step decides.
+    fn asker(&self, connection: u32) -> Result<&Connection, StepFault>
         ensures opened { OnOk result (is_opened self.now connection ≡ true) }
-        ensures decides { MatchResult result
-            (λ command. (first_that_stands (forbids self.now connection) ≡ None)
-            × ((connection_at self.now connection).waiting ≡ Some command.now)
-            × (is_decidable (core_current self.now) (Some command.now) ≡ true))
+        ensures asks { MatchResult result
+            (λ found. (first_that_stands (forbids self.now connection) ≡ None)
+            × (connection_at self.now connection ≡ found.now)
+            × (is_some (next_command found.now) ≡ true))
             (λ fault. first_that_stands (forbids self.now connection) ≡ named_cause fault) }
     {
         let Some(found) = self.connection(connection) else {
             return Err(self.unopened(connection));
         };
-        let Some(command) = &found.waiting else {
+        if !found.has_command() {
             return Err(illegal(u64::from(connection), 0));
-        };
-        if !is_decidable(self.history.current(), command) {
-            return Err(illegal(u64::from(connection), SLOTS as u64));
         }
-        Ok(command)
-    }
-
-    /// The session that the told login of a connection gave it.
-    fn session_of(&self, connection: u32) -> Option<SessionId>
-        ensures { result ≡ session_of (connection_at self.now connection) }
-    {
-        match self.connection(connection) {
-            Some(found) => found.session(),
-            None => None,
-        }
+        Ok(found)
     }
 
     /// The revision of the next edit that is accepted.
@@ -119,7 +105,7 @@ impl Core {
         self.history.accepted().len() as u64 + 1
     }
 
-    /// The command of a connection is decided so, and answered by this reply.
+    /// The next command of a connection is decided so, and answered by this reply.
     #[tactic(auto, using(mum_history::proofs::Fronts::all_views_stay))]
     fn settle(&mut self, connection: u32, verdict: Verdict, reply: Reply) -> Result<(), OutOfMemory>
         requires opened { is_opened self.old connection ≡ true }
@@ -128,7 +114,7 @@ impl Core {
         ensures err { OnErr result (self.new ≡ self.old) }
     {
         accept(&mut self.history, verdict)?;
-        decide_at(&mut self.connections, connection as usize - 1, reply);
+        answer_at(&mut self.connections, connection as usize - 1, reply);
         Ok(())
     }
 
@@ -136,9 +122,9 @@ impl Core {
         ensures settled { Settles named_cause (first_that_stands (forbids self.old connection)) (does self.old connection) self.old result self.new }
         ensures told { OnOk result (string_bytes text.new ≡ string_bytes text.old ++ joined (lines self.old connection)) }
     {
-        let command = self.command_of(connection)?;
-        let session = self.session_of(connection);
-        let verdict = decide(self.alloc, self.history.current(), session, command)?;
+        let asker = self.asker(connection)?;
+        let session = asker.session();
+        let verdict = decide_next(self.alloc, self.history.current(), asker)?;
         let reply = reply(self.alloc, self.next_revision(), session, &verdict)?;
         push_mark(self.alloc, text, connection, &reply.mark)?;
         self.settle(connection, verdict, reply)?;

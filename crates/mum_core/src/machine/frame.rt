@@ -29,25 +29,26 @@ impl Core {
     ) -> Result<(), StepFault>
         requires { IsOneFrame bytes.now }
         ensures settled { Settles named_cause (first_that_stands (forbids self.old connection))
-            (does self.old connection (spec.action (connection_at self.old connection).seat (kind_of bytes.now) (payload_of bytes.now)))
+            (does self.old connection (spec.action (connection_at self.old connection) (kind_of bytes.now) (payload_of bytes.now)))
             self.old result self.new }
         ensures told { OnOk result (string_bytes text.new ≡ string_bytes text.old
-            ++ joined (lines connection (spec.action (connection_at self.old connection).seat (kind_of bytes.now) (payload_of bytes.now)))) }
+            ++ joined (lines connection (spec.action (connection_at self.old connection) (kind_of bytes.now) (payload_of bytes.now)))) }
     {
         let Some(found) = self.connection(connection) else {
             return Err(self.unopened(connection));
         };
-        let untold = found.untold();
-        if untold > 0 {
-            return Err(illegal(u64::from(connection), untold));
+        if let Some(line) = found.closed {
+            return Err(illegal(u64::from(connection), line));
+        }
+        if found.is_untold() {
+            return Err(illegal(u64::from(connection), found.untold()));
         }
         let worker = found.worker;
-        let seat = found.seat;
         let in_hand = self.in_hand(worker);
         if in_hand > 0 {
             return Err(illegal(u64::from(worker), in_hand));
         }
-        let asked = action_of(self.alloc, seat, frame_of(bytes))?;
+        let asked = action_of(self.alloc, found, frame_of(bytes))?;
         self.act(connection, worker, asked, text)
     }
 

@@ -6,15 +6,14 @@ ghost use Rattle.mum_core.specs.Case.{Passes, first_that_stands, named_cause};
 ghost use Rattle.mum_core.specs.Line.{joined};
 ghost use Rattle.std.specs.Prelude.{◌<◌, ◌≤◌, ◌∷◌, [], IfOk, IfSome, length, map, slice_get};
 ghost use Rattle.std.specs.List.{All, flat_map};
-ghost use Rattle.std.specs.Option.{option_copied, option_map_or};
 ghost use Rattle.mum_history.specs.History.{state_at};
 ghost use Rattle.mum_history.specs.View.{IsViewOf};
 ghost use Rattle.mum_core.specs.Core.{state_at as core_state_at, worker_at};
-ghost use Rattle.mum_core.specs.steps.Look.{audience, copy_to, forbids, does, lines, member_word, route_words};
+ghost use Rattle.mum_core.specs.steps.Look.{audience, copies, forbids, does, lines, member_word, route_words};
 
 use super::{Core, StepFault, illegal};
-use crate::route::{Member, audience, copies};
-use crate::worker::{Held, Outgoing, look_at};
+use crate::route::{Member, heard};
+use crate::worker::{Outgoing, look_at};
 use mum_base::OutOfMemory;
 use mum_history::{History, View};
 use mum_record::{Word, push_line, push_word};
@@ -86,37 +85,26 @@ fn go_to_at(
 }
 
 impl Core {
-    /// Who hears the packet that a worker holds, at a revision; nobody where it holds none.
-    fn audience_at(&mut self, worker: u32, revision: u64) -> Result<Vec<Member>, OutOfMemory>
+    /// Who hears the packet that a worker holds, at a revision, and the copies for them; nobody where it
+    /// holds none.
+    fn heard_at(
+        &mut self,
+        worker: u32,
+        revision: u64,
+    ) -> Result<(Vec<Member>, VecDeque<Outgoing>), OutOfMemory>
         requires there { worker < length self.old.workers }
         requires accepted { revision ≤ length self.old.accepted }
-        ensures members { IfOk result (λ members. members.items ≡ audience (core_state_at self.old revision) (worker_at self.old worker).held) }
+        ensures members { IfOk result (λ heard. heard.0.items ≡ audience (core_state_at self.old revision) (worker_at self.old worker).held) }
+        ensures copies { IfOk result (λ heard. heard.1.items ≡ copies (core_state_at self.old revision) (worker_at self.old worker).held) }
         ensures same { self.new ≡ self.old }
     {
         let place = worker as usize;
         go_to_at(&mut self.views, place, self.alloc, &self.history, revision)?;
         let state = self.views[place].state();
         match self.workers[place].held() {
-            Some(held) => audience(self.alloc, state, held, &mut self.scratch),
-            None => Ok(Vec::new(self.alloc)),
+            Some(held) => heard(self.alloc, state, held, &mut self.scratch),
+            None => Ok((Vec::new(self.alloc), VecDeque::new(self.alloc))),
         }
-    }
-
-    /// The copies of the packet that a worker holds, for these members.
-    fn copies_for(&self, worker: u32, members: &[Member]) -> Result<VecDeque<Outgoing>, OutOfMemory>
-        ensures { IfOk result (λ left. left.items ≡ option_map_or (λ held. map (copy_to held) members.now) (worker_at self.now worker).held []) }
-    {
-        let Some(held) = self.held_by(worker) else {
-            return Ok(VecDeque::new(self.alloc));
-        };
-        copies(self.alloc, held, members)
-    }
-
-    /// The packet that a worker holds.
-    fn held_by(&self, worker: u32) -> Option<&Held>
-        ensures { option_copied result ≡ (worker_at self.now worker).held }
-    {
-        self.worker(worker)?.held()
     }
 
     /// Refuses a look that is not allowed.
@@ -141,7 +129,6 @@ impl Core {
         Ok(())
     }
 
-    #[tactic(auto, using(crate::proofs::Routes::copies_are))]
     pub(super) fn take_look(
         &mut self,
         worker: u32,
@@ -152,9 +139,8 @@ impl Core {
         ensures told { OnOk result (string_bytes text.new ≡ string_bytes text.old ++ joined (lines self.old worker revision)) }
     {
         self.check_look(worker, revision)?;
-        let members = self.audience_at(worker, revision)?;
+        let (members, left) = self.heard_at(worker, revision)?;
         push_route(self.alloc, text, worker, revision, &members)?;
-        let left = self.copies_for(worker, &members)?;
         look_at(&mut self.workers, worker as usize, revision, left);
         self.totals.looks = self.totals.looks.saturating_add(1);
         Ok(())

@@ -4,11 +4,12 @@ ghost use Rattle.std.specs.Prelude.{◌≡◌, ◌++◌, OnOk, string_bytes};
 ghost use Rattle.mum_base.specs.Refusal.{Gives, Settles};
 ghost use Rattle.mum_core.specs.Case.{IsStarved, Passes, first_that_stands, named_cause};
 ghost use Rattle.mum_core.specs.Line.{joined, wire_words};
-ghost use Rattle.std.specs.Prelude.{◌⊎◌, ◌∷◌, [], IfOk, MatchResult, None, Some, map, true};
+ghost use Rattle.std.specs.Prelude.{◌⊎◌, ◌∷◌, [], IfOk, Some, map, true};
+ghost use Rattle.std.specs.Option.{option_copied};
 ghost use Rattle.mum_record.specs.Grammar.{revision_word};
 ghost use Rattle.mum_record.specs.Words.{line_of_words, spelled_word};
-ghost use Rattle.mum_core.specs.Core.{connection_at, is_opened};
-ghost use Rattle.mum_core.specs.steps.Tell.{forbids, does, lines, note_cases, told_words, wire_lines};
+ghost use Rattle.mum_core.specs.Core.{is_opened};
+ghost use Rattle.mum_core.specs.steps.Tell.{forbids, does, lines, note_cases, told_words, wire_lines, wire_to};
 
 use super::{Core, Effects, StepFault, illegal};
 use crate::connection::{Reply, tell_at};
@@ -59,10 +60,10 @@ fn push_reply(
     text: &mut String,
     connection: u32,
     note: Option<u64>,
-    wire: &Option<Octets>,
+    wire: Option<&Octets>,
 ) -> Result<(), OutOfMemory>
     ensures { IfOk result (λ _. string_bytes text.new ≡ string_bytes text.old
-        ++ joined (told_words connection note ∷ wire_lines connection wire.now)) }
+        ++ joined (told_words connection note ∷ wire_lines connection (option_copied wire.entry))) }
 {
     push_told(alloc, text, connection, note)?;
     let Some(frame) = wire else {
@@ -95,9 +96,10 @@ fn reply_lines(
     alloc: Global,
     connection: u32,
     note: Option<u64>,
-    wire: &Option<Octets>,
+    wire: Option<&Octets>,
 ) -> Result<Effects, OutOfMemory>
-    ensures { IfOk result (λ told. told ≡ map line_of_words (told_words connection note ∷ wire_lines connection wire.now)) }
+    ensures { IfOk result (λ told. told
+        ≡ map line_of_words (told_words connection note ∷ wire_lines connection (option_copied wire.entry))) }
 {
     let mut told = Items::new(alloc);
     told.push(told_line(alloc, connection, note)?)?;
@@ -127,11 +129,10 @@ impl Core {
         Ok(())
     }
 
-    /// The reply that a connection is told by this step.
-    fn reply_to(&self, connection: u32, note: Option<u64>) -> Result<&Reply, StepFault>
-        ensures { MatchResult result
-            (λ reply. (first_that_stands (forbids self.now connection note) ≡ None) × ((connection_at self.now connection).decided ≡ Some reply.now))
-            (λ fault. first_that_stands (forbids self.now connection note) ≡ named_cause fault) }
+    /// Refuses a tell that is not allowed.
+    fn check_tell(&self, connection: u32, note: Option<u64>) -> Result<(), StepFault>
+        ensures passes { Passes (first_that_stands (forbids self.now connection note)) result }
+        ensures opened { OnOk result (is_opened self.now connection ≡ true) }
     {
         let Some(found) = self.connection(connection) else {
             return Err(self.unopened(connection));
@@ -139,8 +140,18 @@ impl Core {
         let Some(reply) = &found.decided else {
             return Err(illegal(u64::from(connection), 0));
         };
-        self.check_note(reply, note)?;
-        Ok(reply)
+        self.check_note(reply, note)
+    }
+
+    /// The frame that comes on the wire to a connection: that of its reply, where it is not closed.
+    fn wire_to(&self, connection: u32) -> Option<&Octets>
+        ensures { option_copied result ≡ wire_to self.now connection }
+    {
+        let found = self.connection(connection)?;
+        if found.closed.is_some() {
+            return None;
+        }
+        found.decided.as_ref()?.wire.as_ref()
     }
 
     /// A connection is told its reply, and its worker the note.
@@ -165,8 +176,8 @@ impl Core {
         ensures settled { Settles named_cause (first_that_stands (forbids self.old connection note)) (does self.old connection note) self.old result self.new }
         ensures told { OnOk result (string_bytes text.new ≡ string_bytes text.old ++ joined (lines self.old connection note)) }
     {
-        let reply = self.reply_to(connection, note)?;
-        push_reply(self.alloc, text, connection, note, &reply.wire)?;
+        self.check_tell(connection, note)?;
+        push_reply(self.alloc, text, connection, note, self.wire_to(connection))?;
         self.tell(connection, note);
         Ok(())
     }
@@ -182,8 +193,8 @@ impl Core {
             (map line_of_words (lines self.old connection note)) (does self.old connection note)
             self.old result self.new }
     {
-        let reply = self.reply_to(connection, note)?;
-        let told = reply_lines(self.alloc, connection, note, &reply.wire)?;
+        self.check_tell(connection, note)?;
+        let told = reply_lines(self.alloc, connection, note, self.wire_to(connection))?;
         self.tell(connection, note);
         Ok(told)
     }

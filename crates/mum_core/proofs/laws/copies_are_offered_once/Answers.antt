@@ -1,15 +1,28 @@
-use Rattle.mum_core.proofs.Once.{each_is_there_once}
-use Rattle.mum_core.proofs.RunLaws.{copies_are_the_route, nobody_hears_itself, offers_take_the_first}
+use Rattle.mum_core.specs.Core.{start, state_at}
+use Rattle.mum_core.specs.Laws.{ran}
+use Rattle.mum_core.specs.Route.{members}
+use Rattle.mum_core.proofs.Fitted.{lawful_all, lawful_start, state_proper}
+use Rattle.mum_core.proofs.Members.{copies_are_the_route, loopback_is_the_speaker, members_are_apart, members_are_the_route, nobody_hears_itself, pairs_apart}
+use Rattle.mum_core.proofs.RunLaws.{offers_take_the_first}
 use Rattle.mum_core.proofs.laws.copies_are_offered_once.Goals as goal
 
 pub returns-clause-route : goal.returns-clause-route
 returns-clause-route c = copies_are_the_route
 
+pub returns-clause-each_is_there : goal.returns-clause-each_is_there
+returns-clause-each_is_there c = members_are_the_route
+
 pub returns-clause-not_the_speaker : goal.returns-clause-not_the_speaker
 returns-clause-not_the_speaker c = nobody_hears_itself
+
+pub returns-clause-loopback : goal.returns-clause-loopback
+returns-clause-loopback c = loopback_is_the_speaker
 
 pub returns-clause-in_order : goal.returns-clause-in_order
 returns-clause-in_order c = offers_take_the_first
 
 pub returns-clause-each_once : goal.returns-clause-each_once
-returns-clause-each_once c = each_is_there_once
+returns-clause-each_once c = λ opening workers steps revision speaker target proper is.
+    let core = ran (start opening workers) steps in
+    let fine = state_proper core revision (lawful_all (start opening workers) steps (lawful_start opening workers proper)) in
+    pairs_apart (members (state_at core revision) speaker target) (members_are_apart (state_at core revision) speaker target fine)

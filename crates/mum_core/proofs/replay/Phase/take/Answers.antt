@@ -14,7 +14,7 @@ returns-in_ok-next-in-Config c = (
 pub returns-then-not-is_end : goal.returns-then-not-is_end
 returns-then-not-is_end c =
     rw c.in-Running.is (
-    step_goes c.in-Running.core c.take_step.new.core c.in-Running.logins c.take_step.new.logins c.in_ok-step-in-Running.step c.args.line.now
+    step_goes c.in-Running.core c.take_step.new.core c.in_ok-step-in-Running.step c.args.line.now
     (string_bytes c.args.text.now) (string_bytes c.take_step.new.text) c.in_ok-step-in-Running.ensures.said (sym c.is_end.ensures ∙ c.if-not-is_end.true)
     c.requires c.in_ok-take_step-in-Running.ensures
     )
@@ -22,7 +22,7 @@ returns-then-not-is_end c =
 pub returns-in-Running : goal.returns-in-Running
 returns-in-Running c =
     rw (c.in-Running.is, c.turn-in-Running.ensures) (
-    step_ends c.in-Running.core c.take_step.new.core c.in-Running.logins c.take_step.new.logins c.in_ok-step-in-Running.step c.args.line.now
+    step_ends c.in-Running.core c.take_step.new.core c.in_ok-step-in-Running.step c.args.line.now
     (string_bytes c.args.text.now) (string_bytes c.take_step.new.text) c.in_ok-step-in-Running.ensures.said (sym c.is_end.ensures ∙ c.if-not-is_end.false)
     c.requires c.in_ok-take_step-in-Running.ensures
     )

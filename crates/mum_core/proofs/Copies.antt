@@ -1,0 +1,210 @@
+-- What holds of all copies that workers have in hand, where it holds of those of each look; and the steps that leave outboxes as they are.
+use Rattle.std.proofs.Common.{◌≡◌, ℕ, zero, suc, Bool, true, false, cond, List, [], ◌∷◌, ◌++◌, length, map, take, drop, Option, Some, None, Result, Ok, Err, refl, sym, ap, ◌∙◌}
+use Rattle.std.specs.Prelude.{slice_get, slice_index_or, replicate}
+use Rattle.std.specs.List.{AllByRecursion}
+use Rattle.std.specs.Option.{option_map_or}
+use Rattle.mum_base.specs.declared.number.SessionId.{SessionId}
+use Rattle.mum_users.specs.declared.user.User.{User}
+use Rattle.mum_users.specs.Sessions.{session_of}
+use Rattle.mum_state.specs.declared.verdict.Verdict.{Verdict}
+use Rattle.mum_state.specs.After.{led_to}
+use Rattle.mum_state.specs.State.{StateValue}
+use Rattle.mum_route.specs.Route.{Member as Hearer}
+use Rattle.mum_voice.specs.declared.fault.BadVoice.{BadVoice}
+use Rattle.mum_voice.specs.Packet.{Parts, packet}
+use Rattle.mum_core.specs.declared.action.Action.{Action}
+use Rattle.mum_core.specs.declared.action.Action.TheVariants.{Ask, Voice, Echo, Keep, Ignore}
+use Rattle.mum_core.specs.declared.outbox.Parcel.{Parcel}
+use Rattle.mum_core.specs.declared.connection.Seat.{Seat}
+use Rattle.mum_core.specs.declared.worker.Outgoing.{Outgoing}
+use Rattle.mum_core.specs.Action.{action}
+use Rattle.mum_core.specs.Built as steps
+use Rattle.mum_core.specs.Built.{BuiltStep, Open, Frame, Publish, Tell, Look, Offer, Drain, Close, End}
+use Rattle.mum_core.specs.Core.{CoreState, connection_at, worker_at, outbox_at, state_at, at_outbox}
+use Rattle.mum_core.specs.Laws.{ran}
+use Rattle.mum_core.specs.Step.{does}
+use Rattle.mum_core.specs.Worker.{WorkerState, HeldPacket, idle}
+use Rattle.mum_core.specs.steps.Edit as edit_step
+use Rattle.mum_core.specs.steps.Frame as frame_step
+use Rattle.mum_core.specs.steps.Look as look_step
+use Rattle.mum_core.specs.steps.Offer as offer_step
+use Rattle.mum_core.specs.steps.Drain as drain_step
+use Rattle.mum_core.specs.steps.Tell as tell_step
+use Rattle.mum_core.proofs.Changed.{changed-by, length-changed}
+use Rattle.mum_core.proofs.Members.{each_member, member_of}
+use Rattle.mum_core.proofs.RunLaws.{accepted_grows, decided_workers, drain_workers, opening_stays, puts_workers, taken_core, told_core}
+
+-- ---- lists
+
+pub all-pushed : {A : Type 0} (P : A → Type 0) (xs : List A) (x : A) → AllByRecursion P xs → P x → AllByRecursion P (xs ++ x ∷ [])
+all-pushed P [] x all hx = (hx, tt)
+all-pushed P (y ∷ ys) x all hx = (all.0, all-pushed P ys x all.1 hx)
+
+pub all-dropped : {A : Type 0} (P : A → Type 0) (xs : List A) → AllByRecursion P xs → AllByRecursion P (drop 1 xs)
+all-dropped P [] all = tt
+all-dropped P (x ∷ xs) all = all.1
+
+all-mapped : {A B : Type 0} (P : B → Type 0) (f : A → B) (xs : List A) → AllByRecursion (λ x. P (f x)) xs → AllByRecursion P (map f xs)
+all-mapped P f [] all = tt
+all-mapped P f (x ∷ xs) all = (all.0, all-mapped P f xs all.1)
+
+-- ---- a state of a core is one of each later core
+
+-- how many of the first n there are
+abbrev front_length : {A : Type 0} → ℕ → List A → ℕ
+front_length zero xs = zero
+front_length (suc n) [] = zero
+front_length (suc n) (x ∷ xs) = suc (front_length n xs)
+
+take_on : {A : Type 0} (n : ℕ) (xs ys : List A) → take n xs ≡ take (front_length n xs) (xs ++ ys)
+take_on zero xs ys = refl
+take_on (suc n) [] ys = refl
+take_on (suc n) (x ∷ xs) ys = ap (λ rest. x ∷ rest) (take_on n xs ys)
+
+pub state_of_later : (core : CoreState) (run : List BuiltStep) (revision : ℕ) → (later : ℕ) × (state_at core revision ≡ state_at (ran core run) later)
+state_of_later core run revision =
+    let grown = accepted_grows core run in
+    let later : ℕ = front_length revision core.accepted in (
+      later,
+      ap (led_to core.opening) (take_on revision core.accepted grown.0 ∙ ap (take later) (sym grown.1))
+          ∙ ap (λ (opening : StateValue). led_to opening (take later (ran core run).accepted)) (sym (opening_stays core run)),
+    )
+
+-- ---- copies
+
+abbrev pub AllCopies : (Outgoing → Type 0) → CoreState → Type 0
+AllCopies P core = (w : ℕ) → AllByRecursion P (worker_at core w).copies
+
+-- each copy of a look at the state
+abbrev pub AllLooked : (Outgoing → Type 0) → StateValue → Type 0
+AllLooked P state = (held : Option HeldPacket) → AllByRecursion P (look_step.copies state held)
+
+-- those of a look are for users who are found, in their slots
+pub each_looked : (P : Outgoing → Type 0) (state : StateValue)
+    → ((held : HeldPacket) (one : Hearer) (user : User) → session_of state.roster one.0 ≡ Some user → P (look_step.copy_to state held (member_of one user)))
+    → AllLooked P state
+each_looked P state each None = tt
+each_looked P state each (Some held) =
+    all-mapped P (look_step.copy_to state held) (look_step.audience state (Some held))
+    (each_member state held.speaker held.parts.target (λ m. P (look_step.copy_to state held m)) (each held))
+
+abbrev Follows : (Outgoing → Type 0) → WorkerState → WorkerState → Type 0
+Follows P old new = AllByRecursion P old.copies → AllByRecursion P new.copies
+
+all_hears : (P : Outgoing → Type 0) (core : CoreState) (w : ℕ) (speaker : SessionId) (read : Result Parts BadVoice) → AllCopies P core → AllCopies P (frame_step.hears core w speaker read)
+all_hears P core w speaker (Ok parts) all = λ v. changed-by (Follows P) (λ x h. h) core.workers w v _ idle (λ x at here h. h) (all v)
+all_hears P core w speaker (Err fault) all = all
+
+all_frame : (P : Outgoing → Type 0) (core : CoreState) (c : ℕ) (a : Action) → AllCopies P core → AllCopies P (frame_step.does core c a)
+all_frame P core c (Ask command) all = all
+all_frame P core c (Voice speaker payload) all = all_hears P core (connection_at core c).worker speaker (packet payload) all
+all_frame P core c (Echo frame) all = all
+all_frame P core c (Keep number) all = all
+all_frame P core c (Ignore why) all = all
+
+all_notes : (P : Outgoing → Type 0) (core : CoreState) (w : ℕ) (revision : Option ℕ) → AllCopies P core → AllCopies P (tell_step.notes w revision core)
+all_notes P core w None all = all
+all_notes P core w (Some revision) all = λ v. changed-by (Follows P) (λ x h. h) core.workers w v _ idle (λ x at here h. h) (all v)
+
+all_by : (P : Outgoing → Type 0) (old new : CoreState) → new.workers ≡ old.workers → AllCopies P old → AllCopies P new
+all_by P old new same all w = rw same (all w)
+
+pub copies_step : (P : Outgoing → Type 0) (core : CoreState) (step : BuiltStep) → ((revision : ℕ) → AllLooked P (state_at core revision)) → AllCopies P core → AllCopies P (does core step)
+copies_step P core (Open c w) looks all = all
+copies_step P core (Frame c kind payload) looks all = all_frame P core c (action (connection_at core c) kind payload) all
+copies_step P core (steps.Edit c) looks all = all_by P core (does core (steps.Edit c)) (decided_workers core c (edit_step.decision core c)) all
+copies_step P core Publish looks all = all
+copies_step P core (Tell c revision) looks all = all_notes P (told_core core c) (connection_at core c).worker revision all
+copies_step P core (Look w revision) looks all = λ v. changed-by (Follows P) (λ x h. h) core.workers w v _ idle (λ x at here h. looks revision (worker_at core w).held) (all v)
+copies_step P core (Offer w) looks all =
+    all_by P (taken_core core w) (does core (Offer w)) (puts_workers (taken_core core w) (offer_step.next_copy core w))
+    (λ v. changed-by (Follows P) (λ x h. h) core.workers w v _ idle (λ x at here h. all-dropped P x.copies h) (all v))
+copies_step P core (Drain c) looks all = all_by P core (does core (Drain c)) (drain_workers core (connection_at core c).seat) all
+copies_step P core (Close c cause) looks all = all
+copies_step P core End looks all = all
+
+-- what holds of the looks of the last core holds of those of each before it
+pub looks_before : (P : Outgoing → Type 0) (core : CoreState) (run : List BuiltStep) → ((revision : ℕ) → AllLooked P (state_at (ran core run) revision)) → (revision : ℕ) → AllLooked P (state_at core revision)
+looks_before P core run looks revision =
+    let later = state_of_later core run revision in
+    rw later.1 (looks later.0)
+
+pub idle_copies : (P : Outgoing → Type 0) (count w : ℕ) → AllByRecursion P (slice_index_or (replicate count idle) w idle).copies
+idle_copies P zero w = tt
+idle_copies P (suc count) zero = tt
+idle_copies P (suc count) (suc w) = idle_copies P count w
+
+-- ---- totals and outboxes
+
+abbrev pub Still : CoreState → CoreState → Type 0
+Still old new = (new.totals ≡ old.totals) × (new.outboxes ≡ old.outboxes)
+
+hears_still : (core : CoreState) (w : ℕ) (speaker : SessionId) (read : Result Parts BadVoice) → Still core (frame_step.hears core w speaker read)
+hears_still core w speaker (Ok parts) = (refl, refl)
+hears_still core w speaker (Err fault) = (refl, refl)
+
+pub frame_still : (core : CoreState) (c : ℕ) (a : Action) → Still core (frame_step.does core c a)
+frame_still core c (Ask command) = (refl, refl)
+frame_still core c (Voice speaker payload) = hears_still core (connection_at core c).worker speaker (packet payload)
+frame_still core c (Echo frame) = (refl, refl)
+frame_still core c (Keep number) = (refl, refl)
+frame_still core c (Ignore why) = (refl, refl)
+
+pub notes_still : (core : CoreState) (w : ℕ) (revision : Option ℕ) → Still core (tell_step.notes w revision core)
+notes_still core w None = (refl, refl)
+notes_still core w (Some revision) = (refl, refl)
+
+pub decided_still : (core : CoreState) (c : ℕ) (decision : Option Verdict) → Still core (option_map_or (edit_step.decides core c) decision core)
+decided_still core c None = (refl, refl)
+decided_still core c (Some verdict) = (refl, refl)
+
+-- ---- the outbox that a step changes
+
+-- an outbox with one copy more
+abbrev pub put_core : CoreState → Outgoing → CoreState
+put_core core next = at_outbox next.slot.0 (λ parcels. parcels ++ record { to = next.to; bytes = next.bytes } ∷ []) core
+
+-- an outbox without its oldest copy
+abbrev pub rest_core : CoreState → Seat → CoreState
+rest_core core seat = at_outbox seat.slot.0 (λ parcels. drop 1 parcels) core
+
+cond_boxes : (b : Bool) (boxes : List (List Parcel)) (x y : CoreState) → x.outboxes ≡ boxes → y.outboxes ≡ boxes → (cond b x y).outboxes ≡ boxes
+cond_boxes true boxes x y hx hy = hx
+cond_boxes false boxes x y hx hy = hy
+
+pub takes_boxes : (core : CoreState) (seat : Seat) (front : Parcel) → (drain_step.takes core seat (Some front)).outboxes ≡ (rest_core core seat).outboxes
+takes_boxes core seat front = cond_boxes (drain_step.is_for front seat) (rest_core core seat).outboxes _ _ refl refl
+
+-- there are as many outboxes as before
+cond_length : (b : Bool) (n : ℕ) (x y : CoreState) → length x.outboxes ≡ n → length y.outboxes ≡ n → length (cond b x y).outboxes ≡ n
+cond_length true n x y hx hy = hx
+cond_length false n x y hx hy = hy
+
+puts_length : (core : CoreState) (next : Option Outgoing) → length (offer_step.puts core next).outboxes ≡ length core.outboxes
+puts_length core None = refl
+puts_length core (Some next) = cond_length (offer_step.has_room core next.slot.0) (length core.outboxes) _ _ (length-changed core.outboxes next.slot.0 _) refl
+
+takes_length : (core : CoreState) (seat : Seat) (front : Option Parcel) → length (drain_step.takes core seat front).outboxes ≡ length core.outboxes
+takes_length core seat None = refl
+takes_length core seat (Some front) = ap length (takes_boxes core seat front) ∙ length-changed core.outboxes seat.slot.0 _
+
+drained_length : (core : CoreState) (seat : Option Seat) → length (drain_step.does_from core seat).outboxes ≡ length core.outboxes
+drained_length core None = refl
+drained_length core (Some seat) = takes_length core seat (slice_get (outbox_at core seat.slot.0) 0)
+
+pub boxes_step : (core : CoreState) (step : BuiltStep) → length (does core step).outboxes ≡ length core.outboxes
+boxes_step core (Open c w) = refl
+boxes_step core (Frame c kind payload) = ap length (frame_still core c (action (connection_at core c) kind payload)).1
+boxes_step core (steps.Edit c) = ap length (decided_still core c (edit_step.decision core c)).1
+boxes_step core Publish = refl
+boxes_step core (Tell c revision) = ap length (notes_still (told_core core c) (connection_at core c).worker revision).1
+boxes_step core (Look w revision) = refl
+boxes_step core (Offer w) = puts_length (taken_core core w) (offer_step.next_copy core w)
+boxes_step core (Drain c) = drained_length core (connection_at core c).seat
+boxes_step core (Close c cause) = refl
+boxes_step core End = refl
+
+pub empty_box : (count slot : ℕ) → let none : List Parcel = [] in slice_index_or (replicate count none) slot none ≡ none
+empty_box zero slot = refl
+empty_box (suc count) zero = refl
+empty_box (suc count) (suc slot) = empty_box count slot

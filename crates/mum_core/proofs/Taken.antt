@@ -1,0 +1,94 @@
+-- A step, with the line that it takes.
+use Rattle.std.proofs.Common.{◌≡◌, ℕ, Bool, true, false, cond, List, Option, Some, None, Result, Ok, Err, inl, inr, refl, ap, ◌∙◌}
+use Rattle.std.specs.Prelude.{◌⊎◌}
+use Rattle.std.specs.Option.{option_map_or}
+use Rattle.mum_base.specs.Refusal.{Gives}
+use Rattle.mum_base.specs.declared.number.SessionId.{SessionId}
+use Rattle.mum_state.specs.declared.verdict.Verdict.{Verdict}
+use Rattle.mum_voice.specs.declared.fault.BadVoice.{BadVoice}
+use Rattle.mum_voice.specs.Packet.{Parts, packet}
+use Rattle.mum_core.specs.declared.{action.Action.Action, connection.Seat.Seat, machine.StepFault.StepFault, machine.StepFault.TheVariants.OutOfMemory, outbox.Parcel.Parcel, worker.Outgoing.Outgoing}
+use Rattle.mum_core.specs.declared.action.Action.TheVariants.{Ask, Voice, Echo, Keep, Ignore}
+use Rattle.mum_core.specs.Action.{action}
+use Rattle.mum_core.specs.Built.{BuiltStep, Open, Frame, Edit, Publish, Tell, Look, Offer, Drain, Close, End}
+use Rattle.mum_core.specs.Case.{IsStarved, named_cause}
+use Rattle.mum_core.specs.Core.{CoreState, connection_at, at_connection, up}
+use Rattle.mum_core.specs.Connection.{told}
+use Rattle.mum_core.specs.Step.{changes, does, illegal}
+use Rattle.mum_core.specs.steps.Frame as frame_step
+use Rattle.mum_core.specs.steps.Edit as edit_step
+use Rattle.mum_core.specs.steps.Tell as tell_step
+use Rattle.mum_core.specs.steps.Offer as offer_step
+use Rattle.mum_core.specs.steps.Drain as drain_step
+
+-- ---- no change of a step changes the line
+
+hears_line : (core : CoreState) (w : ℕ) (speaker : SessionId) (read : Result Parts BadVoice) → (frame_step.hears core w speaker read).line ≡ core.line
+hears_line core w speaker (Ok parts) = refl
+hears_line core w speaker (Err fault) = refl
+
+frame_line : (core : CoreState) (c : ℕ) (asked : Action) → (frame_step.does core c asked).line ≡ core.line
+frame_line core c (Ask command) = refl
+frame_line core c (Voice speaker payload) = hears_line core (connection_at core c).worker speaker (packet payload)
+frame_line core c (Echo frame) = refl
+frame_line core c (Keep number) = refl
+frame_line core c (Ignore why) = refl
+
+edit_line : (core : CoreState) (c : ℕ) (decision : Option Verdict) → (option_map_or (edit_step.decides core c) decision core).line ≡ core.line
+edit_line core c None = refl
+edit_line core c (Some verdict) = refl
+
+note_line : (core : CoreState) (w : ℕ) (note : Option ℕ) → (tell_step.notes w note core).line ≡ core.line
+note_line core w None = refl
+note_line core w (Some revision) = refl
+
+either_line : (b : Bool) (core one other : CoreState) → one.line ≡ core.line → other.line ≡ core.line → (cond b one other).line ≡ core.line
+either_line true core one other here there = here
+either_line false core one other here there = there
+
+put_line : (core : CoreState) (next : Option Outgoing) → (offer_step.puts core next).line ≡ core.line
+put_line core None = refl
+put_line core (Some next) = either_line (offer_step.has_room core next.slot.0) core _ _ refl refl
+
+taken_line : (core : CoreState) (seat : Seat) (front : Option Parcel) → (drain_step.takes core seat front).line ≡ core.line
+taken_line core seat None = refl
+taken_line core seat (Some front) = either_line (drain_step.is_for front seat) core _ _ refl refl
+
+drain_line : (core : CoreState) (seat : Option Seat) → (drain_step.does_from core seat).line ≡ core.line
+drain_line core None = refl
+drain_line core (Some seat) = taken_line core seat _
+
+pub same_line : (core : CoreState) (step : BuiltStep) → (changes core step).line ≡ core.line
+same_line core (Open c w) = refl
+same_line core (Frame c kind payload) = frame_line core c (action (connection_at core c) kind payload)
+same_line core (Edit c) = edit_line core c (edit_step.decision core c)
+same_line core Publish = refl
+same_line core (Tell c revision) = note_line (at_connection c told core) (connection_at core c).worker revision
+same_line core (Look w revision) = refl
+same_line core (Offer w) = put_line _ (offer_step.next_copy core w)
+same_line core (Drain c) = drain_line core (connection_at core c).seat
+same_line core (Close c cause) = refl
+same_line core End = refl
+
+-- ---- what is done is the change and the line
+
+abbrev with_line : CoreState → ℕ → CoreState
+with_line core line = record core { line = line }
+
+pub done_of : (core mid new : CoreState) (step : BuiltStep) → mid ≡ changes core step → new ≡ record mid { line = up mid.line } → new ≡ does core step
+done_of core mid new step is counted =
+    counted ∙ ap (λ (m : CoreState). with_line m (up m.line)) is ∙ ap (λ (n : ℕ). with_line (changes core step) (up n)) (same_line core step)
+
+-- the same of a tell, which answers what it told
+abbrev answers : List (List ℕ) → Result (List (List ℕ)) StepFault
+answers lines = Ok lines
+
+never_starved : (lines : List (List ℕ)) → answers lines ≡ Err OutOfMemory → ⊥
+never_starved lines e = cc
+
+pub given_of : (core mid new : CoreState) (step : BuiltStep) (given lines : List (List ℕ))
+    → IsStarved core (answers given) mid ⊎ Gives named_cause (illegal core step) lines (changes core step) core (answers given) mid
+    → new ≡ record mid { line = up mid.line }
+    → IsStarved core (answers given) new ⊎ Gives named_cause (illegal core step) lines (does core step) core (answers given) new
+given_of core mid new step given lines (inl starved) counted = absurd (never_starved given starved.0)
+given_of core mid new step given lines (inr gives) counted = inr (gives.0, gives.1, done_of core mid new step gives.2 counted)

@@ -1,5 +1,0 @@
-use Rattle.mum_core.proofs.Present.{marked_among}
-use Rattle.mum_core.proofs.route.is_marked.Goals as goal
-
-pub returns : goal.returns
-returns c = marked_among c.args.scratch.now c.args.channel c.marked.result c.marked.ensures

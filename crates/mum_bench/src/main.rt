@@ -9,6 +9,7 @@ mod frames;
 mod messages;
 mod outbox;
 mod roster;
+mod routes;
 mod state;
 mod tree;
 mod voice;
@@ -30,6 +31,7 @@ fn of_kind(alloc: Global, word: &str, kind: &str, length: usize, count: usize) -
         "config" => config::work(alloc, kind, length, count),
         "decide" => decide::work(alloc, kind, length, count),
         "roster" => roster::work(alloc, kind, length, count),
+        "route" => routes::work(alloc, kind, length, count),
         "state" => state::work(alloc, kind, length, count),
         "tree" => tree::work(alloc, kind, length, count),
         _ => bail!("no such workload"),

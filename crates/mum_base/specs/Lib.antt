@@ -1,5 +1,6 @@
 pub mod Channels
 pub mod Name
+pub mod Octets
 pub mod Perm
 pub mod Refusal
 pub mod Text

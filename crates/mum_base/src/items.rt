@@ -1,28 +1,36 @@
 //! Lists that contracts see as lists, whatever holds them.
 
 ghost use Rattle.std.specs.Prelude.{◌≡◌, ◌++◌, [], ◌∷◌, IfOk, OnOk, OnErr, string_bytes};
-ghost use Rattle.std.specs.Option.{option_copied};
+ghost use Rattle.std.specs.Option.{option_copied, unwrap_or};
 ghost use Rattle.std.specs.Str.{IsUtf8};
 
 use std::alloc::{AllocError, Global};
 use std::marker::Model;
-use std::sync::ArcStr;
+use std::sync::{ArcSlice, ArcStr};
 
 /// Memory ran out. It is the one answer that no clause ties to a cause.
 pub type OutOfMemory = AllocError;
 
+/// How bytes lie in memory: by themselves, or once for all who share them.
+#[derive(Debug, Drop)]
+enum Bytes {
+    Own(Vec<u8>),
+    Shared(ArcSlice<u8>),
+}
+
 /// A list of bytes.
 #[derive(Debug, Drop)]
 pub struct Octets {
-    bytes: Vec<u8>,
+    bytes: Bytes,
 }
 
 impl Model for Octets {
     ghost use Rattle.std.specs.Prelude.{ℕ, List};
+    ghost use Rattle.mum_base.specs.Octets.{held_items};
 
     ghost Value = { List ℕ };
 
-    ghost view = { λ o. o.bytes.items };
+    ghost view = { λ o. held_items o.bytes };
 }
 
 impl Octets {
@@ -30,29 +38,53 @@ impl Octets {
     pub fn of(alloc: Global, bytes: &[u8]) -> Result<Octets, OutOfMemory>
         ensures { IfOk result (λ octets. octets ≡ bytes.now) }
     {
-        Ok(Octets {
-            bytes: Vec::from_slice(alloc, bytes)?,
-        })
+        Ok(Octets::from_vec(Vec::from_slice(alloc, bytes)?))
     }
 
     /// These bytes, without a copy.
     pub fn from_vec(bytes: Vec<u8>) -> Octets
         ensures { result ≡ bytes.items }
     {
-        Octets { bytes }
+        Octets {
+            bytes: Bytes::Own(bytes),
+        }
     }
 
     pub fn as_slice(&self) -> &[u8]
         ensures { result.now ≡ self.now }
     {
-        self.bytes.as_slice()
+        match &self.bytes {
+            Bytes::Own(bytes) => bytes.as_slice(),
+            Bytes::Shared(bytes) => bytes.as_slice(),
+        }
     }
 
-    /// Bytes of its own that are equal.
-    pub fn copy(&self, alloc: Global) -> Result<Octets, OutOfMemory>
-        ensures { IfOk result (λ copy. copy ≡ self.now) }
+    /// These bytes, without a copy, to be held once by all who share them.
+    pub fn into_shared(self) -> Result<Octets, OutOfMemory>
+        ensures { IfOk result (λ shared. shared ≡ self) }
     {
-        Octets::of(alloc, self.as_slice())
+        let bytes = match self.bytes {
+            Bytes::Own(bytes) => ArcSlice::from_vec(bytes)?,
+            Bytes::Shared(bytes) => bytes,
+        };
+        Ok(Octets {
+            bytes: Bytes::Shared(bytes),
+        })
+    }
+
+    /// The same bytes once more. Of bytes that are held once for all it takes no memory, and copies
+    /// nothing: the error stands for more holders than can be counted.
+    pub fn share(&self) -> Result<Octets, OutOfMemory>
+        ensures { IfOk result (λ shared. shared ≡ self.now) }
+    {
+        let bytes = match &self.bytes {
+            Bytes::Own(bytes) => {
+                let alloc = bytes.allocator().clone()?;
+                Bytes::Own(Vec::from_slice(alloc, bytes.as_slice())?)
+            }
+            Bytes::Shared(bytes) => Bytes::Shared(bytes.clone()?),
+        };
+        Ok(Octets { bytes })
     }
 }
 
@@ -144,6 +176,26 @@ impl Text {
             Holding::Shared(text) => Holding::Shared(text.clone()?),
         };
         Ok(Text { text })
+    }
+
+    /// The text, or no byte where none is given.
+    pub fn or_empty(given: &Option<Text>) -> &str
+        ensures { result.now ≡ unwrap_or given.now [] }
+    {
+        match given {
+            Some(text) => text.as_str(),
+            None => "",
+        }
+    }
+
+    /// The same text once more, or an empty one where none is given.
+    pub fn share_or_empty(alloc: Global, given: &Option<Text>) -> Result<Text, OutOfMemory>
+        ensures { IfOk result (λ shared. shared ≡ unwrap_or given.now []) }
+    {
+        match given {
+            Some(text) => text.share(),
+            None => Ok(Text::empty(alloc)),
+        }
     }
 
     /// The same text once more, if one is given.

@@ -24,7 +24,11 @@ fn octets(alloc: Global, way: &str, word: &str) -> Result<String> {
     let octets = match way {
         "of" => Octets::of(alloc, &bytes)?,
         "from" => Octets::from_vec(bytes),
-        "copy" => Octets::of(alloc, &bytes)?.copy(alloc)?,
+        "copy" => Octets::of(alloc, &bytes)?.share()?,
+        "shared" => Octets::from_vec(bytes)
+            .into_shared()?
+            .into_shared()?
+            .share()?,
         _ => bail!("no way to make octets: {way}"),
     };
     hex_of(alloc, octets.as_slice())

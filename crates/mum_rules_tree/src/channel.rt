@@ -1,14 +1,13 @@
-//! Channels as messages name them, and texts that they may leave away.
+//! Channels as messages name them.
 
-ghost use Rattle.std.specs.Prelude.{◌≡◌, IfOk};
+ghost use Rattle.std.specs.Prelude.{◌≡◌};
 ghost use Rattle.mum_tree.specs.Refusals.{name_of, parent_of};
 ghost use Rattle.mum_tree.specs.Rows.{is_there};
-ghost use Rattle.mum_rules_tree.specs.Asked.{channel_or_root, text_or_empty};
+ghost use Rattle.mum_rules_tree.specs.Asked.{channel_or_root};
 ghost use Rattle.mum_rules_tree.specs.Limits.{new_number};
 
-use mum_base::{ChannelId, OutOfMemory, Text};
+use mum_base::ChannelId;
 use mum_tree::Tree;
-use std::alloc::Global;
 
 /// The channel of a number, or the root where a message has none.
 pub(crate) fn channel_or_root(number: Option<u32>) -> ChannelId
@@ -51,23 +50,4 @@ pub(crate) fn new_number(tree: &Tree) -> ChannelId
     ensures { result ≡ new_number tree.now }
 {
     tree.next_id().unwrap_or(ChannelId::ROOT)
-}
-
-pub(crate) fn text_or_empty(text: &Option<Text>) -> &str
-    ensures { result.now ≡ text_or_empty text.now }
-{
-    match text {
-        Some(text) => text.as_str(),
-        None => "",
-    }
-}
-
-/// A text that is shared, or an empty one.
-pub(crate) fn share_or_empty(alloc: Global, text: &Option<Text>) -> Result<Text, OutOfMemory>
-    ensures { IfOk result (λ shared. shared ≡ text_or_empty text.now) }
-{
-    match text {
-        Some(text) => text.share(),
-        None => Ok(Text::empty(alloc)),
-    }
 }

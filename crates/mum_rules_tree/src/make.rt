@@ -10,10 +10,10 @@ ghost use Rattle.mum_rules_tree.specs.Needs.{making};
 ghost use Rattle.mum_rules_tree.specs.Outcome.{edit_to_make, info_of_new};
 ghost use Rattle.mum_rules_tree.specs.Verdict.{command_verdict};
 
-use crate::channel::{channel_or_root, new_number, share_or_empty, text_or_empty};
+use crate::channel::{channel_or_root, new_number};
 use crate::deny::{DenyType, deny_type_of};
 use crate::needs::need;
-use mum_base::{ChannelId, OutOfMemory, Perm, SessionId, check_name, check_text};
+use mum_base::{ChannelId, OutOfMemory, Perm, SessionId, Text, check_name, check_text};
 use mum_msg_state::ChannelState;
 use mum_policy::Who;
 use mum_state::{Edit, State, Verdict};
@@ -62,7 +62,7 @@ fn info_of_new(alloc: Global, message: &ChannelState) -> Result<ChannelInfo, Out
     ensures { IfOk result (λ info. info ≡ info_of_new message.now) }
 {
     Ok(ChannelInfo {
-        description: share_or_empty(alloc, &message.description)?,
+        description: Text::share_or_empty(alloc, &message.description)?,
         position: message.position.unwrap_or(0),
         max_users: message.max_users.unwrap_or(0),
     })
@@ -79,7 +79,7 @@ fn edit_to_make(
     Ok(Edit::MakeChannel {
         id: new_number(tree),
         parent: channel_or_root(message.parent),
-        name: share_or_empty(alloc, &message.name)?,
+        name: Text::share_or_empty(alloc, &message.name)?,
         temporary: is_to_be_temporary(message),
         info: info_of_new(alloc, message)?,
         maker: Some(actor),
@@ -102,8 +102,8 @@ pub(crate) fn decide_new(
     if let Err(lack) = need(state, who, making(message), parent) {
         return Ok(lack.verdict());
     }
-    let name = text_or_empty(&message.name);
-    let description = text_or_empty(&message.description);
+    let name = Text::or_empty(&message.name);
+    let description = Text::or_empty(&message.description);
     if let Some(kind) = limit_of_new(tree, parent, name, description) {
         return Ok(kind.verdict());
     }

@@ -4,14 +4,12 @@ ghost use Rattle.std.specs.Prelude.{◌≡◌, IfOk, filter, map, not};
 ghost use Rattle.std.specs.List.{list_all, list_any};
 ghost use Rattle.std.specs.Str.{bytes_eq};
 ghost use Rattle.mum_state.specs.Proper.{is_name};
-ghost use Rattle.mum_rules_tree.specs.Asked.{text_or_empty};
 ghost use Rattle.mum_rules_tree.specs.Decision.{first_standing};
 ghost use Rattle.mum_rules_tree.specs.Limits.{limits_of_policy};
 ghost use Rattle.mum_rules_tree.specs.Policy.{accounts, entry_asked, group_asked, has_twice, is_inherited, permissions_among, policy_asked, true_unless_said, whom_asked};
 
-use crate::channel::share_or_empty;
 use crate::deny::DenyType;
-use mum_base::{AccountId, Items, OutOfMemory, Perm, check_name};
+use mum_base::{AccountId, Items, OutOfMemory, Perm, Text, check_name};
 use mum_msg_rule::{Acl, AclGroup, AclLine};
 use mum_policy::{AclEntry, ChannelPolicy, Group, Whom};
 use std::alloc::Global;
@@ -42,7 +40,7 @@ fn group_asked(alloc: Global, group: &AclGroup) -> Result<Group, OutOfMemory>
     ensures { IfOk result (λ asked. asked ≡ group_asked group.now) }
 {
     Ok(Group {
-        name: share_or_empty(alloc, &group.name)?,
+        name: Text::share_or_empty(alloc, &group.name)?,
         inherit: true_unless_said(group.inherit),
         inheritable: true_unless_said(group.inheritable),
         add: accounts(alloc, group.add.as_slice())?,
@@ -55,7 +53,7 @@ fn whom_asked(alloc: Global, line: &AclLine) -> Result<Whom, OutOfMemory>
 {
     match line.user_id {
         Some(number) => Ok(Whom::Account(AccountId(number))),
-        None => Ok(Whom::Group(share_or_empty(alloc, &line.group)?)),
+        None => Ok(Whom::Group(Text::share_or_empty(alloc, &line.group)?)),
     }
 }
 

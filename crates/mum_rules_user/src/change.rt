@@ -97,11 +97,11 @@ fn limit_of_change(
     None
 }
 
-fn shared_octets(alloc: Global, octets: &Option<Octets>) -> Result<Option<Octets>, OutOfMemory>
+fn shared_octets(octets: &Option<Octets>) -> Result<Option<Octets>, OutOfMemory>
     ensures { IfOk result (λ copy. copy ≡ octets.now) }
 {
     match octets {
-        Some(octets) => Ok(Some(octets.copy(alloc)?)),
+        Some(octets) => Ok(Some(octets.share()?)),
         None => Ok(None),
     }
 }
@@ -129,7 +129,7 @@ fn edit_to_change(
         self_deaf: message.self_deaf,
         recording: message.recording,
         comment: Text::share_given(message.comment.as_ref())?,
-        context: shared_octets(alloc, &message.plugin_context)?,
+        context: shared_octets(&message.plugin_context)?,
         listen,
         unlisten: channels(alloc, message.listening_channel_remove.as_slice())?,
     })

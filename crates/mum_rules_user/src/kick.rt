@@ -8,8 +8,8 @@ ghost use Rattle.mum_rules_user.specs.Needs.{is_ban, needs_to_kick};
 ghost use Rattle.mum_rules_user.specs.Verdict.{command_verdict};
 
 use crate::moving::may_either;
-use crate::session::{is_protected, session_or, share_or_empty};
-use mum_base::{ChannelId, OutOfMemory, Perm};
+use crate::session::{is_protected, session_or};
+use mum_base::{ChannelId, OutOfMemory, Perm, Text};
 use mum_msg_state::UserRemove;
 use mum_policy::Who;
 use mum_rules_tree::{DenyType, Lack, need};
@@ -60,7 +60,7 @@ pub(crate) fn decide_kick(
     Ok(Verdict::Accepted(Edit::Kick {
         session,
         actor: who.session,
-        reason: share_or_empty(alloc, &message.reason)?,
+        reason: Text::share_or_empty(alloc, &message.reason)?,
         ban: is_ban(message),
     }))
 }

@@ -13,7 +13,6 @@ ghost use Rattle.mum_rules_user.specs.Login.{edit_to_join, is_digest_of, is_no_g
 ghost use Rattle.mum_rules_user.specs.Verdict.{login_verdict};
 
 use crate::reject::{OLDEST_VERSION, RejectType};
-use crate::session::{share_or_empty, str_or_empty};
 use mum_base::{AccountId, Items, OutOfMemory, SessionId, Slot, Text, check_name};
 use mum_msg_state::Authenticate;
 use mum_state::{Account, Edit, State, Verdict};
@@ -100,11 +99,11 @@ fn limit_of_login(state: &State, version: Option<u32>, message: &Authenticate) -
     if is_old(version) {
         return Some(RejectType::WrongVersion);
     }
-    let name = str_or_empty(&message.username);
+    let name = Text::or_empty(&message.username);
     if check_name(name).is_err() {
         return Some(RejectType::InvalidUsername);
     }
-    let password = str_or_empty(&message.password);
+    let password = Text::or_empty(&message.password);
     let account = state.account_named(name);
     if is_not_the_owner(account, password) {
         return Some(RejectType::WrongUserPW);
@@ -139,8 +138,8 @@ fn edit_to_join(
     Ok(Edit::Join {
         session,
         slot,
-        name: share_or_empty(alloc, &message.username)?,
-        account: account_number(state, str_or_empty(&message.username)),
+        name: Text::share_or_empty(alloc, &message.username)?,
+        account: account_number(state, Text::or_empty(&message.username)),
         tokens: tokens_kept(alloc, message.tokens.as_slice())?,
     })
 }

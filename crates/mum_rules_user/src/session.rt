@@ -1,11 +1,10 @@
 //! Sessions as messages name them.
 
 ghost use Rattle.std.specs.Prelude.{◌≡◌, IfOk};
-ghost use Rattle.mum_rules_tree.specs.Asked.{text_or_empty};
 ghost use Rattle.mum_rules_user.specs.Asked.{channel_of, channels, is_here, is_oneself, session_or};
 ghost use Rattle.mum_rules_user.specs.Limits.{is_protected, is_super_user};
 
-use mum_base::{AccountId, ChannelId, Items, OutOfMemory, SessionId, Text};
+use mum_base::{AccountId, ChannelId, Items, OutOfMemory, SessionId};
 use mum_users::Roster;
 use std::alloc::Global;
 
@@ -66,24 +65,4 @@ pub(crate) fn channels(alloc: Global, numbers: &[u32]) -> Result<Items<ChannelId
         listed.push(ChannelId(*number))?;
     }
     Ok(Items::from_vec(listed))
-}
-
-/// A text that may be left away, as bytes of a string.
-pub(crate) fn str_or_empty(text: &Option<Text>) -> &str
-    ensures { result.now ≡ text_or_empty text.now }
-{
-    match text {
-        Some(text) => text.as_str(),
-        None => "",
-    }
-}
-
-/// A text that is shared, or an empty one.
-pub(crate) fn share_or_empty(alloc: Global, text: &Option<Text>) -> Result<Text, OutOfMemory>
-    ensures { IfOk result (λ shared. shared ≡ text_or_empty text.now) }
-{
-    match text {
-        Some(text) => text.share(),
-        None => Ok(Text::empty(alloc)),
-    }
 }

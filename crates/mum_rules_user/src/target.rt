@@ -8,9 +8,8 @@ ghost use Rattle.mum_rules_tree.specs.Decision.{unless_refused};
 ghost use Rattle.mum_rules_user.specs.Asked.{item_asked, number_of_target, target_asked};
 ghost use Rattle.mum_rules_user.specs.Limits.{limits_of_target};
 
-use crate::session::share_or_empty;
 use crate::text::sessions;
-use mum_base::{ChannelId, Items, OutOfMemory, SessionId};
+use mum_base::{ChannelId, Items, OutOfMemory, SessionId, Text};
 use mum_msg_rule::{TargetBlock, VoiceTarget};
 use mum_rules_tree::DenyType;
 use mum_state::{Edit, Verdict};
@@ -33,7 +32,7 @@ fn item_asked(alloc: Global, block: &TargetBlock) -> Result<TargetItem, OutOfMem
     Ok(TargetItem {
         sessions: sessions(alloc, block.session.as_slice())?,
         channel: channel_if_given(block.channel_id),
-        group: share_or_empty(alloc, &block.group)?,
+        group: Text::share_or_empty(alloc, &block.group)?,
         links: block.links.unwrap_or(false),
         children: block.children.unwrap_or(false),
     })

@@ -10,7 +10,7 @@ ghost use Rattle.mum_rules_user.specs.Asked.{Command, channels_of, channels_ther
 ghost use Rattle.mum_rules_user.specs.Outcome.{edit_to_tell};
 ghost use Rattle.mum_rules_user.specs.Verdict.{command_verdict};
 
-use crate::session::{channels, share_or_empty};
+use crate::session::channels;
 use mum_base::{ChannelId, Items, OutOfMemory, Perm, SessionId, Text, check_text};
 use mum_msg_rule::TextMessage;
 use mum_policy::Who;
@@ -84,7 +84,7 @@ fn edit_to_tell(alloc: Global, actor: SessionId, message: &TextMessage) -> Resul
         sessions: sessions(alloc, message.session.as_slice())?,
         channels: channels(alloc, message.channel_id.as_slice())?,
         trees: channels(alloc, message.tree_id.as_slice())?,
-        message: share_or_empty(alloc, &message.message)?,
+        message: Text::share_or_empty(alloc, &message.message)?,
     })
 }
 

@@ -130,7 +130,7 @@ impl User {
             recording: self.recording,
             tokens: shared_texts(alloc, self.tokens.as_slice())?,
             comment: self.comment.share()?,
-            context: self.context.copy(alloc)?,
+            context: self.context.share()?,
         })
     }
 }

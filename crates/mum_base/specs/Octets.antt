@@ -1,0 +1,9 @@
+-- Bytes as a list, however they lie in memory.
+use Rattle.std.specs.Prelude.{ℕ, List}
+use Rattle.std.specs.Arc.{arc_slice_items}
+use Rattle.mum_base.specs.declared.items.Bytes.{Bytes}
+use Rattle.mum_base.specs.declared.items.Bytes.TheVariants.{Own, Shared}
+
+abbrev pub held_items : Bytes → List ℕ
+held_items (Own bytes) = bytes.items
+held_items (Shared bytes) = arc_slice_items bytes

@@ -15,3 +15,8 @@ pub mod Missing
 pub mod Puts
 pub mod Rows
 pub mod ReadBack
+pub mod Sizes
+pub mod Outlines
+pub mod Kept
+pub mod Passes
+pub mod Decodes

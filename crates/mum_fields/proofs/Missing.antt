@@ -1,7 +1,6 @@
 -- The least of numbers that are missing, one by one.
-use Rattle.std.proofs.Common.{◌≡◌, ℕ, ◌+◌, ◌<◌, List, [], ◌∷◌, ◌++◌, length, get_or, take, map, Option, Some, None, refl, ap, ◌∙◌, sym, arith}
-use Rattle.std.proofs.lemmas.List.{map-append, map_more}
-use Rattle.mum_fields.specs.Table.{Table, layout, parts, lesser, least, missing}
+use Rattle.std.proofs.Common.{◌≡◌, ℕ, List, [], ◌∷◌, ◌++◌, Option, Some, None, refl, ap, sym, arith}
+use Rattle.mum_fields.specs.Table.{lesser, least}
 
 lesser-assoc : (a b c : Option ℕ) → lesser (lesser a b) c ≡ lesser a (lesser b c)
 lesser-assoc None b c = refl
@@ -16,14 +15,3 @@ lesser-none (Some n) = refl
 pub least-more : (xs : List (Option ℕ)) (x : Option ℕ) → least (xs ++ x ∷ []) ≡ lesser (least xs) x
 least-more [] x = lesser-none x
 least-more (y ∷ ys) x = rw (least-more ys x) (sym (lesser-assoc y (least ys) x))
-
--- one more message
-pub least-next : {M : Type 0} (rows : Table M) (xs : List M) (i : ℕ) (x : M) → i < length xs → x ≡ get_or xs i x
-    → least (map (missing (layout rows)) (map (parts rows) (take (i + 1) xs))) ≡ lesser (least (map (missing (layout rows)) (map (parts rows) (take i xs)))) (missing (layout rows) (parts rows x))
-least-next rows xs i x within is =
-    let told = missing (layout rows) in
-    let before = map (parts rows) (take i xs) in
-    let one = parts rows x in
-    ap (λ ys. least (map told ys)) (map_more (parts rows) xs i x within ∙ ap (λ y. before ++ parts rows y ∷ []) (sym is))
-    ∙ ap least (map-append told before (one ∷ []))
-    ∙ least-more (map told before) (told one)

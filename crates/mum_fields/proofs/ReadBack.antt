@@ -8,7 +8,9 @@ use Rattle.mum_fields.specs.Field.{Entry, IsNumber, last_number}
 use Rattle.mum_fields.specs.Payload.{Walk, fields}
 use Rattle.mum_fields.specs.Written.{Item, spelling, written, FitsContent, Fits, placed_at, placed_from}
 use Rattle.mum_fields.specs.Message.{Rule, fault_in, any_block, first_fault, every, messages_of, message}
-use Rattle.mum_fields.specs.Table.{Label, Kind, Value, Layout, Nothing, Field, Blocks, Values, Table, layout, parts, rising, unset, value_after, no_values, values_after, rule_of, rules, missing, whole, gathered, decoded, ReadsAs, row_items, each_message, items, spelled}
+use Rattle.mum_fields.specs.declared.shape.Kind.{Kind}
+use Rattle.mum_fields.specs.declared.shape.Label.{Label}
+use Rattle.mum_fields.specs.Table.{Value, Layout, Nothing, Field, Blocks, Values, Table, layout, parts, rising, unset, value_after, no_values, values_after, rule_of, rules, missing, whole, gathered, decoded, ReadsAs, row_items, each_message, items, spelled}
 use Rattle.mum_fields.specs.Typed.{IsTyped, AreTyped, AreTypedBlocks}
 use Rattle.mum_fields.proofs.Payloads.{fields-written}
 use Rattle.mum_fields.proofs.Encoding.{placed_from-append, every-append, AreOthers, every-others}
@@ -26,20 +28,20 @@ all-weaker P Q (x ∷ xs) weaker h = (weaker x h.0, all-weaker P Q xs weaker h.1
 
 -- ---- fields whose numbers rise
 
-abbrev Rises : ℕ → Layout → Type 0
+abbrev pub Rises : ℕ → Layout → Type 0
 Rises low Nothing = Unit {0}
 Rises low (Field label kind number others) = (low < number) × (number ≤ last_number) × Rises number others
 Rises low (Blocks inside number others) = (low < number) × (number ≤ last_number) × Rises number others × Rises 0 inside
 
-first_true : (a b : Bool) → (a && b) ≡ true → a ≡ true
+pub first_true : (a b : Bool) → (a && b) ≡ true → a ≡ true
 first_true true b h = refl
 first_true false b h = h
 
-second_true : (a b : Bool) → (a && b) ≡ true → b ≡ true
+pub second_true : (a b : Bool) → (a && b) ≡ true → b ≡ true
 second_true true b h = h
 second_true false b h = absurd (cc)
 
-rises : (low : ℕ) (form : Layout) → rising low form ≡ true → Rises low form
+pub rises : (low : ℕ) (form : Layout) → rising low form ≡ true → Rises low form
 rises low Nothing h = tt
 rises low (Field label kind number others) h =
     let most = leb number last_number in

@@ -9,7 +9,12 @@ use Rattle.mum_fields.specs.Written.{Item, varint_item, block_item, spelling, wr
 use Rattle.mum_fields.specs.Message.{Rule, text, any_block, fault_in, every, numbers_of, messages_of}
 use Rattle.mum_fields.proofs.Texts.{text-read}
 use Rattle.mum_fields.proofs.Encoding.{last-append, every-append, AreOthers, last-others, every-others, every-take, last-block_items, every-each_block}
-use Rattle.mum_fields.specs.Table.{Scalar, Scalar_of, Kind, One, Number, Utf8, Raw, Label, Optional, Required, RequiredOr, Repeated, Value, value_of, scalar_number, one_in, all_in, unset, value_after, rule_of, one_item, row_items, each_message}
+use Rattle.mum_fields.specs.declared.shape.Kind.{Kind}
+use Rattle.mum_fields.specs.declared.shape.Kind.TheVariants.{Number, Utf8, Raw}
+use Rattle.mum_fields.specs.declared.shape.Label.{Label}
+use Rattle.mum_fields.specs.declared.shape.Label.TheVariants.{Optional, Required, RequiredOr, Repeated}
+use Rattle.mum_fields.specs.declared.shape.Scalar.{Scalar}
+use Rattle.mum_fields.specs.Table.{Scalar_of, One, Value, value_of, scalar_number, one_in, all_in, unset, value_after, rule_of, one_item, row_items, each_message}
 use Rattle.mum_fields.specs.Typed.{IsOne, IsText, IsBytes, IsTyped}
 
 pub record IsItem (number : ℕ) (rule : Rule) (item : Item) : Type 0 where

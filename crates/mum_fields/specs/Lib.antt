@@ -10,3 +10,4 @@ pub mod Written
 pub mod Cursor
 pub mod Table
 pub mod Typed
+pub mod Survey

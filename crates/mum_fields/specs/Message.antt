@@ -1,6 +1,6 @@
 -- What a message takes from the fields of a payload, from left to right. Each definition goes on from what
 -- came before: so "what is there so far, and then the rest" is the same as all at once.
-use Rattle.std.specs.Prelude.{◌≡◌, ℕ, take, ◌==◌, List, [], ◌∷◌, ◌++◌, map, Option, Some, None, Result, Ok, Err, if◌then◌else◌}
+use Rattle.std.specs.Prelude.{◌≡◌, ℕ, take, ◌==◌, List, [], ◌∷◌, ◌++◌, map, Option, Some, None, Result, Ok, Err, IsOk, if◌then◌else◌}
 use Rattle.std.specs.Str.{is_utf8}
 use Rattle.mum_fields.specs.declared.fault.FaultKind.TheVariants.{BadText}
 use Rattle.mum_fields.specs.declared.fault.FieldFault.{FieldFault}
@@ -132,15 +132,21 @@ unless None m = Ok m
 abbrev pub outcome : {M : Type 0} → (ℕ → Rule) → (List Entry → M) → Walk Entry → Result M MessageFault
 outcome rules make w = unless (first_fault rules w.items w.fault) (make w.items)
 
--- What a call answered, seen by view, is what is decoded, unless memory ran out.
-abbrev pub Refuses : {Y : Type 0} → MessageFault → Result Y MessageFault → Type 0
-Refuses (Field e) decoded = decoded ≡ Err (Field e)
-Refuses (MissingField number) decoded = decoded ≡ Err (MissingField number)
-Refuses OutOfMemory decoded = Unit {0}
+-- This is why it is not decoded; or memory ran out, and then this holds.
+abbrev pub Refuses : {Y : Type 0} → Type 0 → MessageFault → Result Y MessageFault → Type 0
+Refuses starved (Field e) decoded = decoded ≡ Err (Field e)
+Refuses starved (MissingField number) decoded = decoded ≡ Err (MissingField number)
+Refuses starved OutOfMemory decoded = starved
 
+-- What a call answered, seen by view, is what is decoded. Memory runs out only where a message is decoded.
 abbrev pub Decodes : {X Y : Type 0} → (X → Y) → Result X MessageFault → Result Y MessageFault → Type 0
 Decodes view (Ok x) decoded = decoded ≡ Ok (view x)
-Decodes view (Err e) decoded = Refuses e decoded
+Decodes view (Err e) decoded = Refuses (IsOk decoded) e decoded
+
+-- The same where memory may run out before a fault.
+abbrev pub Gathers : {X Y : Type 0} → (X → Y) → Result X MessageFault → Result Y MessageFault → Type 0
+Gathers view (Ok x) gathered = gathered ≡ Ok (view x)
+Gathers view (Err e) gathered = Refuses (Unit {0}) e gathered
 
 -- A call failed by this fault of a field, or since memory ran out.
 abbrev pub IsFaultOf : MessageFault → Option FieldFault → Type 0

@@ -5,32 +5,19 @@
 use Rattle.std.specs.Prelude.{◌≡◌, ℕ, ℤ, Bool, true, false, List, [], ◌∷◌, ◌++◌, map, min, ◌==◌, nat_lt, nat_le, ◌&&◌, Option, Some, None, Result, Ok, Err, if◌then◌else◌}
 use Rattle.mum_fields.specs.declared.message.MessageFault.{MessageFault}
 use Rattle.mum_fields.specs.declared.message.MessageFault.TheVariants.{MissingField, OutOfMemory}
+use Rattle.mum_fields.specs.declared.shape.Kind.{Kind}
+use Rattle.mum_fields.specs.declared.shape.Kind.TheVariants.{Number, Utf8, Raw}
+use Rattle.mum_fields.specs.declared.shape.Label.{Label}
+use Rattle.mum_fields.specs.declared.shape.Label.TheVariants.{Optional, Required, RequiredOr, Repeated}
+use Rattle.mum_fields.specs.declared.shape.Scalar.{Scalar}
+use Rattle.mum_fields.specs.declared.shape.Scalar.TheVariants.{Unsigned32, Unsigned64, Signed32, Truth}
 use Rattle.mum_fields.specs.Number.{low_32, signed_32, truth, extended, truth_number}
 use Rattle.mum_fields.specs.Field.{Entry, last_number}
 use Rattle.mum_fields.specs.Payload.{Walk, at_start, fields}
 use Rattle.mum_fields.specs.Written.{Item, written, block_item, number_items, block_items, each_number, each_block}
 use Rattle.mum_fields.specs.Message.{Decodes, Rule, any_block, text, packed_numbers, message, varint_of, block_of, blocks_of, messages_of, numbers_of, last, every, outcome}
 
--- ---- types and labels
-
--- the types that go as varints
-pub data Scalar : Type 0 where
-  Unsigned32 : Scalar
-  Unsigned64 : Scalar
-  Signed32 : Scalar
-  Truth : Scalar
-
-pub data Kind : Type 0 where
-  Number : Scalar → Kind
-  Utf8 : Kind
-  Raw : Kind
-
-pub data Label : Type 0 where
-  Optional : Label
-  Required : Label
-  -- required where the later field of that number is not set
-  RequiredOr : ℕ → Label
-  Repeated : Label
+-- ---- types: those of numbers, texts and bytes
 
 -- the types under their names in Mumble.proto
 abbrev pub uint32 : Kind
@@ -194,6 +181,10 @@ abbrev pub least : List (Option ℕ) → Option ℕ
 least [] = None
 least (number ∷ numbers) = lesser number (least numbers)
 
+abbrev pub has_items : {X : Type 0} → List X → Bool
+has_items [] = false
+has_items (x ∷ xs) = true
+
 abbrev pub has_value : (label : Label) → (kind : Kind) → Value label kind → Bool
 has_value Optional kind None = false
 has_value Optional kind (Some x) = true
@@ -201,14 +192,13 @@ has_value Required kind None = false
 has_value Required kind (Some x) = true
 has_value (RequiredOr other) kind None = false
 has_value (RequiredOr other) kind (Some x) = true
-has_value Repeated kind [] = false
-has_value Repeated kind (x ∷ xs) = true
+has_value Repeated kind values = has_items values
 
 -- the field of this number is set
 abbrev pub is_set : (fields : Layout) → Values fields → ℕ → Bool
 is_set Nothing values n = false
 is_set (Field label kind number others) values n = if n == number then has_value label kind values.0 else is_set others values.1 n
-is_set (Blocks inside number others) values n = is_set others values.1 n
+is_set (Blocks inside number others) values n = if n == number then has_items values.0 else is_set others values.1 n
 
 abbrev pub missing_in : (label : Label) → (kind : Kind) → ℕ → Value label kind → (ℕ → Bool) → Option ℕ
 missing_in Optional kind number value is_later_set = None
@@ -239,8 +229,12 @@ abbrev pub gathered : (fields : Layout) → Walk Entry → Result (Values fields
 gathered fields found = outcome (rules fields) (values_after fields (no_values fields)) found
 
 -- the values that a payload gives, or its first fault; and where it has none, the least number that is missing
+abbrev pub decoded_by : (form : Layout) → List ℕ → Result (Values form) MessageFault
+decoded_by form payload = whole form (gathered form (fields (at_start payload)))
+
+-- the same by the table of a message
 abbrev pub decoded : {M : Type 0} → (rows : Table M) → List ℕ → Result (Values (layout rows)) MessageFault
-decoded rows payload = whole (layout rows) (gathered (layout rows) (fields (at_start payload)))
+decoded rows payload = decoded_by (layout rows) payload
 
 -- ---- writing
 

@@ -4,7 +4,11 @@ use Rattle.std.specs.Prelude.{◌≡◌, ℕ, ◌<◌, ◌^◌, List, length, If
 use Rattle.std.specs.List.{All}
 use Rattle.std.specs.Str.{IsUtf8}
 use Rattle.mum_fields.specs.Written.{written}
-use Rattle.mum_fields.specs.Table.{Kind, Number, Utf8, Raw, Label, Optional, Required, RequiredOr, Repeated, One, Value, Layout, Nothing, Field, Blocks, Values, value_of, scalar_number, items}
+use Rattle.mum_fields.specs.declared.shape.Kind.{Kind}
+use Rattle.mum_fields.specs.declared.shape.Kind.TheVariants.{Number, Utf8, Raw}
+use Rattle.mum_fields.specs.declared.shape.Label.{Label}
+use Rattle.mum_fields.specs.declared.shape.Label.TheVariants.{Optional, Required, RequiredOr, Repeated}
+use Rattle.mum_fields.specs.Table.{One, Value, Layout, Nothing, Field, Blocks, Values, value_of, scalar_number, items}
 
 abbrev pub IsScalar : {X : Type 0} → (ℕ → X) → (X → ℕ) → X → Type 0
 IsScalar value number x = (value (number x) ≡ x) × (number x < 2 ^ 64)

@@ -1,12 +1,13 @@
 //! What all messages share: why a payload is none, what is missing, and how they are read and
 //! written.
 
-ghost use Rattle.std.specs.Prelude.{◌≡◌, ◌∷◌, [], ◌++◌, map, OnOk, OnErr, IfOk, IfErr, None, Some, true, is_some, if◌then◌else◌};
+ghost use Rattle.std.specs.Prelude.{◌≡◌, ◌∷◌, [], ◌++◌, map, OnOk, OnErr, IfOk, IfErr, None, true};
 ghost use Rattle.mum_fields.specs.Field.{entry_of};
 ghost use Rattle.mum_fields.specs.Payload.{fields};
-ghost use Rattle.mum_fields.specs.Message.{Decodes, longer, message, messages_of, only, entry_fault, IsFaultOf};
+ghost use Rattle.mum_fields.specs.Message.{Decodes, Gathers, longer, message, messages_of, only, entry_fault, IsFaultOf};
 ghost use Rattle.mum_fields.specs.Written.{written};
-ghost use Rattle.mum_fields.specs.Table.{Table, ReadsAs, layout, parts, items, rising, rules, no_values, values_after, gathered, lesser, least, missing, decoded, spelled};
+ghost use Rattle.mum_fields.specs.Table.{Table, ReadsAs, layout, parts, items, rising, rules, no_values, values_after, gathered, lesser, missing, decoded, spelled};
+ghost use Rattle.mum_fields.specs.Survey.{surveyed};
 ghost use Rattle.mum_fields.specs.Typed.{AreTyped};
 ghost use Rattle.mum_fields.specs.declared.message.MessageFault.TheVariants.{Field, OutOfMemory};
 
@@ -87,9 +88,10 @@ pub trait Message: Drop {
             ≡ writer ++ written (items (layout rows) (parts rows self.now))) }
         ensures typed { OnOk result (AreTyped (layout rows) (parts rows self.now)) };
 
-    /// The least required number that is not set, in the message or in a block of it.
-    fn missing(&self) -> Option<u32>
-        ensures { result ≡ missing (layout rows) (parts rows self.now) };
+    /// How many bytes the message of a payload has as this server spells it, or 2^64 - 1 where they
+    /// are more; or why the payload is no message. It takes no memory, and copies nothing.
+    fn survey(payload: &[u8]) -> Result<u64, MessageFault>
+        ensures { result ≡ surveyed rows payload.now };
 
     ghost in_order: { rising 0 (layout rows) ≡ true };
 
@@ -97,17 +99,14 @@ pub trait Message: Drop {
     ghost told_by_parts: { (m n : Self) → parts rows m ≡ parts rows n → m ≡ n };
 
     /// The message that a payload is. A field of another number or wire type is passed over, in
-    /// blocks too. A refusal is the first fault of a field with its place in the whole payload, or
-    /// want of memory; where each field is whole, it is the least required number that is missing,
-    /// in the message or in a block of it.
+    /// blocks too. A refusal is the first fault of a field with its place in the whole payload;
+    /// where each field is whole, it is the least required number that is missing, in the message or
+    /// in a block of it; and where nothing is missing, want of memory.
     final fn decode(alloc: Global, payload: &[u8]) -> Result<Self, MessageFault>
         ensures { Decodes (parts rows) result (decoded rows payload.now) }
     {
-        let message = gather::<Self>(alloc, Reader::new(payload))?;
-        match message.missing() {
-            Some(number) => Err(MessageFault::MissingField { number }),
-            None => Ok(message),
-        }
+        Self::survey(payload)?;
+        gather::<Self>(alloc, Reader::new(payload))
     }
 
     /// The payload of this message: each field that is set, in the order of the numbers, each
@@ -124,7 +123,7 @@ pub trait Message: Drop {
 
 /// Gathers the fields that are left into a message, in one pass; each text is copied once.
 fn gather<M: Message>(alloc: Global, mut reader: Reader<'_>) -> Result<M, MessageFault>
-    ensures { Decodes (parts M.rows) result (gathered (layout M.rows) (fields reader.entry)) }
+    ensures { Gathers (parts M.rows) result (gathered (layout M.rows) (fields reader.entry)) }
 {
     let mut message = M::new(alloc);
     while let Some(placed) = reader.next_placed()? {
@@ -158,13 +157,6 @@ pub fn add_message<M: Message>(
     Ok(())
 }
 
-/// The number of a required field where it is not set.
-pub fn missing_number<T>(number: u32, slot: &Option<T>) -> Option<u32>
-    ensures { result ≡ (if is_some slot.now then None else Some number) }
-{
-    if slot.is_some() { None } else { Some(number) }
-}
-
 /// The lesser of two numbers, or the one that there is.
 pub fn lesser(number: Option<u32>, other: Option<u32>) -> Option<u32>
     ensures { result ≡ lesser number other }
@@ -174,15 +166,4 @@ pub fn lesser(number: Option<u32>, other: Option<u32>) -> Option<u32>
         (Some(number), None) => Some(number),
         (None, other) => other,
     }
-}
-
-/// The least required number that is not set in one of these messages.
-pub fn least_missing<M: Message>(messages: &[M]) -> Option<u32>
-    ensures { result ≡ least (map (missing (layout M.rows)) (map (parts M.rows) messages.now)) }
-{
-    let mut found = None;
-    for message in messages {
-        found = lesser(found, message.missing());
-    }
-    found
 }

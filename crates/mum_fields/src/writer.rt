@@ -10,10 +10,10 @@ use std::alloc::Global;
 use std::marker::Model;
 
 /// The wire type of a varint.
-const VARINT: u64 = 0;
+pub const VARINT: u64 = 0;
 
 /// The wire type of a block behind its length.
-const BLOCK: u64 = 2;
+pub const BLOCK: u64 = 2;
 
 fn push_varint_field(out: &mut Vec<u8>, number: u32, value: u64) -> Result<(), OutOfMemory>
     requires { number ≤ last_number }

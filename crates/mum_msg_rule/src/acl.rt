@@ -1,12 +1,12 @@
 //! ACL: the groups and the access control list of a channel, as they are or are to be, or a query
 //! for them.
 
-use crate::acl_group::AclGroup;
-use crate::acl_line::AclLine;
+use crate::acl_group::{self, AclGroup};
+use crate::acl_line::{self, AclLine};
 use mum_base::{Items, OutOfMemory};
 use mum_fields::{
-    Message, MessageFault, Placed, Writer, add_message, least_missing, lesser, missing_number,
-    set_varint,
+    BlocksShape, Message, MessageFault, Placed, Shape, Writer, add_message, field, set_varint,
+    survey,
 };
 use std::alloc::Global;
 
@@ -59,12 +59,23 @@ impl Message for Acl {
         Ok(writer)
     }
 
-    fn missing(&self) -> Option<u32> {
-        let blocks = lesser(
-            least_missing(self.groups.as_slice()),
-            least_missing(self.acls.as_slice()),
-        );
-        lesser(missing_number(1, &self.channel_id), blocks)
+    fn survey(payload: &[u8]) -> Result<u64, MessageFault> {
+        survey(
+            &[
+                Shape::Field(field!(required uint32 = 1)),
+                Shape::Field(field!(optional bool = 2)),
+                Shape::Blocks(BlocksShape {
+                    number: 3,
+                    inside: &acl_group::FIELDS,
+                }),
+                Shape::Blocks(BlocksShape {
+                    number: 4,
+                    inside: &acl_line::FIELDS,
+                }),
+                Shape::Field(field!(optional bool = 5)),
+            ],
+            payload,
+        )
     }
 
     ghost use Rattle.std.specs.Prelude.{refl};

@@ -2,7 +2,8 @@
 
 use mum_base::{Items, OutOfMemory, Text};
 use mum_fields::{
-    Message, MessageFault, Placed, Writer, add_numbers, missing_number, set_text, set_varint,
+    FieldShape, Message, MessageFault, Placed, Writer, add_numbers, field, set_text, set_varint,
+    survey,
 };
 use std::alloc::Global;
 
@@ -26,6 +27,17 @@ pub struct AclGroup {
     /// The accounts that are inherited.
     pub inherited_members: Items<u32>,
 }
+
+/// The fields in the words of Mumble.proto.
+pub const FIELDS: [FieldShape; 7] = [
+    field!(required string = 1),
+    field!(optional bool = 2),
+    field!(optional bool = 3),
+    field!(optional bool = 4),
+    field!(repeated uint32 = 5),
+    field!(repeated uint32 = 6),
+    field!(repeated uint32 = 7),
+];
 
 impl Message for AclGroup {
     ghost use Rattle.mum_msg_rule.specs.Messages.{acl_group};
@@ -67,8 +79,8 @@ impl Message for AclGroup {
         Ok(writer)
     }
 
-    fn missing(&self) -> Option<u32> {
-        missing_number(1, &self.name)
+    fn survey(payload: &[u8]) -> Result<u64, MessageFault> {
+        survey(&FIELDS, payload)
     }
 
     ghost use Rattle.std.specs.Prelude.{refl};

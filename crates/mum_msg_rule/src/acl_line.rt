@@ -1,7 +1,9 @@
 //! An entry of an access control list, in a block of an ACL message.
 
 use mum_base::{OutOfMemory, Text};
-use mum_fields::{Message, MessageFault, Placed, Writer, missing_number, set_text, set_varint};
+use mum_fields::{
+    FieldShape, Message, MessageFault, Placed, Writer, field, set_text, set_varint, survey,
+};
 use std::alloc::Global;
 
 /// Mumble.proto, message ACL.ChanACL.
@@ -23,6 +25,17 @@ pub struct AclLine {
     /// The permissions that are denied, as a set of bits.
     pub deny: Option<u32>,
 }
+
+/// The fields in the words of Mumble.proto.
+pub const FIELDS: [FieldShape; 7] = [
+    field!(optional bool = 1),
+    field!(optional bool = 2),
+    field!(optional bool = 3),
+    field!(required_or 5 uint32 = 4),
+    field!(optional string = 5),
+    field!(optional uint32 = 6),
+    field!(optional uint32 = 7),
+];
 
 impl Message for AclLine {
     ghost use Rattle.mum_msg_rule.specs.Messages.{acl_line};
@@ -64,12 +77,8 @@ impl Message for AclLine {
         Ok(writer)
     }
 
-    fn missing(&self) -> Option<u32> {
-        if self.group.is_some() {
-            None
-        } else {
-            missing_number(4, &self.user_id)
-        }
+    fn survey(payload: &[u8]) -> Result<u64, MessageFault> {
+        survey(&FIELDS, payload)
     }
 
     ghost use Rattle.std.specs.Prelude.{refl};

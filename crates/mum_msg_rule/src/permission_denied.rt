@@ -1,7 +1,9 @@
 //! PermissionDenied: what a user asked for is denied.
 
 use mum_base::{OutOfMemory, Text};
-use mum_fields::{Message, MessageFault, Placed, Writer, set_text, set_varint};
+use mum_fields::{
+    FieldShape, Message, MessageFault, Placed, Writer, field, set_text, set_varint, survey,
+};
 use std::alloc::Global;
 
 /// Mumble.proto, message PermissionDenied.
@@ -21,6 +23,16 @@ pub struct PermissionDenied {
     /// The name that is invalid.
     pub name: Option<Text>,
 }
+
+/// The fields in the words of Mumble.proto.
+const FIELDS: [FieldShape; 6] = [
+    field!(optional uint32 = 1),
+    field!(optional uint32 = 2),
+    field!(optional uint32 = 3),
+    field!(optional string = 4),
+    field!(optional uint32 = 5),
+    field!(optional string = 6),
+];
 
 impl Message for PermissionDenied {
     ghost use Rattle.mum_msg_rule.specs.Messages.{permission_denied};
@@ -59,8 +71,8 @@ impl Message for PermissionDenied {
         Ok(writer)
     }
 
-    fn missing(&self) -> Option<u32> {
-        None
+    fn survey(payload: &[u8]) -> Result<u64, MessageFault> {
+        survey(&FIELDS, payload)
     }
 
     ghost use Rattle.std.specs.Prelude.{refl};

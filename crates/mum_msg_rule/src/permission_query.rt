@@ -1,7 +1,7 @@
 //! PermissionQuery: a client asks for its permissions on a channel, and the server tells them.
 
 use mum_base::OutOfMemory;
-use mum_fields::{Message, MessageFault, Placed, Writer, set_varint};
+use mum_fields::{FieldShape, Message, MessageFault, Placed, Writer, field, set_varint, survey};
 use std::alloc::Global;
 
 /// Mumble.proto, message PermissionQuery.
@@ -14,6 +14,13 @@ pub struct PermissionQuery {
     /// Whether the client should drop what it knows of its permissions, on all channels.
     pub flush: Option<bool>,
 }
+
+/// The fields in the words of Mumble.proto.
+const FIELDS: [FieldShape; 3] = [
+    field!(optional uint32 = 1),
+    field!(optional uint32 = 2),
+    field!(optional bool = 3),
+];
 
 impl Message for PermissionQuery {
     ghost use Rattle.mum_msg_rule.specs.Messages.{permission_query};
@@ -43,8 +50,8 @@ impl Message for PermissionQuery {
         Ok(writer)
     }
 
-    fn missing(&self) -> Option<u32> {
-        None
+    fn survey(payload: &[u8]) -> Result<u64, MessageFault> {
+        survey(&FIELDS, payload)
     }
 
     ghost use Rattle.std.specs.Prelude.{refl};

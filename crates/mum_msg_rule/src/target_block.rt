@@ -1,7 +1,10 @@
 //! Receivers of a voice target, in a block of a VoiceTarget message.
 
 use mum_base::{Items, OutOfMemory, Text};
-use mum_fields::{Message, MessageFault, Placed, Writer, add_numbers, set_text, set_varint};
+use mum_fields::{
+    FieldShape, Message, MessageFault, Placed, Writer, add_numbers, field, set_text, set_varint,
+    survey,
+};
 use std::alloc::Global;
 
 /// Mumble.proto, message VoiceTarget.Target.
@@ -18,6 +21,15 @@ pub struct TargetBlock {
     /// Whether the voice goes to sub channels too; false where it is not set.
     pub children: Option<bool>,
 }
+
+/// The fields in the words of Mumble.proto.
+pub const FIELDS: [FieldShape; 5] = [
+    field!(repeated uint32 = 1),
+    field!(optional uint32 = 2),
+    field!(optional string = 3),
+    field!(optional bool = 4),
+    field!(optional bool = 5),
+];
 
 impl Message for TargetBlock {
     ghost use Rattle.mum_msg_rule.specs.Messages.{target_block};
@@ -53,8 +65,8 @@ impl Message for TargetBlock {
         Ok(writer)
     }
 
-    fn missing(&self) -> Option<u32> {
-        None
+    fn survey(payload: &[u8]) -> Result<u64, MessageFault> {
+        survey(&FIELDS, payload)
     }
 
     ghost use Rattle.std.specs.Prelude.{refl};

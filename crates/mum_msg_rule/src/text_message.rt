@@ -2,7 +2,8 @@
 
 use mum_base::{Items, OutOfMemory, Text};
 use mum_fields::{
-    Message, MessageFault, Placed, Writer, add_numbers, missing_number, set_text, set_varint,
+    FieldShape, Message, MessageFault, Placed, Writer, add_numbers, field, set_text, set_varint,
+    survey,
 };
 use std::alloc::Global;
 
@@ -20,6 +21,15 @@ pub struct TextMessage {
     /// The text, which may be HTML.
     pub message: Option<Text>,
 }
+
+/// The fields in the words of Mumble.proto.
+const FIELDS: [FieldShape; 5] = [
+    field!(optional uint32 = 1),
+    field!(repeated uint32 = 2),
+    field!(repeated uint32 = 3),
+    field!(repeated uint32 = 4),
+    field!(required string = 5),
+];
 
 impl Message for TextMessage {
     ghost use Rattle.mum_msg_rule.specs.Messages.{text_message};
@@ -55,8 +65,8 @@ impl Message for TextMessage {
         Ok(writer)
     }
 
-    fn missing(&self) -> Option<u32> {
-        missing_number(5, &self.message)
+    fn survey(payload: &[u8]) -> Result<u64, MessageFault> {
+        survey(&FIELDS, payload)
     }
 
     ghost use Rattle.std.specs.Prelude.{refl};

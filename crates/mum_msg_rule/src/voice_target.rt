@@ -1,8 +1,11 @@
 //! VoiceTarget: a client registers or clears a voice target.
 
-use crate::target_block::TargetBlock;
+use crate::target_block::{self, TargetBlock};
 use mum_base::{Items, OutOfMemory};
-use mum_fields::{Message, MessageFault, Placed, Writer, add_message, set_varint};
+use mum_fields::{
+    BlocksShape, Message, MessageFault, Placed, Shape, Writer, add_message, field, set_varint,
+    survey,
+};
 use std::alloc::Global;
 
 /// Mumble.proto, message VoiceTarget.
@@ -39,8 +42,17 @@ impl Message for VoiceTarget {
         Ok(writer)
     }
 
-    fn missing(&self) -> Option<u32> {
-        None
+    fn survey(payload: &[u8]) -> Result<u64, MessageFault> {
+        survey(
+            &[
+                Shape::Field(field!(optional uint32 = 1)),
+                Shape::Blocks(BlocksShape {
+                    number: 2,
+                    inside: &target_block::FIELDS,
+                }),
+            ],
+            payload,
+        )
     }
 
     ghost use Rattle.std.specs.Prelude.{refl};

@@ -2,7 +2,8 @@
 
 use mum_base::{Items, OutOfMemory, Text};
 use mum_fields::{
-    Message, MessageFault, Placed, Writer, add_numbers, add_text, set_text, set_varint,
+    FieldShape, Message, MessageFault, Placed, Writer, add_numbers, add_text, field, set_text,
+    set_varint, survey,
 };
 use std::alloc::Global;
 
@@ -20,6 +21,15 @@ pub struct Authenticate {
     /// Whether the client can decode Opus.
     pub opus: Option<bool>,
 }
+
+/// The fields in the words of Mumble.proto.
+const FIELDS: [FieldShape; 5] = [
+    field!(optional string = 1),
+    field!(optional string = 2),
+    field!(repeated string = 3),
+    field!(repeated int32 = 4),
+    field!(optional bool = 5),
+];
 
 impl Message for Authenticate {
     ghost use Rattle.mum_msg_state.specs.Messages.{authenticate};
@@ -55,8 +65,8 @@ impl Message for Authenticate {
         Ok(writer)
     }
 
-    fn missing(&self) -> Option<u32> {
-        None
+    fn survey(payload: &[u8]) -> Result<u64, MessageFault> {
+        survey(&FIELDS, payload)
     }
 
     ghost use Rattle.std.specs.Prelude.{refl};

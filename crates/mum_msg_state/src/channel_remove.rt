@@ -1,7 +1,7 @@
 //! ChannelRemove: a channel is removed, or is to be.
 
 use mum_base::OutOfMemory;
-use mum_fields::{Message, MessageFault, Placed, Writer, missing_number, set_varint};
+use mum_fields::{FieldShape, Message, MessageFault, Placed, Writer, field, set_varint, survey};
 use std::alloc::Global;
 
 /// Mumble.proto, message ChannelRemove.
@@ -10,6 +10,9 @@ pub struct ChannelRemove {
     /// The channel.
     pub channel_id: Option<u32>,
 }
+
+/// The fields in the words of Mumble.proto.
+const FIELDS: [FieldShape; 1] = [field!(required uint32 = 1)];
 
 impl Message for ChannelRemove {
     ghost use Rattle.mum_msg_state.specs.Messages.{channel_remove};
@@ -31,8 +34,8 @@ impl Message for ChannelRemove {
         Ok(writer)
     }
 
-    fn missing(&self) -> Option<u32> {
-        missing_number(1, &self.channel_id)
+    fn survey(payload: &[u8]) -> Result<u64, MessageFault> {
+        survey(&FIELDS, payload)
     }
 
     ghost use Rattle.std.specs.Prelude.{refl};

@@ -1,7 +1,10 @@
 //! ChannelState: a channel is new or changed, or is to be.
 
 use mum_base::{Items, OutOfMemory, Text};
-use mum_fields::{Message, MessageFault, Placed, Writer, add_numbers, set_text, set_varint};
+use mum_fields::{
+    FieldShape, Message, MessageFault, Placed, Writer, add_numbers, field, set_text, set_varint,
+    survey,
+};
 use std::alloc::Global;
 
 /// Mumble.proto, message ChannelState.
@@ -28,6 +31,20 @@ pub struct ChannelState {
     /// How many users it takes at most; 0 is no limit.
     pub max_users: Option<u32>,
 }
+
+/// The fields in the words of Mumble.proto.
+const FIELDS: [FieldShape; 10] = [
+    field!(optional uint32 = 1),
+    field!(optional uint32 = 2),
+    field!(optional string = 3),
+    field!(repeated uint32 = 4),
+    field!(optional string = 5),
+    field!(repeated uint32 = 6),
+    field!(repeated uint32 = 7),
+    field!(optional bool = 8),
+    field!(optional int32 = 9),
+    field!(optional uint32 = 11),
+];
 
 impl Message for ChannelState {
     ghost use Rattle.mum_msg_state.specs.Messages.{channel_state};
@@ -78,8 +95,8 @@ impl Message for ChannelState {
         Ok(writer)
     }
 
-    fn missing(&self) -> Option<u32> {
-        None
+    fn survey(payload: &[u8]) -> Result<u64, MessageFault> {
+        survey(&FIELDS, payload)
     }
 
     ghost use Rattle.std.specs.Prelude.{refl};

@@ -1,7 +1,7 @@
 //! CodecVersion: which codecs the users of the server are to speak.
 
 use mum_base::OutOfMemory;
-use mum_fields::{Message, MessageFault, Placed, Writer, lesser, missing_number, set_varint};
+use mum_fields::{FieldShape, Message, MessageFault, Placed, Writer, field, set_varint, survey};
 use std::alloc::Global;
 
 /// Mumble.proto, message CodecVersion.
@@ -16,6 +16,14 @@ pub struct CodecVersion {
     /// Whether Opus is to be used.
     pub opus: Option<bool>,
 }
+
+/// The fields in the words of Mumble.proto.
+const FIELDS: [FieldShape; 4] = [
+    field!(required int32 = 1),
+    field!(required int32 = 2),
+    field!(required bool = 3),
+    field!(optional bool = 4),
+];
 
 impl Message for CodecVersion {
     ghost use Rattle.mum_msg_state.specs.Messages.{codec_version};
@@ -48,14 +56,8 @@ impl Message for CodecVersion {
         Ok(writer)
     }
 
-    fn missing(&self) -> Option<u32> {
-        lesser(
-            missing_number(1, &self.alpha),
-            lesser(
-                missing_number(2, &self.beta),
-                missing_number(3, &self.prefer_alpha),
-            ),
-        )
+    fn survey(payload: &[u8]) -> Result<u64, MessageFault> {
+        survey(&FIELDS, payload)
     }
 
     ghost use Rattle.std.specs.Prelude.{refl};

@@ -1,7 +1,7 @@
 //! Ping: each side asks now and then whether the other still hears it.
 
 use mum_base::OutOfMemory;
-use mum_fields::{Message, MessageFault, Placed, Writer, set_varint};
+use mum_fields::{FieldShape, Message, MessageFault, Placed, Writer, field, set_varint, survey};
 use std::alloc::Global;
 
 /// Mumble.proto, message Ping. Of its fields only the timestamp is read; a reply repeats it.
@@ -10,6 +10,9 @@ pub struct Ping {
     /// The sender's clock, in a unit of its own.
     pub timestamp: Option<u64>,
 }
+
+/// The fields in the words of Mumble.proto.
+const FIELDS: [FieldShape; 1] = [field!(optional uint64 = 1)];
 
 impl Message for Ping {
     ghost use Rattle.mum_msg_state.specs.Messages.{ping};
@@ -31,8 +34,8 @@ impl Message for Ping {
         Ok(writer)
     }
 
-    fn missing(&self) -> Option<u32> {
-        None
+    fn survey(payload: &[u8]) -> Result<u64, MessageFault> {
+        survey(&FIELDS, payload)
     }
 
     ghost use Rattle.std.specs.Prelude.{refl};

@@ -1,7 +1,9 @@
 //! Reject: the server lets a client not in.
 
 use mum_base::{OutOfMemory, Text};
-use mum_fields::{Message, MessageFault, Placed, Writer, set_text, set_varint};
+use mum_fields::{
+    FieldShape, Message, MessageFault, Placed, Writer, field, set_text, set_varint, survey,
+};
 use std::alloc::Global;
 
 /// Mumble.proto, message Reject.
@@ -12,6 +14,9 @@ pub struct Reject {
     /// Why, for people.
     pub reason: Option<Text>,
 }
+
+/// The fields in the words of Mumble.proto.
+const FIELDS: [FieldShape; 2] = [field!(optional uint32 = 1), field!(optional string = 2)];
 
 impl Message for Reject {
     ghost use Rattle.mum_msg_state.specs.Messages.{reject};
@@ -38,8 +43,8 @@ impl Message for Reject {
         Ok(writer)
     }
 
-    fn missing(&self) -> Option<u32> {
-        None
+    fn survey(payload: &[u8]) -> Result<u64, MessageFault> {
+        survey(&FIELDS, payload)
     }
 
     ghost use Rattle.std.specs.Prelude.{refl};

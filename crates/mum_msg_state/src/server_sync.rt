@@ -1,7 +1,9 @@
 //! ServerSync: the server has told a new client of all channels and users.
 
 use mum_base::{OutOfMemory, Text};
-use mum_fields::{Message, MessageFault, Placed, Writer, set_text, set_varint};
+use mum_fields::{
+    FieldShape, Message, MessageFault, Placed, Writer, field, set_text, set_varint, survey,
+};
 use std::alloc::Global;
 
 /// Mumble.proto, message ServerSync.
@@ -16,6 +18,14 @@ pub struct ServerSync {
     /// The bits of the user's permissions on the root channel.
     pub permissions: Option<u64>,
 }
+
+/// The fields in the words of Mumble.proto.
+const FIELDS: [FieldShape; 4] = [
+    field!(optional uint32 = 1),
+    field!(optional uint32 = 2),
+    field!(optional string = 3),
+    field!(optional uint64 = 4),
+];
 
 impl Message for ServerSync {
     ghost use Rattle.mum_msg_state.specs.Messages.{server_sync};
@@ -48,8 +58,8 @@ impl Message for ServerSync {
         Ok(writer)
     }
 
-    fn missing(&self) -> Option<u32> {
-        None
+    fn survey(payload: &[u8]) -> Result<u64, MessageFault> {
+        survey(&FIELDS, payload)
     }
 
     ghost use Rattle.std.specs.Prelude.{refl};

@@ -1,7 +1,9 @@
 //! UserRemove: a user leaves, or is to be kicked or banned.
 
 use mum_base::{OutOfMemory, Text};
-use mum_fields::{Message, MessageFault, Placed, Writer, missing_number, set_text, set_varint};
+use mum_fields::{
+    FieldShape, Message, MessageFault, Placed, Writer, field, set_text, set_varint, survey,
+};
 use std::alloc::Global;
 
 /// Mumble.proto, message UserRemove.
@@ -16,6 +18,14 @@ pub struct UserRemove {
     /// Whether the user is banned.
     pub ban: Option<bool>,
 }
+
+/// The fields in the words of Mumble.proto.
+const FIELDS: [FieldShape; 4] = [
+    field!(required uint32 = 1),
+    field!(optional uint32 = 2),
+    field!(optional string = 3),
+    field!(optional bool = 4),
+];
 
 impl Message for UserRemove {
     ghost use Rattle.mum_msg_state.specs.Messages.{user_remove};
@@ -48,8 +58,8 @@ impl Message for UserRemove {
         Ok(writer)
     }
 
-    fn missing(&self) -> Option<u32> {
-        missing_number(1, &self.session)
+    fn survey(payload: &[u8]) -> Result<u64, MessageFault> {
+        survey(&FIELDS, payload)
     }
 
     ghost use Rattle.std.specs.Prelude.{refl};

@@ -2,7 +2,8 @@
 
 use mum_base::{Items, Octets, OutOfMemory, Text};
 use mum_fields::{
-    Message, MessageFault, Placed, Writer, add_numbers, add_text, set_block, set_text, set_varint,
+    FieldShape, Message, MessageFault, Placed, Writer, add_numbers, add_text, field, set_block,
+    set_text, set_varint, survey,
 };
 use std::alloc::Global;
 
@@ -46,6 +47,28 @@ pub struct UserState {
     /// Channels that the user listens to no longer.
     pub listening_channel_remove: Items<u32>,
 }
+
+/// The fields in the words of Mumble.proto.
+const FIELDS: [FieldShape; 18] = [
+    field!(optional uint32 = 1),
+    field!(optional uint32 = 2),
+    field!(optional string = 3),
+    field!(optional uint32 = 4),
+    field!(optional uint32 = 5),
+    field!(optional bool = 6),
+    field!(optional bool = 7),
+    field!(optional bool = 8),
+    field!(optional bool = 9),
+    field!(optional bool = 10),
+    field!(optional bytes = 12),
+    field!(optional string = 13),
+    field!(optional string = 14),
+    field!(optional bool = 18),
+    field!(optional bool = 19),
+    field!(repeated string = 20),
+    field!(repeated uint32 = 21),
+    field!(repeated uint32 = 22),
+];
 
 impl Message for UserState {
     ghost use Rattle.mum_msg_state.specs.Messages.{user_state};
@@ -120,8 +143,8 @@ impl Message for UserState {
         Ok(writer)
     }
 
-    fn missing(&self) -> Option<u32> {
-        None
+    fn survey(payload: &[u8]) -> Result<u64, MessageFault> {
+        survey(&FIELDS, payload)
     }
 
     ghost use Rattle.std.specs.Prelude.{refl};

@@ -1,7 +1,9 @@
 //! Version: what each side tells first of itself.
 
 use mum_base::{OutOfMemory, Text};
-use mum_fields::{Message, MessageFault, Placed, Writer, set_text, set_varint};
+use mum_fields::{
+    FieldShape, Message, MessageFault, Placed, Writer, field, set_text, set_varint, survey,
+};
 use std::alloc::Global;
 
 /// Mumble.proto, message Version.
@@ -17,6 +19,14 @@ pub struct Version {
     /// The version of the operating system.
     pub os_version: Option<Text>,
 }
+
+/// The fields in the words of Mumble.proto.
+const FIELDS: [FieldShape; 4] = [
+    field!(optional uint32 = 1),
+    field!(optional string = 2),
+    field!(optional string = 3),
+    field!(optional string = 4),
+];
 
 impl Message for Version {
     ghost use Rattle.mum_msg_state.specs.Messages.{version};
@@ -49,8 +59,8 @@ impl Message for Version {
         Ok(writer)
     }
 
-    fn missing(&self) -> Option<u32> {
-        None
+    fn survey(payload: &[u8]) -> Result<u64, MessageFault> {
+        survey(&FIELDS, payload)
     }
 
     ghost use Rattle.std.specs.Prelude.{refl};

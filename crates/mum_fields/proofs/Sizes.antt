@@ -1,0 +1,90 @@
+-- How long spellings are, as far as 64 bits tell it.
+use Rattle.std.proofs.Common.{◌≡◌, ℕ, zero, suc, ◌+◌, ◌-◌, ◌*◌, ◌/◌, ◌%◌, ◌^◌, ◌<◌, ◌≤◌, Bool, true, false, cond, ltb, List, [], ◌∷◌, ◌++◌, length, min, refl, ap, ◌∙◌, arith}
+use Rattle.std.proofs.lemmas.Bool.{ltb-true, ltb-false}
+use Rattle.std.proofs.lemmas.List.{length-append}
+use Rattle.std.proofs.lemmas.List.Concat.{flat_map-append}
+use Rattle.mum_fields.specs.Field.{wire_type}
+use Rattle.mum_fields.specs.Varint.{shortest_with, shortest}
+use Rattle.mum_fields.specs.Written.{Item, spelling, written, value_bytes, varint_item, block_item}
+use Rattle.mum_fields.specs.Survey.{cut, size}
+use Rattle.mum_fields.proofs.Spellings.{Rest, shortest_with-last}
+
+-- ---- lengths of spellings
+
+length-shortest_with : (more n : ℕ) → length (shortest_with more n) ≤ suc more
+length-shortest_with zero n = omega arith
+length-shortest_with (suc more) n = by_test (ltb n 128) (length-shortest_with more (n / 128))
+  where
+    by_test : (test : Bool) → length (shortest_with more (n / 128)) ≤ suc more → length (cond test (n ∷ []) ((n % 128 + 128) ∷ shortest_with more (n / 128))) ≤ suc (suc more)
+    by_test true h = omega arith
+    by_test false h = omega arith
+
+pub length-shortest : (n : ℕ) → length (shortest n) ≤ 10
+unfolding shortest
+length-shortest n = length-shortest_with 9 n
+
+shortest_with-some : (more n : ℕ) → 0 < length (shortest_with more n)
+shortest_with-some zero n = omega arith
+shortest_with-some (suc more) n = by_test (ltb n 128)
+  where
+    by_test : (test : Bool) → 0 < length (cond test (n ∷ []) ((n % 128 + 128) ∷ shortest_with more (n / 128)))
+    by_test true = omega arith
+    by_test false = omega arith
+
+pub shortest-some : (n : ℕ) → 0 < length (shortest n)
+unfolding shortest
+shortest-some n = shortest_with-some 9 n
+
+pub size-append : (xs ys : List Item) → size (xs ++ ys) ≡ min (size xs + size ys) (2 ^ 64 - 1)
+size-append xs ys =
+    let whole : length (written (xs ++ ys)) ≡ length (written xs) + length (written ys) = ap length (flat_map-append spelling xs ys) ∙ length-append (written xs) (written ys) in
+    omega arith
+
+pub size-some : (x : Item) (xs : List Item) → 0 < size (x ∷ xs)
+size-some x xs =
+    let key = shortest-some (x.number * 8 + wire_type x.content) in
+    let whole = length-append (spelling x) (written xs) in
+    let first = length-append (shortest (x.number * 8 + wire_type x.content)) (value_bytes x.content) in
+    omega arith
+
+-- a number with its key
+pub number-size : (number value key own : ℕ) → key ≡ length (shortest (number * 8 + 0)) → own ≡ length (shortest value) → key ≤ 10 → own ≤ 10 → key + own ≡ size (varint_item number value ∷ [])
+number-size number value key own is_key is_own few some =
+    let whole = length-append (shortest (number * 8 + 0) ++ shortest value) [] in
+    let parts = length-append (shortest (number * 8 + 0)) (shortest value) in
+    omega arith
+
+-- a block with its key and its length
+pub block-size : (number bytes key own : ℕ) (block : List ℕ) → key ≡ length (shortest (number * 8 + 2)) → own ≡ length (shortest bytes) → bytes ≡ cut (length block) → min (bytes + (key + own)) (2 ^ 64 - 1) ≡ size (block_item number block ∷ [])
+block-size number bytes key own block is_key is_own cuts = by_test (ltb (2 ^ 64 - 1) (length block)) refl
+  where
+    front : List ℕ
+    front = shortest (number * 8 + 2)
+
+    whole : length (written (block_item number block ∷ [])) ≡ length (shortest (number * 8 + 2)) + (length (shortest (length block)) + length block)
+    whole =
+        let a = length-append (shortest (number * 8 + 2) ++ (shortest (length block) ++ block)) [] in
+        let b = length-append (shortest (number * 8 + 2)) (shortest (length block) ++ block) in
+        let c = length-append (shortest (length block)) block in
+        omega arith
+
+    by_test : (test : Bool) → ltb (2 ^ 64 - 1) (length block) ≡ test → min (bytes + (key + own)) (2 ^ 64 - 1) ≡ size (block_item number block ∷ [])
+    by_test true is = let long = ltb-true (2 ^ 64 - 1) (length block) is in let w = whole in omega arith
+    by_test false is =
+        let short = ltb-false (2 ^ 64 - 1) (length block) is in
+        let same : bytes ≡ length block = omega arith in
+        let own_is : own ≡ length (shortest (length block)) = is_own ∙ ap (λ n. length (shortest n)) same in
+        let w = whole in
+        omega arith
+
+-- ---- bytes that are counted one by one
+
+pub rest-few : (n m : ℕ) (out : List ℕ) → Rest n out (shortest m) → length out + 1 ≤ 10
+rest-few n m out r = omega (arith, length-append out (shortest_with r.more n), ap length r.whole, shortest_with-some r.more n, length-shortest m)
+
+pub rest-last : (n m : ℕ) (out : List ℕ) → n < 128 → Rest n out (shortest m) → length out + 1 ≡ length (shortest m)
+rest-last n m out low r = omega (arith, length-append out (shortest_with r.more n), ap length (shortest_with-last r.more n low), ap length r.whole)
+
+-- one more size is added to those before
+pub sum-more : (total one others all more both : ℕ) → more ≡ min (total + one) (2 ^ 64 - 1) → both ≡ min (one + others) (2 ^ 64 - 1) → min (total + both) (2 ^ 64 - 1) ≡ all → min (more + others) (2 ^ 64 - 1) ≡ all
+sum-more total one others all more both is_more is_both h = omega arith

@@ -1,0 +1,15 @@
+use Rattle.std.proofs.Common.{◌≡◌, length, map}
+use Rattle.mum_fields.specs.Payload.{fields}
+use Rattle.mum_fields.specs.Message.{outcome}
+use Rattle.mum_fields.specs.Table.{Values, values_after, rules, gathered}
+use Rattle.mum_fields.specs.Survey.{AreParts, form_of}
+use Rattle.mum_fields.proofs.pass.outline.Given as goal
+
+abbrev pub invariant-loop-placed : goal.invariant-loop-placed
+invariant-loop-placed g l =
+    let slots = map g.S.Row.slot l.rows in
+    let form = form_of slots in
+    (values : Values form) × AreParts slots values l.parts × (outcome (rules form) (values_after form values) (fields l.reader) ≡ gathered form (fields l.fn.reader))
+
+abbrev pub decreases-loop-placed : goal.decreases-loop-placed
+decreases-loop-placed g l = length l.reader.rest

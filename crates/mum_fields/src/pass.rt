@@ -1,0 +1,238 @@
+//! A pass over a payload before it is decoded: it takes no memory, and tells the first fault of the
+//! payload, or how long the message is as this server spells it.
+
+ghost use Rattle.std.specs.Prelude.{◌≡◌, ◌≢◌, ◌≤◌, ◌<◌, map, true, length, MatchOption};
+ghost use Rattle.std.specs.List.{All, HoldsAt};
+ghost use Rattle.mum_fields.specs.Field.{entry_of};
+ghost use Rattle.mum_fields.specs.Payload.{fields};
+ghost use Rattle.mum_fields.specs.Survey.{AreParts, Grows, Held, Slot, Takes, form_of, has_room, is_sound, label_of, number_of, outlined, own_missing, part_of, slot_of, spelled_size, whole_part};
+ghost use Rattle.mum_fields.specs.Survey.Slot.{Single};
+ghost use Rattle.mum_fields.specs.Table.{Values, decoded_by, is_set};
+
+use crate::fault::FieldFault;
+use crate::field::{Placed, Value};
+use crate::message::{MessageFault, lesser};
+use crate::reader::Reader;
+use crate::shape::{FieldShape, Label, Shape};
+use crate::size::block_size;
+
+/// How many fields a message may have.
+pub const SLOTS: usize = 24;
+
+/// What is kept of the value of a field, or of a message.
+#[derive(Clone, Copy, Debug, PartialEq, Eq)]
+pub struct Part {
+    /// How many bytes it is written with; 2^64 - 1 where they are more.
+    pub length: u64,
+    /// The least required number that it misses.
+    pub missing: Option<u32>,
+}
+
+const NOTHING: Part = Part {
+    length: 0,
+    missing: None,
+};
+
+/// A field of a message, as data.
+pub trait Row {
+    ghost slot: { Self → Slot };
+
+    /// The number of the field.
+    fn number(&self) -> u32
+        ensures { result ≡ number_of (slot self.now) };
+
+    /// What a message may have of it.
+    fn label(&self) -> Label
+        ensures { result ≡ label_of (slot self.now) };
+
+    /// What is kept of its value behind one more field of its number, or the first fault of that.
+    fn after(&self, before: Part, placed: &Placed<'_>) -> Result<Part, FieldFault>
+        requires sound { is_sound (slot self.now) ≡ true }
+        requires own { placed.now.field.number ≡ number_of (slot self.now) }
+        ensures { Grows (slot self.now) before (entry_of placed.now) result };
+}
+
+impl Row for FieldShape {
+    ghost slot = { Single };
+
+    fn number(&self) -> u32 {
+        self.number
+    }
+
+    fn label(&self) -> Label {
+        self.label
+    }
+
+    fn after(&self, before: Part, placed: &Placed<'_>) -> Result<Part, FieldFault> {
+        match self.label {
+            Label::Repeated => {
+                let more = self.kind.all_size(self.number, placed)?;
+                Ok(Part {
+                    length: before.length.saturating_add(more),
+                    missing: None,
+                })
+            }
+            _ => {
+                let size = self.kind.one_size(self.number, placed)?;
+                Ok(Part {
+                    length: size.unwrap_or(before.length),
+                    missing: None,
+                })
+            }
+        }
+    }
+}
+
+impl<'a> Row for Shape<'a> {
+    ghost slot = { slot_of };
+
+    fn number(&self) -> u32 {
+        match self {
+            Shape::Field(field) => field.number,
+            Shape::Blocks(blocks) => blocks.number,
+        }
+    }
+
+    fn label(&self) -> Label {
+        match self {
+            Shape::Field(field) => field.label,
+            Shape::Blocks(_) => Label::Repeated,
+        }
+    }
+
+    fn after(&self, before: Part, placed: &Placed<'_>) -> Result<Part, FieldFault> {
+        match self {
+            Shape::Field(field) => field.after(before, placed),
+            Shape::Blocks(blocks) => match placed.field.value {
+                Value::Block(block) => {
+                    let reader = Reader::within(block, placed.at);
+                    let part = outline(blocks.inside, reader)?;
+                    let more = block_size(blocks.number, part.length);
+                    Ok(Part {
+                        length: before.length.saturating_add(more),
+                        missing: lesser(before.missing, part.missing),
+                    })
+                }
+                _ => Ok(before),
+            },
+        }
+    }
+}
+
+/// The place of the field of a number.
+fn place_of<S: Row>(rows: &[S], number: u32) -> Option<usize>
+    ensures { MatchOption result (All (λ row. number_of (S.slot row) ≢ number) rows.now)
+        (λ i. (i < length rows.now) × HoldsAt (λ row. number_of (S.slot row) ≡ number) rows.now i) }
+{
+    for (i, row) in rows.iter().enumerate() {
+        if row.number() == number {
+            return Some(i);
+        }
+    }
+    None
+}
+
+/// The field of its number takes one field of a payload.
+fn take<S: Row>(rows: &[S], parts: &mut [Part], placed: &Placed<'_>) -> Result<(), FieldFault>
+    requires room { has_room (map S.slot rows.now) ≡ true }
+    requires parts { length rows.now ≤ length parts.old }
+    ensures { (values : Values (form_of (map S.slot rows.now)))
+        → AreParts (map S.slot rows.now) values parts.old
+        → Takes (map S.slot rows.now) values (entry_of placed.now) result parts.new }
+{
+    let Some(place) = place_of(rows, placed.field.number) else {
+        return Ok(());
+    };
+    let part = rows[place].after(parts[place], placed)?;
+    parts[place] = part;
+    Ok(())
+}
+
+/// Whether the field of a number is set.
+fn is_set<S: Row>(rows: &[S], parts: &[Part], number: u32) -> bool
+    requires { length rows.now ≤ length parts.now }
+    ensures { (values : Values (form_of (map S.slot rows.now)))
+        → AreParts (map S.slot rows.now) values parts.now
+        → result ≡ is_set (form_of (map S.slot rows.now)) values number }
+{
+    let Some((row, others)) = rows.split_first() else {
+        return false;
+    };
+    let Some((part, behind)) = parts.split_first() else {
+        return false;
+    };
+    if row.number() == number {
+        return part.length > 0;
+    }
+    is_set(others, behind, number)
+}
+
+/// What the value of a field misses, or the number of the field where it has to be set and is not.
+fn missing_of<S: Row>(row: &S, part: &Part, others: &[S], behind: &[Part]) -> Option<u32>
+    requires { length others.now ≤ length behind.now }
+    ensures { (held : Held (S.slot row.now)) → part.now ≡ part_of (S.slot row.now) held
+        → (values : Values (form_of (map S.slot others.now)))
+        → AreParts (map S.slot others.now) values behind.now
+        → result ≡ own_missing (S.slot row.now) held (is_set (form_of (map S.slot others.now)) values) }
+{
+    if part.length > 0 {
+        return part.missing;
+    }
+    match row.label() {
+        Label::Required => Some(row.number()),
+        Label::RequiredOr(other) => {
+            if is_set(others, behind, other) {
+                None
+            } else {
+                Some(row.number())
+            }
+        }
+        _ => part.missing,
+    }
+}
+
+/// What the values of all fields come to.
+fn sum_up<S: Row>(rows: &[S], parts: &[Part]) -> Part
+    requires { length rows.now ≤ length parts.now }
+    ensures { (values : Values (form_of (map S.slot rows.now)))
+        → AreParts (map S.slot rows.now) values parts.now
+        → result ≡ whole_part (form_of (map S.slot rows.now)) values }
+{
+    let Some((row, others)) = rows.split_first() else {
+        return NOTHING;
+    };
+    let Some((part, behind)) = parts.split_first() else {
+        return NOTHING;
+    };
+    let rest = sum_up(others, behind);
+    Part {
+        length: part.length.saturating_add(rest.length),
+        missing: lesser(missing_of(row, part, others, behind), rest.missing),
+    }
+}
+
+/// What the fields that are left come to, in one pass and without memory.
+fn outline<S: Row>(rows: &[S], mut reader: Reader<'_>) -> Result<Part, FieldFault>
+    requires { has_room (map S.slot rows.now) ≡ true }
+    ensures { result ≡ outlined (form_of (map S.slot rows.now)) (fields reader.entry) }
+{
+    let mut parts = [NOTHING; SLOTS];
+    while let Some(placed) = reader.next_placed()? {
+        take(rows, &mut parts, &placed)?;
+    }
+    Ok(sum_up(rows, &parts))
+}
+
+/// How many bytes the message of a payload has as this server spells it, or 2^64 - 1 where they are
+/// more; or the first fault of the payload. A message with these fields tells it by this call.
+pub fn survey<S: Row>(rows: &[S], payload: &[u8]) -> Result<u64, MessageFault>
+    requires { has_room (map S.slot rows.now) ≡ true }
+    ensures { result ≡ spelled_size (form_of (map S.slot rows.now))
+        (decoded_by (form_of (map S.slot rows.now)) payload.now) }
+{
+    let whole = outline(rows, Reader::new(payload))?;
+    match whole.missing {
+        Some(number) => Err(MessageFault::MissingField { number }),
+        None => Ok(whole.length),
+    }
+}

@@ -41,7 +41,7 @@ pub fn limits()
 {}
 
 /// With what a server starts.
-#[derive(Debug, Drop)]
+#[derive(Drop)]
 pub struct Config {
     /// How many workers take voice, 1 to 8.
     pub workers: u8,

@@ -7,7 +7,7 @@ use mum_users::Target;
 
 /// A change of the state. Each accepted command is one of these, also where it leaves the state as it
 /// was, and a configuration is a list of them. An edit of a configuration has no actor and no maker.
-#[derive(Debug, Drop)]
+#[derive(Drop)]
 pub enum Edit {
     /// The settings of the server.
     SetServer {

@@ -7,7 +7,7 @@ use mum_base::Slot;
 use mum_users::user::SESSIONS;
 
 /// The slots of the sessions that join, that enter another channel, or whose tokens are set.
-#[derive(Debug, Drop)]
+#[derive(Drop)]
 pub(crate) enum Renewed {
     Nobody,
     One(Slot),

@@ -5,7 +5,7 @@ use mum_base::{ChannelId, Perm};
 use mum_frame::Frame;
 
 /// What is decided of a command at a state.
-#[derive(Debug, Drop)]
+#[derive(Drop)]
 pub enum Verdict {
     /// It is this edit, which fits the state.
     Accepted(Edit),

@@ -7,6 +7,7 @@ mod client_messages;
 mod faults;
 mod fields;
 mod frames;
+mod journal;
 mod list;
 mod messages;
 mod name;
@@ -34,6 +35,7 @@ fn main(rt: HostRuntime) -> Result<()> {
     tally.compare::<messages::Messages, HostRuntime>(&rt)?;
     tally.compare::<varint::Varints, HostRuntime>(&rt)?;
     tally.compare::<packet::Packets, HostRuntime>(&rt)?;
+    tally.compare::<journal::Journals, HostRuntime>(&rt)?;
     tally.compare_files::<client::Clients, HostRuntime>(&rt)?;
     tally.compare::<client_messages::ClientMessages, HostRuntime>(&rt)?;
     tally.finish(&rt)

@@ -41,7 +41,12 @@ fn told<M: Told>(alloc: Global, payload: &[u8]) -> Result<String> {
 
 fn again<M: Told>(alloc: Global, payload: &[u8]) -> Result<Octets> {
     let message = M::decode(alloc, payload)?;
-    Ok(message.encode(alloc)?)
+    let written = message.encode(alloc)?;
+    let surveyed = M::survey(payload)?;
+    if surveyed != written.as_slice().len() as u64 {
+        bail!("surveyed as {surveyed} bytes");
+    }
+    Ok(written)
 }
 
 /// What a payload decodes to.
@@ -70,7 +75,7 @@ pub fn decoded(alloc: Global, name: &str, payload: &[u8]) -> Result<String> {
     bail!("no such message: {name}")
 }
 
-/// The payload that the message of a payload is written as.
+/// The payload that the message of a payload is written as, with the length that `survey` told before.
 pub fn written(alloc: Global, name: &str, payload: &[u8]) -> Result<Octets> {
     match name {
         "Version" => return again::<Version>(alloc, payload),

@@ -30,6 +30,12 @@ lower_digit : (v : ℕ) → v < 16 → slice_index lower_digits v ≡ (if nat_lt
 unfolding lower_digit-test
 lower_digit v h = eqb-true (slice_index lower_digits v) (if nat_lt v 10 then v + 48 else v + 87) (agree_below_at lower_digit-test (λ (_ : ℕ). true) 16 v refl h)
 
+-- and stands above the space
+pub lower_digit-above : (v : ℕ) → v < 16 → (32 < slice_index lower_digits v) × (slice_index lower_digits v < 128)
+lower_digit-above v h =
+    let at = lower_digit v h in
+    (grind (arith, nat_tests), grind (arith, nat_tests))
+
 -- the value of a digit
 value_of : ℕ → ℕ
 value_of c = if nat_lt c 58 then c - 48 else c - 87
@@ -48,7 +54,7 @@ lower_digit-graphic v h =
     (grind (arith, nat_tests), grind (arith, nat_tests))
 
 -- the digits of bytes are such digits
-encode_lower-digits : (bytes : List ℕ) → IsBytes bytes → list_all is_lower_digit (encode_lower bytes) ≡ true
+pub encode_lower-digits : (bytes : List ℕ) → IsBytes bytes → list_all is_lower_digit (encode_lower bytes) ≡ true
 unfolding encode_with
 encode_lower-digits [] small = refl
 encode_lower-digits (b ∷ bs) small =
@@ -65,7 +71,7 @@ byte_before b bs byte small zero = byte
 byte_before b bs byte small (suc i) = small i
 
 -- an even number of such digits are those of bytes
-digits_are_of : (word : List ℕ) → length word % 2 ≡ 0 → list_all is_lower_digit word ≡ true → (bytes : List ℕ) × IsBytes bytes × (word ≡ encode_lower bytes)
+pub digits_are_of : (word : List ℕ) → length word % 2 ≡ 0 → list_all is_lower_digit word ≡ true → (bytes : List ℕ) × IsBytes bytes × (word ≡ encode_lower bytes)
 unfolding encode_with
 digits_are_of [] even digits = ([], λ i. lit< tt, refl)
 digits_are_of (a ∷ []) even digits = absurd (omega arith)
@@ -149,7 +155,7 @@ tested-other word other =
     let digits : list_all is_lower_digit word ≡ true = rw found.2 (encode_lower-digits bytes found.0) in
     cc)))
 
-some_if_tested : (tested : Bool) (bytes : List ℕ) → is_some (if tested then Some bytes else None) ≡ true → (if tested then Some bytes else None) ≡ Some bytes
+pub some_if_tested : (tested : Bool) (bytes : List ℕ) → is_some (if tested then Some bytes else None) ≡ true → (if tested then Some bytes else None) ≡ Some bytes
 some_if_tested true bytes h = refl
 some_if_tested false bytes h = cc
 
@@ -162,7 +168,7 @@ frame_of-decodes word bytes some h =
 
 -- ---- the header of the digits
 
-length-digits : (word bytes : List ℕ) → word ≡ encode_lower bytes → length word ≡ 2 * length bytes
+pub length-digits : (word bytes : List ℕ) → word ≡ encode_lower bytes → length word ≡ 2 * length bytes
 length-digits word bytes is = ap length is ∙ length-encode_with lower_digits bytes
 
 -- fewer digits than those of a header are no frame

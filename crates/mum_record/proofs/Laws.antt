@@ -33,7 +33,7 @@ use Rattle.mum_record.proofs.Splits.{IsWord, AreAllWords, slice_split-join_all, 
 -- ---- what is read is written so
 
 -- one of two that a test chooses
-chosen : {A : Type 0} {P : Type 0} (word name : List ℕ) (x y : Option A) (a : A)
+pub chosen : {A : Type 0} {P : Type 0} (word name : List ℕ) (x y : Option A) (a : A)
     → (word ≡ name → x ≡ Some a → P) → (y ≡ Some a → P) → cond (bytes_eq word name) x y ≡ Some a → P
 chosen {A} {P} word name x y a here there h = from (bytes_eq word name) refl h
   where
@@ -42,7 +42,7 @@ chosen {A} {P} word name x y a here there h = from (bytes_eq word name) refl h
     from false is e = there e
 
 -- a value behind a constructor
-mapped : {A B : Type 0} {P : Type 0} (f : A → B) (o : Option A) (b : B) → ((a : A) → o ≡ Some a → f a ≡ b → P) → option_map f o ≡ Some b → P
+pub mapped : {A B : Type 0} {P : Type 0} (f : A → B) (o : Option A) (b : B) → ((a : A) → o ≡ Some a → f a ≡ b → P) → option_map f o ≡ Some b → P
 mapped f None b from h = cc
 mapped f (Some a) b from h = from a refl (let e : f a ≡ b = cc in e)
 
@@ -124,7 +124,7 @@ step_of-found line step h =
 
 -- ---- what is written is read back
 
-cause_of-cause_word : (cause : Cause) → IsRecordedCause cause → cause_of (cause_word cause) ≡ Some cause
+pub cause_of-cause_word : (cause : Cause) → IsRecordedCause cause → cause_of (cause_word cause) ≡ Some cause
 unfolding cause_of
 cause_of-cause_word causes.End h = refl
 cause_of-cause_word causes.LinkFault h = refl
@@ -145,7 +145,7 @@ told_of-revision_word (Some r) h =
     omega (arith, digit.0)) in
     rw (other, read) refl
 
-place_of-decimal : (n : ℕ) → n < 2 ^ 32 → place_of (decimal n) ≡ Some n
+pub place_of-decimal : (n : ℕ) → n < 2 ^ 32 → place_of (decimal n) ≡ Some n
 place_of-decimal n h = number_within-decimal 0 (2 ^ 32 - 1) n (omega arith) (omega arith) (omega arith)
 
 step_of_words-words_of : (step : Step) → IsRecordable step → step_of_words (words_of step) ≡ Some step

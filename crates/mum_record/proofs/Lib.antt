@@ -3,3 +3,16 @@ pub mod Splits
 pub mod Frames
 pub mod Laws
 pub mod HeadLemmas
+pub mod Fits
+pub mod Graphic
+pub mod EntryLaws
+pub mod ConfigLaws
+pub mod DraftLaws
+pub mod TextLaws
+pub mod LineFeeds
+pub mod Copies
+pub mod Appended
+pub mod Written
+pub mod Slashes
+pub mod WorkerLine
+pub mod Texts

@@ -1,8 +1,8 @@
 -- Lines cut into words, and words joined to lines.
-use Rattle.std.proofs.Common.{◌≡◌, ℕ, zero, suc, ◌+◌, ◌<◌, ◌≤◌, Bool, sym, List, [], ◌∷◌, ◌++◌, map, length, Option, Some, None, refl, ap, ◌∙◌, arith, inl, inr, false, lit<, Bor}
+use Rattle.std.proofs.Common.{◌≡◌, ℕ, zero, suc, ◌+◌, ◌<◌, ◌≤◌, Bool, sym, List, [], ◌∷◌, ◌++◌, map, length, Option, Some, None, refl, ap, ◌∙◌, arith, inl, inr, false, lit<, Bor, length-append}
 use Rattle.std.proofs.lemmas.List.{append-nil}
 use Rattle.std.proofs.lemmas.List.Splits.{slice_split_first}
-use Rattle.std.proofs.lemmas.Str.Pattern.{IsSplitOnceResult, split_once_first}
+use Rattle.std.proofs.lemmas.Str.Pattern.{IsSplitOnceResult, split_once_first, split_parts}
 use Rattle.std.proofs.lemmas.Bool.{cases_Bool}
 use Rattle.std.proofs.lemmas.Str.{IsAscii-append}
 use Rattle.std.proofs.lemmas.Str.Ascii.{IsAscii-nil}
@@ -84,3 +84,13 @@ first_word-some line (Some y) x h e =
     let cut : slice_split is_space line ≡ before_first is_space line ∷ slice_split is_space (after_first is_space line) = slice_split_first is_space line 0 parts.0 in
     let same : y ≡ x = cc in
     rw (← same, parts.1, parts.2) cut
+
+-- what follows the space is shorter
+pub first_word-shorter : (line : List ℕ) (r : Option (Bor (List ℕ) × Bor (List ℕ))) (x : Bor (List ℕ) × Bor (List ℕ)) → IsSplitOnceResult 32 line r → r ≡ Some x
+    → length x.1.now < length line
+first_word-shorter line None x h e = cc
+first_word-shorter line (Some y) x h e =
+    let parts = split_parts 32 line (Some y) h (lit< tt) in
+    let same : y ≡ x = cc in
+    let size : length line ≡ length y.0.now + length (32 ∷ y.1.now) = ap length parts.0 ∙ length-append y.0.now (32 ∷ y.1.now) in
+    rw (← same) (omega (arith, size))

@@ -4,3 +4,6 @@ pub mod Head
 pub mod Reading
 pub mod Answers
 pub mod Laws
+pub mod Journal
+pub mod JournalReading
+pub mod JournalAnswers

@@ -1,10 +1,11 @@
 -- Lines as words, and the numbers that words say.
-use Rattle.std.specs.Prelude.{◌≡◌, ℕ, ◌-◌, ◌^◌, ◌<◌, ◌&&◌, ◌==◌, Bool, List, [], ◌∷◌, length, Option, Some, None, nat_le, if◌then◌else◌}
+use Rattle.std.specs.Prelude.{◌≡◌, ℕ, ◌-◌, ◌^◌, ◌<◌, ◌&&◌, ◌==◌, Bool, List, [], ◌∷◌, length, Option, Some, None, nat_le, nat_lt, option_and_then, if◌then◌else◌}
 use Rattle.std.specs.List.{slice_split, join_with_byte}
 use Rattle.std.specs.Fmt.{decimal}
 use Rattle.std.specs.Str.{bytes_eq}
 use Rattle.std.specs.Str.Parse.{digits_value}
-use Rattle.hex.specs.Hex.{encode_lower}
+use Rattle.std.specs.Result.{result_ok}
+use Rattle.hex.specs.Hex.{encode_lower, decode_of}
 use Rattle.mum_record.specs.declared.words.Words.{Words}
 use Rattle.mum_record.specs.declared.words.Words.TheVariants.{One, Two, Three, More}
 use Rattle.mum_record.specs.declared.line.Word.{Word}
@@ -33,6 +34,16 @@ place_of word = number_within 0 (2 ^ 32 - 1) word
 abbrev pub revision_of : List ℕ → Option ℕ
 revision_of word = number_within 0 (2 ^ 64 - 1) word
 
+-- types, reasons and contexts fit 8 bits
+abbrev pub byte_of : List ℕ → Option ℕ
+byte_of word = number_within 0 (2 ^ 8 - 1) word
+
+-- the bytes whose digits a word is, at least one
+unfoldable pub bytes_of : List ℕ → Option (List ℕ)
+bytes_of word =
+    option_and_then (λ bytes. if bytes_eq word (encode_lower bytes) && nat_lt 0 (length bytes) then Some bytes else None)
+    (result_ok (decode_of word))
+
 -- ---- in the code
 
 -- what a word of a line is spelled
@@ -43,6 +54,10 @@ spelled_word (Digits bytes) = encode_lower bytes.now
 
 abbrev pub behind_space : Word → List ℕ
 behind_space word = 32 ∷ spelled_word word
+
+-- a word behind a space
+abbrev pub behind_word : List ℕ → List ℕ
+behind_word word = 32 ∷ word
 
 -- the words of what follows a space, if anything does
 abbrev pub words_after : Option (List ℕ) → List (List ℕ)

@@ -1,7 +1,8 @@
 //! Writing a line from its words.
 
-ghost use Rattle.std.specs.Prelude.{◌≡◌, ◌++◌, ◌∷◌, IfOk, map, string_bytes};
+ghost use Rattle.std.specs.Prelude.{◌≡◌, ◌++◌, ◌∷◌, ◌<◌, ◌^◌, IfOk, map, string_bytes};
 ghost use Rattle.std.specs.List.{flat_map};
+ghost use Rattle.hex.specs.Hex.{encode_lower, IsBytes};
 ghost use Rattle.mum_record.specs.Words.{spelled_word, behind_space, line_of_words};
 
 use itoa::Buffer;
@@ -17,6 +18,38 @@ pub enum Word<'a> {
     Number(u64),
     /// Bytes as digits 0 to 9 and a to f, two for each.
     Digits(&'a [u8]),
+}
+
+/// The word of a number of 64 bits.
+pub(crate) fn number_word(number: u64) -> Word<'static>
+    ensures word { result ≡ Word.Number number }
+    ensures fits { number < 2 ^ 64 }
+{
+    Word::Number(number)
+}
+
+/// The word of a number of 32 bits.
+pub(crate) fn place_word(number: u32) -> Word<'static>
+    ensures word { result ≡ Word.Number number }
+    ensures fits { number < 2 ^ 32 }
+{
+    Word::Number(u64::from(number))
+}
+
+/// The word of a number of 8 bits.
+pub(crate) fn byte_word(number: u8) -> Word<'static>
+    ensures word { result ≡ Word.Number number }
+    ensures fits { number < 2 ^ 8 }
+{
+    Word::Number(u64::from(number))
+}
+
+/// The word of bytes.
+pub(crate) fn digits_word(bytes: &[u8]) -> Word<'_>
+    ensures word { spelled_word result ≡ encode_lower bytes.now }
+    ensures fits { IsBytes bytes.now }
+{
+    Word::Digits(bytes)
 }
 
 /// Appends a word.

@@ -1,16 +1,15 @@
 //! Reading the line of a step.
 
 ghost use Rattle.std.specs.Prelude.{◌≡◌, ◌%◌, ◌↔◌, IfOk, IsErrOf, IsTrue, is_some, length};
-ghost use Rattle.std.specs.List.{list_all};
 ghost use Rattle.mum_record.specs.declared.step.Step.{Step};
 ghost use Rattle.mum_record.specs.Grammar.{IsLineOf};
 ghost use Rattle.mum_record.specs.Reading.{frame_of, told_of, cause_of, step_of};
 ghost use Rattle.mum_record.specs.Reading as spec;
-ghost use Rattle.mum_record.specs.Answers.{Reads, TestsFrame, is_lower_digit};
+ghost use Rattle.mum_record.specs.Answers.{Reads, TestsFrame};
 ghost use Rattle.mum_record.specs.Laws.{ReadsTheGrammar, ReadsBack};
 
 use crate::step::{LineFault, Step};
-use crate::words::{Words, number_in, place_in, words_in};
+use crate::words::{Words, are_lower_digits, number_in, place_in, words_in};
 use byteorder::{BigEndian, ByteOrder};
 use hex::FromHex;
 use mum_base::{Cause, Octets};
@@ -28,9 +27,9 @@ fn told_in(word: &str) -> Option<Option<u64>>
     }
 }
 
-/// The cause that a word says.
+/// The cause that a word of a recording says.
 #[tactic(auto, unfolding(crate::specs::Reading::cause_of))]
-fn cause_in(word: &str) -> Option<Cause>
+pub(crate) fn cause_in(word: &str) -> Option<Cause>
     ensures { result ≡ cause_of word.now }
 {
     match word {
@@ -42,13 +41,6 @@ fn cause_in(word: &str) -> Option<Cause>
         "lagged" => Some(Cause::Lagged),
         _ => None,
     }
-}
-
-/// Whether a word is digits 0 to 9 and a to f.
-fn are_lower_digits(word: &[u8]) -> bool
-    ensures { result ≡ list_all is_lower_digit word.now }
-{
-    word.iter().all(|letter| letter.is_ascii_hexdigit() && !letter.is_ascii_uppercase())
 }
 
 /// Whether as many digits follow those of a frame's header as it names, within the limit.
@@ -74,7 +66,7 @@ fn is_frame(word: &[u8]) -> bool
 }
 
 /// The bytes of the frame whose digits a word is. It takes memory only for such a word.
-fn frame_in(alloc: Global, word: &str) -> Result<Octets, LineFault>
+pub(crate) fn frame_in(alloc: Global, word: &str) -> Result<Octets, LineFault>
     ensures { Reads result (frame_of word.now) }
 {
     if !is_frame(word.as_bytes()) {

@@ -1,13 +1,8 @@
-use Rattle.std.proofs.Common.{◌^◌, ◌<◌, arith, rules, Ok, Err, Result}
-use Rattle.std.specs.Result.{OnOk}
+use Rattle.std.proofs.Common.{◌^◌, ◌<◌, arith, rules}
 use Rattle.hex.specs.Hex.{IsBytes}
 use Rattle.mum_record.specs.Grammar.{FitsTypes}
+use Rattle.mum_record.proofs.Fits.{OnOk-from}
 use Rattle.mum_record.proofs.write.text_of.Goals as goal
-
--- what holds anyway holds where the result is `Ok`
-OnOk-from : {A E : Type 0} (r : Result A E) (P : Type 0) → P → OnOk r P
-OnOk-from (Ok a) P h = h
-OnOk-from (Err e) P h = tt
 
 pub returns-in_ok-digits-in-Frame-clause-fits : goal.returns-in_ok-digits-in-Frame-clause-fits
 returns-in_ok-digits-in-Frame-clause-fits c =

@@ -1,0 +1,86 @@
+-- Each line that a draft takes is a text.
+use Rattle.std.proofs.Common.{◌≡◌, ℕ, zero, suc, ◌+◌, ◌/◌, ◌%◌, Bool, true, false, List, [], ◌∷◌, length, Some, None, refl, sym, subst, arith, codes, cond}
+use Rattle.std.proofs.lemmas.Bool.{cond-true, lt-ltb}
+use Rattle.std.proofs.lemmas.Slice.Eq.{bytes_eq-Decides}
+use Rattle.std.proofs.lemmas.Str.{IsUtf8-from_ascii}
+use Rattle.std.specs.Prelude.{nat_lt, ◌==◌}
+use Rattle.std.specs.Str.{bytes_eq, IsUtf8}
+use Rattle.std.specs.Fmt.{decimal, digits, digits_onto, digit_glyph}
+use Rattle.std.specs.List.{join_with_byte}
+use Rattle.mum_record.specs.Words.{words_in}
+use Rattle.mum_record.specs.Head.{workers_of, config_of, config_word}
+use Rattle.mum_record.specs.Journal.{control_words, entry_words, journal_head, worker_line, end_line}
+use Rattle.mum_record.specs.JournalReading.{control_of, entry_of, is_worker_line, ends_entries, with_control, with_entry, taken_at, taken}
+use Rattle.mum_record.specs.declared.draft.Draft.{Draft}
+use Rattle.mum_record.specs.declared.draft.Stage.{Stage}
+use Rattle.mum_record.specs.declared.draft.Stage.TheVariants.{Version, Workers, Config, Controls, Entries, Over}
+use Rattle.mum_record.proofs.Numbers.{none_unless}
+use Rattle.mum_record.proofs.Splits.{join-IsAscii}
+use Rattle.mum_record.proofs.Laws.{chosen, mapped}
+use Rattle.mum_record.proofs.HeadLemmas.{workers_of-found}
+use Rattle.mum_record.proofs.Graphic.{IsGraphic, AreGraphic, graphic_AreAllWords, literal_graphic}
+use Rattle.mum_record.proofs.ConfigLaws.{config_of-found, config_words_graphic}
+use Rattle.mum_record.proofs.EntryLaws.{control_of-found, control_graphic, entry_of-found, entry_graphic}
+use Rattle.mum_record.proofs.DraftLaws.{picked, line_is}
+
+-- the digits of a number, whatever its size
+onto_graphic : (k n : ℕ) (rest : List ℕ) → IsGraphic rest → IsGraphic (digits_onto k 10 false n rest)
+onto_graphic zero n rest h = h
+onto_graphic (suc k) n rest h =
+    let digit : ℕ = digit_glyph false (n % 10) in
+    let is : digit ≡ 48 + n % 10 = cond-true (nat_lt (n % 10) 10) (48 + n % 10) (87 + n % 10) (lt-ltb (n % 10) 10 (omega arith)) in
+    let more : IsGraphic (digit ∷ rest) = (omega arith, omega arith, h) in
+    elim (n / 10 == 0) as (λ (last : Bool). IsGraphic (cond last (digit ∷ rest) (digits_onto k 10 false (n / 10) (digit ∷ rest)))) [
+      | true ↦ more
+      | false ↦ onto_graphic k (n / 10) (digit ∷ rest) more
+    ]
+
+numeral_graphic : (n : ℕ) → IsGraphic (decimal n)
+unfolding digits
+numeral_graphic n = onto_graphic 64 n [] tt
+
+words_text : (line : List ℕ) (words : List (List ℕ)) → AreGraphic words → line ≡ join_with_byte 32 words → IsUtf8 line
+words_text line words h is = subst IsUtf8 (sym is) (IsUtf8-from_ascii (join_with_byte 32 words) (join-IsAscii words (graphic_AreAllWords words h)))
+
+worker_text : (n : ℕ) (line : List ℕ) → is_worker_line n line ≡ true → IsUtf8 line
+worker_text n line same =
+    words_text line (codes "worker" ∷ decimal n ∷ []) (literal_graphic (codes "worker") refl, (numeral_graphic n, tt)) ((bytes_eq-Decides line (worker_line n)).0 same)
+
+end_text : (line : List ℕ) → bytes_eq line end_line ≡ true → IsUtf8 line
+end_text line same = words_text line (end_line ∷ []) (literal_graphic end_line refl, tt) ((bytes_eq-Decides line end_line).0 same)
+
+ends_text : (more : Bool) (n : ℕ) (line : List ℕ) → cond more (is_worker_line n line) (bytes_eq line end_line) ≡ true → IsUtf8 line
+ends_text true n line same = worker_text n line same
+ends_text false n line same = end_text line same
+
+taken_at-text : (st : Stage) (d : Draft) (line : List ℕ) (next : Draft) → taken_at st d line ≡ Some next → IsUtf8 line
+taken_at-text Version d line next e =
+    chosen line journal_head _ _ next (λ w e1. words_text line (codes "journal" ∷ codes "1" ∷ []) (literal_graphic (codes "journal") refl, (literal_graphic (codes "1") refl, tt)) w) (λ e1. cc) e
+taken_at-text Workers d line next e =
+    mapped (λ (w : ℕ). record d { stage = Config; workers = w }) (workers_of line) next (λ w w_is e1.
+    let found = workers_of-found line w w_is in
+    words_text line (codes "workers" ∷ decimal w ∷ []) (literal_graphic (codes "workers") refl, (numeral_graphic w, tt)) found.2) e
+taken_at-text Config d line next e =
+    mapped (λ (document : List ℕ). record d { stage = Controls; config = document }) (config_of line) next (λ document is e1.
+    let found = config_of-found line document is in
+    words_text line (codes "config" ∷ config_word document ∷ []) (config_words_graphic document found.0) found.1) e
+taken_at-text Controls d line next e =
+    chosen line (worker_line 0) _ _ next
+    (λ w e1. words_text line (codes "worker" ∷ decimal 0 ∷ []) (literal_graphic (codes "worker") refl, (numeral_graphic 0, tt)) w)
+    (mapped (with_control d) (control_of (words_in line)) next (λ entry is e1.
+    let found = control_of-found (words_in line) entry is in
+    words_text line (control_words entry) (control_graphic entry found.0.0) (line_is line (control_words entry) found.1)))
+    e
+taken_at-text Entries d line next e =
+    picked (ends_entries d line) _ _ next
+    (λ ends e1. ends_text (nat_lt (length d.by_worker + 1) d.workers) (length d.by_worker + 1) line ends)
+    (λ ends. mapped (with_entry d) (entry_of (words_in line)) next (λ entry is e1.
+    let found = entry_of-found (words_in line) entry is in
+    words_text line (entry_words entry) (entry_graphic entry found.0.0) (line_is line (entry_words entry) found.1)))
+    e
+taken_at-text Over d line next e = cc
+
+-- a line that is no text is not taken
+pub taken-no_text : (d : Draft) (line : List ℕ) → (IsUtf8 line → ⊥) → taken d line ≡ None
+unfolding taken
+taken-no_text d line not_text = none_unless (taken d line) (λ next is. not_text (taken_at-text d.stage d line next is))

@@ -1,0 +1,7 @@
+use Rattle.std.proofs.Common.{arith}
+use Rattle.std.proofs.lemmas.Grind.{common_steps}
+use Rattle.mum_record.proofs.EntryLaws.{control_of-cut}
+use Rattle.mum_record.proofs.control.control_words.Goals as goal
+
+pub returns-in_err-command : goal.returns-in_err-command
+returns-in_err-command c = rw c.from_residual-in_err-command.ensures (grind (arith, common_steps, control_of-cut))

@@ -1,0 +1,7 @@
+use Rattle.std.proofs.Common.{arith}
+use Rattle.std.proofs.lemmas.Grind.{common_steps}
+use Rattle.mum_record.proofs.EntryLaws.{entry_of-cut}
+use Rattle.mum_record.proofs.entry.entry_in.Goals as goal
+
+pub returns-in_err-mark : goal.returns-in_err-mark
+returns-in_err-mark c = grind (arith, common_steps, entry_of-cut)

@@ -1,0 +1,79 @@
+//! Reading a journal.
+
+ghost use Rattle.std.specs.Prelude.{◌≡◌, ◌+◌, IfOk, IfErr, IfSome, length, position};
+ghost use Rattle.mum_record.specs.Journal.{IsTextOf};
+ghost use Rattle.mum_record.specs.JournalReading.{ending, is_line_feed};
+ghost use Rattle.mum_record.specs.JournalAnswers.{ReadsText, AnswersBy, NamesFirstFault, IsCut, StopsAt, JournalsAreReadBack, TextsSayOneJournal};
+
+use crate::draft::{Draft, Stage};
+use crate::journal::{Journal, JournalFault};
+use crate::step::LineFault;
+use std::alloc::Global;
+
+fn first_line_feed(bytes: &[u8]) -> Option<usize>
+    ensures { result ≡ position is_line_feed bytes.now }
+{
+    bytes.iter().position(|byte| *byte == b'\n')
+}
+
+/// The first line, and what follows its line feed.
+fn split_line(bytes: &[u8]) -> Option<(&[u8], &[u8])>
+    ensures lines { IsCut bytes.now result }
+    ensures shorter { IfSome result (λ parts. length parts.0.now + 1 + length parts.1.now ≡ length bytes.now) }
+{
+    match first_line_feed(bytes) {
+        Some(at) => Some((&bytes[..at], &bytes[at + 1..])),
+        None => None,
+    }
+}
+
+/// The fault of a line as that of the journal in which it stands.
+fn fault_at(line: u64, fault: LineFault) -> JournalFault
+    ensures { StopsAt line fault result }
+{
+    match fault {
+        LineFault::NotALine => JournalFault::NotALine { line },
+        LineFault::OutOfMemory => JournalFault::OutOfMemory,
+    }
+}
+
+/// The journal of a draft, if it has ended and nothing follows.
+fn ended(draft: Draft, line: u64, rest: &[u8]) -> Result<Journal, JournalFault>
+    ensures { AnswersBy (ending draft line rest.now) result }
+{
+    if draft.stage == Stage::Over && rest.is_empty() {
+        Ok(draft.into_journal())
+    } else {
+        Err(JournalFault::NotALine { line })
+    }
+}
+
+/// The journal that a text says, or the first line that is none of it. The text may be any bytes.
+pub fn read_journal(alloc: Global, text: &[u8]) -> Result<Journal, JournalFault>
+    // A journal is the one that the text says, and `NotALine` is of a text that says none.
+    ensures exact { ReadsText text.now result }
+    // What is read is a journal whose text this is.
+    ensures found { IfOk result (IsTextOf text.now) }
+    // A text is refused at the first line that is in no journal behind the lines before it.
+    ensures refused { IfErr result (NamesFirstFault text.now) }
+{
+    let mut draft = Draft::new(alloc);
+    let mut number = 1;
+    let mut rest = text;
+    'lines: while let Some((line, behind)) = split_line(rest) {
+        match draft.take(alloc, line) {
+            Ok(()) => {}
+            Err(fault) => return Err(fault_at(number, fault)),
+        }
+        number += 1;
+        rest = behind;
+    }
+    ended(draft, number, rest)
+}
+
+/// What contracts compute of a text, `journal_of`, is the grammar of journals: each journal that has
+/// lines is read back from its text, and each text says one journal at most.
+pub fn journals_are_read_back()
+    ensures read_back { JournalsAreReadBack }
+    ensures one { TextsSayOneJournal }
+{}

@@ -1,0 +1,14 @@
+pub mod Bounds
+pub mod Departed
+pub mod Families
+pub mod OneFrame
+pub mod Pieces
+pub mod Placed
+pub mod Reached
+pub mod Seated
+pub mod Sent
+pub mod Slots
+pub mod Standing
+pub mod Told
+pub mod Unwatched
+pub mod Within

@@ -1,0 +1,11 @@
+use Rattle.std.proofs.Common.{rules}
+use Rattle.mum_notify.specs.Parcels.{sync_payload}
+use Rattle.mum_notify.proofs.frames.sync_frame.Goals as goal
+
+pub frame_of-requires : goal.frame_of-requires
+unfolding sync_payload
+frame_of-requires c = c.requires
+
+pub returns : goal.returns
+unfolding sync_payload
+returns c = search rules

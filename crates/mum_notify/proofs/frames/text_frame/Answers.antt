@@ -1,0 +1,11 @@
+use Rattle.std.proofs.Common.{rules}
+use Rattle.mum_notify.specs.Parcels.{text_payload}
+use Rattle.mum_notify.proofs.frames.text_frame.Goals as goal
+
+pub frame_of-requires : goal.frame_of-requires
+unfolding text_payload
+frame_of-requires c = c.requires
+
+pub returns : goal.returns
+unfolding text_payload
+returns c = search rules

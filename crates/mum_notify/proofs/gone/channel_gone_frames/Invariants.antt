@@ -1,0 +1,7 @@
+use Rattle.std.proofs.Common.{◌≡◌, map, take}
+use Rattle.mum_notify.specs.Gone.{channel_gone}
+use Rattle.mum_notify.specs.Parcels.{channel_gone_frame}
+use Rattle.mum_notify.proofs.gone.channel_gone_frames.Given as goal
+
+abbrev pub invariant-loop-id : goal.invariant-loop-id
+invariant-loop-id l = l.frames.items ≡ map (λ id. channel_gone_frame (channel_gone id)) (take l.id-index l.gone)

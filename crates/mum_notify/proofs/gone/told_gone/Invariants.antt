@@ -1,0 +1,6 @@
+use Rattle.std.proofs.Common.{◌≡◌, filter, take}
+use Rattle.mum_notify.specs.Gone.{is_told_gone}
+use Rattle.mum_notify.proofs.gone.told_gone.Given as goal
+
+abbrev pub invariant-loop-id : goal.invariant-loop-id
+invariant-loop-id l = l.gone.items ≡ filter (is_told_gone l.top l.before l.after) (take l.id-index l.ids)

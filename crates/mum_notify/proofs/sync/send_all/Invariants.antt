@@ -1,0 +1,6 @@
+use Rattle.std.proofs.Common.{◌≡◌, ◌++◌, map, take}
+use Rattle.mum_notify.specs.Parcels.{parcel}
+use Rattle.mum_notify.proofs.sync.send_all.Given as goal
+
+abbrev pub invariant-loop-frame : goal.invariant-loop-frame
+invariant-loop-frame l = l.list.items ≡ l.fn.list.items ++ map (λ frame. parcel frame l.user) (take l.frame-index l.frames)

@@ -1,0 +1,15 @@
+use Rattle.std.proofs.Common.{◌≡◌, ◌∙◌, Bool, not, sym}
+use Rattle.mum_users.specs.State.{has_number}
+use Rattle.mum_users.specs.declared.user.User.{User}
+use Rattle.mum_notify.specs.Parcels.{parcel}
+use Rattle.mum_notify.proofs.Pieces.{dropped_more, kept_more}
+use Rattle.mum_notify.proofs.telling.tell_others.Goals as goal
+use Rattle.mum_notify.proofs.telling.tell_others.Goals.{then-is_other+in_ok-tell_one, else-is_other}
+
+pub loop-user-preserved : goal.loop-user-preserved
+loop-user-preserved c =
+    let passes : User → Bool = λ user. not (has_number c.args.session user) in
+    elim c.if-is_other.branch [
+      | then-is_other+in_ok-tell_one w ↦ rw w.list-is (kept_more passes (parcel c.args.frame.now) c.args.list.now.items c.args.users.now c.loop-user.user-index c.user-item.result c.loop-user.list.items _ c.loop-user-test.true c.user-item.is (sym c.is_other.ensures ∙ w.if-is_other.true) c.loop-user.invariant w.in_ok-tell_one.ensures)
+      | else-is_other w ↦ rw w.list-is (dropped_more passes (parcel c.args.frame.now) c.args.list.now.items c.args.users.now c.loop-user.user-index c.user-item.result c.loop-user.list.items c.loop-user-test.true c.user-item.is (sym c.is_other.ensures ∙ w.if-is_other.false) c.loop-user.invariant)
+    ]

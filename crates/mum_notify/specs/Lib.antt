@@ -1,0 +1,10 @@
+pub mod Parcels
+pub mod Channels
+pub mod Seats
+pub mod Sorted
+pub mod Users
+pub mod Gone
+pub mod Texts
+pub mod Sync
+pub mod Notices
+pub mod Laws

@@ -1,0 +1,24 @@
+//! What sessions are told: of each edit, and all that there is where one joins. Each parcel is one frame
+//! for one session, and the order of the parcels is that in which they go out. A contract sees them as a
+//! list, by the definitions in `specs/Notices.antt` and `specs/Sync.antt`.
+#![tactic(auto)]
+
+mod channels;
+mod fitting;
+mod frames;
+mod gone;
+pub mod laws;
+mod notice;
+mod parcels;
+mod seats;
+mod sorted;
+mod sync;
+mod telling;
+mod texts;
+mod users;
+mod watch;
+
+pub use fitting::fits_frame;
+pub use notice::{Notice, Notices};
+pub use sync::{PROTOCOL, sync_block};
+pub use telling::notices;

@@ -1,0 +1,3 @@
+pub mod Echoes
+pub mod Strangers
+pub mod Frames

@@ -1,0 +1,44 @@
+use Rattle.std.proofs.Common.{◌≡◌, ◌∙◌, Bool, ap, sym, refl}
+use Rattle.std.proofs.lemmas.Result.{IfOk-weaker, on_ok_weaker}
+use Rattle.mum_fields.specs.Table.{decoded}
+use Rattle.mum_msg_state.specs.Messages.{version}
+use Rattle.mum_session.specs.Action.{asks, version_action, version_after}
+use Rattle.mum_session.specs.Machine.{Machine, is_rejected}
+use Rattle.mum_session.proofs.Frames.{behind, behind-gone, behind-version, version-asks, ask-asks, other-quiet}
+use Rattle.mum_session.proofs.Strangers.{gone}
+use Rattle.mum_session.proofs.session.Session.frame.Goals as goal
+use Rattle.mum_session.proofs.session.Session.frame.Goals.{in-Ask, in_default}
+
+abbrev stage_test : Machine → Bool
+stage_test machine = is_rejected machine.stage
+
+pub returns-then-is_rejected-clause-action : goal.returns-then-is_rejected-clause-action
+returns-then-is_rejected-clause-action c =
+    let machine = c.args.self.now in
+    c.ignored.ensures ∙ sym (gone machine.stage machine c.args.frame.kind c.args.frame.payload refl (sym (ap stage_test c.self.view_is) ∙ sym c.if-is_rejected.ensures))
+
+pub returns-then-is_rejected-clause-after : goal.returns-then-is_rejected-clause-after
+returns-then-is_rejected-clause-after c =
+    behind-gone c.args.self.now c.args.frame.kind c.args.frame.payload c.requires (sym (ap stage_test c.self.view_is) ∙ sym c.if-is_rejected.ensures)
+
+pub returns-then-kind-eq-VERSION-clause-action : goal.returns-then-kind-eq-VERSION-clause-action
+returns-then-kind-eq-VERSION-clause-action c =
+    let asks = version-asks c.args.self.now c.args.frame.kind c.args.frame.payload (sym (ap stage_test c.self.view_is) ∙ sym c.if-is_rejected.ensures) c.if-kind-eq-VERSION.true in
+    IfOk-weaker c.keep.result _ _ (λ _ is. is ∙ (ap (λ payload. version_action (decoded version payload)) c.as_slice.ensures ∙ asks)) c.keep.ensures.action
+
+pub returns-then-kind-eq-VERSION-clause-after : goal.returns-then-kind-eq-VERSION-clause-after
+returns-then-kind-eq-VERSION-clause-after c =
+    let machine = c.args.self.now in
+    let behind = behind-version machine c.args.frame.kind c.args.frame.payload c.requires (sym (ap stage_test c.self.view_is) ∙ sym c.if-is_rejected.ensures) c.if-kind-eq-VERSION.true in
+    on_ok_weaker c.keep.result (λ is. is ∙ (ap (λ payload. record machine { version = version_after machine.version (decoded version payload) }) c.as_slice.ensures ∙ behind)) c.keep.ensures.after
+
+pub returns-clause-after : goal.returns-clause-after
+returns-clause-after c =
+    let machine = c.args.self.now in
+    let asked : c.match-matches.self ≡ asks c.in_ok-action.action = elim c.match-matches.branch [
+      | in-Ask w ↦ w.self-is ∙ sym (ask-asks w.in-Ask.field-0 c.in_ok-action.action w.in-Ask.is)
+      | in_default w ↦ w.self-is ∙ sym (other-quiet c.in_ok-action.action w.in_default.not-Ask)
+    ] in
+    ap (λ (m : Machine). record m { awaits = c.match-matches.self }) c.self.view_is
+    ∙ (ap (λ (b : Bool). record machine { awaits = b }) asked
+    ∙ behind machine c.args.frame.kind c.args.frame.payload c.in_ok-action.action c.in_ok-action.ensures c.if-kind-eq-VERSION.false)

@@ -1,0 +1,4 @@
+pub mod Code
+pub mod Heard
+pub mod Machine
+pub mod Action

@@ -9,7 +9,8 @@ use Rattle.mum_state.specs.State.{StateValue}
 use Rattle.mum_core.specs.declared.connection.Connection.{Connection}
 use Rattle.mum_core.specs.declared.connection.Seat.{Seat}
 use Rattle.mum_core.specs.declared.outbox.Parcel.{Parcel}
-use Rattle.mum_core.specs.Built.{BuiltStep, Drain}
+use Rattle.mum_record.specs.declared.step.Step.{Step}
+use Rattle.mum_record.specs.declared.step.Step.TheVariants.{Drain}
 use Rattle.mum_core.specs.Core.{CoreState, start, connection_at, outbox_at, state_at}
 use Rattle.mum_core.specs.Laws.{IsRun, front, front_for, gathered, heard, own_front, ran, removed}
 use Rattle.mum_core.specs.Step.{does}
@@ -48,11 +49,11 @@ drain_alone n slot core (Some other) fits apart = from (other.session.0 == n) re
     from false e (inl same) = let never : (other.session.0 == n) ≡ true = eq-eqb other.session.0 n same in cc
     from false e (inr far) = sym (none_of n slot other.slot.0 (outbox_at core other.slot.0) (fits.parcels other.slot.0) far)
 
-step_alone : (n slot : ℕ) (core : CoreState) (step : BuiltStep) → Fits n slot core → AreApart n slot core → heard n core step ≡ removed n core step
+step_alone : (n slot : ℕ) (core : CoreState) (step : Step) → Fits n slot core → AreApart n slot core → heard n core step ≡ removed n core step
 step_alone n slot core (Drain d) fits apart = drain_alone n slot core (connection_at core d).seat fits (apart d)
 step_alone n slot core others fits apart = refl
 
-all_alone : (n slot : ℕ) (core : CoreState) (run : List BuiltStep) → AreSettled core → Fits n slot core → ((revision : ℕ) → LooksFit n slot (state_at (ran core run) revision))
+all_alone : (n slot : ℕ) (core : CoreState) (run : List Step) → AreSettled core → Fits n slot core → ((revision : ℕ) → LooksFit n slot (state_at (ran core run) revision))
     → AreApart n slot (ran core run) → gathered (heard n) core run ≡ gathered (removed n) core run
 all_alone n slot core [] settled fits looks apart = refl
 all_alone n slot core (step ∷ run) settled fits looks apart =
@@ -61,7 +62,7 @@ all_alone n slot core (step ∷ run) settled fits looks apart =
     let later = all_alone n slot (does core step) run (settled_step core step settled) next looks apart in
     ap (λ (xs : List Parcel). xs ++ gathered (heard n) (does core step) run) first ∙ ap (λ (xs : List Parcel). removed n core step ++ xs) later
 
-pub alone_hears_all : (opening : StateValue) (workers c : ℕ) (seat : Seat) (run : List BuiltStep) → IsProper opening → IsRun (start opening workers) run
+pub alone_hears_all : (opening : StateValue) (workers c : ℕ) (seat : Seat) (run : List Step) → IsProper opening → IsRun (start opening workers) run
     → (connection_at (ran (start opening workers) run) c).seat ≡ Some seat
     → ((d : ℕ) (other : Seat) → (connection_at (ran (start opening workers) run) d).seat ≡ Some other → other.slot.0 ≡ seat.slot.0 → d ≡ c)
     → gathered (heard seat.session.0) (start opening workers) run ≡ gathered (removed seat.session.0) (start opening workers) run

@@ -23,20 +23,20 @@ use Rattle.mum_state.specs.Set.{set_by}
 use Rattle.mum_state.specs.State.{StateValue}
 use Rattle.mum_state.specs.Suppression.{heard_anew, is_set_anew}
 use Rattle.mum_state.proofs.Each.{found_counts}
-use Rattle.mum_core.specs.declared.action.Action.{Action}
-use Rattle.mum_core.specs.declared.action.Action.TheVariants.{Ask, Keep}
-use Rattle.mum_core.specs.declared.connection.Command.{Command}
+use Rattle.mum_session.specs.declared.action.Action.{Action}
+use Rattle.mum_session.specs.declared.action.Action.TheVariants.{Ask, Keep}
+use Rattle.mum_session.specs.declared.command.Asked.{Asked}
 use Rattle.mum_core.specs.declared.connection.Connection.{Connection}
 use Rattle.mum_core.specs.declared.connection.Reply.{Reply}
 use Rattle.mum_core.specs.declared.connection.Seat.{Seat}
-use Rattle.mum_core.specs.Action.{action}
-use Rattle.mum_core.specs.Built as steps
-use Rattle.mum_core.specs.Built.{BuiltStep, Frame, Tell, Close}
-use Rattle.mum_core.specs.Connection.{answered, fresh, next_command, seat_given, session_of, told}
+use Rattle.mum_record.specs.declared.step.Step.TheVariants as steps
+use Rattle.mum_record.specs.declared.step.Step.{Step}
+use Rattle.mum_record.specs.declared.step.Step.TheVariants.{Frame, Tell, Close}
+use Rattle.mum_core.specs.Connection.{answered, fresh, next_command, next_of_frame, seat_given, session_of, told}
 use Rattle.mum_core.specs.Core.{CoreState, start, connection_at, current, state_at}
 use Rattle.mum_core.specs.Laws.{ran}
 use Rattle.mum_core.specs.Reply.{edits_of, seat_of, verdict}
-use Rattle.mum_core.specs.Step.{does}
+use Rattle.mum_core.specs.Step.{does, frame_action, frame_version}
 use Rattle.mum_core.specs.steps.Edit as edit_step
 use Rattle.mum_core.proofs.Copies.{state_of_later}
 use Rattle.mum_core.proofs.Fitted.{IsLawful, current_proper, lawful_step}
@@ -133,7 +133,7 @@ given_present core c session decided proper (inr next) seat is =
           (subst (λ (s : StateValue). IsInSlot s own.session own.slot) (sym after) (join_seats state name account tokens proper)),
     )
 
-answered_present : (core : CoreState) (command : Option Command) (reply : Reply) (x : Connection) → ((seat : Seat) → reply.seat ≡ Some seat → IsPresent core seat)
+answered_present : (core : CoreState) (command : Option Asked) (reply : Reply) (x : Connection) → ((seat : Seat) → reply.seat ≡ Some seat → IsPresent core seat)
     → ArePresent core x → ArePresent core (answered command reply x)
 answered_present core None reply x given all seat is = all seat is
 answered_present core (Some command) reply x given all seat (inl is) = all seat (inl is)
@@ -154,43 +154,43 @@ none_present core w seat (inr never) = cc
 abbrev ChangesPresent : CoreState → Option Change → ℕ → Connection → Type 0
 ChangesPresent core change i x = IfSome change (λ one. one.0 ≡ i + 1 → ArePresent core x → ArePresent core (one.1 x))
 
-frame_present : (core : CoreState) (c i : ℕ) (a : Action) (x : Connection) → ChangesPresent core (change_by c a) i x
-frame_present core c i (Ask command) x = λ at all. all
-frame_present core c i (Keep number) x = λ at all. all
-frame_present core c i others x = tt
+frame_present : (core : CoreState) (c i : ℕ) (version : Option ℕ) (a : Action) (x : Connection) → ChangesPresent core (change_by c version a) i x
+frame_present core c i version (Ask command) x = λ at all. all
+frame_present core c i version Keep x = λ at all. all
+frame_present core c i version others x = tt
 
-edit_present : (core : CoreState) (c i : ℕ) (next : Option Command) (x : Connection) → IsProper (current core)
+edit_present : (core : CoreState) (c i : ℕ) (next : Option Asked) (x : Connection) → IsProper (current core)
     → let decided = option_map (verdict (current core) (session_of (connection_at core c))) next in
     ChangesPresent (option_map_or (edit_step.decides core c) decided core) (option_map (change_to core c) decided) i x
 edit_present core c i None x proper = tt
 edit_present core c i (Some command) x proper = λ at all.
     let session : Option SessionId = session_of (connection_at core c) in
     let decided : Verdict = verdict (current core) session command in
-    answered_present (edit_step.decides core c decided) x.waiting (edit_step.reply_to core c decided) x
+    answered_present (edit_step.decides core c decided) (next_of_frame x) (edit_step.reply_to core c decided) x
     (given_present core c session decided proper (verdict_seats (current core) session command)) all
 
-change_present : (core : CoreState) (step : BuiltStep) (i : ℕ) (x : Connection) → IsProper (current core) → ChangesPresent (does core step) (change_of core step) i x
-change_present core (Frame c kind payload) i x proper = frame_present (does core (Frame c kind payload)) c i (action (connection_at core c) kind payload) x
+change_present : (core : CoreState) (step : Step) (i : ℕ) (x : Connection) → IsProper (current core) → ChangesPresent (does core step) (change_of core step) i x
+change_present core (Frame c bytes) i x proper = frame_present (does core (Frame c bytes)) c i (frame_version core c bytes) (frame_action core c bytes) x
 change_present core (steps.Edit c) i x proper = edit_present core c i (next_command (connection_at core c)) x proper
 change_present core (Tell c revision) i x proper = λ at all. told_present (does core (Tell c revision)) x all
 change_present core (Close c cause) i x proper = λ at all. all
 change_present core others i x proper = tt
 
 -- a state of a core is one of the next
-still_present : (core : CoreState) (step : BuiltStep) (x : Connection) → ArePresent core x → ArePresent (does core step) x
+still_present : (core : CoreState) (step : Step) (x : Connection) → ArePresent core x → ArePresent (does core step) x
 still_present core step x all seat is =
     let here = all seat is in
     let later = state_of_later core (step ∷ []) here.0 in
     (later.0, subst (λ (state : StateValue). IsInSlot state seat.session seat.slot) later.1 here.1)
 
-pub present_step : (core : CoreState) (step : BuiltStep) (i : ℕ) → IsLawful core → ArePresent core (conn core i) → ArePresent (does core step) (conn (does core step) i)
+pub present_step : (core : CoreState) (step : Step) (i : ℕ) → IsLawful core → ArePresent core (conn core i) → ArePresent (does core step) (conn (does core step) i)
 present_step core step i lawful all =
-    each_step (λ old new. ArePresent (does core step) old → ArePresent (does core step) new) (λ x same. same) core step i
+    each_step (λ old new. ArePresent (does core step) old → ArePresent (does core step) new) (λ x same. same) (λ x same. same) core step i
     (λ w past none. none_present (does core step) w) (change_present core step i (conn core i) (current_proper core lawful)) (still_present core step (conn core i) all)
 
-present_all : (core : CoreState) (run : List BuiltStep) (i : ℕ) → IsLawful core → ArePresent core (conn core i) → ArePresent (ran core run) (conn (ran core run) i)
+present_all : (core : CoreState) (run : List Step) (i : ℕ) → IsLawful core → ArePresent core (conn core i) → ArePresent (ran core run) (conn (ran core run) i)
 present_all core [] i lawful all = all
 present_all core (step ∷ run) i lawful all = present_all (does core step) run i (lawful_step core step lawful) (present_step core step i lawful all)
 
-pub seats_present : (opening : StateValue) (workers : ℕ) (run : List BuiltStep) (i : ℕ) → IsLawful (start opening workers) → ArePresent (ran (start opening workers) run) (conn (ran (start opening workers) run) i)
+pub seats_present : (opening : StateValue) (workers : ℕ) (run : List Step) (i : ℕ) → IsLawful (start opening workers) → ArePresent (ran (start opening workers) run) (conn (ran (start opening workers) run) i)
 seats_present opening workers run i lawful = present_all (start opening workers) run i lawful (none_present (start opening workers) 0)

@@ -10,29 +10,32 @@ use Rattle.mum_state.specs.declared.verdict.Verdict.{Verdict}
 use Rattle.mum_state.specs.After.{led_to}
 use Rattle.mum_state.specs.State.{StateValue}
 use Rattle.mum_route.specs.Route.{Member as Hearer}
-use Rattle.mum_voice.specs.declared.fault.BadVoice.{BadVoice}
-use Rattle.mum_voice.specs.Packet.{Parts, packet}
-use Rattle.mum_core.specs.declared.action.Action.{Action}
-use Rattle.mum_core.specs.declared.action.Action.TheVariants.{Ask, Voice, Echo, Keep, Ignore}
+use Rattle.mum_voice.specs.Packet.{packet}
+use Rattle.mum_session.specs.declared.action.Action.{Action}
+use Rattle.mum_session.specs.declared.action.Action.TheVariants.{Ask, Voice, Echo, Keep, Ignore}
 use Rattle.mum_core.specs.declared.outbox.Parcel.{Parcel}
 use Rattle.mum_core.specs.declared.connection.Seat.{Seat}
 use Rattle.mum_core.specs.declared.worker.Outgoing.{Outgoing}
-use Rattle.mum_core.specs.Action.{action}
-use Rattle.mum_core.specs.Built as steps
-use Rattle.mum_core.specs.Built.{BuiltStep, Open, Frame, Publish, Tell, Look, Offer, Drain, Close, End}
-use Rattle.mum_core.specs.Core.{CoreState, connection_at, worker_at, outbox_at, state_at, at_outbox}
+use Rattle.mum_record.specs.declared.step.Step.TheVariants as steps
+use Rattle.mum_record.specs.declared.step.Step.{Step}
+use Rattle.mum_record.specs.declared.step.Step.TheVariants.{Open, Frame, Publish, Tell, Look, Offer, Post, Drain, Collect, Close, End}
+use Rattle.mum_core.specs.Core.{CoreState, connection_at, worker_at, outbox_at, state_at, at_outbox, posts_at}
 use Rattle.mum_core.specs.Laws.{ran}
-use Rattle.mum_core.specs.Step.{does}
+use Rattle.mum_core.specs.Step.{does, frame_action, frame_version}
 use Rattle.mum_core.specs.Worker.{WorkerState, HeldPacket, idle}
 use Rattle.mum_core.specs.steps.Edit as edit_step
 use Rattle.mum_core.specs.steps.Frame as frame_step
+use Rattle.mum_core.specs.steps.Frame.{spoken}
 use Rattle.mum_core.specs.steps.Look as look_step
 use Rattle.mum_core.specs.steps.Offer as offer_step
 use Rattle.mum_core.specs.steps.Drain as drain_step
+use Rattle.mum_core.specs.steps.Post as post_step
+use Rattle.mum_core.specs.steps.Collect as collect_step
+use Rattle.mum_notify.specs.declared.notice.Notice.{Notice}
 use Rattle.mum_core.specs.steps.Tell as tell_step
 use Rattle.mum_core.proofs.Changed.{changed-by, length-changed}
 use Rattle.mum_core.proofs.Members.{each_member, member_of}
-use Rattle.mum_core.proofs.RunLaws.{accepted_grows, decided_workers, drain_workers, opening_stays, puts_workers, taken_core, told_core}
+use Rattle.mum_core.proofs.RunLaws.{accepted_grows, decided_workers, drain_workers, opening_stays, puts_workers, taken_core, told_core, posting_core, posted_workers, collect_workers}
 
 -- ---- lists
 
@@ -61,7 +64,7 @@ take_on zero xs ys = refl
 take_on (suc n) [] ys = refl
 take_on (suc n) (x ∷ xs) ys = ap (λ rest. x ∷ rest) (take_on n xs ys)
 
-pub state_of_later : (core : CoreState) (run : List BuiltStep) (revision : ℕ) → (later : ℕ) × (state_at core revision ≡ state_at (ran core run) later)
+pub state_of_later : (core : CoreState) (run : List Step) (revision : ℕ) → (later : ℕ) × (state_at core revision ≡ state_at (ran core run) later)
 state_of_later core run revision =
     let grown = accepted_grows core run in
     let later : ℕ = front_length revision core.accepted in (
@@ -91,16 +94,16 @@ each_looked P state each (Some held) =
 abbrev Follows : (Outgoing → Type 0) → WorkerState → WorkerState → Type 0
 Follows P old new = AllByRecursion P old.copies → AllByRecursion P new.copies
 
-all_hears : (P : Outgoing → Type 0) (core : CoreState) (w : ℕ) (speaker : SessionId) (read : Result Parts BadVoice) → AllCopies P core → AllCopies P (frame_step.hears core w speaker read)
-all_hears P core w speaker (Ok parts) all = λ v. changed-by (Follows P) (λ x h. h) core.workers w v _ idle (λ x at here h. h) (all v)
-all_hears P core w speaker (Err fault) all = all
+all_hears : (P : Outgoing → Type 0) (core : CoreState) (w : ℕ) (held : Option HeldPacket) → AllCopies P core → AllCopies P (frame_step.hears core w held)
+all_hears P core w (Some held) all = λ v. changed-by (Follows P) (λ x h. h) core.workers w v _ idle (λ x at here h. h) (all v)
+all_hears P core w None all = all
 
-all_frame : (P : Outgoing → Type 0) (core : CoreState) (c : ℕ) (a : Action) → AllCopies P core → AllCopies P (frame_step.does core c a)
-all_frame P core c (Ask command) all = all
-all_frame P core c (Voice speaker payload) all = all_hears P core (connection_at core c).worker speaker (packet payload) all
-all_frame P core c (Echo frame) all = all
-all_frame P core c (Keep number) all = all
-all_frame P core c (Ignore why) all = all
+all_frame : (P : Outgoing → Type 0) (core : CoreState) (c : ℕ) (version : Option ℕ) (a : Action) → AllCopies P core → AllCopies P (frame_step.does core c version a)
+all_frame P core c version (Ask command) all = all
+all_frame P core c version (Voice payload) all = all_hears P core (connection_at core c).worker (spoken (connection_at core c).seat (packet payload)) all
+all_frame P core c version (Echo frame) all = all
+all_frame P core c version Keep all = all
+all_frame P core c version (Ignore why) all = all
 
 all_notes : (P : Outgoing → Type 0) (core : CoreState) (w : ℕ) (revision : Option ℕ) → AllCopies P core → AllCopies P (tell_step.notes w revision core)
 all_notes P core w None all = all
@@ -109,9 +112,9 @@ all_notes P core w (Some revision) all = λ v. changed-by (Follows P) (λ x h. h
 all_by : (P : Outgoing → Type 0) (old new : CoreState) → new.workers ≡ old.workers → AllCopies P old → AllCopies P new
 all_by P old new same all w = rw same (all w)
 
-pub copies_step : (P : Outgoing → Type 0) (core : CoreState) (step : BuiltStep) → ((revision : ℕ) → AllLooked P (state_at core revision)) → AllCopies P core → AllCopies P (does core step)
+pub copies_step : (P : Outgoing → Type 0) (core : CoreState) (step : Step) → ((revision : ℕ) → AllLooked P (state_at core revision)) → AllCopies P core → AllCopies P (does core step)
 copies_step P core (Open c w) looks all = all
-copies_step P core (Frame c kind payload) looks all = all_frame P core c (action (connection_at core c) kind payload) all
+copies_step P core (Frame c bytes) looks all = all_frame P core c (frame_version core c bytes) (frame_action core c bytes) all
 copies_step P core (steps.Edit c) looks all = all_by P core (does core (steps.Edit c)) (decided_workers core c (edit_step.decision core c)) all
 copies_step P core Publish looks all = all
 copies_step P core (Tell c revision) looks all = all_notes P (told_core core c) (connection_at core c).worker revision all
@@ -120,11 +123,13 @@ copies_step P core (Offer w) looks all =
     all_by P (taken_core core w) (does core (Offer w)) (puts_workers (taken_core core w) (offer_step.next_copy core w))
     (λ v. changed-by (Follows P) (λ x h. h) core.workers w v _ idle (λ x at here h. all-dropped P x.copies h) (all v))
 copies_step P core (Drain c) looks all = all_by P core (does core (Drain c)) (drain_workers core (connection_at core c).seat) all
+copies_step P core Post looks all = all_by P core (does core Post) (posted_workers core) all
+copies_step P core (Collect c) looks all = all_by P core (does core (Collect c)) (collect_workers core (connection_at core c).seat) all
 copies_step P core (Close c cause) looks all = all
 copies_step P core End looks all = all
 
 -- what holds of the looks of the last core holds of those of each before it
-pub looks_before : (P : Outgoing → Type 0) (core : CoreState) (run : List BuiltStep) → ((revision : ℕ) → AllLooked P (state_at (ran core run) revision)) → (revision : ℕ) → AllLooked P (state_at core revision)
+pub looks_before : (P : Outgoing → Type 0) (core : CoreState) (run : List Step) → ((revision : ℕ) → AllLooked P (state_at (ran core run) revision)) → (revision : ℕ) → AllLooked P (state_at core revision)
 looks_before P core run looks revision =
     let later = state_of_later core run revision in
     rw later.1 (looks later.0)
@@ -139,16 +144,16 @@ idle_copies P (suc count) (suc w) = idle_copies P count w
 abbrev pub Still : CoreState → CoreState → Type 0
 Still old new = (new.totals ≡ old.totals) × (new.outboxes ≡ old.outboxes)
 
-hears_still : (core : CoreState) (w : ℕ) (speaker : SessionId) (read : Result Parts BadVoice) → Still core (frame_step.hears core w speaker read)
-hears_still core w speaker (Ok parts) = (refl, refl)
-hears_still core w speaker (Err fault) = (refl, refl)
+hears_still : (core : CoreState) (w : ℕ) (held : Option HeldPacket) → Still core (frame_step.hears core w held)
+hears_still core w (Some held) = (refl, refl)
+hears_still core w None = (refl, refl)
 
-pub frame_still : (core : CoreState) (c : ℕ) (a : Action) → Still core (frame_step.does core c a)
-frame_still core c (Ask command) = (refl, refl)
-frame_still core c (Voice speaker payload) = hears_still core (connection_at core c).worker speaker (packet payload)
-frame_still core c (Echo frame) = (refl, refl)
-frame_still core c (Keep number) = (refl, refl)
-frame_still core c (Ignore why) = (refl, refl)
+pub frame_still : (core : CoreState) (c : ℕ) (version : Option ℕ) (a : Action) → Still core (frame_step.does core c version a)
+frame_still core c version (Ask command) = (refl, refl)
+frame_still core c version (Voice payload) = hears_still core (connection_at core c).worker (spoken (connection_at core c).seat (packet payload))
+frame_still core c version (Echo frame) = (refl, refl)
+frame_still core c version Keep = (refl, refl)
+frame_still core c version (Ignore why) = (refl, refl)
 
 pub notes_still : (core : CoreState) (w : ℕ) (revision : Option ℕ) → Still core (tell_step.notes w revision core)
 notes_still core w None = (refl, refl)
@@ -192,15 +197,40 @@ drained_length : (core : CoreState) (seat : Option Seat) → length (drain_step.
 drained_length core None = refl
 drained_length core (Some seat) = takes_length core seat (slice_get (outbox_at core seat.slot.0) 0)
 
-pub boxes_step : (core : CoreState) (step : BuiltStep) → length (does core step).outboxes ≡ length core.outboxes
+cond_still : (b : Bool) (core x y : CoreState) → Still core x → Still core y → Still core (cond b x y)
+cond_still true core x y hx hy = hx
+cond_still false core x y hx hy = hy
+
+post_still : (core : CoreState) (next : Option Notice) → Still core (post_step.puts core next)
+post_still core None = (refl, refl)
+post_still core (Some next) = cond_still (post_step.has_room core next.slot.0) core _ _ (refl, refl) (refl, refl)
+
+pub posted_still : (core : CoreState) → Still core (does core Post)
+posted_still core = post_still (posting_core core) (post_step.next_notice core)
+
+kept_boxes : (b : Bool) (core x y : CoreState) → x.outboxes ≡ core.outboxes → y.outboxes ≡ core.outboxes → (cond b x y).outboxes ≡ core.outboxes
+kept_boxes true core x y hx hy = hx
+kept_boxes false core x y hx hy = hy
+
+collects_boxes : (core : CoreState) (seat : Seat) (front : Option Notice) → (collect_step.takes core seat front).outboxes ≡ core.outboxes
+collects_boxes core seat None = refl
+collects_boxes core seat (Some front) = kept_boxes (collect_step.is_for front seat) core _ _ refl refl
+
+pub collect_boxes : (core : CoreState) (seat : Option Seat) → (collect_step.does_from core seat).outboxes ≡ core.outboxes
+collect_boxes core None = refl
+collect_boxes core (Some seat) = collects_boxes core seat (slice_get (posts_at core seat.slot.0) 0)
+
+pub boxes_step : (core : CoreState) (step : Step) → length (does core step).outboxes ≡ length core.outboxes
 boxes_step core (Open c w) = refl
-boxes_step core (Frame c kind payload) = ap length (frame_still core c (action (connection_at core c) kind payload)).1
+boxes_step core (Frame c bytes) = ap length (frame_still core c (frame_version core c bytes) (frame_action core c bytes)).1
 boxes_step core (steps.Edit c) = ap length (decided_still core c (edit_step.decision core c)).1
 boxes_step core Publish = refl
 boxes_step core (Tell c revision) = ap length (notes_still (told_core core c) (connection_at core c).worker revision).1
 boxes_step core (Look w revision) = refl
 boxes_step core (Offer w) = puts_length (taken_core core w) (offer_step.next_copy core w)
 boxes_step core (Drain c) = drained_length core (connection_at core c).seat
+boxes_step core Post = ap length (posted_still core).1
+boxes_step core (Collect c) = ap length (collect_boxes core (connection_at core c).seat)
 boxes_step core (Close c cause) = refl
 boxes_step core End = refl
 

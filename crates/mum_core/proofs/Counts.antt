@@ -9,30 +9,33 @@ use Rattle.std.proofs.lemmas.Option.{slice_get_within, get_or_from_slice_get, sl
 use Rattle.mum_base.specs.declared.number.SessionId.{SessionId}
 use Rattle.mum_state.specs.declared.verdict.Verdict.{Verdict}
 use Rattle.mum_state.specs.State.{StateValue}
-use Rattle.mum_voice.specs.declared.fault.BadVoice.{BadVoice}
-use Rattle.mum_voice.specs.Packet.{Parts, packet}
+use Rattle.mum_voice.specs.Packet.{packet}
 use Rattle.mum_core.specs.declared.connection.Seat.{Seat}
 use Rattle.mum_core.specs.declared.outbox.Parcel.{Parcel}
 use Rattle.mum_core.specs.declared.worker.Outgoing.{Outgoing}
-use Rattle.mum_core.specs.declared.action.Action.{Action}
-use Rattle.mum_core.specs.declared.action.Action.TheVariants.{Ask, Voice, Echo, Keep, Ignore}
-use Rattle.mum_core.specs.Action.{action}
-use Rattle.mum_core.specs.Built as steps
-use Rattle.mum_core.specs.Built.{BuiltStep, Open, Frame, Publish, Tell, Look, Offer, Drain, Close, End}
+use Rattle.mum_session.specs.declared.action.Action.{Action}
+use Rattle.mum_session.specs.declared.action.Action.TheVariants.{Ask, Voice, Echo, Keep, Ignore}
+use Rattle.mum_record.specs.declared.step.Step.TheVariants as steps
+use Rattle.mum_record.specs.declared.step.Step.{Step}
+use Rattle.mum_record.specs.declared.step.Step.TheVariants.{Open, Frame, Publish, Tell, Look, Offer, Post, Drain, Collect, Close, End}
 use Rattle.mum_core.specs.Connection.{is_untold}
-use Rattle.mum_core.specs.Core.{CoreState, start, connection_at, worker_at, outbox_at, state_at, is_opened}
+use Rattle.mum_core.specs.Core.{CoreState, start, connection_at, worker_at, outbox_at, state_at, is_opened, posts_at}
 use Rattle.mum_core.specs.Laws.{IsRun, ran, looked}
 use Rattle.mum_core.specs.Lists.{changed_at, with_found}
-use Rattle.mum_core.specs.Step.{does, illegal}
+use Rattle.mum_core.specs.Step.{does, frame_action, frame_version, illegal}
 use Rattle.mum_core.specs.Worker.{WorkerState, HeldPacket, idle, in_hand}
 use Rattle.mum_core.specs.steps.Edit as edit_step
 use Rattle.mum_core.specs.steps.Frame as frame_step
+use Rattle.mum_core.specs.steps.Frame.{spoken}
 use Rattle.mum_core.specs.steps.Look as look_step
 use Rattle.mum_core.specs.steps.Offer as offer_step
 use Rattle.mum_core.specs.steps.Drain as drain_step
+use Rattle.mum_core.specs.steps.Post as post_step
+use Rattle.mum_core.specs.steps.Collect as collect_step
+use Rattle.mum_notify.specs.declared.notice.Notice.{Notice}
 use Rattle.mum_core.specs.steps.Tell as tell_step
 use Rattle.mum_core.proofs.Changed.{changed-by}
-use Rattle.mum_core.proofs.RunLaws.{decided_workers, drain_workers, first_of, none_stands, not_false, puts_workers, taken_core, told_core}
+use Rattle.mum_core.proofs.RunLaws.{decided_workers, drain_workers, first_of, none_stands, not_false, puts_workers, taken_core, told_core, posting_core, posted_workers, collect_workers}
 
 -- ---- a worker that holds a packet has no copies
 
@@ -55,9 +58,9 @@ idle_hands None copies h = (refl, no_copies copies h)
 idle_hands (Some held) copies h = absurd (omega arith)
 
 -- the worker of a frame that is allowed has nothing in hand
-pub frame_hands : (core : CoreState) (c kind : ℕ) (payload : List ℕ) → illegal core (Frame c kind payload) ≡ None
+pub frame_hands : (core : CoreState) (c : ℕ) (bytes : List ℕ) → illegal core (Frame c bytes) ≡ None
     → ((worker_at core (connection_at core c).worker).held ≡ None) × ((worker_at core (connection_at core c).worker).copies ≡ [])
-frame_hands core c kind payload h =
+frame_hands core c bytes h =
     let worker : WorkerState = worker_at core (connection_at core c).worker in
     let first = none_stands (not (is_opened core c)) _ _ h in
     let second = none_stands (is_some (connection_at core c).closed) _ _ first.1 in
@@ -65,18 +68,18 @@ frame_hands core c kind payload h =
     let fourth = none_stands (nat_lt 0 (in_hand worker)) _ _ third.1 in
     idle_hands worker.held worker.copies (ltb-false 0 (in_hand worker) fourth.0)
 
-clean_hears : (core : CoreState) (w : ℕ) (speaker : SessionId) (read : Result Parts BadVoice) → (worker_at core w).copies ≡ [] → AreClean core.workers → AreClean (frame_step.hears core w speaker read).workers
-clean_hears core w speaker (Ok parts) none clean =
-    clean-at core.workers w (λ worker. record worker { held = Some (record { speaker = speaker; parts = parts }) })
+clean_hears : (core : CoreState) (w : ℕ) (held : Option HeldPacket) → (worker_at core w).copies ≡ [] → AreClean core.workers → AreClean (frame_step.hears core w held).workers
+clean_hears core w (Some held) none clean =
+    clean-at core.workers w (λ worker. record worker { held = Some held })
     (λ x at yes. sym (ap (λ (y : WorkerState). y.copies) (get_or_from_slice_get core.workers w x idle at)) ∙ none) clean
-clean_hears core w speaker (Err fault) none clean = clean
+clean_hears core w None none clean = clean
 
-clean_frame : (core : CoreState) (c : ℕ) (a : Action) → (worker_at core (connection_at core c).worker).copies ≡ [] → AreClean core.workers → AreClean (frame_step.does core c a).workers
-clean_frame core c (Ask command) none clean = clean
-clean_frame core c (Voice speaker payload) none clean = clean_hears core (connection_at core c).worker speaker (packet payload) none clean
-clean_frame core c (Echo frame) none clean = clean
-clean_frame core c (Keep number) none clean = clean
-clean_frame core c (Ignore why) none clean = clean
+clean_frame : (core : CoreState) (c : ℕ) (version : Option ℕ) (a : Action) → (worker_at core (connection_at core c).worker).copies ≡ [] → AreClean core.workers → AreClean (frame_step.does core c version a).workers
+clean_frame core c version (Ask command) none clean = clean
+clean_frame core c version (Voice payload) none clean = clean_hears core (connection_at core c).worker (spoken (connection_at core c).seat (packet payload)) none clean
+clean_frame core c version (Echo frame) none clean = clean
+clean_frame core c version Keep none clean = clean
+clean_frame core c version (Ignore why) none clean = clean
 
 clean_notes : (core : CoreState) (w : ℕ) (revision : Option ℕ) → AreClean core.workers → AreClean (tell_step.notes w revision core).workers
 clean_notes core w None clean = clean
@@ -86,9 +89,9 @@ clean_notes core w (Some revision) clean =
 clean_by : (old new : List WorkerState) → new ≡ old → AreClean old → AreClean new
 clean_by old new same clean w = rw same (clean w)
 
-pub clean_step : (core : CoreState) (step : BuiltStep) → illegal core step ≡ None → AreClean core.workers → AreClean (does core step).workers
+pub clean_step : (core : CoreState) (step : Step) → illegal core step ≡ None → AreClean core.workers → AreClean (does core step).workers
 clean_step core (Open c w) h clean = clean
-clean_step core (Frame c kind payload) h clean = clean_frame core c (action (connection_at core c) kind payload) (frame_hands core c kind payload h).1 clean
+clean_step core (Frame c bytes) h clean = clean_frame core c (frame_version core c bytes) (frame_action core c bytes) (frame_hands core c bytes h).1 clean
 clean_step core (steps.Edit c) h clean = clean_by core.workers (does core (steps.Edit c)).workers (decided_workers core c (edit_step.decision core c)) clean
 clean_step core Publish h clean = clean
 clean_step core (Tell c revision) h clean = clean_notes (told_core core c) (connection_at core c).worker revision clean
@@ -101,6 +104,8 @@ clean_step core (Offer w) h clean =
     let none : IsClean x = rw here at (clean w) in
     ap (drop 1) (none yes)) clean)
 clean_step core (Drain c) h clean = clean_by core.workers (does core (Drain c)).workers (drain_workers core (connection_at core c).seat) clean
+clean_step core Post h clean = clean_by core.workers (does core Post).workers (posted_workers core) clean
+clean_step core (Collect c) h clean = clean_by core.workers (does core (Collect c)).workers (collect_workers core (connection_at core c).seat) clean
 clean_step core (Close c cause) h clean = clean
 clean_step core End h clean = clean
 
@@ -138,16 +143,16 @@ left-same workers i change same = from (slice_get workers i) refl
 abbrev Same : CoreState → CoreState → Type 0
 Same old new = (new.totals.copies ≡ old.totals.copies) × (new.totals.full ≡ old.totals.full) × (left new ≡ left old)
 
-hears_same : (core : CoreState) (w : ℕ) (speaker : SessionId) (read : Result Parts BadVoice) → Same core (frame_step.hears core w speaker read)
-hears_same core w speaker (Ok parts) = (refl, refl, left-same core.workers w (λ worker. record worker { held = Some (record { speaker = speaker; parts = parts }) }) (λ x. refl))
-hears_same core w speaker (Err fault) = (refl, refl, refl)
+hears_same : (core : CoreState) (w : ℕ) (held : Option HeldPacket) → Same core (frame_step.hears core w held)
+hears_same core w (Some held) = (refl, refl, left-same core.workers w (λ worker. record worker { held = Some held }) (λ x. refl))
+hears_same core w None = (refl, refl, refl)
 
-frame_same : (core : CoreState) (c : ℕ) (a : Action) → Same core (frame_step.does core c a)
-frame_same core c (Ask command) = (refl, refl, refl)
-frame_same core c (Voice speaker payload) = hears_same core (connection_at core c).worker speaker (packet payload)
-frame_same core c (Echo frame) = (refl, refl, refl)
-frame_same core c (Keep number) = (refl, refl, refl)
-frame_same core c (Ignore why) = (refl, refl, refl)
+frame_same : (core : CoreState) (c : ℕ) (version : Option ℕ) (a : Action) → Same core (frame_step.does core c version a)
+frame_same core c version (Ask command) = (refl, refl, refl)
+frame_same core c version (Voice payload) = hears_same core (connection_at core c).worker (spoken (connection_at core c).seat (packet payload))
+frame_same core c version (Echo frame) = (refl, refl, refl)
+frame_same core c version Keep = (refl, refl, refl)
+frame_same core c version (Ignore why) = (refl, refl, refl)
 
 decided_same : (core : CoreState) (c : ℕ) (verdict : Option Verdict) → Same core (option_map_or (edit_step.decides core c) verdict core)
 decided_same core c None = (refl, refl, refl)
@@ -164,6 +169,18 @@ cond_same false core x y hx hy = hy
 takes_same : (core : CoreState) (seat : Seat) (front : Option Parcel) → Same core (drain_step.takes core seat front)
 takes_same core seat None = (refl, refl, refl)
 takes_same core seat (Some front) = cond_same (drain_step.is_for front seat) core _ _ (refl, refl, refl) (refl, refl, refl)
+
+post_same : (core : CoreState) (next : Option Notice) → Same core (post_step.puts core next)
+post_same core None = (refl, refl, refl)
+post_same core (Some next) = cond_same (post_step.has_room core next.slot.0) core _ _ (refl, refl, refl) (refl, refl, refl)
+
+collects_same : (core : CoreState) (seat : Seat) (front : Option Notice) → Same core (collect_step.takes core seat front)
+collects_same core seat None = (refl, refl, refl)
+collects_same core seat (Some front) = cond_same (collect_step.is_for front seat) core _ _ (refl, refl, refl) (refl, refl, refl)
+
+collect_same : (core : CoreState) (seat : Option Seat) → Same core (collect_step.does_from core seat)
+collect_same core None = (refl, refl, refl)
+collect_same core (Some seat) = collects_same core seat (slice_get (posts_at core seat.slot.0) 0)
 
 drain_same : (core : CoreState) (seat : Option Seat) → Same core (drain_step.does_from core seat)
 drain_same core None = (refl, refl, refl)
@@ -186,19 +203,21 @@ puts_one core next room =
 abbrev total : CoreState → ℕ
 total core = core.totals.copies + core.totals.full + left core
 
-abbrev found : CoreState → BuiltStep → ℕ
+abbrev found : CoreState → Step → ℕ
 found core (Look w revision) = length (look_step.audience (state_at core revision) (worker_at core w).held)
 found core others = 0
 
-pub looked-cons : (core : CoreState) (step : BuiltStep) (run : List BuiltStep) → looked core (step ∷ run) ≡ found core step + looked (does core step) run
+pub looked-cons : (core : CoreState) (step : Step) (run : List Step) → looked core (step ∷ run) ≡ found core step + looked (does core step) run
 looked-cons core (Open c w) run = omega arith
-looked-cons core (Frame c kind payload) run = omega arith
+looked-cons core (Frame c bytes) run = omega arith
 looked-cons core (steps.Edit c) run = omega arith
 looked-cons core Publish run = omega arith
 looked-cons core (Tell c revision) run = omega arith
 looked-cons core (Look w revision) run = refl
 looked-cons core (Offer w) run = omega arith
 looked-cons core (Drain c) run = omega arith
+looked-cons core Post run = omega arith
+looked-cons core (Collect c) run = omega arith
 looked-cons core (Close c cause) run = omega arith
 looked-cons core End run = omega arith
 
@@ -223,9 +242,9 @@ pub held_there : (held : Option HeldPacket) → is_none held ≡ false → is_so
 held_there None h = cc
 held_there (Some x) h = refl
 
-adds : (core : CoreState) (step : BuiltStep) → illegal core step ≡ None → AreClean core.workers → core.totals.copies + core.totals.full < 2 ^ 64 - 1 → Adds core (does core step) (found core step)
+adds : (core : CoreState) (step : Step) → illegal core step ≡ None → AreClean core.workers → core.totals.copies + core.totals.full < 2 ^ 64 - 1 → Adds core (does core step) (found core step)
 adds core (Open c w) h clean room = adds_none core (does core (Open c w)) (refl, refl, refl)
-adds core (Frame c kind payload) h clean room = adds_none core (does core (Frame c kind payload)) (frame_same core c (action (connection_at core c) kind payload))
+adds core (Frame c bytes) h clean room = adds_none core (does core (Frame c bytes)) (frame_same core c (frame_version core c bytes) (frame_action core c bytes))
 adds core (steps.Edit c) h clean room = adds_none core (does core (steps.Edit c)) (decided_same core c (edit_step.decision core c))
 adds core Publish h clean room = adds_none core (does core Publish) (refl, refl, refl)
 adds core (Tell c revision) h clean room = adds_none core (does core (Tell c revision)) (notes_same (told_core core c) (connection_at core c).worker revision)
@@ -251,10 +270,12 @@ adds core (Offer w) h clean room =
     let longer : length (worker_at core w).copies ≡ suc (length (drop 1 (worker_at core w).copies)) = ap length some.1 in
     rw next (record { counted = omega (arith, one.0); total_is = omega (arith, one.0, one.1, sum, longer) })
 adds core (Drain c) h clean room = adds_none core (does core (Drain c)) (drain_same core (connection_at core c).seat)
+adds core Post h clean room = adds_none core (does core Post) (post_same (posting_core core) (post_step.next_notice core))
+adds core (Collect c) h clean room = adds_none core (does core (Collect c)) (collect_same core (connection_at core c).seat)
 adds core (Close c cause) h clean room = adds_none core (does core (Close c cause)) (refl, refl, refl)
 adds core End h clean room = adds_none core (does core End) (refl, refl, refl)
 
-counted_from : (core : CoreState) (run : List BuiltStep) → IsRun core run → AreClean core.workers → core.totals.copies + core.totals.full + length run < 2 ^ 64 - 1
+counted_from : (core : CoreState) (run : List Step) → IsRun core run → AreClean core.workers → core.totals.copies + core.totals.full + length run < 2 ^ 64 - 1
     → total (ran core run) ≡ total core + looked core run
 counted_from core [] is clean room = omega arith
 counted_from core (step ∷ run) is clean room =
@@ -269,7 +290,7 @@ left_start : (workers : ℕ) → sum_by (λ worker. length worker.copies) (repli
 left_start zero = refl
 left_start (suc n) = left_start n
 
-pub copies_are_counted : (opening : StateValue) (workers : ℕ) (run : List BuiltStep) → IsRun (start opening workers) run → length run < 2 ^ 64 - 1
+pub copies_are_counted : (opening : StateValue) (workers : ℕ) (run : List Step) → IsRun (start opening workers) run → length run < 2 ^ 64 - 1
     → (ran (start opening workers) run).totals.copies + (ran (start opening workers) run).totals.full + left (ran (start opening workers) run) ≡ looked (start opening workers) run
 copies_are_counted opening workers run is room =
     let begun = left_start workers in

@@ -20,19 +20,19 @@ use Rattle.mum_state.specs.State.{StateValue}
 use Rattle.mum_state.proofs.Seats.{seats_stand_lem}
 use Rattle.mum_history.proofs.Fronts.{all_fit_on}
 use Rattle.mum_rules_tree.specs.Decision.{FitsWhereAccepted}
-use Rattle.mum_core.specs.declared.connection.Command.{Command}
-use Rattle.mum_core.specs.Action.{action}
-use Rattle.mum_core.specs.Built as steps
-use Rattle.mum_core.specs.Built.{BuiltStep, Open, Frame, Publish, Tell, Look, Offer, Drain, Close, End}
+use Rattle.mum_session.specs.declared.command.Asked.{Asked}
+use Rattle.mum_record.specs.declared.step.Step.TheVariants as steps
+use Rattle.mum_record.specs.declared.step.Step.{Step}
+use Rattle.mum_record.specs.declared.step.Step.TheVariants.{Open, Frame, Publish, Tell, Look, Offer, Post, Drain, Collect, Close, End}
 use Rattle.mum_core.specs.Connection.{next_command, session_of}
 use Rattle.mum_core.specs.Core.{CoreState, start, connection_at, current, state_at}
 use Rattle.mum_core.specs.Laws.{IsRun, ran}
 use Rattle.mum_core.specs.Reply.{edits_of, verdict}
-use Rattle.mum_core.specs.Step.{does}
+use Rattle.mum_core.specs.Step.{does, frame_action, frame_version}
 use Rattle.mum_core.specs.steps.Edit as edit_step
 use Rattle.mum_core.specs.steps.Offer as offer_step
 use Rattle.mum_core.proofs.Lower.{keeps_proper, verdict_fits}
-use Rattle.mum_core.proofs.RunLaws.{told_core, taken_core, frame_keeps, notes_keep, puts_keep, drain_keeps, same_opening, opening_stays, accepted_grows}
+use Rattle.mum_core.proofs.RunLaws.{told_core, taken_core, frame_keeps, notes_keep, puts_keep, drain_keeps, posted_keeps, collect_keeps, same_opening, opening_stays, accepted_grows}
 
 -- ---- accepted edits fit
 
@@ -51,7 +51,7 @@ more_fit opening edits (Rejected kind) fit next = rw (append-nil edits) fit
 more_fit opening edits (Answer frame) fit next = rw (append-nil edits) fit
 more_fit opening edits (Ignored why) fit next = rw (append-nil edits) fit
 
-edit_fits : (core : CoreState) (c : ℕ) (next : Option Command) → IsProper core.opening → IsFitted core
+edit_fits : (core : CoreState) (c : ℕ) (next : Option Asked) → IsProper core.opening → IsFitted core
     → IsFitted (option_map_or (edit_step.decides core c) (option_map (verdict (current core) (session_of (connection_at core c))) next) core)
 edit_fits core c None proper fit = fit
 edit_fits core c (Some command) proper fit =
@@ -59,11 +59,11 @@ edit_fits core c (Some command) proper fit =
     let session : Option SessionId = session_of (connection_at core c) in
     more_fit core.opening core.accepted (verdict state session command) fit (verdict_fits state session command (keeps_proper core.opening core.accepted proper fit))
 
-fitted : (core : CoreState) (step : BuiltStep) → IsProper core.opening → IsFitted core → IsFitted (does core step)
+fitted : (core : CoreState) (step : Step) → IsProper core.opening → IsFitted core → IsFitted (does core step)
 fitted core (Open c w) proper fit = fit
-fitted core (Frame c kind payload) proper fit =
-    let keeps = frame_keeps core c (action (connection_at core c) kind payload) in
-    fitted_by core (does core (Frame c kind payload)) keeps.2 keeps.0 fit
+fitted core (Frame c bytes) proper fit =
+    let keeps = frame_keeps core c (frame_version core c bytes) (frame_action core c bytes) in
+    fitted_by core (does core (Frame c bytes)) keeps.2 keeps.0 fit
 fitted core (steps.Edit c) proper fit = edit_fits core c (next_command (connection_at core c)) proper fit
 fitted core Publish proper fit = fit
 fitted core (Tell c revision) proper fit =
@@ -76,6 +76,10 @@ fitted core (Offer w) proper fit =
 fitted core (Drain c) proper fit =
     let keeps = drain_keeps core (connection_at core c).seat in
     fitted_by core (does core (Drain c)) keeps.2 keeps.0 fit
+fitted core Post proper fit = let keeps = posted_keeps core in fitted_by core (does core Post) keeps.2 keeps.0 fit
+fitted core (Collect c) proper fit =
+    let keeps = collect_keeps core (connection_at core c).seat in
+    fitted_by core (does core (Collect c)) keeps.2 keeps.0 fit
 fitted core (Close c cause) proper fit = fit
 fitted core End proper fit = fit
 
@@ -86,17 +90,17 @@ pub record IsLawful (core : CoreState) : Type 0 where
   pub proper : IsProper core.opening
   pub fit : IsFitted core
 
-pub lawful_step : (core : CoreState) (step : BuiltStep) → IsLawful core → IsLawful (does core step)
+pub lawful_step : (core : CoreState) (step : Step) → IsLawful core → IsLawful (does core step)
 lawful_step core step lawful = record { proper = rw (same_opening core step) lawful.proper; fit = fitted core step lawful.proper lawful.fit }
 
-pub lawful_all : (core : CoreState) (run : List BuiltStep) → IsLawful core → IsLawful (ran core run)
+pub lawful_all : (core : CoreState) (run : List Step) → IsLawful core → IsLawful (ran core run)
 lawful_all core [] lawful = lawful
 lawful_all core (step ∷ run) lawful = lawful_all (does core step) run (lawful_step core step lawful)
 
 pub lawful_start : (opening : StateValue) (workers : ℕ) → IsProper opening → IsLawful (start opening workers)
 lawful_start opening workers proper = record { proper = proper; fit = refl }
 
-pub edits_fit : (opening : StateValue) (workers : ℕ) (run : List BuiltStep) → IsProper opening → IsRun (start opening workers) run
+pub edits_fit : (opening : StateValue) (workers : ℕ) (run : List Step) → IsProper opening → IsRun (start opening workers) run
     → IsTrue (all_fit opening (ran (start opening workers) run).accepted)
 edits_fit opening workers run proper is =
     let lawful = lawful_all (start opening workers) run (lawful_start opening workers proper) in
@@ -150,7 +154,7 @@ one_slot core one two session slot other lawful here there = elim (cases_lt one 
 ]
 
 -- a state stays what it was once its edits are accepted
-pub state_stays : (core : CoreState) (run : List BuiltStep) (revision : ℕ) → revision ≤ length core.accepted → state_at (ran core run) revision ≡ state_at core revision
+pub state_stays : (core : CoreState) (run : List Step) (revision : ℕ) → revision ≤ length core.accepted → state_at (ran core run) revision ≡ state_at core revision
 state_stays core run revision le =
     let more = accepted_grows core run in
     let same : take revision (ran core run).accepted ≡ take revision core.accepted = ap (take revision) more.1 ∙ take-append-le revision core.accepted more.0 le in

@@ -17,7 +17,8 @@ use Rattle.mum_core.specs.declared.connection.Connection.{Connection}
 use Rattle.mum_core.specs.declared.connection.Seat.{Seat}
 use Rattle.mum_core.specs.declared.outbox.Parcel.{Parcel}
 use Rattle.mum_core.specs.declared.worker.Outgoing.{Outgoing}
-use Rattle.mum_core.specs.Built.{BuiltStep, Drain}
+use Rattle.mum_record.specs.declared.step.Step.{Step}
+use Rattle.mum_record.specs.declared.step.Step.TheVariants.{Drain}
 use Rattle.mum_core.specs.Connection.{fresh}
 use Rattle.mum_core.specs.Core.{CoreState, start, connection_at, outbox_at, state_at}
 use Rattle.mum_core.specs.Laws.{AreBytesOf, IsOfferOf, IsParcelOf, IsRun, IsSubsequence, IsSubsequenceBy, front_for, gathered, heard, is_by, own_front, packet_taken, ran, removed, sent}
@@ -91,7 +92,7 @@ one_small (held ∷ xs) each = (first (each held.speaker.0), one_small xs (λ k.
 abbrev AllPresent : CoreState → Type 0
 AllPresent core = (i : ℕ) → ArePresent core (conn core i)
 
-small_step : (w : ℕ) (core : CoreState) (step : BuiltStep) → illegal core step ≡ None → IsLawful core → AllPresent core → AllByRecursion IsSmall (packet_taken w core step)
+small_step : (w : ℕ) (core : CoreState) (step : Step) → illegal core step ≡ None → IsLawful core → AllPresent core → AllByRecursion IsSmall (packet_taken w core step)
 small_step w core step h lawful present = one_small (packet_taken w core step) (λ k. from k (source w k core step h))
   where
     from : (k : ℕ) → (of_speaker k (packet_taken w core step) ≡ []) ⊎ Source w k core → (of_speaker k (packet_taken w core step) ≡ []) ⊎ (k < 2 ^ 64)
@@ -105,7 +106,7 @@ all_both : (xs ys : List HeldPacket) → AllByRecursion IsSmall xs → AllByRecu
 all_both [] ys all others = others
 all_both (x ∷ xs) ys all others = (all.0, all_both xs ys all.1 others)
 
-small_all : (w : ℕ) (core : CoreState) (run : List BuiltStep) → IsRun core run → IsLawful core → AllPresent core → AllByRecursion IsSmall (gathered (packet_taken w) core run)
+small_all : (w : ℕ) (core : CoreState) (run : List Step) → IsRun core run → IsLawful core → AllPresent core → AllByRecursion IsSmall (gathered (packet_taken w) core run)
 small_all w core [] is lawful present = tt
 small_all w core (step ∷ run) is lawful present =
     all_both (packet_taken w core step) (gathered (packet_taken w) (does core step) run) (small_step w core step is.0 lawful present)
@@ -139,7 +140,7 @@ find_seat k (x ∷ xs) = from (is_of k x.seat) (find_seat k xs)
 
 -- ---- one worker takes the packets of a speaker
 
-only_from : (v k : ℕ) (core : CoreState) (run : List BuiltStep) → IsRun core run → AreSettled core
+only_from : (v k : ℕ) (core : CoreState) (run : List Step) → IsRun core run → AreSettled core
     → ((p : ℕ) → IsOf k (conn (ran core run) p).seat → (conn (ran core run) p).worker ≡ v → ⊥) → of_speaker k (gathered (packet_taken v) core run) ≡ []
 only_from v k core [] is settled never = refl
 only_from v k core (step ∷ run) is settled never =
@@ -155,7 +156,7 @@ only_from v k core (step ∷ run) is settled never =
 
 -- ---- what is heard was offered
 
-heard_none : (n : ℕ) (core : CoreState) (step : BuiltStep) (run : List BuiltStep) → AreSettled core → ((p : ℕ) → IsOf n (conn (ran core (step ∷ run)) p).seat → ⊥) → heard n core step ≡ []
+heard_none : (n : ℕ) (core : CoreState) (step : Step) (run : List Step) → AreSettled core → ((p : ℕ) → IsOf n (conn (ran core (step ∷ run)) p).seat → ⊥) → heard n core step ≡ []
 heard_none n core (Drain d) run settled never = from (connection_at core d).seat refl
   where
     from : (o : Option Seat) → (connection_at core d).seat ≡ o → front_for n core o ≡ []
@@ -171,7 +172,7 @@ heard_none n core (Drain d) run settled never = from (connection_at core d).seat
             absurd (never (d - 1) (given_of (conn last (d - 1)).seat seat n there (eqb-true seat.session.0 n same)))
 heard_none n core others run settled never = refl
 
-hears_none : (n : ℕ) (core : CoreState) (run : List BuiltStep) → AreSettled core → ((p : ℕ) → IsOf n (conn (ran core run) p).seat → ⊥) → gathered (heard n) core run ≡ []
+hears_none : (n : ℕ) (core : CoreState) (run : List Step) → AreSettled core → ((p : ℕ) → IsOf n (conn (ran core run) p).seat → ⊥) → gathered (heard n) core run ≡ []
 hears_none n core [] settled never = refl
 hears_none n core (step ∷ run) settled never =
     ap (λ (xs : List Parcel). xs ++ gathered (heard n) (does core step) run) (heard_none n core step run settled never)
@@ -180,11 +181,11 @@ hears_none n core (step ∷ run) settled never =
 abbrev told_bytes : List Parcel → List (List ℕ)
 told_bytes parcels = map (λ (parcel : Parcel). parcel.bytes) parcels
 
-abbrev HeardIsSent : StateValue → ℕ → List BuiltStep → ℕ → Type 0
+abbrev HeardIsSent : StateValue → ℕ → List Step → ℕ → Type 0
 HeardIsSent opening workers run n =
     IsSubsequence (told_bytes (gathered (heard n) (start opening workers) run)) (map bytes_of (gathered (sent n) (start opening workers) run))
 
-heard_is_sent : (opening : StateValue) (workers n : ℕ) (run : List BuiltStep) → IsProper opening → IsRun (start opening workers) run → HeardIsSent opening workers run n
+heard_is_sent : (opening : StateValue) (workers n : ℕ) (run : List Step) → IsProper opening → IsRun (start opening workers) run → HeardIsSent opening workers run n
 heard_is_sent opening workers n run proper is = from (find_seat n (ran (start opening workers) run).connections)
   where
     from : Seated n (ran (start opening workers) run).connections → HeardIsSent opening workers run n
@@ -211,11 +212,11 @@ all_unit [] = tt
 all_unit (x ∷ xs) = (tt, all_unit xs)
 
 -- of the worker that took the packets of a speaker
-abbrev FollowsFrom : StateValue → ℕ → List BuiltStep → ℕ → ℕ → ℕ → Type 0
+abbrev FollowsFrom : StateValue → ℕ → List Step → ℕ → ℕ → ℕ → Type 0
 FollowsFrom opening workers run n k w =
     IsSubsequenceBy IsParcelOf (filter (λ parcel. is_by k parcel.bytes) (gathered (heard n) (start opening workers) run)) (of_speaker k (gathered (packet_taken w) (start opening workers) run))
 
-follows : (opening : StateValue) (workers n k w : ℕ) (run : List BuiltStep) → IsProper opening → IsRun (start opening workers) run
+follows : (opening : StateValue) (workers n k w : ℕ) (run : List Step) → IsProper opening → IsRun (start opening workers) run
     → ((v : ℕ) → (v ≡ w → ⊥) → of_speaker k (gathered (packet_taken v) (start opening workers) run) ≡ []) → FollowsFrom opening workers run n k w
 follows opening workers n k w run proper is others =
     let first : CoreState = start opening workers in
@@ -248,7 +249,7 @@ follows opening workers n k w run proper is others =
         stands_in_none IsOfferOf (filter (λ offer. is_by k (bytes_of offer)) (filter (λ (offer : ℕ × Outgoing). offer.0 == v) (gathered (sent n) (start opening workers) run)))
         (subst (λ (ys : List HeldPacket). IsSubsequenceBy IsOfferOf (filter (λ offer. is_by k (bytes_of offer)) (filter (λ (offer : ℕ × Outgoing). offer.0 == v) (gathered (sent n) (start opening workers) run))) ys) none (of_worker v))
 
-pub heard_in_order : (opening : StateValue) (workers n speaker : ℕ) (run : List BuiltStep) → IsProper opening → IsRun (start opening workers) run
+pub heard_in_order : (opening : StateValue) (workers n speaker : ℕ) (run : List Step) → IsProper opening → IsRun (start opening workers) run
     → (w : ℕ) × ((v : ℕ) → (v ≡ w → ⊥) → of_speaker speaker (gathered (packet_taken v) (start opening workers) run) ≡ []) × FollowsFrom opening workers run n speaker w
 heard_in_order opening workers n speaker run proper is = from (find_seat speaker (ran (start opening workers) run).connections)
   where

@@ -41,8 +41,8 @@ use Rattle.mum_rules_user.specs.Outcome.{answer_frame, outcome}
 use Rattle.mum_rules_user.specs.Reasons.{reasons}
 use Rattle.mum_rules_user.specs.Verdict.{asker_for, command_verdict, heard_verdict, user_verdict}
 use Rattle.mum_rules_user.proofs.Accepted.{accepted_fits, login_accepted_fits}
-use Rattle.mum_core.specs.declared.connection.Command.{Command}
-use Rattle.mum_core.specs.declared.connection.Command.TheVariants as commands
+use Rattle.mum_session.specs.declared.command.Asked.{Asked}
+use Rattle.mum_session.specs.declared.command.Asked.TheVariants as commands
 use Rattle.mum_core.specs.Reply.{seat_of, verdict}
 
 pub keeps_proper : (state : StateValue) (edits : List Edit) → IsProper state → IsTrue (all_fit state edits) → IsProper (led_to state edits)
@@ -53,7 +53,7 @@ last_rises = numbers_rise
 
 -- ---- what holds of all decisions on channels
 
-record Holds (P : Verdict → Type 0) : Type 0 where
+pub record Holds (P : Verdict → Type 0) : Type 0 where
   pub ignored : (why : ℕ) → P (Ignored why)
   pub lacks : (perm : Perm) (channel : ChannelId) → P (Lacks perm channel)
   pub refused : (kind : ℕ) → P (Refused kind)
@@ -64,7 +64,7 @@ record Holds (P : Verdict → Type 0) : Type 0 where
   pub removed : (id : ChannelId) (actor : SessionId) → P (Accepted (RemoveChannel id actor))
   pub ruled : (channel : ChannelId) (actor : Option SessionId) (policy : ChannelPolicy) → P (Accepted (SetAcl channel actor policy))
 
-unless : {X : Type 0} (P : Verdict → Type 0) (f : X → Verdict) (o : Option X) (v : Verdict) → ((x : X) → P (f x)) → P v → P (option_map_or f o v)
+pub unless : {X : Type 0} (P : Verdict → Type 0) (f : X → Verdict) (o : Option X) (v : Verdict) → ((x : X) → P (f x)) → P v → P (option_map_or f o v)
 unless P f None v each rest = rest
 unless P f (Some x) v each rest = each x
 
@@ -76,7 +76,7 @@ outcome_holds P h state actor (TreeCommand.query id) =
     unless P (λ policy. Answer (answer_of_tree id policy)) (policy_of state id) _ (λ policy. h.answered _) (h.ignored _)
 outcome_holds P h state actor (TreeCommand.set id message) = h.ruled _ _ _
 
-tree_holds : (P : Verdict → Type 0) → Holds P → (state : StateValue) (actor : SessionId) (message : TreeMessage) → P (tree_verdict state actor message)
+pub tree_holds : (P : Verdict → Type 0) → Holds P → (state : StateValue) (actor : SessionId) (message : TreeMessage) → P (tree_verdict state actor message)
 tree_holds P h state actor message =
     unless P _ (first_standing (reasons_of_tree state actor message)) _ (λ reason. h.ignored _)
     (unless P _ (first_lack state (needs_of_tree state.tree (asker_named state actor) (tree_command_of message))) _ (λ lack. h.lacks _ _)
@@ -136,7 +136,7 @@ user_seats : (state : StateValue) (session : Option SessionId) (message : UserMe
 user_seats state session message =
     unless (SeatsNext state session) _ (first_standing (reasons state session message)) _ (λ reason. inl refl) (heard_seats state session message)
 
-pub verdict_seats : (state : StateValue) (session : Option SessionId) (command : Command) → SeatsNext state session (verdict state session command)
+pub verdict_seats : (state : StateValue) (session : Option SessionId) (command : Asked) → SeatsNext state session (verdict state session command)
 unfolding verdict
 verdict_seats state None (commands.Tree message) = inl refl
 verdict_seats state (Some session) (commands.Tree message) = inl (tree_seats_nobody state session message)
@@ -149,7 +149,7 @@ user_fits : (state : StateValue) (session : Option SessionId) (message : UserMes
 user_fits state None message proper = login_accepted_fits state message
 user_fits state (Some session) message proper = accepted_fits state session message proper
 
-pub verdict_fits : (state : StateValue) (session : Option SessionId) (command : Command) → IsProper state → FitsWhereAccepted state (verdict state session command)
+pub verdict_fits : (state : StateValue) (session : Option SessionId) (command : Asked) → IsProper state → FitsWhereAccepted state (verdict state session command)
 unfolding verdict
 verdict_fits state None (commands.Tree message) proper = tt
 verdict_fits state (Some session) (commands.Tree message) proper = tree_accepted_fits state session message proper

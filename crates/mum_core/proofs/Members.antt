@@ -20,7 +20,7 @@ use Rattle.mum_route.specs.Laws.{IsInLowerSlot}
 use Rattle.mum_route.specs.Route.{Member as Hearer, route}
 use Rattle.mum_route.proofs.Hearers.{each_hearing, found_number, found_own, pairs_hearing, route_of_loopback, route_of_none, route_of_silent}
 use Rattle.mum_core.specs.declared.route.Member.{Member}
-use Rattle.mum_core.specs.Built.{Look}
+use Rattle.mum_record.specs.declared.step.Step.TheVariants.{Look}
 use Rattle.mum_core.specs.Core.{CoreState, state_at, worker_at}
 use Rattle.mum_core.specs.Route.{in_its_slot, members}
 use Rattle.mum_core.specs.Step.{does, illegal}

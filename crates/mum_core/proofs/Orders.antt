@@ -19,18 +19,18 @@ use Rattle.mum_core.specs.declared.connection.Seat.{Seat}
 use Rattle.mum_core.specs.declared.outbox.Parcel.{Parcel}
 use Rattle.mum_core.specs.declared.slot.TheConstants.{SLOTS}
 use Rattle.mum_core.specs.declared.worker.Outgoing.{Outgoing}
-use Rattle.mum_core.specs.Action.{action}
-use Rattle.mum_core.specs.Built as steps
-use Rattle.mum_core.specs.Built.{BuiltStep, Open, Frame, Publish, Tell, Look, Offer, Drain, Close, End}
+use Rattle.mum_record.specs.declared.step.Step.TheVariants as steps
+use Rattle.mum_record.specs.declared.step.Step.{Step}
+use Rattle.mum_record.specs.declared.step.Step.TheVariants.{Open, Frame, Publish, Tell, Look, Offer, Post, Drain, Collect, Close, End}
 use Rattle.mum_core.specs.Core.{CoreState, start, connection_at, worker_at, outbox_at, state_at, up}
 use Rattle.mum_core.specs.Laws.{IsRun, front, gathered, ran, removed, sent}
 use Rattle.mum_core.specs.Lists.{changed_at}
-use Rattle.mum_core.specs.Step.{does}
+use Rattle.mum_core.specs.Step.{does, frame_action, frame_version}
 use Rattle.mum_core.specs.steps.Edit as edit_step
 use Rattle.mum_core.specs.steps.Offer as offer_step
 use Rattle.mum_core.specs.steps.Drain as drain_step
 use Rattle.mum_core.proofs.Changed.{changed-by, changed_same, changed_other}
-use Rattle.mum_core.proofs.Copies.{AllCopies, AllLooked, all-dropped, all-pushed, boxes_step, copies_step, decided_still, each_looked, empty_box, frame_still, idle_copies, looks_before, notes_still, put_core, rest_core, takes_boxes}
+use Rattle.mum_core.proofs.Copies.{AllCopies, AllLooked, all-dropped, all-pushed, boxes_step, copies_step, decided_still, each_looked, empty_box, frame_still, idle_copies, looks_before, notes_still, put_core, rest_core, takes_boxes, posted_still, collect_boxes}
 use Rattle.mum_core.proofs.Fitted.{IsLawful, lawful_all, lawful_start, one_slot, state_proper}
 use Rattle.mum_core.proofs.Present.{slot_below}
 use Rattle.mum_core.proofs.RunLaws.{taken_core, told_core}
@@ -88,9 +88,9 @@ first_fits : (n slot : ℕ) (copies : List Outgoing) (copy : Outgoing) → AllBy
 first_fits n slot [] copy all e = cc
 first_fits n slot (one ∷ copies) copy all e = let same : one ≡ copy = cc in rw same at all.0
 
-parcels_step : (n slot : ℕ) (core : CoreState) (step : BuiltStep) → AllCopies (FitsCopy n slot) core → Boxes n slot core → Boxes n slot (does core step)
+parcels_step : (n slot : ℕ) (core : CoreState) (step : Step) → AllCopies (FitsCopy n slot) core → Boxes n slot core → Boxes n slot (does core step)
 parcels_step n slot core (Open c w) copies fits = fits
-parcels_step n slot core (Frame c kind payload) copies fits = boxes_by n slot core (does core (Frame c kind payload)) (frame_still core c (action (connection_at core c) kind payload)).1 fits
+parcels_step n slot core (Frame c bytes) copies fits = boxes_by n slot core (does core (Frame c bytes)) (frame_still core c (frame_version core c bytes) (frame_action core c bytes)).1 fits
 parcels_step n slot core (steps.Edit c) copies fits = boxes_by n slot core (does core (steps.Edit c)) (decided_still core c (edit_step.decision core c)).1 fits
 parcels_step n slot core Publish copies fits = fits
 parcels_step n slot core (Tell c revision) copies fits = boxes_by n slot core (does core (Tell c revision)) (notes_still (told_core core c) (connection_at core c).worker revision).1 fits
@@ -98,10 +98,12 @@ parcels_step n slot core (Look w revision) copies fits = fits
 parcels_step n slot core (Offer w) copies fits =
     puts_boxes n slot (taken_core core w) (offer_step.next_copy core w) (λ copy e. first_fits n slot (worker_at core w).copies copy (copies w) e) fits
 parcels_step n slot core (Drain c) copies fits = drain_fits n slot core (connection_at core c).seat fits
+parcels_step n slot core Post copies fits = boxes_by n slot core (does core Post) (posted_still core).1 fits
+parcels_step n slot core (Collect c) copies fits = boxes_by n slot core (does core (Collect c)) (collect_boxes core (connection_at core c).seat) fits
 parcels_step n slot core (Close c cause) copies fits = fits
 parcels_step n slot core End copies fits = fits
 
-pub fits_step : (n slot : ℕ) (core : CoreState) (step : BuiltStep) → ((revision : ℕ) → AllLooked (FitsCopy n slot) (state_at core revision)) → Fits n slot core → Fits n slot (does core step)
+pub fits_step : (n slot : ℕ) (core : CoreState) (step : Step) → ((revision : ℕ) → AllLooked (FitsCopy n slot) (state_at core revision)) → Fits n slot core → Fits n slot (does core step)
 fits_step n slot core step looks fits =
     record {
       boxes = boxes_step core step ∙ fits.boxes;
@@ -139,7 +141,7 @@ bytes_of parcels = map (λ parcel. parcel.bytes) parcels
 abbrev copies_of : List (ℕ × Outgoing) → List (List ℕ)
 copies_of offers = map (λ offer. offer.1.bytes) offers
 
-abbrev Conserved : ℕ → ℕ → CoreState → BuiltStep → Type 0
+abbrev Conserved : ℕ → ℕ → CoreState → Step → Type 0
 Conserved n slot core step =
     bytes_of (mine n (outbox_at core slot)) ++ copies_of (sent n core step) ≡ bytes_of (removed n core step) ++ bytes_of (mine n (outbox_at (does core step) slot))
 
@@ -235,9 +237,9 @@ drained_from n slot core None within fits = append-nil (bytes_of (mine n (outbox
 drained_from n slot core (Some seat) within fits =
     append-nil (bytes_of (mine n (outbox_at core slot))) ∙ drained n slot core seat within (outbox_at core seat.slot.0) refl (fits seat.slot.0)
 
-conserved : (n slot : ℕ) (core : CoreState) (step : BuiltStep) → slot < SLOTS → Fits n slot core → Conserved n slot core step
+conserved : (n slot : ℕ) (core : CoreState) (step : Step) → slot < SLOTS → Fits n slot core → Conserved n slot core step
 conserved n slot core (Open c w) within fits = append-nil (bytes_of (mine n (outbox_at core slot)))
-conserved n slot core (Frame c kind payload) within fits = quiet n slot core (does core (Frame c kind payload)) (frame_still core c (action (connection_at core c) kind payload)).1
+conserved n slot core (Frame c bytes) within fits = quiet n slot core (does core (Frame c bytes)) (frame_still core c (frame_version core c bytes) (frame_action core c bytes)).1
 conserved n slot core (steps.Edit c) within fits = quiet n slot core (does core (steps.Edit c)) (decided_still core c (edit_step.decision core c)).1
 conserved n slot core Publish within fits = append-nil (bytes_of (mine n (outbox_at core slot)))
 conserved n slot core (Tell c revision) within fits = quiet n slot core (does core (Tell c revision)) (notes_still (told_core core c) (connection_at core c).worker revision).1
@@ -248,12 +250,14 @@ conserved n slot core (Offer w) within fits =
 conserved n slot core (Drain c) within fits =
     let there : slot < length core.outboxes = rw fits.boxes within in
     drained_from n slot core (connection_at core c).seat there fits.parcels
+conserved n slot core Post within fits = quiet n slot core (does core Post) (posted_still core).1
+conserved n slot core (Collect c) within fits = quiet n slot core (does core (Collect c)) (collect_boxes core (connection_at core c).seat)
 conserved n slot core (Close c cause) within fits = append-nil (bytes_of (mine n (outbox_at core slot)))
 conserved n slot core End within fits = append-nil (bytes_of (mine n (outbox_at core slot)))
 
 -- ---- all steps
 
-conserved_all : (n slot : ℕ) (core : CoreState) (run : List BuiltStep) → slot < SLOTS → ((revision : ℕ) → AllLooked (FitsCopy n slot) (state_at (ran core run) revision)) → Fits n slot core
+conserved_all : (n slot : ℕ) (core : CoreState) (run : List Step) → slot < SLOTS → ((revision : ℕ) → AllLooked (FitsCopy n slot) (state_at (ran core run) revision)) → Fits n slot core
     → bytes_of (mine n (outbox_at core slot)) ++ copies_of (gathered (sent n) core run) ≡ bytes_of (gathered (removed n) core run) ++ bytes_of (mine n (outbox_at (ran core run) slot))
 conserved_all n slot core [] within looks fits = append-nil (bytes_of (mine n (outbox_at core slot)))
 conserved_all n slot core (step ∷ run) within looks fits =
@@ -274,7 +278,7 @@ conserved_all n slot core (step ∷ run) within looks fits =
     ∙ (sym (append_assoc (bytes_of take) (bytes_of takes) new)
     ∙ ap (λ (xs : List (List ℕ)). xs ++ new) (sym (map-append (λ (parcel : Parcel). parcel.bytes) take takes)))))))
 
-pub sent_is_conserved : (opening : StateValue) (workers revision : ℕ) (session : SessionId) (slot : Slot) (run : List BuiltStep) → IsProper opening → IsRun (start opening workers) run
+pub sent_is_conserved : (opening : StateValue) (workers revision : ℕ) (session : SessionId) (slot : Slot) (run : List Step) → IsProper opening → IsRun (start opening workers) run
     → IsInSlot (state_at (ran (start opening workers) run) revision) session slot
     → map (λ offer. offer.1.bytes) (gathered (sent session.0) (start opening workers) run)
     ≡ map (λ parcel. parcel.bytes) (gathered (removed session.0) (start opening workers) run ++ filter (λ parcel. parcel.to.0 == session.0) (outbox_at (ran (start opening workers) run) slot.0))
@@ -302,19 +306,21 @@ none_offered n w core (copy ∷ copies) others = from (copy.to.0 == n) refl
     from true e = absurd (others.0 (eqb-true copy.to.0 n e))
     from false e = refl
 
-none_sent : (n : ℕ) (core : CoreState) (step : BuiltStep) → AllCopies (IsForOthers n) core → sent n core step ≡ []
+none_sent : (n : ℕ) (core : CoreState) (step : Step) → AllCopies (IsForOthers n) core → sent n core step ≡ []
 none_sent n core (Open c w) others = refl
-none_sent n core (Frame c kind payload) others = refl
+none_sent n core (Frame c bytes) others = refl
 none_sent n core (steps.Edit c) others = refl
 none_sent n core Publish others = refl
 none_sent n core (Tell c revision) others = refl
 none_sent n core (Look w revision) others = refl
 none_sent n core (Offer w) others = none_offered n w core (worker_at core w).copies (others w)
 none_sent n core (Drain c) others = refl
+none_sent n core Post others = refl
+none_sent n core (Collect c) others = refl
 none_sent n core (Close c cause) others = refl
 none_sent n core End others = refl
 
-none_sent_on : (n : ℕ) (core : CoreState) (run : List BuiltStep) → ((revision : ℕ) → AllLooked (IsForOthers n) (state_at (ran core run) revision)) → AllCopies (IsForOthers n) core
+none_sent_on : (n : ℕ) (core : CoreState) (run : List Step) → ((revision : ℕ) → AllLooked (IsForOthers n) (state_at (ran core run) revision)) → AllCopies (IsForOthers n) core
     → gathered (sent n) core run ≡ []
 none_sent_on n core [] looks others = refl
 none_sent_on n core (step ∷ run) looks others =
@@ -322,7 +328,7 @@ none_sent_on n core (step ∷ run) looks others =
     let later = none_sent_on n (does core step) run looks (copies_step (IsForOthers n) core step (looks_before (IsForOthers n) core (step ∷ run) looks) others) in
     rw (first, later) refl
 
-pub none_sent_to_absent : (opening : StateValue) (workers : ℕ) (session : SessionId) (run : List BuiltStep) → IsProper opening → IsRun (start opening workers) run
+pub none_sent_to_absent : (opening : StateValue) (workers : ℕ) (session : SessionId) (run : List Step) → IsProper opening → IsRun (start opening workers) run
     → ((revision : ℕ) → session_of (state_at (ran (start opening workers) run) revision).roster session ≡ None)
     → gathered (sent session.0) (start opening workers) run ≡ []
 none_sent_to_absent opening workers session run proper is absent =

@@ -9,23 +9,23 @@ use Rattle.std.proofs.lemmas.Option.{get_or_from_slice_get}
 use Rattle.mum_base.specs.declared.number.SessionId.{SessionId}
 use Rattle.mum_state.specs.Proper.{IsProper}
 use Rattle.mum_state.specs.State.{StateValue}
-use Rattle.mum_voice.specs.declared.fault.BadVoice.{BadVoice}
-use Rattle.mum_voice.specs.Packet.{Parts, packet}
-use Rattle.mum_core.specs.declared.action.Action.{Action}
-use Rattle.mum_core.specs.declared.action.Action.TheVariants.{Ask, Voice, Echo, Keep, Ignore}
+use Rattle.mum_voice.specs.Packet.{packet}
+use Rattle.mum_session.specs.declared.action.Action.{Action}
+use Rattle.mum_session.specs.declared.action.Action.TheVariants.{Ask, Voice, Echo, Keep, Ignore}
 use Rattle.mum_core.specs.declared.route.Member.{Member}
 use Rattle.mum_core.specs.declared.worker.Outgoing.{Outgoing}
-use Rattle.mum_core.specs.Action.{action}
-use Rattle.mum_core.specs.Built as steps
-use Rattle.mum_core.specs.Built.{BuiltStep, Open, Frame, Publish, Tell, Look, Offer, Drain, Close, End}
+use Rattle.mum_record.specs.declared.step.Step.TheVariants as steps
+use Rattle.mum_record.specs.declared.step.Step.{Step}
+use Rattle.mum_record.specs.declared.step.Step.TheVariants.{Open, Frame, Publish, Tell, Look, Offer, Post, Drain, Collect, Close, End}
 use Rattle.mum_core.specs.Core.{CoreState, start, connection_at, worker_at, state_at}
 use Rattle.mum_core.specs.Laws.{IsCopyOf, IsOfferOf, IsRun, IsSubsequenceBy, gathered, packet_taken, sent}
 use Rattle.mum_core.specs.Lists.{changed_at}
 use Rattle.mum_core.specs.Route.{share_context}
-use Rattle.mum_core.specs.Step.{does, illegal}
+use Rattle.mum_core.specs.Step.{does, frame_action, frame_version, illegal}
 use Rattle.mum_core.specs.Worker.{WorkerState, HeldPacket, idle}
 use Rattle.mum_core.specs.steps.Edit as edit_step
 use Rattle.mum_core.specs.steps.Frame as frame_step
+use Rattle.mum_core.specs.steps.Frame.{spoken}
 use Rattle.mum_core.specs.steps.Look as look_step
 use Rattle.mum_core.specs.steps.Offer as offer_step
 use Rattle.mum_core.specs.steps.Tell as tell_step
@@ -33,7 +33,7 @@ use Rattle.mum_core.proofs.Changed.{changed-by, changed_same, changed_other}
 use Rattle.mum_core.proofs.Counts.{AreClean, clean_start, clean_step, frame_hands, held_there}
 use Rattle.mum_core.proofs.Fitted.{IsLawful, lawful_start, lawful_step, state_proper}
 use Rattle.mum_core.proofs.Members.{AreApart, IsApart, members_are_apart}
-use Rattle.mum_core.proofs.RunLaws.{decided_workers, drain_workers, none_stands, not_false, puts_workers, taken_core, told_core}
+use Rattle.mum_core.proofs.RunLaws.{decided_workers, drain_workers, none_stands, not_false, puts_workers, taken_core, told_core, posted_workers, collect_workers}
 use Rattle.mum_core.proofs.Subsequences.{skip}
 
 -- ---- what may still be sent
@@ -176,21 +176,21 @@ abbrev GoesTo : ℕ → ℕ → List (ℕ × Outgoing) → CoreState → List Wo
 GoesTo n v now core workers =
     Leads now (in_sight n (worker_at core v)) (map Held (cond (is_none (worker_at core v).held) (option_to_list (slice_index_or workers v idle).held) [])) (in_sight n (slice_index_or workers v idle))
 
-hears_go : (n v : ℕ) (core : CoreState) (w : ℕ) (speaker : SessionId) (read : Result Parts BadVoice) → (worker_at core w).held ≡ None → (worker_at core w).copies ≡ []
-    → GoesTo n v [] core (frame_step.hears core w speaker read).workers
-hears_go n v core w speaker (Ok parts) holds none =
-    changed-by (Goes n) (still n) core.workers w v (λ worker. record worker { held = Some (record { speaker = speaker; parts = parts }) }) idle (λ x at same.
+hears_go : (n v : ℕ) (core : CoreState) (w : ℕ) (held : Option HeldPacket) → (worker_at core w).held ≡ None → (worker_at core w).copies ≡ []
+    → GoesTo n v [] core (frame_step.hears core w held).workers
+hears_go n v core w (Some held) holds none =
+    changed-by (Goes n) (still n) core.workers w v (λ worker. record worker { held = Some held }) idle (λ x at same.
     let here : worker_at core w ≡ x = get_or_from_slice_get core.workers w x idle at in
-    goes_hearing n x (record { speaker = speaker; parts = parts }) (rw here at holds) (rw here at none))
-hears_go n v core w speaker (Err fault) holds none = still n (worker_at core v)
+    goes_hearing n x held (rw here at holds) (rw here at none))
+hears_go n v core w None holds none = still n (worker_at core v)
 
-frame_goes : (n v : ℕ) (core : CoreState) (c : ℕ) (a : Action) → (worker_at core (connection_at core c).worker).held ≡ None → (worker_at core (connection_at core c).worker).copies ≡ []
-    → GoesTo n v [] core (frame_step.does core c a).workers
-frame_goes n v core c (Ask command) holds none = still n (worker_at core v)
-frame_goes n v core c (Voice speaker payload) holds none = hears_go n v core (connection_at core c).worker speaker (packet payload) holds none
-frame_goes n v core c (Echo frame) holds none = still n (worker_at core v)
-frame_goes n v core c (Keep number) holds none = still n (worker_at core v)
-frame_goes n v core c (Ignore why) holds none = still n (worker_at core v)
+frame_goes : (n v : ℕ) (core : CoreState) (c : ℕ) (version : Option ℕ) (a : Action) → (worker_at core (connection_at core c).worker).held ≡ None → (worker_at core (connection_at core c).worker).copies ≡ []
+    → GoesTo n v [] core (frame_step.does core c version a).workers
+frame_goes n v core c version (Ask command) holds none = still n (worker_at core v)
+frame_goes n v core c version (Voice payload) holds none = hears_go n v core (connection_at core c).worker (spoken (connection_at core c).seat (packet payload)) holds none
+frame_goes n v core c version (Echo frame) holds none = still n (worker_at core v)
+frame_goes n v core c version Keep holds none = still n (worker_at core v)
+frame_goes n v core c version (Ignore why) holds none = still n (worker_at core v)
 
 notes_go : (n v : ℕ) (core : CoreState) (w : ℕ) (revision : Option ℕ) → GoesTo n v [] core (tell_step.notes w revision core).workers
 notes_go n v core w None = still n (worker_at core v)
@@ -246,12 +246,12 @@ offer_goes n v core w within = elim (cases_eq v w) [
   | inr other ↦ offer_of_other n v core w other
 ]
 
-goes : (n v : ℕ) (core : CoreState) (step : BuiltStep) → illegal core step ≡ None → AreClean core.workers → IsLawful core
+goes : (n v : ℕ) (core : CoreState) (step : Step) → illegal core step ≡ None → AreClean core.workers → IsLawful core
     → GoesTo n v (by_worker v (sent n core step)) core (does core step).workers
 goes n v core (Open c w) h clean are = still n (worker_at core v)
-goes n v core (Frame c kind payload) h clean are =
-    let idle_now = frame_hands core c kind payload h in
-    frame_goes n v core c (action (connection_at core c) kind payload) idle_now.0 idle_now.1
+goes n v core (Frame c bytes) h clean are =
+    let idle_now = frame_hands core c bytes h in
+    frame_goes n v core c (frame_version core c bytes) (frame_action core c bytes) idle_now.0 idle_now.1
 goes n v core (steps.Edit c) h clean are = let same = decided_workers core c (edit_step.decision core c) in rw same (still n (worker_at core v))
 goes n v core Publish h clean are = still n (worker_at core v)
 goes n v core (Tell c revision) h clean are = notes_go n v (told_core core c) (connection_at core c).worker revision
@@ -262,10 +262,12 @@ goes n v core (Offer w) h clean are =
     let same = puts_workers (taken_core core w) (offer_step.next_copy core w) in
     rw same (offer_goes n v core w within)
 goes n v core (Drain c) h clean are = let same = drain_workers core (connection_at core c).seat in rw same (still n (worker_at core v))
+goes n v core Post h clean are = let same = posted_workers core in rw same (still n (worker_at core v))
+goes n v core (Collect c) h clean are = let same = collect_workers core (connection_at core c).seat in rw same (still n (worker_at core v))
 goes n v core (Close c cause) h clean are = still n (worker_at core v)
 goes n v core End h clean are = still n (worker_at core v)
 
-sent_all : (n v : ℕ) (core : CoreState) (run : List BuiltStep) → IsRun core run → AreClean core.workers → IsLawful core
+sent_all : (n v : ℕ) (core : CoreState) (run : List Step) → IsRun core run → AreClean core.workers → IsLawful core
     → Stands (by_worker v (gathered (sent n) core run)) (in_sight n (worker_at core v) ++ map Held (gathered (packet_taken v) core run))
 sent_all n v core [] is clean are = tt
 sent_all n v core (step ∷ run) is clean are =
@@ -291,7 +293,7 @@ of_packets (offer ∷ offers) [] h = absurd h
 of_packets (offer ∷ offers) (one ∷ held) (inl (is, rest)) = inl (is, of_packets offers held rest)
 of_packets (offer ∷ offers) (one ∷ held) (inr later) = inr (of_packets (offer ∷ offers) held later)
 
-pub copies_follow_packets : (opening : StateValue) (workers v n : ℕ) (run : List BuiltStep) → IsProper opening → IsRun (start opening workers) run
+pub copies_follow_packets : (opening : StateValue) (workers v n : ℕ) (run : List Step) → IsProper opening → IsRun (start opening workers) run
     → IsSubsequenceBy IsOfferOf (filter (λ offer. offer.0 == v) (gathered (sent n) (start opening workers) run)) (gathered (packet_taken v) (start opening workers) run)
 copies_follow_packets opening workers v n run proper is =
     let all = sent_all n v (start opening workers) run is (clean_start workers) (lawful_start opening workers proper) in

@@ -1,37 +1,41 @@
 -- What a step makes of each connection. A connection stays at its worker.
-use Rattle.std.proofs.Common.{◌≡◌, ℕ, zero, suc, ◌+◌, ◌-◌, ◌<◌, ◌≤◌, Bool, true, false, cond, List, [], ◌∷◌, ◌++◌, length, Option, Some, None, Result, Ok, Err, refl, sym, ap, ◌∙◌, subst, arith, inl, inr, length-append}
+use Rattle.std.proofs.Common.{◌≡◌, ℕ, zero, suc, ◌+◌, ◌-◌, ◌<◌, ◌≤◌, Bool, true, false, cond, List, [], ◌∷◌, ◌++◌, length, map, Option, Some, None, Result, Ok, Err, refl, sym, ap, ◌∙◌, subst, arith, inl, inr, length-append}
 use Rattle.std.specs.Prelude.{◌⊎◌, IfSome, nat_lt, slice_get, slice_index_or}
 use Rattle.std.specs.Option.{option_map, option_map_or}
 use Rattle.std.proofs.lemmas.Bool.{and_parts, lt-ltb, ltb-true}
+use Rattle.std.proofs.lemmas.List.{length-map}
 use Rattle.std.proofs.lemmas.Option.{get_or_from_slice_get}
 use Rattle.mum_base.specs.declared.number.SessionId.{SessionId}
-use Rattle.mum_fields.specs.Message.{or_else}
 use Rattle.mum_state.specs.declared.verdict.Verdict.{Verdict}
-use Rattle.mum_voice.specs.declared.fault.BadVoice.{BadVoice}
-use Rattle.mum_voice.specs.Packet.{Parts, packet}
-use Rattle.mum_core.specs.declared.action.Action.{Action}
-use Rattle.mum_core.specs.declared.action.Action.TheVariants.{Ask, Voice, Echo, Keep, Ignore}
-use Rattle.mum_core.specs.declared.connection.Command.{Command}
+use Rattle.mum_voice.specs.Packet.{packet}
+use Rattle.mum_notify.specs.declared.notice.Notice.{Notice}
+use Rattle.mum_session.specs.declared.action.Action.{Action}
+use Rattle.mum_session.specs.declared.action.Action.TheVariants.{Ask, Voice, Echo, Keep, Ignore}
+use Rattle.mum_session.specs.declared.command.Asked.{Asked}
 use Rattle.mum_core.specs.declared.connection.Connection.{Connection}
 use Rattle.mum_core.specs.declared.connection.Reply.{Reply}
 use Rattle.mum_core.specs.declared.connection.Seat.{Seat}
 use Rattle.mum_core.specs.declared.outbox.Parcel.{Parcel}
 use Rattle.mum_core.specs.declared.worker.Outgoing.{Outgoing}
-use Rattle.mum_core.specs.Action.{action}
-use Rattle.mum_core.specs.Built as steps
-use Rattle.mum_core.specs.Built.{BuiltStep, Open, Frame, Publish, Tell, Look, Offer, Drain, Close, End}
-use Rattle.mum_core.specs.Connection.{answered, closed_at, fresh, told}
-use Rattle.mum_core.specs.Core.{CoreState, connection_at, outbox_at, is_opened, up}
+use Rattle.mum_record.specs.declared.step.Step.TheVariants as steps
+use Rattle.mum_record.specs.declared.step.Step.{Step}
+use Rattle.mum_record.specs.declared.step.Step.TheVariants.{Open, Frame, Publish, Tell, Look, Offer, Post, Drain, Collect, Close, End}
+use Rattle.mum_core.specs.Connection.{answered, asking, closed_at, fresh, is_of, lagging, next_of_frame, told}
+use Rattle.mum_core.specs.Core.{CoreState, connection_at, outbox_at, posts_at, at_posts, at_session, is_opened, up}
 use Rattle.mum_core.specs.Laws.{ran}
 use Rattle.mum_core.specs.Lists.{changed_at}
-use Rattle.mum_core.specs.Step.{does}
+use Rattle.mum_core.specs.Step.{does, frame_action, frame_version}
 use Rattle.mum_core.specs.steps.Drain as drain_step
 use Rattle.mum_core.specs.steps.Edit as edit_step
+use Rattle.mum_core.specs.Worker.{HeldPacket}
 use Rattle.mum_core.specs.steps.Frame as frame_step
+use Rattle.mum_core.specs.steps.Frame.{spoken}
 use Rattle.mum_core.specs.steps.Offer as offer_step
 use Rattle.mum_core.specs.steps.Tell as tell_step
+use Rattle.mum_core.specs.steps.Post as post_step
+use Rattle.mum_core.specs.steps.Collect as collect_step
 use Rattle.mum_core.proofs.Changed.{changed-by, length-changed}
-use Rattle.mum_core.proofs.RunLaws.{told_core, taken_core}
+use Rattle.mum_core.proofs.RunLaws.{told_core, taken_core, posting_core}
 
 -- the connection at a place
 abbrev pub conn : CoreState → ℕ → Connection
@@ -52,17 +56,17 @@ placed core c first = ap (λ (b : Bool). cond b (conn core (c - 1)) (fresh 0)) f
 abbrev pub Change : Type 0
 Change = ℕ × (Connection → Connection)
 
-abbrev pub change_by : ℕ → Action → Option Change
-change_by c (Ask command) = Some (c, λ connection. record connection { waiting = Some command })
-change_by c (Keep number) = Some (c, λ connection. record connection { version = or_else number connection.version })
-change_by c others = None
+abbrev pub change_by : ℕ → Option ℕ → Action → Option Change
+change_by c version (Ask command) = Some (c, asking command.what)
+change_by c version Keep = Some (c, λ connection. record connection { version = version })
+change_by c version others = None
 
 -- the change that a verdict makes of who asked
 abbrev pub change_to : CoreState → ℕ → Verdict → Change
-change_to core c verdict = (c, λ connection. answered connection.waiting (edit_step.reply_to core c verdict) connection)
+change_to core c verdict = (c, λ connection. answered (next_of_frame connection) (edit_step.reply_to core c verdict) connection)
 
-abbrev pub change_of : CoreState → BuiltStep → Option Change
-change_of core (Frame c kind payload) = change_by c (action (connection_at core c) kind payload)
+abbrev pub change_of : CoreState → Step → Option Change
+change_of core (Frame c bytes) = change_by c (frame_version core c bytes) (frame_action core c bytes)
 change_of core (steps.Edit c) = option_map (change_to core c) (edit_step.decision core c)
 change_of core (Tell c revision) = Some (c, told)
 change_of core (Close c cause) = Some (c, closed_at (up core.line))
@@ -72,20 +76,22 @@ abbrev with_change : List Connection → Option Change → List Connection
 with_change xs None = xs
 with_change xs (Some (c, change)) = cond (nat_lt 0 c) (changed_at (c - 1) change xs) xs
 
--- one is opened behind those that are there, or one at most changes
+-- one is opened behind those that are there, or one at most changes, or that of a session lags
 abbrev Becomes : List Connection → Option Change → List Connection → Type 0
-Becomes old change new = ((w : ℕ) × (new ≡ old ++ fresh w ∷ [])) ⊎ (new ≡ with_change old change)
+Becomes old change new =
+    ((w : ℕ) × (new ≡ old ++ fresh w ∷ [])) ⊎ ((new ≡ with_change old change)
+    ⊎ ((session : SessionId) × (new ≡ map (λ (x : Connection). cond (is_of session x) (lagging x) x) old)))
 
-hears_connections : (core : CoreState) (w : ℕ) (speaker : SessionId) (read : Result Parts BadVoice) → (frame_step.hears core w speaker read).connections ≡ core.connections
-hears_connections core w speaker (Ok parts) = refl
-hears_connections core w speaker (Err fault) = refl
+hears_connections : (core : CoreState) (w : ℕ) (held : Option HeldPacket) → (frame_step.hears core w held).connections ≡ core.connections
+hears_connections core w (Some held) = refl
+hears_connections core w None = refl
 
-frame_connections : (core : CoreState) (c : ℕ) (a : Action) → (frame_step.does core c a).connections ≡ with_change core.connections (change_by c a)
-frame_connections core c (Ask command) = refl
-frame_connections core c (Voice speaker payload) = hears_connections core (connection_at core c).worker speaker (packet payload)
-frame_connections core c (Echo frame) = refl
-frame_connections core c (Keep number) = refl
-frame_connections core c (Ignore why) = refl
+frame_connections : (core : CoreState) (c : ℕ) (version : Option ℕ) (a : Action) → (frame_step.does core c version a).connections ≡ with_change core.connections (change_by c version a)
+frame_connections core c version (Ask command) = refl
+frame_connections core c version (Voice payload) = hears_connections core (connection_at core c).worker (spoken (connection_at core c).seat (packet payload))
+frame_connections core c version (Echo frame) = refl
+frame_connections core c version Keep = refl
+frame_connections core c version (Ignore why) = refl
 
 notes_connections : (core : CoreState) (w : ℕ) (revision : Option ℕ) → (tell_step.notes w revision core).connections ≡ core.connections
 notes_connections core w None = refl
@@ -112,17 +118,35 @@ edit_connections : (core : CoreState) (c : ℕ) (decided : Option Verdict)
 edit_connections core c None = refl
 edit_connections core c (Some verdict) = refl
 
-become : (core : CoreState) (step : BuiltStep) → Becomes core.connections (change_of core step) (does core step).connections
+post_become : (core : CoreState) (next : Option Notice) → Becomes core.connections None (post_step.puts core next).connections
+post_become core None = inr (inl refl)
+post_become core (Some next) = from (post_step.has_room core next.slot.0)
+  where
+    from : (b : Bool) → Becomes core.connections None (cond b (at_posts next.slot.0 (λ posts. posts ++ next ∷ []) core) (at_session next.to lagging core)).connections
+    from true = inr (inl refl)
+    from false = inr (inr (next.to, refl))
+
+collects_connections : (core : CoreState) (seat : Seat) (front : Option Notice) → (collect_step.takes core seat front).connections ≡ core.connections
+collects_connections core seat None = refl
+collects_connections core seat (Some front) = cond_connections (collect_step.is_for front seat) core _ _ refl refl
+
+collect_connections : (core : CoreState) (seat : Option Seat) → (collect_step.does_from core seat).connections ≡ core.connections
+collect_connections core None = refl
+collect_connections core (Some seat) = collects_connections core seat (slice_get (posts_at core seat.slot.0) 0)
+
+become : (core : CoreState) (step : Step) → Becomes core.connections (change_of core step) (does core step).connections
 become core (Open c w) = inl (w, refl)
-become core (Frame c kind payload) = inr (frame_connections core c (action (connection_at core c) kind payload))
-become core (steps.Edit c) = inr (edit_connections core c (edit_step.decision core c))
-become core Publish = inr refl
-become core (Tell c revision) = inr (notes_connections (told_core core c) (connection_at core c).worker revision)
-become core (Look w revision) = inr refl
-become core (Offer w) = inr (puts_connections (taken_core core w) (offer_step.next_copy core w))
-become core (Drain c) = inr (drain_connections core (connection_at core c).seat)
-become core (Close c cause) = inr refl
-become core End = inr refl
+become core (Frame c bytes) = inr (inl (frame_connections core c (frame_version core c bytes) (frame_action core c bytes)))
+become core (steps.Edit c) = inr (inl (edit_connections core c (edit_step.decision core c)))
+become core Publish = inr (inl refl)
+become core (Tell c revision) = inr (inl (notes_connections (told_core core c) (connection_at core c).worker revision))
+become core (Look w revision) = inr (inl refl)
+become core (Offer w) = inr (inl (puts_connections (taken_core core w) (offer_step.next_copy core w)))
+become core (Drain c) = inr (inl (drain_connections core (connection_at core c).seat))
+become core Post = post_become (posting_core core) (post_step.next_notice core)
+become core (Collect c) = inr (inl (collect_connections core (connection_at core c).seat))
+become core (Close c cause) = inr (inl refl)
+become core End = inr (inl refl)
 
 -- ---- what holds of each connection and what it becomes
 
@@ -146,18 +170,31 @@ with_change-by R same xs i (Some (c, change)) h = from (nat_lt 0 c) refl
         let is : slice_index_or xs i (fresh 0) ≡ x = rw here (get_or_from_slice_get xs (c - 1) x (fresh 0) at) in
         subst (λ (y : Connection). R y (change y)) is (h (omega (arith, low, here))))
 
--- what holds of each connection and itself, of one that is opened, and of the one that the step changes, holds of each
-pub each_step : (R : Connection → Connection → Type 0) → ((x : Connection) → R x x) → (core : CoreState) (step : BuiltStep) (i : ℕ)
+mapped-by : (R : Connection → Connection → Type 0) → ((x : Connection) → R x x) → ((x : Connection) → R x (lagging x)) → (session : SessionId) (xs : List Connection) (i : ℕ)
+    → R (slice_index_or xs i (fresh 0)) (slice_index_or (map (λ (x : Connection). cond (is_of session x) (lagging x) x) xs) i (fresh 0))
+mapped-by R same lags session [] zero = same (fresh 0)
+mapped-by R same lags session [] (suc i) = same (fresh 0)
+mapped-by R same lags session (x ∷ xs) zero = from (is_of session x)
+  where
+    from : (b : Bool) → R x (cond b (lagging x) x)
+    from true = lags x
+    from false = same x
+mapped-by R same lags session (x ∷ xs) (suc i) = mapped-by R same lags session xs i
+
+-- what holds of each connection and itself, of one that lags, of one that is opened, and of the one that the step changes, holds of each
+pub each_step : (R : Connection → Connection → Type 0) → ((x : Connection) → R x x) → ((x : Connection) → R x (lagging x)) → (core : CoreState) (step : Step) (i : ℕ)
     → ((w : ℕ) → length core.connections ≤ i → R (fresh 0) (fresh w))
     → IfSome (change_of core step) (λ one. one.0 ≡ i + 1 → R (conn core i) (one.1 (conn core i)))
     → R (conn core i) (conn (does core step) i)
-each_step R same core step i new h = from (does core step).connections (become core step)
+each_step R same lags core step i new h = from (does core step).connections (become core step)
   where
     from : (after : List Connection) → Becomes core.connections (change_of core step) after → R (conn core i) (slice_index_or after i (fresh 0))
     from after (inl opened) =
         subst (λ (xs : List Connection). R (conn core i) (slice_index_or xs i (fresh 0))) (sym opened.1) (pushed-by R same core.connections opened.0 i (new opened.0))
-    from after (inr changed) =
+    from after (inr (inl changed)) =
         subst (λ (xs : List Connection). R (conn core i) (slice_index_or xs i (fresh 0))) (sym changed) (with_change-by R same core.connections i (change_of core step) h)
+    from after (inr (inr lagged)) =
+        subst (λ (xs : List Connection). R (conn core i) (slice_index_or xs i (fresh 0))) (sym lagged.1) (mapped-by R same lags lagged.0 core.connections i)
 
 -- ---- how many there are
 
@@ -169,54 +206,56 @@ length-with_change xs (Some (c, change)) = from (nat_lt 0 c)
     from true = length-changed xs (c - 1) change
     from false = refl
 
-pub no_fewer : (core : CoreState) (step : BuiltStep) → length core.connections ≤ length (does core step).connections
+pub no_fewer : (core : CoreState) (step : Step) → length core.connections ≤ length (does core step).connections
 no_fewer core step = from (does core step).connections (become core step)
   where
     from : (after : List Connection) → Becomes core.connections (change_of core step) after → length core.connections ≤ length after
     from after (inl opened) = let more = length-append core.connections (fresh opened.0 ∷ []) in omega (arith, ap length opened.1, more)
-    from after (inr changed) = let same = length-with_change core.connections (change_of core step) in omega (arith, ap length changed, same)
+    from after (inr (inr lagged)) =
+        let same = length-map core.connections (λ (x : Connection). cond (is_of lagged.0 x) (lagging x) x) in omega (arith, ap length lagged.1, same)
+    from after (inr (inl changed)) = let same = length-with_change core.connections (change_of core step) in omega (arith, ap length changed, same)
 
 -- ---- the worker
 
-answered_worker : (command : Option Command) (reply : Reply) (x : Connection) → (answered command reply x).worker ≡ x.worker
+answered_worker : (command : Option Asked) (reply : Reply) (x : Connection) → (answered command reply x).worker ≡ x.worker
 answered_worker None reply x = refl
 answered_worker (Some command) reply x = refl
 
 abbrev KeepsWorker : Option Change → ℕ → Connection → Type 0
 KeepsWorker change i x = IfSome change (λ one. one.0 ≡ i + 1 → (one.1 x).worker ≡ x.worker)
 
-frame_keeps_worker : (c i : ℕ) (a : Action) (x : Connection) → KeepsWorker (change_by c a) i x
-frame_keeps_worker c i (Ask command) x = λ is. refl
-frame_keeps_worker c i (Keep number) x = λ is. refl
-frame_keeps_worker c i others x = tt
+frame_keeps_worker : (c i : ℕ) (version : Option ℕ) (a : Action) (x : Connection) → KeepsWorker (change_by c version a) i x
+frame_keeps_worker c i version (Ask command) x = λ is. refl
+frame_keeps_worker c i version Keep x = λ is. refl
+frame_keeps_worker c i version others x = tt
 
 edit_keeps_worker : (core : CoreState) (c i : ℕ) (decided : Option Verdict) (x : Connection) → KeepsWorker (option_map (change_to core c) decided) i x
 edit_keeps_worker core c i None x = tt
-edit_keeps_worker core c i (Some verdict) x = λ is. answered_worker x.waiting (edit_step.reply_to core c verdict) x
+edit_keeps_worker core c i (Some verdict) x = λ is. answered_worker (next_of_frame x) (edit_step.reply_to core c verdict) x
 
-keeps_worker : (core : CoreState) (step : BuiltStep) (i : ℕ) (x : Connection) → KeepsWorker (change_of core step) i x
-keeps_worker core (Frame c kind payload) i x = frame_keeps_worker c i (action (connection_at core c) kind payload) x
+keeps_worker : (core : CoreState) (step : Step) (i : ℕ) (x : Connection) → KeepsWorker (change_of core step) i x
+keeps_worker core (Frame c bytes) i x = frame_keeps_worker c i (frame_version core c bytes) (frame_action core c bytes) x
 keeps_worker core (steps.Edit c) i x = edit_keeps_worker core c i (edit_step.decision core c) x
 keeps_worker core (Tell c revision) i x = λ is. refl
 keeps_worker core (Close c cause) i x = λ is. refl
 keeps_worker core others i x = tt
 
 -- one that is there is there after the step, at its worker
-pub place_stays : (core : CoreState) (step : BuiltStep) (i : ℕ) → i < length core.connections
+pub place_stays : (core : CoreState) (step : Step) (i : ℕ) → i < length core.connections
     → (i < length (does core step).connections) × ((conn (does core step) i).worker ≡ (conn core i).worker)
 place_stays core step i within =
     let more = no_fewer core step in (
       omega (arith, within, more),
-      each_step (λ old new. new.worker ≡ old.worker) (λ x. refl) core step i (λ w past. absurd (omega (arith, within, past))) (keeps_worker core step i (conn core i)),
+      each_step (λ old new. new.worker ≡ old.worker) (λ x. refl) (λ x. refl) core step i (λ w past. absurd (omega (arith, within, past))) (keeps_worker core step i (conn core i)),
     )
 
-pub worker_stays : (core : CoreState) (run : List BuiltStep) (i : ℕ) → i < length core.connections → (conn (ran core run) i).worker ≡ (conn core i).worker
+pub worker_stays : (core : CoreState) (run : List Step) (i : ℕ) → i < length core.connections → (conn (ran core run) i).worker ≡ (conn core i).worker
 worker_stays core [] i within = refl
 worker_stays core (step ∷ run) i within =
     let first = place_stays core step i within in
     worker_stays (does core step) run i first.0 ∙ first.1
 
-pub connections_stay : (core : CoreState) (run : List BuiltStep) (c : ℕ) → is_opened core c ≡ true → (connection_at (ran core run) c).worker ≡ (connection_at core c).worker
+pub connections_stay : (core : CoreState) (run : List Step) (c : ℕ) → is_opened core c ≡ true → (connection_at (ran core run) c).worker ≡ (connection_at core c).worker
 connections_stay core run c opened =
     let parts = and_parts (nat_lt 0 c) (nat_lt (c - 1) (length core.connections)) opened in
     let within : c - 1 < length core.connections = ltb-true (c - 1) (length core.connections) parts.1 in

@@ -17,7 +17,7 @@ pub low_limit : (limit low : ℕ) (users : List User) → SlotsRise limit low us
 low_limit limit low [] rise = rise
 low_limit limit low (user ∷ users) rise = let rest = low_limit limit (user.slot.0 + 1) users rise.1 in let first = rise.0 in omega arith
 
-each_below : (limit low : ℕ) (users : List User) → SlotsRise limit low users → AllByRecursion (λ user. user.slot.0 < limit) users
+pub each_below : (limit low : ℕ) (users : List User) → SlotsRise limit low users → AllByRecursion (λ user. user.slot.0 < limit) users
 each_below limit low [] rise = tt
 each_below limit low (user ∷ users) rise =
     let rest = low_limit limit (user.slot.0 + 1) users rise.1 in

@@ -9,28 +9,31 @@ use Rattle.mum_base.specs.declared.number.SessionId.{SessionId}
 use Rattle.mum_state.specs.declared.edit.Edit.{Edit}
 use Rattle.mum_state.specs.declared.verdict.Verdict.{Verdict}
 use Rattle.mum_state.specs.State.{StateValue}
-use Rattle.mum_voice.specs.declared.fault.BadVoice.{BadVoice}
-use Rattle.mum_voice.specs.Packet.{Parts, packet}
+use Rattle.mum_voice.specs.Packet.{packet}
 use Rattle.mum_core.specs.declared.connection.Seat.{Seat}
 use Rattle.mum_core.specs.declared.outbox.Parcel.{Parcel}
 use Rattle.mum_core.specs.declared.worker.Outgoing.{Outgoing}
-use Rattle.mum_core.specs.declared.action.Action.{Action}
-use Rattle.mum_core.specs.declared.action.Action.TheVariants.{Ask, Voice, Echo, Keep, Ignore}
-use Rattle.mum_core.specs.Action.{action}
-use Rattle.mum_core.specs.Built as steps
-use Rattle.mum_core.specs.Built.{BuiltStep, Open, Frame, Publish, Tell, Look, Offer, Drain, Close, End}
-use Rattle.mum_core.specs.Core.{CoreState, start, connection_at, worker_at, outbox_at, at_outbox, at_connection, at_worker, up}
+use Rattle.mum_session.specs.declared.action.Action.{Action}
+use Rattle.mum_session.specs.declared.action.Action.TheVariants.{Ask, Voice, Echo, Keep, Ignore}
+use Rattle.mum_record.specs.declared.step.Step.TheVariants as steps
+use Rattle.mum_record.specs.declared.step.Step.{Step}
+use Rattle.mum_record.specs.declared.step.Step.TheVariants.{Open, Frame, Publish, Tell, Look, Offer, Post, Drain, Collect, Close, End}
+use Rattle.mum_notify.specs.declared.notice.Notice.{Notice}
+use Rattle.mum_core.specs.Core.{CoreState, start, connection_at, worker_at, outbox_at, posts_at, at_outbox, at_connection, at_worker, up}
 use Rattle.mum_core.specs.Connection.{told}
 use Rattle.mum_core.specs.steps.Edit as edit_step
 use Rattle.mum_core.specs.Laws.{IsRun, ran}
 use Rattle.mum_core.specs.Lists.{changed_at}
 use Rattle.mum_core.specs.Reply.{edits_of}
-use Rattle.mum_core.specs.Step.{does, illegal}
-use Rattle.mum_core.specs.Worker.{WorkerState, idle, least_look}
+use Rattle.mum_core.specs.Step.{does, frame_action, frame_version, illegal}
+use Rattle.mum_core.specs.Worker.{WorkerState, idle, least_look, HeldPacket}
 use Rattle.mum_core.specs.steps.Frame as frame_step
+use Rattle.mum_core.specs.steps.Frame.{spoken}
 use Rattle.mum_core.specs.steps.Offer as offer_step
 use Rattle.mum_core.specs.steps.Drain as drain_step
 use Rattle.mum_core.specs.steps.Tell as tell_step
+use Rattle.mum_core.specs.steps.Post as post_step
+use Rattle.mum_core.specs.steps.Collect as collect_step
 use Rattle.mum_core.proofs.Changed.{changed-by, changed_same}
 
 abbrev pub Grown : CoreState → CoreState → Type 0
@@ -44,16 +47,16 @@ stayed old new same = ([], same ∙ sym (append-nil old.accepted))
 abbrev pub Keeps : CoreState → CoreState → Type 0
 Keeps old new = (new.accepted ≡ old.accepted) × (new.published ≡ old.published) × (new.opening ≡ old.opening)
 
-hears_keeps : (core : CoreState) (w : ℕ) (speaker : SessionId) (read : Result Parts BadVoice) → Keeps core (frame_step.hears core w speaker read)
-hears_keeps core w speaker (Ok parts) = (refl, refl, refl)
-hears_keeps core w speaker (Err fault) = (refl, refl, refl)
+hears_keeps : (core : CoreState) (w : ℕ) (held : Option HeldPacket) → Keeps core (frame_step.hears core w held)
+hears_keeps core w (Some held) = (refl, refl, refl)
+hears_keeps core w None = (refl, refl, refl)
 
-pub frame_keeps : (core : CoreState) (c : ℕ) (a : Action) → Keeps core (frame_step.does core c a)
-frame_keeps core c (Ask name) = (refl, refl, refl)
-frame_keeps core c (Voice speaker payload) = hears_keeps core (connection_at core c).worker speaker (packet payload)
-frame_keeps core c (Echo frame) = (refl, refl, refl)
-frame_keeps core c (Keep number) = (refl, refl, refl)
-frame_keeps core c (Ignore why) = (refl, refl, refl)
+pub frame_keeps : (core : CoreState) (c : ℕ) (version : Option ℕ) (a : Action) → Keeps core (frame_step.does core c version a)
+frame_keeps core c version (Ask name) = (refl, refl, refl)
+frame_keeps core c version (Voice payload) = hears_keeps core (connection_at core c).worker (spoken (connection_at core c).seat (packet payload))
+frame_keeps core c version (Echo frame) = (refl, refl, refl)
+frame_keeps core c version Keep = (refl, refl, refl)
+frame_keeps core c version (Ignore why) = (refl, refl, refl)
 
 pub notes_keep : (core : CoreState) (w : ℕ) (revision : Option ℕ) → Keeps core (tell_step.notes w revision core)
 notes_keep core w None = (refl, refl, refl)
@@ -75,6 +78,25 @@ pub drain_keeps : (core : CoreState) (seat : Option Seat) → Keeps core (drain_
 drain_keeps core None = (refl, refl, refl)
 drain_keeps core (Some seat) = takes_keep core seat (slice_get (outbox_at core seat.slot.0) 0)
 
+post_keeps : (core : CoreState) (next : Option Notice) → Keeps core (post_step.puts core next)
+post_keeps core None = (refl, refl, refl)
+post_keeps core (Some next) = cond_keeps (post_step.has_room core next.slot.0) core _ _ (refl, refl, refl) (refl, refl, refl)
+
+collects_keep : (core : CoreState) (seat : Seat) (front : Option Notice) → Keeps core (collect_step.takes core seat front)
+collects_keep core seat None = (refl, refl, refl)
+collects_keep core seat (Some front) = cond_keeps (collect_step.is_for front seat) core _ _ (refl, refl, refl) (refl, refl, refl)
+
+pub collect_keeps : (core : CoreState) (seat : Option Seat) → Keeps core (collect_step.does_from core seat)
+collect_keeps core None = (refl, refl, refl)
+collect_keeps core (Some seat) = collects_keep core seat (slice_get (posts_at core seat.slot.0) 0)
+
+-- the core of a post before its slot's posts
+abbrev pub posting_core : CoreState → CoreState
+posting_core core = record core { pending = drop 1 core.pending; posted = up core.posted }
+
+pub posted_keeps : (core : CoreState) → Keeps core (does core Post)
+posted_keeps core = post_keeps (posting_core core) (post_step.next_notice core)
+
 -- the core of a tell before its note, and that of an offer before its outbox
 abbrev pub told_core : CoreState → ℕ → CoreState
 told_core core c = at_connection c told core
@@ -86,19 +108,21 @@ decided_grown : (core : CoreState) (c : ℕ) (verdict : Option Verdict) → Grow
 decided_grown core c None = stayed core core refl
 decided_grown core c (Some verdict) = (edits_of verdict, refl)
 
-pub grown : (core : CoreState) (step : BuiltStep) → Grown core (does core step)
+pub grown : (core : CoreState) (step : Step) → Grown core (does core step)
 grown core (Open c w) = stayed core (does core (Open c w)) refl
-grown core (Frame c kind payload) = stayed core (does core (Frame c kind payload)) (frame_keeps core c (action (connection_at core c) kind payload)).0
+grown core (Frame c bytes) = stayed core (does core (Frame c bytes)) (frame_keeps core c (frame_version core c bytes) (frame_action core c bytes)).0
 grown core (steps.Edit c) = decided_grown core c (edit_step.decision core c)
 grown core Publish = stayed core (does core Publish) refl
 grown core (Tell c revision) = stayed core (does core (Tell c revision)) (notes_keep (told_core core c) (connection_at core c).worker revision).0
 grown core (Look w revision) = stayed core (does core (Look w revision)) refl
 grown core (Offer w) = stayed core (does core (Offer w)) (puts_keep (taken_core core w) (offer_step.next_copy core w)).0
 grown core (Drain c) = stayed core (does core (Drain c)) (drain_keeps core (connection_at core c).seat).0
+grown core Post = stayed core (does core Post) (posted_keeps core).0
+grown core (Collect c) = stayed core (does core (Collect c)) (collect_keeps core (connection_at core c).seat).0
 grown core (Close c cause) = stayed core (does core (Close c cause)) refl
 grown core End = stayed core (does core End) refl
 
-pub accepted_grows : (core : CoreState) (run : List BuiltStep) → Grown core (ran core run)
+pub accepted_grows : (core : CoreState) (run : List Step) → Grown core (ran core run)
 accepted_grows core [] = stayed core core refl
 accepted_grows core (step ∷ run) =
     let first = grown core step in
@@ -110,19 +134,21 @@ decided_opening : (core : CoreState) (c : ℕ) (verdict : Option Verdict) → (o
 decided_opening core c None = refl
 decided_opening core c (Some verdict) = refl
 
-pub same_opening : (core : CoreState) (step : BuiltStep) → (does core step).opening ≡ core.opening
+pub same_opening : (core : CoreState) (step : Step) → (does core step).opening ≡ core.opening
 same_opening core (Open c w) = refl
-same_opening core (Frame c kind payload) = (frame_keeps core c (action (connection_at core c) kind payload)).2
+same_opening core (Frame c bytes) = (frame_keeps core c (frame_version core c bytes) (frame_action core c bytes)).2
 same_opening core (steps.Edit c) = decided_opening core c (edit_step.decision core c)
 same_opening core Publish = refl
 same_opening core (Tell c revision) = (notes_keep (told_core core c) (connection_at core c).worker revision).2
 same_opening core (Look w revision) = refl
 same_opening core (Offer w) = (puts_keep (taken_core core w) (offer_step.next_copy core w)).2
 same_opening core (Drain c) = (drain_keeps core (connection_at core c).seat).2
+same_opening core Post = (posted_keeps core).2
+same_opening core (Collect c) = (collect_keeps core (connection_at core c).seat).2
 same_opening core (Close c cause) = refl
 same_opening core End = refl
 
-pub opening_stays : (core : CoreState) (run : List BuiltStep) → (ran core run).opening ≡ core.opening
+pub opening_stays : (core : CoreState) (run : List Step) → (ran core run).opening ≡ core.opening
 opening_stays core [] = refl
 opening_stays core (step ∷ run) = opening_stays (does core step) run ∙ same_opening core step
 
@@ -136,23 +162,25 @@ decided_within : (core : CoreState) (c : ℕ) (verdict : Option Verdict) → IsW
 decided_within core c None h = h
 decided_within core c (Some verdict) h = simp length-append (omega arith)
 
-pub within : (core : CoreState) (step : BuiltStep) → IsWithin core → IsWithin (does core step)
+pub within : (core : CoreState) (step : Step) → IsWithin core → IsWithin (does core step)
 within core (Open c w) h = h
-within core (Frame c kind payload) h = within_by core (does core (Frame c kind payload)) (frame_keeps core c (action (connection_at core c) kind payload)) h
+within core (Frame c bytes) h = within_by core (does core (Frame c bytes)) (frame_keeps core c (frame_version core c bytes) (frame_action core c bytes)) h
 within core (steps.Edit c) h = decided_within core c (edit_step.decision core c) h
 within core Publish h = omega arith
 within core (Tell c revision) h = within_by core (does core (Tell c revision)) (notes_keep (told_core core c) (connection_at core c).worker revision) h
 within core (Look w revision) h = h
 within core (Offer w) h = within_by core (does core (Offer w)) (puts_keep (taken_core core w) (offer_step.next_copy core w)) h
 within core (Drain c) h = within_by core (does core (Drain c)) (drain_keeps core (connection_at core c).seat) h
+within core Post h = within_by core (does core Post) (posted_keeps core) h
+within core (Collect c) h = within_by core (does core (Collect c)) (collect_keeps core (connection_at core c).seat) h
 within core (Close c cause) h = h
 within core End h = h
 
-pub within_all : (core : CoreState) (run : List BuiltStep) → IsWithin core → IsWithin (ran core run)
+pub within_all : (core : CoreState) (run : List Step) → IsWithin core → IsWithin (ran core run)
 within_all core [] h = h
 within_all core (step ∷ run) h = within_all (does core step) run (within core step h)
 
-pub published_is_accepted : (opening : StateValue) (workers : ℕ) (run : List BuiltStep) → IsWithin (ran (start opening workers) run)
+pub published_is_accepted : (opening : StateValue) (workers : ℕ) (run : List Step) → IsWithin (ran (start opening workers) run)
 published_is_accepted opening workers run = within_all (start opening workers) run (omega arith)
 
 -- what is published never falls
@@ -163,26 +191,28 @@ decided_published core c (Some verdict) = refl
 kept_up : (old new : CoreState) → new.published ≡ old.published → old.published ≤ new.published
 kept_up old new same = omega (arith, same)
 
-published_rises : (core : CoreState) (step : BuiltStep) → IsWithin core → core.published ≤ (does core step).published
+published_rises : (core : CoreState) (step : Step) → IsWithin core → core.published ≤ (does core step).published
 published_rises core (Open c w) h = omega arith
-published_rises core (Frame c kind payload) h = kept_up core (does core (Frame c kind payload)) (frame_keeps core c (action (connection_at core c) kind payload)).1
+published_rises core (Frame c bytes) h = kept_up core (does core (Frame c bytes)) (frame_keeps core c (frame_version core c bytes) (frame_action core c bytes)).1
 published_rises core (steps.Edit c) h = kept_up core (does core (steps.Edit c)) (decided_published core c (edit_step.decision core c))
 published_rises core Publish h = h
 published_rises core (Tell c revision) h = kept_up core (does core (Tell c revision)) (notes_keep (told_core core c) (connection_at core c).worker revision).1
 published_rises core (Look w revision) h = omega arith
 published_rises core (Offer w) h = kept_up core (does core (Offer w)) (puts_keep (taken_core core w) (offer_step.next_copy core w)).1
 published_rises core (Drain c) h = kept_up core (does core (Drain c)) (drain_keeps core (connection_at core c).seat).1
+published_rises core Post h = kept_up core (does core Post) (posted_keeps core).1
+published_rises core (Collect c) h = kept_up core (does core (Collect c)) (collect_keeps core (connection_at core c).seat).1
 published_rises core (Close c cause) h = omega arith
 published_rises core End h = omega arith
 
-published_on : (core : CoreState) (run : List BuiltStep) → IsWithin core → core.published ≤ (ran core run).published
+published_on : (core : CoreState) (run : List Step) → IsWithin core → core.published ≤ (ran core run).published
 published_on core [] h = omega arith
 published_on core (step ∷ run) h =
     let first = published_rises core step h in
     let later = published_on (does core step) run (within core step h) in
     omega (arith, first, later)
 
-pub published_never_falls : (opening : StateValue) (workers : ℕ) (run more : List BuiltStep)
+pub published_never_falls : (opening : StateValue) (workers : ℕ) (run more : List Step)
     → (ran (start opening workers) run).published ≤ (ran (ran (start opening workers) run) more).published
 published_never_falls opening workers run more = published_on (ran (start opening workers) run) more (published_is_accepted opening workers run)
 
@@ -215,16 +245,16 @@ looks_are_bounded core w revision h =
     (omega arith, omega arith, high)
 
 -- where no case of a look stands, its revision is not below what was seen
-hears_goes_on : (core : CoreState) (v w : ℕ) (speaker : SessionId) (read : Result Parts BadVoice) → Further (worker_at core w) (worker_at (frame_step.hears core v speaker read) w)
-hears_goes_on core v w speaker (Ok parts) = changed-by Further same_worker core.workers v w _ idle (λ x at here. same_worker x)
-hears_goes_on core v w speaker (Err fault) = same_worker (worker_at core w)
+hears_goes_on : (core : CoreState) (v w : ℕ) (held : Option HeldPacket) → Further (worker_at core w) (worker_at (frame_step.hears core v held) w)
+hears_goes_on core v w (Some held) = changed-by Further same_worker core.workers v w _ idle (λ x at here. same_worker x)
+hears_goes_on core v w None = same_worker (worker_at core w)
 
-frame_goes_on : (core : CoreState) (c w : ℕ) (a : Action) → Further (worker_at core w) (worker_at (frame_step.does core c a) w)
-frame_goes_on core c w (Ask name) = same_worker (worker_at core w)
-frame_goes_on core c w (Voice speaker payload) = hears_goes_on core (connection_at core c).worker w speaker (packet payload)
-frame_goes_on core c w (Echo frame) = same_worker (worker_at core w)
-frame_goes_on core c w (Keep number) = same_worker (worker_at core w)
-frame_goes_on core c w (Ignore why) = same_worker (worker_at core w)
+frame_goes_on : (core : CoreState) (c w : ℕ) (version : Option ℕ) (a : Action) → Further (worker_at core w) (worker_at (frame_step.does core c version a) w)
+frame_goes_on core c w version (Ask name) = same_worker (worker_at core w)
+frame_goes_on core c w version (Voice payload) = hears_goes_on core (connection_at core c).worker w (spoken (connection_at core c).seat (packet payload))
+frame_goes_on core c w version (Echo frame) = same_worker (worker_at core w)
+frame_goes_on core c w version Keep = same_worker (worker_at core w)
+frame_goes_on core c w version (Ignore why) = same_worker (worker_at core w)
 
 notes_go_on : (core : CoreState) (v w : ℕ) (revision : Option ℕ) → Further (worker_at core w) (worker_at (tell_step.notes v revision core) w)
 notes_go_on core v w None = same_worker (worker_at core w)
@@ -250,9 +280,31 @@ decided_goes_on : (core : CoreState) (c w : ℕ) (verdict : Option Verdict) → 
 decided_goes_on core c w None = same_worker (worker_at core w)
 decided_goes_on core c w (Some verdict) = same_worker (worker_at core w)
 
-goes_on : (core : CoreState) (step : BuiltStep) (w : ℕ) → illegal core step ≡ None → Further (worker_at core w) (worker_at (does core step) w)
+cond_workers : (b : Bool) (core x y : CoreState) → x.workers ≡ core.workers → y.workers ≡ core.workers → (cond b x y).workers ≡ core.workers
+cond_workers true core x y hx hy = hx
+cond_workers false core x y hx hy = hy
+
+post_workers : (core : CoreState) (next : Option Notice) → (post_step.puts core next).workers ≡ core.workers
+post_workers core None = refl
+post_workers core (Some next) = cond_workers (post_step.has_room core next.slot.0) core _ _ refl refl
+
+pub posted_workers : (core : CoreState) → (does core Post).workers ≡ core.workers
+posted_workers core = post_workers (posting_core core) (post_step.next_notice core)
+
+collects_workers : (core : CoreState) (seat : Seat) (front : Option Notice) → (collect_step.takes core seat front).workers ≡ core.workers
+collects_workers core seat None = refl
+collects_workers core seat (Some front) = cond_workers (collect_step.is_for front seat) core _ _ refl refl
+
+pub collect_workers : (core : CoreState) (seat : Option Seat) → (collect_step.does_from core seat).workers ≡ core.workers
+collect_workers core None = refl
+collect_workers core (Some seat) = collects_workers core seat (slice_get (posts_at core seat.slot.0) 0)
+
+unchanged : (core new : CoreState) (w : ℕ) → new.workers ≡ core.workers → Further (worker_at core w) (worker_at new w)
+unchanged core new w same = rw same (same_worker (worker_at core w))
+
+goes_on : (core : CoreState) (step : Step) (w : ℕ) → illegal core step ≡ None → Further (worker_at core w) (worker_at (does core step) w)
 goes_on core (Open c v) w h = same_worker (worker_at core w)
-goes_on core (Frame c kind payload) w h = frame_goes_on core c w (action (connection_at core c) kind payload)
+goes_on core (Frame c bytes) w h = frame_goes_on core c w (frame_version core c bytes) (frame_action core c bytes)
 goes_on core (steps.Edit c) w h = decided_goes_on core c w (edit_step.decision core c)
 goes_on core Publish w h = same_worker (worker_at core w)
 goes_on core (Tell c revision) w h = notes_go_on (told_core core c) (connection_at core c).worker w revision
@@ -266,10 +318,12 @@ goes_on core (Offer v) w h =
     further_then (worker_at core w) (worker_at (taken_core core v) w) (worker_at (does core (Offer v)) w)
     (changed-by Further same_worker core.workers v w (λ worker. record worker { copies = drop 1 worker.copies }) idle (λ x at here. same_worker x)) (puts_go_on (taken_core core v) w (offer_step.next_copy core v))
 goes_on core (Drain c) w h = drain_goes_on core w (connection_at core c).seat
+goes_on core Post w h = unchanged core (does core Post) w (posted_workers core)
+goes_on core (Collect c) w h = unchanged core (does core (Collect c)) w (collect_workers core (connection_at core c).seat)
 goes_on core (Close c cause) w h = same_worker (worker_at core w)
 goes_on core End w h = same_worker (worker_at core w)
 
-pub workers_go_on : (core : CoreState) (run : List BuiltStep) (w : ℕ) → IsRun core run → Further (worker_at core w) (worker_at (ran core run) w)
+pub workers_go_on : (core : CoreState) (run : List Step) (w : ℕ) → IsRun core run → Further (worker_at core w) (worker_at (ran core run) w)
 workers_go_on core [] w h = same_worker (worker_at core w)
 workers_go_on core (step ∷ run) w h =
     further_then (worker_at core w) (worker_at (does core step) w) (worker_at (ran core (step ∷ run)) w) (goes_on core step w h.0) (workers_go_on (does core step) run w h.1)

@@ -1,7 +1,6 @@
 -- Each session is of one connection, and the packets of one speaker are all taken by one worker.
 use Rattle.std.proofs.Common.{◌≡◌, ℕ, ◌+◌, ◌-◌, ◌<◌, ◌≤◌, Bool, true, false, cond, List, [], ◌∷◌, ◌++◌, length, max, Option, Some, None, Result, Ok, Err, refl, sym, ap, subst, ◌∙◌, arith, inl, inr}
 use Rattle.std.specs.Prelude.{◌⊎◌, IfSome, not, filter, is_none, nat_lt, option_to_list, slice_index_or, ◌==◌}
-use Rattle.std.specs.List.{list_any}
 use Rattle.std.specs.Option.{option_map, option_map_or, option_or}
 use Rattle.std.proofs.lemmas.Bool.{and_parts, cases_eq, eqb-true, ltb-true}
 use Rattle.std.proofs.lemmas.List.Elements.{filter-append}
@@ -17,41 +16,30 @@ use Rattle.mum_state.specs.Applied.{applied}
 use Rattle.mum_state.specs.State.{StateValue}
 use Rattle.mum_voice.specs.declared.fault.BadVoice.{BadVoice}
 use Rattle.mum_voice.specs.Packet.{Parts, packet}
-use Rattle.mum_frame.specs.declared.kind.TheConstants.{UDP_TUNNEL, VERSION, PING, AUTHENTICATE, CHANNEL_REMOVE, CHANNEL_STATE, USER_REMOVE, USER_STATE, ACL, VOICE_TARGET}
-use Rattle.mum_fields.specs.declared.message.MessageFault.{MessageFault}
-use Rattle.mum_fields.specs.Table.{decoded}
-use Rattle.mum_msg_rule.specs.Messages.{acl, permission_query, voice_target}
-use Rattle.mum_msg_state.specs.Messages.{version, authenticate, ping, channel_remove, channel_state, user_remove, user_state}
-use Rattle.mum_msg_rule.specs.Parts.{acl_of, permission_query_of, voice_target_of}
-use Rattle.mum_msg_state.specs.Parts.{authenticate_of, channel_remove_of, channel_state_of, user_remove_of, user_state_of}
-use Rattle.mum_rules_tree.specs.declared.message.TreeMessage.TheVariants.{State, Remove, Acl}
-use Rattle.mum_rules_tree.specs.declared.reason.TheConstants.{COMMAND_LIMIT}
-use Rattle.mum_rules_user.specs.declared.message.UserMessage.TheVariants as messages
-use Rattle.mum_rules_user.specs.declared.message.UserMessage.TheVariants.{Kick, Target, Query}
-use Rattle.mum_core.specs.declared.connection.Command.TheVariants.{Tree, User}
-use Rattle.mum_core.specs.declared.action.Action.{Action}
-use Rattle.mum_core.specs.declared.action.Action.TheVariants.{Ask, Voice, Echo, Keep, Ignore}
-use Rattle.mum_core.specs.declared.connection.Command.{Command}
+use Rattle.mum_session.specs.declared.action.Action.{Action}
+use Rattle.mum_session.specs.declared.action.Action.TheVariants.{Ask, Voice, Echo, Keep, Ignore}
+use Rattle.mum_session.specs.declared.command.Asked.{Asked}
 use Rattle.mum_core.specs.declared.connection.Connection.{Connection}
 use Rattle.mum_core.specs.declared.connection.Reply.{Reply}
 use Rattle.mum_core.specs.declared.connection.Seat.{Seat}
-use Rattle.mum_core.specs.Action.{Decoded, action, after_login, asked, command_action, commands_after_login, payload_of, ping_action, tree_or_user_action, version_action, voice_action}
-use Rattle.mum_core.specs.Built as steps
-use Rattle.mum_core.specs.Built.{BuiltStep, Open, Frame, Publish, Tell, Look, Offer, Drain, Close, End}
-use Rattle.mum_core.specs.Connection.{answered, fresh, next_command, seat_given, session_of}
+use Rattle.mum_record.specs.declared.step.Step.TheVariants as steps
+use Rattle.mum_record.specs.declared.step.Step.{Step}
+use Rattle.mum_record.specs.declared.step.Step.TheVariants.{Open, Frame, Publish, Tell, Look, Offer, Post, Drain, Collect, Close, End}
+use Rattle.mum_core.specs.Connection.{answered, fresh, next_command, next_of_frame, seat_given, session_of}
 use Rattle.mum_core.specs.Core.{CoreState, start, connection_at, current, worker_at, is_opened}
 use Rattle.mum_core.specs.Laws.{IsRun, ran, gathered, packet_taken}
 use Rattle.mum_core.specs.Reply.{edits_of, seat_of, verdict}
-use Rattle.mum_core.specs.Step.{does, illegal}
+use Rattle.mum_core.specs.Step.{does, frame_action, frame_version, illegal}
 use Rattle.mum_core.specs.Worker.{WorkerState, HeldPacket, idle}
 use Rattle.mum_core.specs.steps.Edit as edit_step
 use Rattle.mum_core.specs.steps.Frame as frame_step
+use Rattle.mum_core.specs.steps.Frame.{spoken}
 use Rattle.mum_core.specs.steps.Offer as offer_step
 use Rattle.mum_core.specs.steps.Tell as tell_step
 use Rattle.mum_core.proofs.Changed.{changed-by, changed_other}
 use Rattle.mum_core.proofs.Lower.{SeatsNext, last_rises, verdict_seats}
 use Rattle.mum_core.proofs.Places.{Change, change_by, change_of, change_to, conn, each_step, place_stays, placed}
-use Rattle.mum_core.proofs.RunLaws.{none_stands, not_false, told_core, taken_core, puts_workers, decided_workers, drain_workers, grown, same_opening}
+use Rattle.mum_core.proofs.RunLaws.{none_stands, not_false, told_core, taken_core, puts_workers, decided_workers, drain_workers, posted_workers, collect_workers, grown, same_opening}
 
 -- the last session number that was given
 abbrev pub count : CoreState → ℕ
@@ -78,7 +66,7 @@ led_rises state (edit ∷ edits) =
     let later = led_rises (applied state edit) edits in
     omega (arith, first, later)
 
-count_rises : (core : CoreState) (step : BuiltStep) → count core ≤ count (does core step)
+count_rises : (core : CoreState) (step : Step) → count core ≤ count (does core step)
 count_rises core step =
     let more = grown core step in
     let same : current (does core step) ≡ led_to (current core) more.0 =
@@ -124,7 +112,7 @@ neither : {A : Type 0} → ⊥ ⊎ ⊥ → A
 neither (inl never) = absurd never
 neither (inr never) = absurd never
 
-answered_has : (old new g j : ℕ) (command : Option Command) (reply : Reply) (x : Connection) → ((k : ℕ) → IsOf k reply.seat → IsNew old new k) → j ≡ g
+answered_has : (old new g j : ℕ) (command : Option Asked) (reply : Reply) (x : Connection) → ((k : ℕ) → IsOf k reply.seat → IsNew old new k) → j ≡ g
     → Grants old new g j x (answered command reply x)
 answered_has old new g j None reply x given here k has = inl has
 answered_has old new g j (Some command) reply x given here k (inl has) = inl (inl has)
@@ -133,36 +121,36 @@ answered_has old new g j (Some command) reply x given here k (inr has) = inr (gi
 abbrev ChangesGrant : ℕ → ℕ → ℕ → Option Change → ℕ → Connection → Type 0
 ChangesGrant old new g change j x = IfSome change (λ one. one.0 ≡ j + 1 → Grants old new g j x (one.1 x))
 
-frame_grants : (old new c j : ℕ) (a : Action) (x : Connection) → ChangesGrant old new 0 (change_by c a) j x
-frame_grants old new c j (Ask command) x = λ at k has. inl has
-frame_grants old new c j (Keep number) x = λ at k has. inl has
-frame_grants old new c j others x = tt
+frame_grants : (old new c j : ℕ) (version : Option ℕ) (a : Action) (x : Connection) → ChangesGrant old new 0 (change_by c version a) j x
+frame_grants old new c j version (Ask command) x = λ at k has. inl has
+frame_grants old new c j version Keep x = λ at k has. inl has
+frame_grants old new c j version others x = tt
 
-edit_grants : (core : CoreState) (c j : ℕ) (next : Option Command) (x : Connection)
+edit_grants : (core : CoreState) (c j : ℕ) (next : Option Asked) (x : Connection)
     → let decided = option_map (verdict (current core) (session_of (connection_at core c))) next in
     ChangesGrant (count core) (count (option_map_or (edit_step.decides core c) decided core)) (c - 1) (option_map (change_to core c) decided) j x
 edit_grants core c j None x = tt
 edit_grants core c j (Some command) x = λ at.
     let session : Option SessionId = session_of (connection_at core c) in
     let decided : Verdict = verdict (current core) session command in
-    answered_has (count core) (count (edit_step.decides core c decided)) (c - 1) j x.waiting (edit_step.reply_to core c decided) x
+    answered_has (count core) (count (edit_step.decides core c decided)) (c - 1) j (next_of_frame x) (edit_step.reply_to core c decided) x
     (given_new core.opening core.accepted session decided (verdict_seats (current core) session command)) (omega (arith, at))
 
 -- the place at which a step may give a session
-abbrev grants_at : BuiltStep → ℕ
+abbrev grants_at : Step → ℕ
 grants_at (steps.Edit c) = c - 1
 grants_at others = 0
 
-grants_by : (core : CoreState) (step : BuiltStep) (j : ℕ) (x : Connection) → ChangesGrant (count core) (count (does core step)) (grants_at step) (change_of core step) j x
-grants_by core (Frame c kind payload) j x = frame_grants (count core) (count (does core (Frame c kind payload))) c j (action (connection_at core c) kind payload) x
+grants_by : (core : CoreState) (step : Step) (j : ℕ) (x : Connection) → ChangesGrant (count core) (count (does core step)) (grants_at step) (change_of core step) j x
+grants_by core (Frame c bytes) j x = frame_grants (count core) (count (does core (Frame c bytes))) c j (frame_version core c bytes) (frame_action core c bytes) x
 grants_by core (steps.Edit c) j x = edit_grants core c j (next_command (connection_at core c)) x
 grants_by core (Tell c revision) j x = λ at k has. inl (told_has x k has)
 grants_by core (Close c cause) j x = λ at k has. inl has
 grants_by core others j x = tt
 
-grants : (core : CoreState) (step : BuiltStep) (j : ℕ) → Grants (count core) (count (does core step)) (grants_at step) j (conn core j) (conn (does core step) j)
+grants : (core : CoreState) (step : Step) (j : ℕ) → Grants (count core) (count (does core step)) (grants_at step) j (conn core j) (conn (does core step) j)
 grants core step j =
-    each_step (Grants (count core) (count (does core step)) (grants_at step) j) (λ x k has. inl has) core step j (λ w past k has. neither has) (grants_by core step j (conn core j))
+    each_step (Grants (count core) (count (does core step)) (grants_at step) j) (λ x k has. inl has) (λ x k has. inl has) core step j (λ w past k has. neither has) (grants_by core step j (conn core j))
 
 -- ---- each session is of one connection
 
@@ -184,7 +172,7 @@ alone_by old new g i j k sound (inl hi) (inr fj) = let low = sound.given i k hi 
 alone_by old new g i j k sound (inr fi) (inl hj) = let low = sound.given j k hj in let high = fi.0.0 in absurd (omega arith)
 alone_by old new g i j k sound (inr fi) (inr fj) = fj.1 ∙ sym fi.1
 
-sound_step : (core : CoreState) (step : BuiltStep) → Sound core → Sound (does core step)
+sound_step : (core : CoreState) (step : Step) → Sound core → Sound (does core step)
 sound_step core step sound =
     let rises = count_rises core step in
     let g : ℕ = grants_at step in
@@ -197,7 +185,7 @@ owned_by : (old new : CoreState) (g i j k : ℕ) → Owns old i k → Has k (con
 owned_by old new g i j k owns (inl has) = owns.alone j has
 owned_by old new g i j k owns (inr fit) = let low = owns.given in let high = fit.0.0 in absurd (omega arith)
 
-owns_step : (core : CoreState) (step : BuiltStep) (i k : ℕ) → Owns core i k → Owns (does core step) i k
+owns_step : (core : CoreState) (step : Step) (i k : ℕ) → Owns core i k → Owns (does core step) i k
 owns_step core step i k owns =
     let low = owns.given in
     let rises = count_rises core step in
@@ -236,92 +224,34 @@ other_speaker : (k : ℕ) (b : Bool) (held : HeldPacket) → (held.speaker.0 == 
 other_speaker k true held e = rw e refl
 other_speaker k false held e = refl
 
-hears_from : (w k : ℕ) (core : CoreState) (v : ℕ) (speaker : SessionId) (read : Result Parts BadVoice)
-    → (Without k (worker_at core w) (worker_at (frame_step.hears core v speaker read) w)) ⊎ ((speaker.0 ≡ k) × (w ≡ v))
-hears_from w k core v speaker (Err fault) = inl (without k (worker_at core w))
-hears_from w k core v speaker (Ok parts) = from (speaker.0 == k) refl
+hears_from : (w k : ℕ) (core : CoreState) (v : ℕ) (seat : Option Seat) (read : Result Parts BadVoice)
+    → (Without k (worker_at core w) (worker_at (frame_step.hears core v (spoken seat read)) w)) ⊎ (IsOf k seat × (w ≡ v))
+hears_from w k core v None read = inl (without k (worker_at core w))
+hears_from w k core v (Some seat) (Err fault) = inl (without k (worker_at core w))
+hears_from w k core v (Some seat) (Ok parts) = from (seat.session.0 == k) refl
   where
-    from : (b : Bool) → (speaker.0 == k) ≡ b → (Without k (worker_at core w) (worker_at (frame_step.hears core v speaker (Ok parts)) w)) ⊎ ((speaker.0 ≡ k) × (w ≡ v))
+    from : (b : Bool) → (seat.session.0 == k) ≡ b → (Without k (worker_at core w) (worker_at (frame_step.hears core v (spoken (Some seat) (Ok parts))) w)) ⊎ ((seat.session.0 ≡ k) × (w ≡ v))
     from false e =
-        inl (changed-by (Without k) (without k) core.workers v w (λ worker. record worker { held = Some (record { speaker = speaker; parts = parts }) }) idle
-        (λ x at here. other_speaker k (is_none x.held) (record { speaker = speaker; parts = parts }) e))
+        inl (changed-by (Without k) (without k) core.workers v w (λ worker. record worker { held = Some (record { speaker = seat.session; parts = parts }) }) idle
+        (λ x at here. other_speaker k (is_none x.held) (record { speaker = seat.session; parts = parts }) e))
     from true e = elim (cases_eq w v) [
-      | inl same ↦ inr (eqb-true speaker.0 k e, same)
+      | inl same ↦ inr (eqb-true seat.session.0 k e, same)
       | inr other ↦
-          let there = changed_other core.workers v w (λ worker. record worker { held = Some (record { speaker = speaker; parts = parts }) }) idle other in
+          let there = changed_other core.workers v w (λ worker. record worker { held = Some (record { speaker = seat.session; parts = parts }) }) idle other in
           inl (rw there (without k (worker_at core w)))
     ]
 
--- only who has the session speaks by it
-abbrev IsVoiced : Option Seat → Action → Type 0
-IsVoiced seat a = (s : SessionId) (p : List ℕ) → a ≡ Voice s p → IsOf s.0 seat
+frame_from : (w k : ℕ) (core : CoreState) (c : ℕ) (version : Option ℕ) (a : Action)
+    → (Without k (worker_at core w) (worker_at (frame_step.does core c version a) w)) ⊎ (IsOf k (connection_at core c).seat × (w ≡ (connection_at core c).worker))
+frame_from w k core c version (Ask name) = inl (without k (worker_at core w))
+frame_from w k core c version (Echo frame) = inl (without k (worker_at core w))
+frame_from w k core c version Keep = inl (without k (worker_at core w))
+frame_from w k core c version (Ignore why) = inl (without k (worker_at core w))
+frame_from w k core c version (Voice payload) = hears_from w k core (connection_at core c).worker (connection_at core c).seat (packet payload)
 
-voiced_cond : (seat : Option Seat) (b : Bool) (x y : Action) → IsVoiced seat x → IsVoiced seat y → IsVoiced seat (cond b x y)
-voiced_cond seat true x y hx hy = hx
-voiced_cond seat false x y hx hy = hy
-
-voiced_version : (seat : Option Seat) (d : Decoded version) → IsVoiced seat (version_action d)
-voiced_version seat (Ok values) s p h = cc
-voiced_version seat (Err fault) s p h = cc
-
-voiced_ping : (seat : Option Seat) (d : Decoded ping) → IsVoiced seat (ping_action d)
-voiced_ping seat (Ok values) s p h = cc
-voiced_ping seat (Err fault) s p h = cc
-
-voiced_voice : (seat : Option Seat) (payload : List ℕ) → IsVoiced seat (voice_action seat payload)
-voiced_voice None payload s p h = cc
-voiced_voice (Some seat) payload s p h = let same : seat.session ≡ s = cc in ap (λ (x : SessionId). x.0) same
-
-voiced_asked : (seat : Option Seat) (command : Command) → IsVoiced seat (asked command)
-voiced_asked seat command = voiced_cond seat (nat_lt COMMAND_LIMIT (length (payload_of command))) _ _ (λ s p h. cc) (λ s p h. cc)
-
-voiced_command : {V : Type 0} (seat : Option Seat) (command : V → Command) (read : Result V MessageFault) → IsVoiced seat (command_action command read)
-voiced_command seat command (Ok values) s p h = voiced_asked seat (command values) s p h
-voiced_command seat command (Err fault) s p h = cc
-
-voiced_after : (seat whose : Option Seat) (a : Action) → IsVoiced seat a → IsVoiced seat (after_login whose a)
-voiced_after seat None a h s p is = cc
-voiced_after seat (Some one) a h s p is = h s p is
-
-voiced_tree_or_user : (seat : Option Seat) (kind : ℕ) (payload : List ℕ) → IsVoiced seat (tree_or_user_action kind payload)
-voiced_tree_or_user seat kind payload =
-    voiced_cond seat (kind == CHANNEL_REMOVE) _ _ (voiced_command seat (λ values. Tree (Remove (channel_remove_of values))) (decoded channel_remove payload))
-    (voiced_cond seat (kind == CHANNEL_STATE) _ _ (voiced_command seat (λ values. Tree (State (channel_state_of values))) (decoded channel_state payload))
-    (voiced_cond seat (kind == USER_REMOVE) _ _ (voiced_command seat (λ values. User (Kick (user_remove_of values))) (decoded user_remove payload))
-    (voiced_cond seat (kind == USER_STATE) _ _ (voiced_command seat (λ values. User (messages.User (user_state_of values))) (decoded user_state payload))
-    (voiced_cond seat (kind == ACL) _ _ (voiced_command seat (λ values. Tree (Acl (acl_of values))) (decoded acl payload))
-    (voiced_cond seat (kind == VOICE_TARGET) _ _ (voiced_command seat (λ values. User (Target (voice_target_of values))) (decoded voice_target payload))
-    (voiced_command seat (λ values. User (Query (permission_query_of values))) (decoded permission_query payload)))))))
-
-voices : (connection : Connection) (kind : ℕ) (payload : List ℕ) → IsVoiced connection.seat (action connection kind payload)
-unfolding action
-voices connection kind payload =
-    let seat : Option Seat = connection.seat in
-    voiced_cond seat connection.rejected _ _ (λ s p h. cc)
-    (voiced_cond seat (kind == UDP_TUNNEL) _ _ (voiced_voice seat payload)
-    (voiced_cond seat (kind == VERSION) _ _ (voiced_version seat (decoded version payload))
-    (voiced_cond seat (kind == PING) _ _ (voiced_ping seat (decoded ping payload))
-    (voiced_cond seat (kind == AUTHENTICATE) _ _ (voiced_command seat (λ values. User (messages.Join (authenticate_of values) connection.version)) (decoded authenticate payload))
-    (voiced_cond seat (list_any (λ known. known == kind) commands_after_login) _ _
-    (voiced_after seat seat (tree_or_user_action kind payload) (voiced_tree_or_user seat kind payload))
-    (λ s p h. cc))))))
-
-frame_from : (w k : ℕ) (core : CoreState) (c : ℕ) (a : Action) → IsVoiced (connection_at core c).seat a
-    → (Without k (worker_at core w) (worker_at (frame_step.does core c a) w)) ⊎ (IsOf k (connection_at core c).seat × (w ≡ (connection_at core c).worker))
-frame_from w k core c (Ask name) voiced = inl (without k (worker_at core w))
-frame_from w k core c (Echo frame) voiced = inl (without k (worker_at core w))
-frame_from w k core c (Keep number) voiced = inl (without k (worker_at core w))
-frame_from w k core c (Ignore why) voiced = inl (without k (worker_at core w))
-frame_from w k core c (Voice speaker payload) voiced = elim (hears_from w k core (connection_at core c).worker speaker (packet payload)) [
-  | inl none ↦ inl none
-  | inr mine ↦
-      let same = mine.0 in
-      inr (rw same at (voiced speaker payload refl), mine.1)
-]
-
-frame_source : (w k : ℕ) (core : CoreState) (c kind : ℕ) (payload : List ℕ) → illegal core (Frame c kind payload) ≡ None
-    → (of_speaker k (packet_taken w core (Frame c kind payload)) ≡ []) ⊎ Source w k core
-frame_source w k core c kind payload h = elim (frame_from w k core c (action (connection_at core c) kind payload) (voices (connection_at core c) kind payload)) [
+frame_source : (w k : ℕ) (core : CoreState) (c : ℕ) (bytes : List ℕ) → illegal core (Frame c bytes) ≡ None
+    → (of_speaker k (packet_taken w core (Frame c bytes)) ≡ []) ⊎ Source w k core
+frame_source w k core c bytes h = elim (frame_from w k core c (frame_version core c bytes) (frame_action core c bytes)) [
   | inl none ↦ inl none
   | inr mine ↦
       let first = none_stands (not (is_opened core c)) _ _ h in
@@ -339,9 +269,9 @@ notes_without w k core v None = without k (worker_at core w)
 notes_without w k core v (Some revision) =
     changed-by (Without k) (without k) core.workers v w (λ worker. record worker { told = max worker.told revision }) idle (λ x at here. without k x)
 
-pub source : (w k : ℕ) (core : CoreState) (step : BuiltStep) → illegal core step ≡ None → (of_speaker k (packet_taken w core step) ≡ []) ⊎ Source w k core
+pub source : (w k : ℕ) (core : CoreState) (step : Step) → illegal core step ≡ None → (of_speaker k (packet_taken w core step) ≡ []) ⊎ Source w k core
 source w k core (Open c v) h = inl (without k (worker_at core w))
-source w k core (Frame c kind payload) h = frame_source w k core c kind payload h
+source w k core (Frame c bytes) h = frame_source w k core c bytes h
 source w k core (steps.Edit c) h =
     inl (from_workers w k core core.workers (without k (worker_at core w)) (does core (steps.Edit c)).workers (decided_workers core c (edit_step.decision core c)))
 source w k core Publish h = inl (without k (worker_at core w))
@@ -353,6 +283,8 @@ source w k core (Offer v) h =
     (changed-by (Without k) (without k) core.workers v w _ idle (λ x at here. without k x))
     (does core (Offer v)).workers (puts_workers (taken_core core v) (offer_step.next_copy core v)))
 source w k core (Drain c) h = inl (from_workers w k core core.workers (without k (worker_at core w)) (does core (Drain c)).workers (drain_workers core (connection_at core c).seat))
+source w k core Post h = inl (from_workers w k core core.workers (without k (worker_at core w)) (does core Post).workers (posted_workers core))
+source w k core (Collect c) h = inl (from_workers w k core core.workers (without k (worker_at core w)) (does core (Collect c)).workers (collect_workers core (connection_at core c).seat))
 source w k core (Close c cause) h = inl (without k (worker_at core w))
 source w k core End h = inl (without k (worker_at core w))
 
@@ -361,7 +293,7 @@ source w k core End h = inl (without k (worker_at core w))
 pub joined_none : (k : ℕ) (xs ys : List HeldPacket) → of_speaker k xs ≡ [] → of_speaker k ys ≡ [] → of_speaker k (xs ++ ys) ≡ []
 joined_none k xs ys hx hy = filter-append (λ (held : HeldPacket). held.speaker.0 == k) xs ys ∙ (ap (λ (zs : List HeldPacket). zs ++ of_speaker k ys) hx ∙ hy)
 
-later_none : (core : CoreState) (run : List BuiltStep) (i k v w : ℕ) → IsRun core run → Owns core i k → i < length core.connections → (conn core i).worker ≡ v → (v ≡ w → ⊥)
+later_none : (core : CoreState) (run : List Step) (i k v w : ℕ) → IsRun core run → Owns core i k → i < length core.connections → (conn core i).worker ≡ v → (v ≡ w → ⊥)
     → of_speaker k (gathered (packet_taken w) core run) ≡ []
 later_none core [] i k v w is owns within at other = refl
 later_none core (step ∷ run) i k v w is owns within at other =
@@ -379,7 +311,7 @@ later_none core (step ∷ run) i k v w is owns within at other =
 owned : (w k : ℕ) (core : CoreState) → Sound core → (s : Source w k core) → Owns core s.place k
 owned w k core sound s = record { given = sound.given s.place k (inl s.of); alone = λ j has. sound.alone s.place j k (inl s.of) has }
 
-one_of_two : (core : CoreState) (run : List BuiltStep) (v w k : ℕ) → IsRun core run → Sound core → (v ≡ w → ⊥)
+one_of_two : (core : CoreState) (run : List Step) (v w k : ℕ) → IsRun core run → Sound core → (v ≡ w → ⊥)
     → (of_speaker k (gathered (packet_taken v) core run) ≡ []) ⊎ (of_speaker k (gathered (packet_taken w) core run) ≡ [])
 one_of_two core [] v w k is sound other = inl refl
 one_of_two core (step ∷ run) v w k is sound other = from (source v k core step is.0) (source w k core step is.0) (one_of_two (does core step) run v w k is.1 (sound_step core step sound) other)
@@ -392,18 +324,18 @@ one_of_two core (step ∷ run) v w k is sound other = from (source v k core step
     from (inl nv) (inl nw) (inl none) = inl (joined_none k (packet_taken v core step) (gathered (packet_taken v) (does core step) run) nv none)
     from (inl nv) (inl nw) (inr none) = inr (joined_none k (packet_taken w core step) (gathered (packet_taken w) (does core step) run) nw none)
 
-pub one_worker_a_speaker : (opening : StateValue) (workers v w speaker : ℕ) (run : List BuiltStep) → IsRun (start opening workers) run → (v ≡ w → ⊥)
+pub one_worker_a_speaker : (opening : StateValue) (workers v w speaker : ℕ) (run : List Step) → IsRun (start opening workers) run → (v ≡ w → ⊥)
     → (filter (λ held. held.speaker.0 == speaker) (gathered (packet_taken v) (start opening workers) run) ≡ [])
     ⊎ (filter (λ held. held.speaker.0 == speaker) (gathered (packet_taken w) (start opening workers) run) ≡ [])
 one_worker_a_speaker opening workers v w speaker run is other = one_of_two (start opening workers) run v w speaker is (sound_start opening workers) other
 
 -- ---- the connection of a session
 
-pub sound_all : (core : CoreState) (run : List BuiltStep) → Sound core → Sound (ran core run)
+pub sound_all : (core : CoreState) (run : List Step) → Sound core → Sound (ran core run)
 sound_all core [] sound = sound
 sound_all core (step ∷ run) sound = sound_all (does core step) run (sound_step core step sound)
 
-owns_all : (core : CoreState) (run : List BuiltStep) (i k : ℕ) → Owns core i k → Owns (ran core run) i k
+owns_all : (core : CoreState) (run : List Step) (i k : ℕ) → Owns core i k → Owns (ran core run) i k
 owns_all core [] i k owns = owns
 owns_all core (step ∷ run) i k owns = owns_all (does core step) run i k (owns_step core step i k owns)
 
@@ -417,7 +349,7 @@ seated core c k has = from (nat_lt 0 c) refl has
     from true e has = (ltb-true 0 c e, inl has)
     from false e has = absurd has
 
-pub one_connection_a_session : (opening : StateValue) (workers c d : ℕ) (run more : List BuiltStep) (seat other : Seat) → IsRun (start opening workers) run → IsRun (ran (start opening workers) run) more
+pub one_connection_a_session : (opening : StateValue) (workers c d : ℕ) (run more : List Step) (seat other : Seat) → IsRun (start opening workers) run → IsRun (ran (start opening workers) run) more
     → (connection_at (ran (start opening workers) run) c).seat ≡ Some seat → (connection_at (ran (ran (start opening workers) run) more) d).seat ≡ Some other → seat.session.0 ≡ other.session.0 → c ≡ d
 one_connection_a_session opening workers c d run more seat other is later first second same =
     let core : CoreState = ran (start opening workers) run in

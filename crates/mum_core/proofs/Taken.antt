@@ -3,36 +3,40 @@ use Rattle.std.proofs.Common.{◌≡◌, ℕ, Bool, true, false, cond, List, Opt
 use Rattle.std.specs.Prelude.{◌⊎◌}
 use Rattle.std.specs.Option.{option_map_or}
 use Rattle.mum_base.specs.Refusal.{Gives}
-use Rattle.mum_base.specs.declared.number.SessionId.{SessionId}
 use Rattle.mum_state.specs.declared.verdict.Verdict.{Verdict}
-use Rattle.mum_voice.specs.declared.fault.BadVoice.{BadVoice}
-use Rattle.mum_voice.specs.Packet.{Parts, packet}
-use Rattle.mum_core.specs.declared.{action.Action.Action, connection.Seat.Seat, machine.StepFault.StepFault, machine.StepFault.TheVariants.OutOfMemory, outbox.Parcel.Parcel, worker.Outgoing.Outgoing}
-use Rattle.mum_core.specs.declared.action.Action.TheVariants.{Ask, Voice, Echo, Keep, Ignore}
-use Rattle.mum_core.specs.Action.{action}
-use Rattle.mum_core.specs.Built.{BuiltStep, Open, Frame, Edit, Publish, Tell, Look, Offer, Drain, Close, End}
+use Rattle.mum_notify.specs.declared.notice.Notice.{Notice}
+use Rattle.mum_voice.specs.Packet.{packet}
+use Rattle.mum_core.specs.declared.{connection.Seat.Seat, machine.StepFault.StepFault, machine.StepFault.TheVariants.OutOfMemory, outbox.Parcel.Parcel, worker.Outgoing.Outgoing}
+use Rattle.mum_session.specs.declared.action.Action.{Action}
+use Rattle.mum_session.specs.declared.action.Action.TheVariants.{Ask, Voice, Echo, Keep, Ignore}
+use Rattle.mum_record.specs.declared.step.Step.{Step}
+use Rattle.mum_record.specs.declared.step.Step.TheVariants.{Open, Frame, Edit, Publish, Tell, Look, Offer, Post, Drain, Collect, Close, End}
 use Rattle.mum_core.specs.Case.{IsStarved, named_cause}
 use Rattle.mum_core.specs.Core.{CoreState, connection_at, at_connection, up}
 use Rattle.mum_core.specs.Connection.{told}
-use Rattle.mum_core.specs.Step.{changes, does, illegal}
+use Rattle.mum_core.specs.Step.{changes, does, frame_action, frame_version, illegal}
+use Rattle.mum_core.specs.Worker.{HeldPacket}
 use Rattle.mum_core.specs.steps.Frame as frame_step
+use Rattle.mum_core.specs.steps.Frame.{spoken}
 use Rattle.mum_core.specs.steps.Edit as edit_step
 use Rattle.mum_core.specs.steps.Tell as tell_step
 use Rattle.mum_core.specs.steps.Offer as offer_step
+use Rattle.mum_core.specs.steps.Post as post_step
 use Rattle.mum_core.specs.steps.Drain as drain_step
+use Rattle.mum_core.specs.steps.Collect as collect_step
 
 -- ---- no change of a step changes the line
 
-hears_line : (core : CoreState) (w : ℕ) (speaker : SessionId) (read : Result Parts BadVoice) → (frame_step.hears core w speaker read).line ≡ core.line
-hears_line core w speaker (Ok parts) = refl
-hears_line core w speaker (Err fault) = refl
+hears_line : (core : CoreState) (w : ℕ) (held : Option HeldPacket) → (frame_step.hears core w held).line ≡ core.line
+hears_line core w (Some held) = refl
+hears_line core w None = refl
 
-frame_line : (core : CoreState) (c : ℕ) (asked : Action) → (frame_step.does core c asked).line ≡ core.line
-frame_line core c (Ask command) = refl
-frame_line core c (Voice speaker payload) = hears_line core (connection_at core c).worker speaker (packet payload)
-frame_line core c (Echo frame) = refl
-frame_line core c (Keep number) = refl
-frame_line core c (Ignore why) = refl
+frame_line : (core : CoreState) (c : ℕ) (version : Option ℕ) (asked : Action) → (frame_step.does core c version asked).line ≡ core.line
+frame_line core c version (Ask command) = refl
+frame_line core c version (Voice payload) = hears_line core (connection_at core c).worker (spoken (connection_at core c).seat (packet payload))
+frame_line core c version (Echo frame) = refl
+frame_line core c version Keep = refl
+frame_line core c version (Ignore why) = refl
 
 edit_line : (core : CoreState) (c : ℕ) (decision : Option Verdict) → (option_map_or (edit_step.decides core c) decision core).line ≡ core.line
 edit_line core c None = refl
@@ -58,15 +62,29 @@ drain_line : (core : CoreState) (seat : Option Seat) → (drain_step.does_from c
 drain_line core None = refl
 drain_line core (Some seat) = taken_line core seat _
 
-pub same_line : (core : CoreState) (step : BuiltStep) → (changes core step).line ≡ core.line
+post_line : (core : CoreState) (next : Option Notice) → (post_step.puts core next).line ≡ core.line
+post_line core None = refl
+post_line core (Some next) = either_line (post_step.has_room core next.slot.0) core _ _ refl refl
+
+collected_line : (core : CoreState) (seat : Seat) (front : Option Notice) → (collect_step.takes core seat front).line ≡ core.line
+collected_line core seat None = refl
+collected_line core seat (Some front) = either_line (collect_step.is_for front seat) core _ _ refl refl
+
+collect_line : (core : CoreState) (seat : Option Seat) → (collect_step.does_from core seat).line ≡ core.line
+collect_line core None = refl
+collect_line core (Some seat) = collected_line core seat _
+
+pub same_line : (core : CoreState) (step : Step) → (changes core step).line ≡ core.line
 same_line core (Open c w) = refl
-same_line core (Frame c kind payload) = frame_line core c (action (connection_at core c) kind payload)
+same_line core (Frame c bytes) = frame_line core c (frame_version core c bytes) (frame_action core c bytes)
 same_line core (Edit c) = edit_line core c (edit_step.decision core c)
 same_line core Publish = refl
 same_line core (Tell c revision) = note_line (at_connection c told core) (connection_at core c).worker revision
 same_line core (Look w revision) = refl
 same_line core (Offer w) = put_line _ (offer_step.next_copy core w)
+same_line core Post = post_line _ (post_step.next_notice core)
 same_line core (Drain c) = drain_line core (connection_at core c).seat
+same_line core (Collect c) = collect_line core (connection_at core c).seat
 same_line core (Close c cause) = refl
 same_line core End = refl
 
@@ -75,7 +93,7 @@ same_line core End = refl
 abbrev with_line : CoreState → ℕ → CoreState
 with_line core line = record core { line = line }
 
-pub done_of : (core mid new : CoreState) (step : BuiltStep) → mid ≡ changes core step → new ≡ record mid { line = up mid.line } → new ≡ does core step
+pub done_of : (core mid new : CoreState) (step : Step) → mid ≡ changes core step → new ≡ record mid { line = up mid.line } → new ≡ does core step
 done_of core mid new step is counted =
     counted ∙ ap (λ (m : CoreState). with_line m (up m.line)) is ∙ ap (λ (n : ℕ). with_line (changes core step) (up n)) (same_line core step)
 
@@ -86,7 +104,7 @@ answers lines = Ok lines
 never_starved : (lines : List (List ℕ)) → answers lines ≡ Err OutOfMemory → ⊥
 never_starved lines e = cc
 
-pub given_of : (core mid new : CoreState) (step : BuiltStep) (given lines : List (List ℕ))
+pub given_of : (core mid new : CoreState) (step : Step) (given lines : List (List ℕ))
     → IsStarved core (answers given) mid ⊎ Gives named_cause (illegal core step) lines (changes core step) core (answers given) mid
     → new ≡ record mid { line = up mid.line }
     → IsStarved core (answers given) new ⊎ Gives named_cause (illegal core step) lines (does core step) core (answers given) new

@@ -5,8 +5,9 @@ use Rattle.std.proofs.lemmas.Bool.{eqb-true}
 use Rattle.mum_state.specs.State.{StateValue}
 use Rattle.mum_core.specs.declared.connection.Seat.{Seat}
 use Rattle.mum_core.specs.declared.outbox.Parcel.{Parcel}
-use Rattle.mum_core.specs.Built as steps
-use Rattle.mum_core.specs.Built.{BuiltStep, Open, Frame, Publish, Tell, Look, Offer, Drain, Close, End}
+use Rattle.mum_record.specs.declared.step.Step.TheVariants as steps
+use Rattle.mum_record.specs.declared.step.Step.{Step}
+use Rattle.mum_record.specs.declared.step.Step.TheVariants.{Open, Frame, Publish, Tell, Look, Offer, Post, Drain, Collect, Close, End}
 use Rattle.mum_core.specs.Core.{CoreState, start, connection_at}
 use Rattle.mum_core.specs.Laws.{IsSubsequence, front, front_for, gathered, heard, own_front, removed}
 use Rattle.mum_core.specs.Step.{does}
@@ -26,25 +27,27 @@ told_from : (n : ℕ) (core : CoreState) (seat : Option Seat) → IsSubsequence 
 told_from n core None = tt
 told_from n core (Some seat) = told_by n core seat (seat.session.0 == n) refl
 
-heard_is_removed : (n : ℕ) (core : CoreState) (step : BuiltStep) → IsSubsequence (heard n core step) (removed n core step)
+heard_is_removed : (n : ℕ) (core : CoreState) (step : Step) → IsSubsequence (heard n core step) (removed n core step)
 heard_is_removed n core (Open c w) = tt
-heard_is_removed n core (Frame c kind payload) = tt
+heard_is_removed n core (Frame c bytes) = tt
 heard_is_removed n core (steps.Edit c) = tt
 heard_is_removed n core Publish = tt
 heard_is_removed n core (Tell c revision) = tt
 heard_is_removed n core (Look w revision) = tt
 heard_is_removed n core (Offer w) = tt
 heard_is_removed n core (Drain c) = told_from n core (connection_at core c).seat
+heard_is_removed n core Post = tt
+heard_is_removed n core (Collect c) = tt
 heard_is_removed n core (Close c cause) = tt
 heard_is_removed n core End = tt
 
-all_heard : (n : ℕ) (core : CoreState) (run : List BuiltStep) → IsSubsequence (gathered (heard n) core run) (gathered (removed n) core run)
+all_heard : (n : ℕ) (core : CoreState) (run : List Step) → IsSubsequence (gathered (heard n) core run) (gathered (removed n) core run)
 all_heard n core [] = tt
 all_heard n core (step ∷ run) =
     parts_stand (heard n core step) (removed n core step) (gathered (heard n) (does core step) run) (gathered (removed n) (does core step) run)
     (heard_is_removed n core step) (all_heard n (does core step) run)
 
-pub heard_is_of_removed : (opening : StateValue) (workers n : ℕ) (run : List BuiltStep) → IsSubsequence (gathered (heard n) (start opening workers) run) (gathered (removed n) (start opening workers) run)
+pub heard_is_of_removed : (opening : StateValue) (workers n : ℕ) (run : List Step) → IsSubsequence (gathered (heard n) (start opening workers) run) (gathered (removed n) (start opening workers) run)
 heard_is_of_removed opening workers n run = all_heard n (start opening workers) run
 
 other_by : (n : ℕ) (core : CoreState) (seat : Seat) (b : Bool) → (seat.session.0 == n) ≡ b → (seat.session.0 ≡ n → ⊥) → cond b (own_front core (Some seat)) [] ≡ []

@@ -1,12 +1,14 @@
 -- What a connection is to the steps.
-use Rattle.std.specs.Prelude.{ℕ, ◌+◌, ◌||◌, Bool, true, false, Option, Some, None, is_some}
+use Rattle.std.specs.Prelude.{ℕ, ◌+◌, ◌||◌, ◌==◌, Bool, true, false, Option, Some, None, is_some, if◌then◌else◌}
 use Rattle.std.specs.Option.{option_and_then, option_map, option_map_or, option_or}
 use Rattle.mum_base.specs.declared.number.SessionId.{SessionId}
 use Rattle.mum_base.specs.declared.reply.Mark.{Mark}
 use Rattle.mum_base.specs.declared.reply.Mark.TheVariants.{Accepted, Rejected}
 use Rattle.mum_rules_user.specs.declared.message.UserMessage.TheVariants as messages
-use Rattle.mum_core.specs.declared.{connection.Command.Command, connection.Command.TheVariants.User, connection.Connection.Connection, connection.Leave.Leave, connection.Reply.Reply, connection.Seat.Seat}
-use Rattle.mum_core.specs.declared.connection.Leave.TheVariants.{Stays, Waits, Decided}
+use Rattle.mum_session.specs.declared.command.Asked.{Asked}
+use Rattle.mum_session.specs.declared.command.Asked.TheVariants.{User}
+use Rattle.mum_core.specs.declared.{connection.Connection.Connection, connection.Leave.Leave, connection.Reply.Reply, connection.Seat.Seat}
+use Rattle.mum_core.specs.declared.connection.Leave.TheVariants.{Stays, Waits, Leads, Decided}
 
 -- a connection that asked for nothing yet, at this worker
 abbrev pub fresh : ℕ → Connection
@@ -15,6 +17,7 @@ fresh worker = record {
   version = None;
   seat = None;
   rejected = false;
+  lagged = false;
   waiting = None;
   decided = None;
   leave = Stays;
@@ -24,13 +27,23 @@ fresh worker = record {
 -- ---- what it asked for
 
 -- its leave, where that waits to be decided
-abbrev pub leave_waiting : Leave → Option Command
+abbrev pub leave_waiting : Leave → Option Asked
 leave_waiting Waits = Some (User messages.Leave)
+leave_waiting Leads = Some (User messages.Leave)
 leave_waiting others = None
 
--- the command of it that is decided next: that of its frame, and then its leave
-abbrev pub next_command : Connection → Option Command
-next_command connection = option_or connection.waiting (leave_waiting connection.leave)
+-- a leave that waited before its frame came is decided before the command of that frame
+abbrev pub leads : Leave → Bool
+leads Leads = true
+leads others = false
+
+-- the command of its frame, where that is decided next
+abbrev pub next_of_frame : Connection → Option Asked
+next_of_frame connection = if leads connection.leave then None else connection.waiting
+
+-- the command of it that is decided next: the one that waited first
+abbrev pub next_command : Connection → Option Asked
+next_command connection = option_or (next_of_frame connection) (leave_waiting connection.leave)
 
 abbrev pub count_of : {A : Type 0} → Option A → ℕ
 count_of None = 0
@@ -71,6 +84,10 @@ seat_accepted connection = option_or (seat_given connection.decided) connection.
 abbrev pub session_of : Connection → Option SessionId
 session_of connection = option_map (λ seat. seat.session) (seat_accepted connection)
 
+-- an accepted login gave it the session
+abbrev pub is_of : SessionId → Connection → Bool
+is_of session connection = option_map_or (λ own. own.0 == session.0) (session_of connection) false
+
 abbrev pub rejects : Option Reply → Bool
 rejects reply = option_map_or (λ reply. is_rejected reply.mark) reply false
 
@@ -84,9 +101,17 @@ told connection = record connection {
   decided = None;
 }
 
+-- the command of its frame waits, behind a leave that waits already
+abbrev pub followed : Leave → Leave
+followed Waits = Leads
+followed others = others
+
+abbrev pub asking : Asked → Connection → Connection
+asking what connection = record connection { waiting = Some what; leave = followed connection.leave }
+
 -- the command of its frame is answered by a reply that waits to be told; its leave is answered by none
-abbrev pub answered : Option Command → Reply → Connection → Connection
-answered (Some command) reply connection = record connection { waiting = None; decided = Some reply }
+abbrev pub answered : Option Asked → Reply → Connection → Connection
+answered (Some what) reply connection = record connection { waiting = None; decided = Some reply }
 answered None reply connection = record connection { leave = Decided }
 
 -- a leave is put behind what waits of it, once
@@ -97,3 +122,7 @@ leaving others = others
 -- it is closed at a line of the recording
 abbrev pub closed_at : ℕ → Connection → Connection
 closed_at line connection = record connection { leave = leaving connection.leave; closed = Some line }
+
+-- a notice for its session found the posts of its slot full, so it leaves
+abbrev pub lagging : Connection → Connection
+lagging connection = record connection { leave = leaving connection.leave; lagged = true }

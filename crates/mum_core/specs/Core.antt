@@ -1,10 +1,12 @@
 -- The core as plain data, and the changes of one connection, one worker or one outbox.
-use Rattle.std.specs.Prelude.{ℕ, ◌+◌, ◌-◌, ◌^◌, ◌&&◌, min, Bool, List, [], length, replicate, nat_lt, slice_index_or, if◌then◌else◌}
+use Rattle.std.specs.Prelude.{ℕ, ◌+◌, ◌-◌, ◌^◌, ◌&&◌, min, Bool, List, [], length, map, replicate, nat_lt, slice_index_or, if◌then◌else◌}
+use Rattle.mum_base.specs.declared.number.SessionId.{SessionId}
 use Rattle.mum_state.specs.declared.edit.Edit.{Edit}
 use Rattle.mum_state.specs.After.{at, led_to}
 use Rattle.mum_state.specs.State.{StateValue}
+use Rattle.mum_notify.specs.declared.notice.Notice.{Notice}
 use Rattle.mum_core.specs.declared.{connection.Connection.Connection, machine.Totals.Totals, outbox.Parcel.Parcel, slot.TheConstants.SLOTS}
-use Rattle.mum_core.specs.Connection.{fresh}
+use Rattle.mum_core.specs.Connection.{fresh, is_of}
 use Rattle.mum_core.specs.Lists.{changed_at}
 use Rattle.mum_core.specs.Worker.{WorkerState, idle}
 
@@ -20,6 +22,12 @@ pub record CoreState : Type 0 where
   pub workers : List WorkerState
   -- the voice copies that wait for the connection of each slot, the oldest first
   pub outboxes : List (List Parcel)
+  -- the notices of accepted edits that were not posted yet, the first of them first
+  pub pending : List Notice
+  -- the notices that wait for the connection of each slot, the oldest first
+  pub posts : List (List Notice)
+  -- how many notices were posted, or found the posts of their slot full
+  pub posted : ℕ
   pub totals : Totals
   -- the number of the last line that was taken: the steps stand behind the three lines of the head
   pub line : ℕ
@@ -34,6 +42,9 @@ start opening workers =
       connections = [];
       workers = replicate workers idle;
       outboxes = replicate SLOTS [];
+      pending = [];
+      posts = replicate SLOTS [];
+      posted = 0;
       totals = record { looks = 0; copies = 0; full = 0; stale = 0 };
       line = 3;
     }
@@ -59,6 +70,9 @@ worker_at core w = slice_index_or core.workers w idle
 abbrev pub outbox_at : CoreState → ℕ → List Parcel
 outbox_at core slot = slice_index_or core.outboxes slot []
 
+abbrev pub posts_at : CoreState → ℕ → List Notice
+posts_at core slot = slice_index_or core.posts slot []
+
 -- what is there of a number is changed; nothing changes where none is there
 abbrev pub at_connection : ℕ → (Connection → Connection) → CoreState → CoreState
 at_connection c change core =
@@ -69,6 +83,14 @@ at_worker w change core = record core { workers = changed_at w change core.worke
 
 abbrev pub at_outbox : ℕ → (List Parcel → List Parcel) → CoreState → CoreState
 at_outbox slot change core = record core { outboxes = changed_at slot change core.outboxes }
+
+abbrev pub at_posts : ℕ → (List Notice → List Notice) → CoreState → CoreState
+at_posts slot change core = record core { posts = changed_at slot change core.posts }
+
+-- the connection that an accepted login gave the session is changed, told of it or not
+abbrev pub at_session : SessionId → (Connection → Connection) → CoreState → CoreState
+at_session session change core =
+    record core { connections = map (λ connection. if is_of session connection then change connection else connection) core.connections }
 
 -- a count of 64 bits that rises, and stands still at its last value
 abbrev pub up : ℕ → ℕ

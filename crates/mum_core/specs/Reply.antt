@@ -17,13 +17,14 @@ use Rattle.mum_rules_tree.specs.declared.reason.Reason.TheVariants.{NotLoggedIn}
 use Rattle.mum_rules_tree.specs.Denial.{denial}
 use Rattle.mum_rules_tree.specs.Verdict.{tree_verdict}
 use Rattle.mum_rules_user.specs.Verdict.{user_verdict}
-use Rattle.mum_core.specs.declared.{connection.Command.Command, connection.Reply.Reply, connection.Seat.Seat}
-use Rattle.mum_core.specs.declared.connection.Command.TheVariants.{Tree, User}
+use Rattle.mum_session.specs.declared.command.Asked.{Asked}
+use Rattle.mum_session.specs.declared.command.Asked.TheVariants.{Tree, User}
+use Rattle.mum_core.specs.declared.{connection.Reply.Reply, connection.Seat.Seat}
 
 -- ---- what is decided
 
 -- what is decided at a state of a command of a connection, which may have a session
-unfoldable pub verdict : StateValue → Option SessionId → Command → Verdict
+unfoldable pub verdict : StateValue → Option SessionId → Asked → Verdict
 verdict state None (Tree message) = Ignored (reason_code NotLoggedIn)
 verdict state (Some session) (Tree message) = tree_verdict state session message
 verdict state session (User message) = user_verdict state session message

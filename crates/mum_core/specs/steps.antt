@@ -6,6 +6,8 @@ pub mod Publish
 pub mod Tell
 pub mod Look
 pub mod Offer
+pub mod Post
 pub mod Drain
+pub mod Collect
 pub mod Close
 pub mod End

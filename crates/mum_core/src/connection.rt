@@ -1,29 +1,20 @@
 //! What the core keeps of a connection.
 
-ghost use Rattle.std.specs.Prelude.{◌≡◌, Some, is_some};
-ghost use Rattle.mum_fields.specs.Message.{or_else};
-ghost use Rattle.mum_core.specs.Connection.{answered, closed_at, fresh, is_untold, leaving, next_command, rejects, seat_accepted, session_of, told, untold};
+ghost use Rattle.std.specs.Prelude.{◌≡◌, Some, is_some, map, if◌then◌else◌};
+ghost use Rattle.std.specs.Option.{option_copied};
+ghost use Rattle.mum_core.specs.Connection.{answered, asking, closed_at, followed, fresh, is_of, is_untold, lagging, leads, leave_waiting, leaving, next_command, next_of_frame, rejects, seat_accepted, session_of, told, untold};
 ghost use Rattle.mum_core.specs.Lists.{changed_at};
+ghost use Rattle.mum_core.specs.Machine.{machine_of, stage_of};
 
 use crate::slot::ValidSlot;
 use mum_base::{Mark, Octets, SessionId};
-use mum_rules_tree::TreeMessage;
-use mum_rules_user::UserMessage;
+use mum_session::{Asked, Session, Stage};
 
 /// A session and the slot that it holds.
 #[derive(Clone, Copy)]
 pub struct Seat {
     pub session: SessionId,
     pub slot: ValidSlot,
-}
-
-/// What a connection asks of the control owner.
-#[derive(Drop)]
-pub enum Command {
-    /// Other channels, or other groups and entries of one.
-    Tree { message: TreeMessage },
-    /// To enter, what concerns users, or that its session goes.
-    User { message: UserMessage },
 }
 
 /// What the control owner answers to a command.
@@ -38,12 +29,14 @@ pub struct Reply {
 }
 
 /// Whether the session of a connection goes.
-#[derive(Clone, Copy, PartialEq, Eq)]
+#[derive(Clone, Copy)]
 pub enum Leave {
     /// The connection is there.
     Stays,
-    /// Its leave waits to be decided.
+    /// Its leave waits to be decided, behind the command of its frame, if that waits.
     Waits,
+    /// Its leave waits to be decided, before the command of its frame.
+    Leads,
     /// Its leave was decided.
     Decided,
 }
@@ -52,15 +45,17 @@ pub enum Leave {
 #[derive(Drop)]
 pub struct Connection {
     /// The number of the worker that serves it.
-    pub worker: u32,
+    pub worker: u8,
     /// The number of its last Version that has one.
     pub version: Option<u32>,
     /// The seat that its told login gave it.
     pub seat: Option<Seat>,
     /// Whether it was told that its login is rejected.
     pub rejected: bool,
+    /// Whether a notice for its session found the posts of its slot full.
+    pub lagged: bool,
     /// The command of its last frame, until it is decided.
-    pub waiting: Option<Command>,
+    pub waiting: Option<Asked>,
     /// The reply that it waits to be told.
     pub decided: Option<Reply>,
     pub leave: Leave,
@@ -85,14 +80,44 @@ impl Leave {
         match self {
             Leave::Stays => Leave::Waits,
             Leave::Waits => Leave::Waits,
+            Leave::Leads => Leave::Leads,
             Leave::Decided => Leave::Decided,
         }
+    }
+
+    /// A command of a frame waits behind it, if it waits already.
+    fn followed(self) -> Leave
+        ensures { result ≡ followed self }
+    {
+        match self {
+            Leave::Stays => Leave::Stays,
+            Leave::Waits => Leave::Leads,
+            Leave::Leads => Leave::Leads,
+            Leave::Decided => Leave::Decided,
+        }
+    }
+
+    /// Whether it waits to be decided.
+    fn is_waiting(self) -> bool
+        ensures { result ≡ is_some (leave_waiting self) }
+    {
+        match self {
+            Leave::Waits | Leave::Leads => true,
+            Leave::Stays | Leave::Decided => false,
+        }
+    }
+
+    /// Whether it is decided before the command of a frame.
+    fn leads(self) -> bool
+        ensures { result ≡ leads self }
+    {
+        matches!(self, Leave::Leads)
     }
 }
 
 impl Connection {
     /// A connection that has asked for nothing yet, at this worker.
-    pub fn at(worker: u32) -> Connection
+    pub fn at(worker: u8) -> Connection
         ensures { result ≡ fresh worker }
     {
         Connection {
@@ -100,6 +125,7 @@ impl Connection {
             version: None,
             seat: None,
             rejected: false,
+            lagged: false,
             waiting: None,
             decided: None,
             leave: Leave::Stays,
@@ -112,7 +138,7 @@ impl Connection {
         ensures { result ≡ untold self.now }
     {
         u64::from(self.waiting.is_some())
-            + u64::from(self.leave == Leave::Waits)
+            + u64::from(self.leave.is_waiting())
             + u64::from(self.decided.is_some())
     }
 
@@ -123,11 +149,48 @@ impl Connection {
         self.waiting.is_some() || self.decided.is_some()
     }
 
+    /// The command of its frame, where that is decided next.
+    pub fn next_of_frame(&self) -> Option<&Asked>
+        ensures { option_copied result ≡ next_of_frame self.now }
+    {
+        if self.leave.leads() {
+            return None;
+        }
+        self.waiting.as_ref()
+    }
+
+    /// Whether the command of its frame is decided next.
+    fn frame_is_next(&self) -> bool
+        ensures { result ≡ is_some (next_of_frame self.now) }
+    {
+        !self.leave.leads() && self.waiting.is_some()
+    }
+
     /// Whether a command of it waits to be decided.
     pub fn has_command(&self) -> bool
         ensures { result ≡ is_some (next_command self.now) }
     {
-        self.waiting.is_some() || self.leave == Leave::Waits
+        self.frame_is_next() || self.leave.is_waiting()
+    }
+
+    /// How far it has come, by what it was told.
+    fn stage(&self) -> Stage
+        ensures { result ≡ stage_of self.now }
+    {
+        if self.rejected {
+            return Stage::Rejected;
+        }
+        match self.seat {
+            Some(seat) => Stage::LoggedIn(seat.session),
+            None => Stage::BeforeLogin,
+        }
+    }
+
+    /// The machine of its frames, where it has this number.
+    pub fn machine(&self, number: u32) -> Session
+        ensures { result ≡ machine_of number self.now }
+    {
+        Session::resumed(number, self.worker, self.version, self.stage())
     }
 
     /// The seat that its accepted login gave it, told or not.
@@ -160,13 +223,43 @@ impl Connection {
         }
     }
 
+    /// It asks for this, behind its leave if that waits.
+    fn ask(&mut self, what: Asked)
+        ensures { self.new ≡ asking what self.old }
+    {
+        self.waiting = Some(what);
+        self.leave = self.leave.followed();
+    }
+
     /// Its next command is decided: that of its frame waits to be told this reply, a leave is not told.
     fn answer(&mut self, reply: Reply)
-        ensures { self.new ≡ answered self.old.waiting reply self.old }
+        ensures { self.new ≡ answered (next_of_frame self.old) reply self.old }
     {
-        match self.waiting.take() {
-            Some(_) => self.decided = Some(reply),
-            None => self.leave = Leave::Decided,
+        if self.frame_is_next() {
+            self.waiting = None;
+            self.decided = Some(reply);
+        } else {
+            self.leave = Leave::Decided;
+        }
+    }
+
+    /// Whether an accepted login gave it the session.
+    fn is_of(&self, session: SessionId) -> bool
+        ensures { result ≡ is_of session self.now }
+    {
+        match self.session() {
+            Some(own) => own.0 == session.0,
+            None => false,
+        }
+    }
+
+    /// Where it is the connection of the session, a notice for it found the posts of its slot full.
+    fn lag_of(&mut self, session: SessionId)
+        ensures { self.new ≡ (if is_of session self.old then lagging self.old else self.old) }
+    {
+        if self.is_of(session) {
+            self.leave = self.leave.asked();
+            self.lagged = true;
         }
     }
 
@@ -179,27 +272,36 @@ impl Connection {
     }
 }
 
-/// The connection at a place asks for this.
-pub fn ask_at(connections: &mut Vec<Connection>, place: usize, command: Command)
-    ensures { connections.new.items ≡ changed_at place (λ c. record c { waiting = Some command }) connections.old.items }
+/// The connection of a session lags, told of its login or not.
+pub fn lag_at_session(connections: &mut Vec<Connection>, session: SessionId)
+    ensures { connections.new.items ≡ map (λ c. if is_of session c then lagging c else c) connections.old.items }
 {
-    if let Some(connection) = connections.get_mut(place) {
-        connection.waiting = Some(command);
+    for connection in connections.iter_mut() {
+        connection.lag_of(session);
     }
 }
 
-/// The connection at a place tells its version, maybe without a number.
-pub fn keep_version_at(connections: &mut Vec<Connection>, place: usize, number: Option<u32>)
-    ensures { connections.new.items ≡ changed_at place (λ c. record c { version = or_else number c.version }) connections.old.items }
+/// The connection at a place asks for this.
+pub fn ask_at(connections: &mut Vec<Connection>, place: usize, what: Asked)
+    ensures { connections.new.items ≡ changed_at place (asking what) connections.old.items }
 {
     if let Some(connection) = connections.get_mut(place) {
-        connection.version = number.or(connection.version);
+        connection.ask(what);
+    }
+}
+
+/// The connection at a place has told this version.
+pub fn keep_version_at(connections: &mut Vec<Connection>, place: usize, version: Option<u32>)
+    ensures { connections.new.items ≡ changed_at place (λ c. record c { version = version }) connections.old.items }
+{
+    if let Some(connection) = connections.get_mut(place) {
+        connection.version = version;
     }
 }
 
 /// The next command of the connection at a place is decided.
 pub fn answer_at(connections: &mut Vec<Connection>, place: usize, reply: Reply)
-    ensures { connections.new.items ≡ changed_at place (λ c. answered c.waiting reply c) connections.old.items }
+    ensures { connections.new.items ≡ changed_at place (λ c. answered (next_of_frame c) reply c) connections.old.items }
 {
     if let Some(connection) = connections.get_mut(place) {
         connection.answer(reply);

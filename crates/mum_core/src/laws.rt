@@ -15,47 +15,44 @@ ghost use Rattle.mum_route.specs.Route.{route};
 ghost use Rattle.mum_route.specs.declared.routes.TheConstants.{LOOPBACK};
 ghost use Rattle.mum_core.specs.declared.connection.Seat.{Seat};
 ghost use Rattle.mum_core.specs.declared.worker.Outgoing.{Outgoing};
-ghost use Rattle.mum_core.specs.Built.{BuiltStep, Drain, Frame, Look, Offer};
-ghost use Rattle.mum_core.specs.Core.{CoreState, start, state_at, connection_at, is_opened, outbox_at, worker_at};
-ghost use Rattle.mum_core.specs.Laws.{IsOfferOf, IsParcelOf, IsRun, IsSubsequence, IsSubsequenceBy, gathered, heard, is_by, looked, packet_taken, ran, removed, sent, wired};
+ghost use Rattle.mum_record.specs.declared.step.Step.{Step};
+ghost use Rattle.mum_record.specs.declared.step.Step.TheVariants.{Collect, Drain, Frame, Look, Offer};
+ghost use Rattle.mum_core.specs.Core.{CoreState, start, state_at, connection_at, is_opened, outbox_at, posts_at, worker_at};
+ghost use Rattle.mum_core.specs.Laws.{IsOfferOf, IsParcelOf, IsRun, IsSubsequence, IsSubsequenceBy, collected, gathered, heard, is_by, looked, noticed, offered, packet_taken, posted, posted_in, ran, removed, sent, told_notice, wired};
 ghost use Rattle.mum_core.specs.Route.{members};
 ghost use Rattle.mum_core.specs.Step.{does, illegal};
 ghost use Rattle.mum_core.specs.Worker.{HeldPacket};
 ghost use Rattle.mum_core.specs.steps.Look.{copy_to};
 
 use crate::outbox::OUTBOX_CAPACITY;
-use crate::replay::{INPUT_LIMIT, LINE_LIMIT};
 use crate::slot::SLOTS;
 
-/// The numbers for which the limits stand: slots of the server, copies of an outbox, bytes of a line
-/// and of a recording.
+/// The numbers for which the limits stand: slots of the server, copies of an outbox.
 pub fn limits()
     ensures slots { SLOTS ≡ 128 }
     ensures outbox { OUTBOX_CAPACITY ≡ 128 }
-    ensures line { LINE_LIMIT ≡ 131200 }
-    ensures input { INPUT_LIMIT ≡ 67108864 }
 {}
 
 /// Accepted edits are only added to, at their end, and the opening stays. Each of them fits where
 /// it stands. No more is published than was accepted, and never less than before.
 pub fn accepted_edits_are_one_list()
-    ensures grows { (core : CoreState) (steps : List BuiltStep) →
+    ensures grows { (core : CoreState) (steps : List Step) →
         (more : List Edit) × ((ran core steps).accepted ≡ core.accepted ++ more) }
-    ensures opening { (core : CoreState) (steps : List BuiltStep) →
+    ensures opening { (core : CoreState) (steps : List Step) →
         (ran core steps).opening ≡ core.opening }
-    ensures fit { (opening : StateValue) (workers : ℕ) (steps : List BuiltStep) → IsProper opening →
+    ensures fit { (opening : StateValue) (workers : ℕ) (steps : List Step) → IsProper opening →
         IsRun (start opening workers) steps →
         IsTrue (all_fit opening (ran (start opening workers) steps).accepted) }
-    ensures published { (opening : StateValue) (workers : ℕ) (steps : List BuiltStep) →
+    ensures published { (opening : StateValue) (workers : ℕ) (steps : List Step) →
         let core = ran (start opening workers) steps in core.published ≤ length core.accepted }
-    ensures never_back { (opening : StateValue) (workers : ℕ) (steps more : List BuiltStep) →
+    ensures never_back { (opening : StateValue) (workers : ℕ) (steps more : List Step) →
         let core = ran (start opening workers) steps in core.published ≤ (ran core more).published }
 {}
 
 /// What a worker has seen and was told never falls; a look is at a published revision, and not
 /// below what its worker has seen or was told.
 pub fn looks_go_on()
-    ensures never_back { (core : CoreState) (steps : List BuiltStep) (w : ℕ) → IsRun core steps →
+    ensures never_back { (core : CoreState) (steps : List Step) (w : ℕ) → IsRun core steps →
         ((worker_at core w).seen ≤ (worker_at (ran core steps) w).seen)
         × ((worker_at core w).told ≤ (worker_at (ran core steps) w).told) }
     ensures bounded { (core : CoreState) (w revision : ℕ) → illegal core (Look w revision) ≡ None →
@@ -79,7 +76,7 @@ pub fn copies_are_offered_once()
         AllByRecursion (λ m. m.session.0 ≡ speaker.0 → ⊥) (members state speaker target) }
     ensures loopback { (state : StateValue) (speaker : SessionId) →
         AllByRecursion (λ m. m.session.0 ≡ speaker.0) (members state speaker LOOPBACK) }
-    ensures each_once { (opening : StateValue) (workers : ℕ) (steps : List BuiltStep)
+    ensures each_once { (opening : StateValue) (workers : ℕ) (steps : List Step)
         (revision : ℕ) (speaker : SessionId) (target : ℕ) →
         IsProper opening → IsRun (start opening workers) steps →
         AllPairs (λ m other. (m.slot.0 < other.slot.0) × (m.session.0 ≡ other.session.0 → ⊥))
@@ -90,51 +87,53 @@ pub fn copies_are_offered_once()
 {}
 
 /// The copies that were sent, those that found their outbox full, and those that workers have left
-/// add up to the audiences that were looked for; and those that were sent are the copies that were told
-/// to connections, those that were dropped, and those that wait: until a count stands at the end of its
-/// type.
+/// add up to the audiences that were looked for; and those that were sent, with the notices that were
+/// posted, are what was told to connections, what was dropped, and what waits: until a count stands at
+/// the end of its type.
 pub fn each_copy_is_counted()
-    ensures offered { (opening : StateValue) (workers : ℕ) (steps : List BuiltStep) →
+    ensures offered { (opening : StateValue) (workers : ℕ) (steps : List Step) →
         IsRun (start opening workers) steps → length steps < 2 ^ 64 - 1 →
         let core = ran (start opening workers) steps in
         core.totals.copies + core.totals.full + sum_by (λ worker. length worker.copies) core.workers
         ≡ looked (start opening workers) steps }
-    ensures drained { (opening : StateValue) (workers : ℕ) (steps : List BuiltStep) →
+    ensures drained { (opening : StateValue) (workers : ℕ) (steps : List Step) →
         IsProper opening → IsRun (start opening workers) steps → length steps < 2 ^ 64 - 1 →
         let core = ran (start opening workers) steps in
-        length (gathered wired (start opening workers) steps) + core.totals.stale
-        + sum_by length core.outboxes
-        ≡ core.totals.copies }
+        length (gathered wired (start opening workers) steps)
+        + length (gathered told_notice (start opening workers) steps) + core.totals.stale
+        + sum_by length core.outboxes + sum_by length core.posts
+        ≡ core.totals.copies + length (gathered posted (start opening workers) steps) }
 {}
 
 /// A connection stays at its worker and keeps the seat that it was told; a session is never of two
 /// connections, and the packets of one speaker are all taken by one worker. A connection that is closed
-/// stays closed: none of its frames is taken, and nothing is drained for it.
+/// stays closed: none of its frames is taken, and nothing is drained or collected for it.
 pub fn connections_stay_as_they_are()
-    ensures stays { (core : CoreState) (steps : List BuiltStep) (c : ℕ) → is_opened core c ≡ true →
+    ensures stays { (core : CoreState) (steps : List Step) (c : ℕ) → is_opened core c ≡ true →
         (connection_at (ran core steps) c).worker ≡ (connection_at core c).worker }
-    ensures seat_stays { (opening : StateValue) (workers c : ℕ) (steps more : List BuiltStep)
+    ensures seat_stays { (opening : StateValue) (workers c : ℕ) (steps more : List Step)
         (seat : Seat) →
         let core = ran (start opening workers) steps in
         IsRun (start opening workers) steps → IsRun core more →
         (connection_at core c).seat ≡ Some seat → (connection_at (ran core more) c).seat ≡ Some seat }
-    ensures one_connection { (opening : StateValue) (workers c d : ℕ) (steps more : List BuiltStep)
+    ensures one_connection { (opening : StateValue) (workers c d : ℕ) (steps more : List Step)
         (seat other : Seat) →
         let core = ran (start opening workers) steps in
         IsRun (start opening workers) steps → IsRun core more →
         (connection_at core c).seat ≡ Some seat →
         (connection_at (ran core more) d).seat ≡ Some other →
         seat.session.0 ≡ other.session.0 → c ≡ d }
-    ensures one_worker { (opening : StateValue) (workers v w speaker : ℕ) (steps : List BuiltStep) →
+    ensures one_worker { (opening : StateValue) (workers v w speaker : ℕ) (steps : List Step) →
         let taken = λ (worker : ℕ). filter (λ held. held.speaker.0 == speaker)
         (gathered (packet_taken worker) (start opening workers) steps) in
         IsRun (start opening workers) steps → (v ≡ w → ⊥) → (taken v ≡ []) ⊎ (taken w ≡ []) }
-    ensures closed_stays { (core : CoreState) (c line : ℕ) (steps : List BuiltStep) →
+    ensures closed_stays { (core : CoreState) (c line : ℕ) (steps : List Step) →
         IsRun core steps → (connection_at core c).closed ≡ Some line →
         (connection_at (ran core steps) c).closed ≡ Some line }
-    ensures closed_is_silent { (core : CoreState) (c line kind : ℕ) (payload : List ℕ) →
+    ensures closed_is_silent { (core : CoreState) (c line : ℕ) (bytes : List ℕ) →
         (connection_at core c).closed ≡ Some line →
-        IsSome (illegal core (Frame c kind payload)) × IsSome (illegal core (Drain c)) }
+        IsSome (illegal core (Frame c bytes)) × IsSome (illegal core (Drain c))
+        × IsSome (illegal core (Collect c)) }
 {}
 
 /// What a worker sends to a session are copies of the packets that it took, in their order, one at most
@@ -143,20 +142,20 @@ pub fn connections_stay_as_they_are()
 /// doubled, changed or overtaken. Its own connection is told what it drains of that; what another
 /// connection of the slot drains is dropped, and where there is no other, it drains all.
 pub fn copies_keep_their_order()
-    ensures sent { (opening : StateValue) (workers w n : ℕ) (steps : List BuiltStep) →
+    ensures sent { (opening : StateValue) (workers w n : ℕ) (steps : List Step) →
         IsProper opening → IsRun (start opening workers) steps →
         let offers = filter (λ offer. offer.0 == w)
         (gathered (sent n) (start opening workers) steps) in
         let packets = gathered (packet_taken w) (start opening workers) steps in
         IsSubsequenceBy IsOfferOf offers packets }
     ensures only_there { (opening : StateValue) (workers : ℕ) (session : SessionId)
-        (steps : List BuiltStep) →
+        (steps : List Step) →
         let core = ran (start opening workers) steps in
         IsProper opening → IsRun (start opening workers) steps →
         ((revision : ℕ) → session_of (state_at core revision).roster session ≡ None) →
         gathered (sent session.0) (start opening workers) steps ≡ [] }
     ensures conserved { (opening : StateValue) (workers revision : ℕ) (session : SessionId)
-        (slot : Slot) (steps : List BuiltStep) →
+        (slot : Slot) (steps : List Step) →
         let core = ran (start opening workers) steps in
         let offers = gathered (sent session.0) (start opening workers) steps in
         let gone = gathered (removed session.0) (start opening workers) steps in
@@ -164,12 +163,12 @@ pub fn copies_keep_their_order()
         IsProper opening → IsRun (start opening workers) steps →
         IsInSlot (state_at core revision) session slot →
         map (λ offer. offer.1.bytes) offers ≡ map (λ parcel. parcel.bytes) (gone ++ left) }
-    ensures drained { (opening : StateValue) (workers n : ℕ) (steps : List BuiltStep) →
+    ensures drained { (opening : StateValue) (workers n : ℕ) (steps : List Step) →
         IsSubsequence (gathered (heard n) (start opening workers) steps)
         (gathered (removed n) (start opening workers) steps) }
     ensures own { (core : CoreState) (n c : ℕ) (seat : Seat) →
         (connection_at core c).seat ≡ Some seat → (seat.session.0 ≡ n → ⊥) → heard n core (Drain c) ≡ [] }
-    ensures alone { (opening : StateValue) (workers c : ℕ) (seat : Seat) (steps : List BuiltStep) →
+    ensures alone { (opening : StateValue) (workers c : ℕ) (seat : Seat) (steps : List Step) →
         let core = ran (start opening workers) steps in
         IsProper opening → IsRun (start opening workers) steps →
         (connection_at core c).seat ≡ Some seat →
@@ -182,11 +181,24 @@ pub fn copies_keep_their_order()
 /// What a connection is told of one speaker are copies of packets that this speaker sent, in their order,
 /// one at most of each: one worker took all of that speaker's packets.
 pub fn speakers_are_heard_in_order()
-    ensures { (opening : StateValue) (workers n speaker : ℕ) (steps : List BuiltStep) →
+    ensures { (opening : StateValue) (workers n speaker : ℕ) (steps : List Step) →
         let sent_by = λ (worker : ℕ). filter (λ held. held.speaker.0 == speaker)
         (gathered (packet_taken worker) (start opening workers) steps) in
         let told = filter (λ parcel. is_by speaker parcel.bytes)
         (gathered (heard n) (start opening workers) steps) in
         IsProper opening → IsRun (start opening workers) steps →
         (w : ℕ) × ((v : ℕ) → (v ≡ w → ⊥) → sent_by v ≡ []) × IsSubsequenceBy IsParcelOf told (sent_by w) }
+{}
+
+/// Each notice of an accepted edit is posted, in the order of the edits, or it is pending. What is posted
+/// into a slot is collected from it in that order, or waits there: none is lost, doubled, changed or
+/// overtaken.
+pub fn notices_keep_their_order()
+    ensures posted { (opening : StateValue) (workers : ℕ) (steps : List Step) →
+        gathered noticed (start opening workers) steps
+        ≡ gathered offered (start opening workers) steps ++ (ran (start opening workers) steps).pending }
+    ensures conserved { (opening : StateValue) (workers slot : ℕ) (steps : List Step) → slot < SLOTS →
+        gathered (posted_in slot) (start opening workers) steps
+        ≡ gathered (collected slot) (start opening workers) steps
+        ++ posts_at (ran (start opening workers) steps) slot }
 {}

@@ -1,22 +1,15 @@
 //! The core of the server as one machine: the steps of a recording, what each of them changes and
-//! what its transcript says, and the program's call over a whole recording.
+//! what its transcript says.
 #![tactic(auto)]
 
-mod action;
-mod built;
 mod connection;
-mod end;
 pub mod laws;
 mod machine;
 mod outbox;
-mod payload;
-mod program;
-mod replay;
+mod post;
 mod reply;
 mod route;
 mod slot;
 mod worker;
 
-pub use built::is_built;
-pub use machine::{Core, Effects, StepFault};
-pub use program::{murmur, out_of_memory};
+pub use machine::{Core, Effects, StepFault, Totals};

@@ -12,6 +12,7 @@ ghost use Rattle.mum_core.specs.Worker.{idle};
 
 use crate::connection::Connection;
 use crate::outbox::Outbox;
+use crate::post::{NoticeQueue, empty_posts};
 use crate::slot::SLOTS;
 use crate::worker::Worker;
 use mum_base::{Items, OutOfMemory, Text};
@@ -24,6 +25,7 @@ use std::marker::Model;
 use thiserror::Error;
 
 mod close;
+mod collect;
 mod drain;
 mod edit;
 mod end;
@@ -31,7 +33,9 @@ mod frame;
 mod look;
 mod offer;
 mod open;
+mod post;
 mod publish;
+mod reading;
 mod tell;
 
 /// The lines that a step adds to the transcript, without their line feeds.
@@ -89,6 +93,11 @@ pub struct Core {
     /// The marks of the channels that talk covers.
     scratch: Scratch,
     outboxes: Vec<Outbox>,
+    /// The notices of accepted edits that were not posted yet.
+    pending: NoticeQueue,
+    posts: Vec<NoticeQueue>,
+    /// How many notices were posted, or found the posts of their slot full.
+    posted: u64,
     totals: Totals,
     /// The number of the last line that was taken.
     line: u64,
@@ -108,11 +117,14 @@ impl Model for Core {
       connections = c.connections.items;
       workers = c.workers.items;
       outboxes = c.outboxes.items;
+      pending = c.pending;
+      posts = c.posts.items;
+      posted = c.posted;
       totals = c.totals;
       line = c.line;
     } };
 
-    ghost invariant = { λ c. IsKept c.history c.views.items c.workers.items c.outboxes.items };
+    ghost invariant = { λ c. IsKept c.history c.views.items c.workers.items c.outboxes.items c.posts.items };
 }
 
 /// Workers that have done nothing.
@@ -180,13 +192,11 @@ impl Core {
     ghost use Rattle.mum_state.specs.After.{after, all_fit};
     ghost use Rattle.mum_state.specs.State.{empty_state};
     ghost use Rattle.mum_record.specs.Words.{line_of_words};
-    ghost use Rattle.mum_core.specs.Built.{is_built, taken};
     ghost use Rattle.mum_core.specs.Case.{IsStarved, named_cause};
     ghost use Rattle.mum_core.specs.Core.{start, is_opened, connection_at, up, worker_at};
     ghost use Rattle.mum_core.specs.Kept.{IsKept};
     ghost use Rattle.mum_core.specs.Line.{joined};
-    ghost use Rattle.mum_core.specs.Runs.{is_tell};
-    ghost use Rattle.mum_core.specs.Step.{changes, does, illegal, lines};
+    ghost use Rattle.mum_core.specs.Step.{changes, does, illegal, is_tell, lines};
     ghost use Rattle.mum_core.specs.Worker.{in_hand};
     ghost use Rattle.mum_core.specs.declared.machine.StepFault.TheVariants as faults;
 
@@ -197,9 +207,10 @@ impl Core {
         views: Vec<View>,
         workers: Vec<Worker>,
         outboxes: Vec<Outbox>,
+        posts: Vec<NoticeQueue>,
         scratch: Scratch,
     ) -> Core
-        requires { IsKept history views.items workers.items outboxes.items }
+        requires { IsKept history views.items workers.items outboxes.items posts.items }
         ensures { result ≡ record {
           opening = history.opening;
           accepted = history.accepted;
@@ -207,6 +218,9 @@ impl Core {
           connections = [];
           workers = workers.items;
           outboxes = outboxes.items;
+          pending = [];
+          posts = posts.items;
+          posted = 0;
           totals = record { looks = 0; copies = 0; full = 0; stale = 0 };
           line = 3;
         } }
@@ -219,6 +233,9 @@ impl Core {
             views,
             scratch,
             outboxes,
+            pending: NoticeQueue::new(alloc),
+            posts,
+            posted: 0,
             totals: Totals {
                 looks: 0,
                 copies: 0,
@@ -236,9 +253,10 @@ impl Core {
         ensures { IfOk result (λ core. core ≡ start (after edits.now) workers) }
     {
         let (hands, outboxes) = idle_hands(alloc, workers)?;
+        let posts = empty_posts(alloc)?;
         let scratch = Scratch::new(alloc)?;
         let (history, views) = readers(alloc, workers, state_after(alloc, edits)?)?;
-        Ok(Core::of(alloc, history, views, hands, outboxes, scratch))
+        Ok(Core::of(alloc, history, views, hands, outboxes, posts, scratch))
     }
 
     /// Takes a step, and appends the lines that the transcript gains, parted by line feeds. A refusal
@@ -246,11 +264,8 @@ impl Core {
     /// After a refusal the text may have been added to.
     pub fn take(&mut self, step: &Step, text: &mut String) -> Result<(), StepFault>
         requires recordable { IsRecordable step.now }
-        requires built { is_built step.now ≡ true }
-        ensures settled { IfSome (taken step.now) (λ step.
-            Settles named_cause (illegal self.old step) (does self.old step) self.old result self.new) }
-        ensures told { IfSome (taken step.now) (λ step.
-            OnOk result (string_bytes text.new ≡ string_bytes text.old ++ joined (lines self.old step))) }
+        ensures settled { Settles named_cause (illegal self.old step.now) (does self.old step.now) self.old result self.new }
+        ensures told { OnOk result (string_bytes text.new ≡ string_bytes text.old ++ joined (lines self.old step.now)) }
     {
         self.change(step, text)?;
         self.count_line();
@@ -267,11 +282,8 @@ impl Core {
     /// Makes the change of a step, but for the line that it takes.
     fn change(&mut self, step: &Step, text: &mut String) -> Result<(), StepFault>
         requires recordable { IsRecordable step.now }
-        requires built { is_built step.now ≡ true }
-        ensures settled { IfSome (taken step.now) (λ step.
-            Settles named_cause (illegal self.old step) (changes self.old step) self.old result self.new) }
-        ensures told { IfSome (taken step.now) (λ step.
-            OnOk result (string_bytes text.new ≡ string_bytes text.old ++ joined (lines self.old step))) }
+        ensures settled { Settles named_cause (illegal self.old step.now) (changes self.old step.now) self.old result self.new }
+        ensures told { OnOk result (string_bytes text.new ≡ string_bytes text.old ++ joined (lines self.old step.now)) }
     {
         match step {
             Step::Open { connection, worker } => self.take_open(*connection, *worker, text),
@@ -286,10 +298,11 @@ impl Core {
             } => self.take_tell(*connection, *revision, text),
             Step::Look { worker, revision } => self.take_look(*worker, *revision, text),
             Step::Offer { worker } => self.take_offer(*worker, text),
+            Step::Post => self.take_post(text),
             Step::Drain { connection } => self.take_drain(*connection, text),
+            Step::Collect { connection } => self.take_collect(*connection, text),
             Step::Close { connection, cause } => self.take_close(*connection, *cause, text),
             Step::End => self.take_end(text),
-            Step::Post | Step::Collect { .. } => unreachable!(),
         }
     }
 
@@ -297,9 +310,8 @@ impl Core {
     /// `Illegal` has the two numbers of the first case that forbids the step.
     pub fn step(&mut self, step: &Step) -> Result<Effects, StepFault>
         requires recordable { IsRecordable step.now }
-        requires built { is_built step.now ≡ true }
-        ensures { IfSome (taken step.now) (λ step. IsStarved self.old result self.new ⊎
-            Gives named_cause (illegal self.old step) (map line_of_words (lines self.old step)) (does self.old step) self.old result self.new) }
+        ensures { IsStarved self.old result self.new ⊎
+            Gives named_cause (illegal self.old step.now) (map line_of_words (lines self.old step.now)) (does self.old step.now) self.old result self.new }
     {
         let Step::Tell {
             connection,
@@ -316,10 +328,9 @@ impl Core {
     /// The same of a step that tells one line.
     fn step_alone(&mut self, step: &Step) -> Result<Effects, StepFault>
         requires recordable { IsRecordable step.now }
-        requires built { is_built step.now ≡ true }
         requires alone { is_tell step.now ≡ false }
-        ensures { IfSome (taken step.now) (λ step. IsStarved self.old result self.new ⊎
-            Gives named_cause (illegal self.old step) (map line_of_words (lines self.old step)) (does self.old step) self.old result self.new) }
+        ensures { IsStarved self.old result self.new ⊎
+            Gives named_cause (illegal self.old step.now) (map line_of_words (lines self.old step.now)) (does self.old step.now) self.old result self.new }
     {
         match Vec::with_capacity(self.alloc, 1) {
             Ok(room) => self.step_into(step, room),
@@ -330,11 +341,9 @@ impl Core {
     /// The same with room for what it tells, as one text.
     fn step_into(&mut self, step: &Step, mut room: Vec<Text>) -> Result<Effects, StepFault>
         requires recordable { IsRecordable step.now }
-        requires built { is_built step.now ≡ true }
         requires nothing { room.items ≡ [] }
         requires room { vec_len room < vec_capacity room }
-        ensures { IfSome (taken step.now) (λ step.
-            Gives named_cause (illegal self.old step) (joined (lines self.old step) ∷ []) (does self.old step) self.old result self.new) }
+        ensures { Gives named_cause (illegal self.old step.now) (joined (lines self.old step.now) ∷ []) (does self.old step.now) self.old result self.new }
     {
         let mut text = String::new(self.alloc);
         self.take(step, &mut text)?;

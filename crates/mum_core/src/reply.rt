@@ -4,16 +4,18 @@ ghost use Rattle.std.specs.Prelude.{◌≡◌, ◌<◌, IfOk, IfSome, Some, is_s
 ghost use Rattle.std.specs.Option.{option_and_then, option_map};
 ghost use Rattle.mum_rules_tree.specs.Decision.{FitsWhereAccepted};
 ghost use Rattle.mum_rules_tree.specs.Denial.{denial};
+ghost use Rattle.mum_session.specs.declared.command.Asked.TheVariants as asked;
 ghost use Rattle.mum_core.specs.declared.slot.TheConstants.{SLOTS as slots};
 ghost use Rattle.mum_core.specs.Connection.{next_command, session_of};
 ghost use Rattle.mum_core.specs.Reply.{frame_of, mark, reply, seat_of, sendable, verdict};
 
-use crate::connection::{Command, Connection, Reply, Seat};
+use crate::connection::{Connection, Reply, Seat};
 use crate::slot::ValidSlot;
 use mum_base::{Mark, Octets, OutOfMemory, SessionId};
 use mum_frame::{Frame, PAYLOAD_LIMIT, put_frame};
 use mum_rules_tree::{Reason, TreeMessage, decide_tree, denial};
 use mum_rules_user::{UserMessage, decide_user};
+use mum_session::Asked;
 use mum_state::{Edit, State, Verdict};
 use std::alloc::Global;
 
@@ -25,7 +27,7 @@ fn decide_on_channels(
     session: Option<SessionId>,
     message: &TreeMessage,
 ) -> Result<Verdict, OutOfMemory>
-    ensures verdict { IfOk result (λ decided. decided ≡ verdict state.now session (Command.Tree message.now)) }
+    ensures verdict { IfOk result (λ decided. decided ≡ verdict state.now session (asked.Tree message.now)) }
     ensures fits { IfOk result (FitsWhereAccepted state.now) }
 {
     match session {
@@ -42,7 +44,7 @@ fn decide_on_users(
     session: Option<SessionId>,
     message: &UserMessage,
 ) -> Result<Verdict, OutOfMemory>
-    ensures verdict { IfOk result (λ decided. decided ≡ verdict state.now session (Command.User message.now)) }
+    ensures verdict { IfOk result (λ decided. decided ≡ verdict state.now session (asked.User message.now)) }
     ensures fits { IfOk result (FitsWhereAccepted state.now) }
 {
     decide_user(alloc, state, session, message)
@@ -53,14 +55,14 @@ fn decide(
     alloc: Global,
     state: &State,
     session: Option<SessionId>,
-    command: &Command,
+    command: &Asked,
 ) -> Result<Verdict, OutOfMemory>
     ensures verdict { IfOk result (λ decided. decided ≡ verdict state.now session command.now) }
     ensures fits { IfOk result (FitsWhereAccepted state.now) }
 {
     match command {
-        Command::Tree { message } => decide_on_channels(alloc, state, session, message),
-        Command::User { message } => decide_on_users(alloc, state, session, message),
+        Asked::Tree(message) => decide_on_channels(alloc, state, session, message),
+        Asked::User(message) => decide_on_users(alloc, state, session, message),
     }
 }
 
@@ -75,7 +77,7 @@ pub(crate) fn decide_next(
     ensures fits { IfOk result (FitsWhereAccepted state.now) }
 {
     let session = connection.session();
-    match &connection.waiting {
+    match connection.next_of_frame() {
         Some(command) => decide(alloc, state, session, command),
         None => decide_on_users(alloc, state, session, &UserMessage::Leave),
     }

@@ -1,6 +1,6 @@
 //! What the core keeps of a voice worker.
 
-ghost use Rattle.std.specs.Prelude.{◌≡◌, Some, None, max, slice_get, slice_index_or, drop, IsOk};
+ghost use Rattle.std.specs.Prelude.{◌≡◌, Some, None, map, max, slice_get, slice_index_or, drop, IfOk, IsOk};
 ghost use Rattle.std.specs.Option.{option_copied};
 ghost use Rattle.mum_voice.specs.Packet.{packet, plain_parts, IsPacket};
 ghost use Rattle.mum_core.specs.Kept.{parts_in};
@@ -10,7 +10,7 @@ ghost use Rattle.mum_core.specs.Worker.{idle, in_hand, least_look};
 use crate::outbox::CopyBytes;
 use crate::route::Context;
 use crate::slot::ValidSlot;
-use mum_base::{Octets, SessionId};
+use mum_base::{Octets, OutOfMemory, SessionId};
 use mum_voice::Packet;
 use std::alloc::Global;
 use std::collections::VecDeque;
@@ -129,6 +129,17 @@ impl Worker {
         ensures { option_copied result ≡ slice_get self.now.copies 0 }
     {
         self.copies.front()
+    }
+
+    /// The sessions of the copies that it has still to offer, in their order.
+    pub fn recipients(&self, alloc: Global) -> Result<Vec<SessionId>, OutOfMemory>
+        ensures { IfOk result (λ sessions. sessions.items ≡ map (λ copy. copy.to) self.now.copies) }
+    {
+        let mut sessions = Vec::with_capacity(alloc, self.copies.len())?;
+        for copy in self.copies.iter() {
+            sessions.push(copy.to)?;
+        }
+        Ok(sessions)
     }
 
     /// It holds a packet.

@@ -20,12 +20,12 @@ kicks session others = false
 abbrev pub was_kicked : CoreState → SessionId → Bool
 was_kicked core session = list_any (kicks session) core.accepted
 
--- whether a connection may end for a cause: its login was told as rejected, or its session was kicked. Nothing is
--- posted yet, so nobody's posts are lost
+-- whether a connection may end for a cause: its login was told as rejected, its session was kicked, or a notice for
+-- its session found the posts of its slot full
 abbrev pub has_cause : CoreState → ℕ → Cause → Bool
 has_cause core c causes.Rejected = (connection_at core c).rejected
 has_cause core c causes.Kicked = option_map_or (was_kicked core) (session_of (connection_at core c)) false
-has_cause core c causes.Lagged = false
+has_cause core c causes.Lagged = (connection_at core c).lagged
 has_cause core c others = true
 
 abbrev pub forbids : CoreState → ℕ → Cause → List Case

@@ -3,9 +3,14 @@ use Rattle.std.specs.Prelude.{ℕ, ◌+◌, List, [], ◌∷◌, ◌++◌, lengt
 use Rattle.std.specs.Option.{option_map, option_map_or}
 use Rattle.mum_state.specs.declared.edit.Edit.{Edit}
 use Rattle.mum_state.specs.declared.verdict.Verdict.{Verdict}
+use Rattle.mum_state.specs.declared.verdict.Verdict.TheVariants.{Accepted}
+use Rattle.mum_state.specs.Applied.{applied}
+use Rattle.mum_state.specs.State.{StateValue}
+use Rattle.mum_notify.specs.Notices.{notices}
+use Rattle.mum_notify.specs.declared.notice.Notice.{Notice}
 use Rattle.mum_core.specs.declared.connection.Reply.{Reply}
 use Rattle.mum_core.specs.Case.{Case, not_opened}
-use Rattle.mum_core.specs.Connection.{answered, next_command, session_of}
+use Rattle.mum_core.specs.Connection.{answered, next_command, next_of_frame, session_of}
 use Rattle.mum_core.specs.Core.{CoreState, connection_at, current, at_connection}
 use Rattle.mum_core.specs.Line.{said_of, mark_words}
 use Rattle.mum_core.specs.Reply.{edits_of, mark, reply, verdict}
@@ -25,15 +30,20 @@ next_revision core = length core.accepted + 1
 abbrev pub reply_to : CoreState → ℕ → Verdict → Reply
 reply_to core c verdict = reply (next_revision core) (session_of (connection_at core c)) verdict
 
--- the command is decided, with these edits accepted and this reply to tell
-abbrev pub with_reply : CoreState → ℕ → List Edit → Reply → CoreState
-with_reply core c edits reply =
-    record (at_connection c (λ connection. answered connection.waiting reply connection) core)
-    { accepted = core.accepted ++ edits }
+-- what the sessions are to be told of an edit that is accepted at a state
+abbrev pub noticed : StateValue → Verdict → List Notice
+noticed state (Accepted edit) = notices state edit (applied state edit)
+noticed state others = []
 
--- an accepted edit is appended, and no other
+-- the command is decided, with these edits accepted, these notices to post and this reply to tell
+abbrev pub with_reply : CoreState → ℕ → List Edit → List Notice → Reply → CoreState
+with_reply core c edits told reply =
+    record (at_connection c (λ connection. answered (next_of_frame connection) reply connection) core)
+    { accepted = core.accepted ++ edits; pending = core.pending ++ told }
+
+-- an accepted edit is appended, and no other, and its notices behind those that were not posted yet
 abbrev pub decides : CoreState → ℕ → Verdict → CoreState
-decides core c verdict = with_reply core c (edits_of verdict) (reply_to core c verdict)
+decides core c verdict = with_reply core c (edits_of verdict) (noticed (current core) verdict) (reply_to core c verdict)
 
 abbrev pub does : CoreState → ℕ → CoreState
 does core c = option_map_or (decides core c) (decision core c) core

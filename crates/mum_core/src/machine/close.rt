@@ -57,7 +57,7 @@ impl Core {
         match cause {
             Cause::Rejected => found.rejected,
             Cause::Kicked => self.is_kicked(found),
-            Cause::Lagged => false,
+            Cause::Lagged => found.lagged,
             _ => true,
         }
     }

@@ -1,23 +1,30 @@
 //! The step `edit`: the control owner decides the command of a connection that waits.
 
-ghost use Rattle.std.specs.Prelude.{◌≡◌, ◌++◌, ◌∷◌, [], IfOk, MatchResult, None, OnErr, OnOk, decimal, is_some, string_bytes, true};
+ghost use Rattle.std.specs.Prelude.{◌≡◌, ◌++◌, ◌∷◌, [], IfOk, MatchResult, None, OnErr, OnOk, decimal, is_some, length, string_bytes, true};
 ghost use Rattle.mum_base.specs.Refusal.{Settles};
-ghost use Rattle.mum_history.specs.History.{current};
+ghost use Rattle.std.specs.List.{AllByRecursion};
+ghost use Rattle.std.specs.Prelude.{IsTrue};
+ghost use Rattle.mum_history.specs.History.{current, with_edit};
+ghost use Rattle.mum_state.specs.Fits.{fits};
+ghost use Rattle.mum_state.specs.declared.verdict.Verdict.TheVariants.{Accepted};
 ghost use Rattle.mum_rules_tree.specs.Decision.{FitsWhereAccepted};
 ghost use Rattle.mum_core.specs.Case.{first_that_stands, named_cause};
 ghost use Rattle.mum_core.specs.Connection.{next_command};
 ghost use Rattle.mum_core.specs.Core.{connection_at, current as core_current, is_opened};
 ghost use Rattle.mum_core.specs.Line.{joined, mark_words, said_of};
 ghost use Rattle.mum_core.specs.Reply.{edits_of};
-ghost use Rattle.mum_core.specs.steps.Edit.{forbids, does, lines, next_revision, with_reply};
+ghost use Rattle.mum_core.specs.steps.Edit.{forbids, does, lines, next_revision, noticed, with_reply};
+ghost use Rattle.mum_notify.specs.Notices.{FitsFrame, notices as edit_notices};
 
 use super::{Core, StepFault, illegal};
 use crate::connection::{Connection, Reply, answer_at};
+use crate::post::NoticeQueue;
 use crate::reply::{decide_next, reply};
 use mum_base::{Mark, OutOfMemory};
 use mum_history::History;
+use mum_notify::notices;
 use mum_record::{Word, push_line};
-use mum_state::Verdict;
+use mum_state::{Edit, State, Verdict};
 use std::alloc::Global;
 
 /// Appends a line of a word, the connection and one more number.
@@ -67,14 +74,65 @@ fn push_mark(
     }
 }
 
-/// Appends the edit of a verdict, if it is one.
-fn accept(history: &mut History, verdict: Verdict) -> Result<(), OutOfMemory>
-    requires { FitsWhereAccepted (current history.old) verdict }
-    ensures ok { OnOk result (history.new ≡ record history.old { accepted = history.old.accepted ++ edits_of verdict }) }
+/// Puts the notices that tell of an edit behind those that are pending, and gives their number.
+fn put_notices(
+    alloc: Global,
+    pending: &mut NoticeQueue,
+    before: &State,
+    edit: &Edit,
+    after: &State,
+) -> Result<usize, OutOfMemory>
+    requires { FitsFrame edit.now }
+    ensures told { OnOk result (pending.new ≡ pending.old ++ edit_notices before.now edit.now after.now) }
+    ensures count { IfOk result (λ count. count ≡ length (edit_notices before.now edit.now after.now)) }
+    ensures err { OnErr result (pending.new ≡ pending.old) }
+{
+    let told = notices(alloc, before, edit, after)?;
+    pending.put_all(told.as_slice())?;
+    Ok(told.as_slice().len())
+}
+
+/// Appends an edit, and the notices that tell of it to those that are pending.
+fn accept_edit(
+    alloc: Global,
+    history: &mut History,
+    pending: &mut NoticeQueue,
+    edit: Edit,
+) -> Result<(), OutOfMemory>
+    requires fits { IsTrue (fits (current history.old) edit) }
+    requires frame { FitsFrame edit }
+    ensures ok { OnOk result (history.new ≡ with_edit history.old edit) }
+    ensures told { OnOk result (pending.new ≡ pending.old ++ noticed (current history.old) (Accepted edit)) }
     ensures err { OnErr result (history.new ≡ history.old) }
+    ensures none_told { OnErr result (pending.new ≡ pending.old) }
+{
+    let next = history.next_state(&edit)?;
+    let count = put_notices(alloc, pending, history.current(), &edit, &next)?;
+    match history.append(edit, next) {
+        Ok(()) => Ok(()),
+        Err(e) => {
+            pending.take_back(count);
+            Err(e)
+        }
+    }
+}
+
+/// Appends the edit of a verdict, if it is one, and the notices that tell of it.
+fn accept(
+    alloc: Global,
+    history: &mut History,
+    pending: &mut NoticeQueue,
+    verdict: Verdict,
+) -> Result<(), OutOfMemory>
+    requires fits { FitsWhereAccepted (current history.old) verdict }
+    requires frame { AllByRecursion FitsFrame (edits_of verdict) }
+    ensures ok { OnOk result (history.new ≡ record history.old { accepted = history.old.accepted ++ edits_of verdict }) }
+    ensures told { OnOk result (pending.new ≡ pending.old ++ noticed (current history.old) verdict) }
+    ensures err { OnErr result (history.new ≡ history.old) }
+    ensures none_told { OnErr result (pending.new ≡ pending.old) }
 {
     match verdict {
-        Verdict::Accepted(edit) => history.accept(edit),
+        Verdict::Accepted(edit) => accept_edit(alloc, history, pending, edit),
         _ => Ok(()),
     }
 }
@@ -110,10 +168,11 @@ impl Core {
     fn settle(&mut self, connection: u32, verdict: Verdict, reply: Reply) -> Result<(), OutOfMemory>
         requires opened { is_opened self.old connection ≡ true }
         requires fits { FitsWhereAccepted (core_current self.old) verdict }
-        ensures ok { OnOk result (self.new ≡ with_reply self.old connection (edits_of verdict) reply) }
+        requires frame { AllByRecursion FitsFrame (edits_of verdict) }
+        ensures ok { OnOk result (self.new ≡ with_reply self.old connection (edits_of verdict) (noticed (core_current self.old) verdict) reply) }
         ensures err { OnErr result (self.new ≡ self.old) }
     {
-        accept(&mut self.history, verdict)?;
+        accept(self.alloc, &mut self.history, &mut self.pending, verdict)?;
         answer_at(&mut self.connections, connection as usize - 1, reply);
         Ok(())
     }

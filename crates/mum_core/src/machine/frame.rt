@@ -1,24 +1,56 @@
 //! The step `frame`: the worker of a connection takes a frame.
 
-ghost use Rattle.std.specs.Prelude.{◌≡◌, ◌++◌, OnOk, string_bytes};
+ghost use Rattle.std.specs.Prelude.{◌≡◌, ◌++◌, IfOk, IsOk, OnOk, string_bytes};
 ghost use Rattle.mum_base.specs.Refusal.{Settles};
 ghost use Rattle.mum_core.specs.Case.{first_that_stands, named_cause};
 ghost use Rattle.mum_core.specs.Line.{joined};
 ghost use Rattle.std.specs.Prelude.{◌∷◌, [], None, true};
 ghost use Rattle.mum_frame.specs.Frame.{IsOneFrame, kind_of, payload_of};
 ghost use Rattle.mum_voice.specs.Packet.{packet};
-ghost use Rattle.mum_core.specs.Action as spec;
+ghost use Rattle.mum_session.specs.Action.{action as session_action, after_frame};
 ghost use Rattle.mum_core.specs.Core.{connection_at, is_opened};
-ghost use Rattle.mum_core.specs.steps.Frame.{forbids, does, hears, heard_line, lines};
+ghost use Rattle.mum_core.specs.Machine.{machine_of};
+ghost use Rattle.mum_core.specs.Step.{frame_action, frame_version};
+ghost use Rattle.mum_core.specs.steps.Frame.{forbids, does, hears, heard_line, lines, spoken};
 
 use super::{Core, StepFault, illegal};
-use crate::action::{Action, action_of};
-use crate::built::frame_of;
-use crate::connection::{ask_at, keep_version_at};
+use crate::connection::{Connection, ask_at, keep_version_at};
 use crate::worker::{Held, hold_at};
-use mum_base::{Octets, SessionId};
+use mum_base::{Octets, OutOfMemory};
+use mum_frame::{Frame, whole_frame};
 use mum_record::{Word, push_line};
+use mum_session::Action;
 use mum_voice::Packet;
+use std::alloc::Global;
+
+/// The frame that bytes are, with a payload of its own.
+fn frame_of(alloc: Global, bytes: &[u8]) -> Result<Frame, OutOfMemory>
+    requires { IsOneFrame bytes.now }
+    ensures kind { IfOk result (λ frame. frame.kind ≡ kind_of bytes.now) }
+    ensures payload { IfOk result (λ frame. frame.payload ≡ payload_of bytes.now) }
+{
+    let found = whole_frame(bytes).unwrap();
+    Ok(Frame {
+        kind: found.kind,
+        payload: Octets::of(alloc, found.payload)?,
+    })
+}
+
+/// What the frame of a connection asks for, and the version that the connection has told by then.
+fn asked_by(
+    alloc: Global,
+    connection: &Connection,
+    number: u32,
+    bytes: &[u8],
+) -> Result<(Action, Option<u32>), OutOfMemory>
+    requires { IsOneFrame bytes.now }
+    ensures action { IfOk result (λ asked. asked.0 ≡ session_action (machine_of number connection.now) (kind_of bytes.now) (payload_of bytes.now)) }
+    ensures version { IfOk result (λ asked. asked.1 ≡ (after_frame (machine_of number connection.now) (kind_of bytes.now) (payload_of bytes.now)).version) }
+{
+    let mut machine = connection.machine(number);
+    let action = machine.frame(alloc, frame_of(alloc, bytes)?)?;
+    Ok((action, machine.version()))
+}
 
 impl Core {
     pub(super) fn take_frame(
@@ -29,10 +61,10 @@ impl Core {
     ) -> Result<(), StepFault>
         requires { IsOneFrame bytes.now }
         ensures settled { Settles named_cause (first_that_stands (forbids self.old connection))
-            (does self.old connection (spec.action (connection_at self.old connection) (kind_of bytes.now) (payload_of bytes.now)))
+            (does self.old connection (frame_version self.old connection bytes.now) (frame_action self.old connection bytes.now))
             self.old result self.new }
         ensures told { OnOk result (string_bytes text.new ≡ string_bytes text.old
-            ++ joined (lines connection (spec.action (connection_at self.old connection) (kind_of bytes.now) (payload_of bytes.now)))) }
+            ++ joined (lines connection (frame_action self.old connection bytes.now))) }
     {
         let Some(found) = self.connection(connection) else {
             return Err(self.unopened(connection));
@@ -43,48 +75,47 @@ impl Core {
         if found.is_untold() {
             return Err(illegal(u64::from(connection), found.untold()));
         }
-        let worker = found.worker;
+        let worker = u32::from(found.worker);
         let in_hand = self.in_hand(worker);
         if in_hand > 0 {
             return Err(illegal(u64::from(worker), in_hand));
         }
-        let asked = action_of(self.alloc, found, frame_of(bytes))?;
-        self.act(connection, worker, asked, text)
+        let (action, version) = asked_by(self.alloc, found, connection, bytes)?;
+        self.act(connection, version, action, text)
     }
 
-    /// What a frame asks for is done.
+    /// What a frame asks for is done. The connection has told this version.
     fn act(
         &mut self,
         connection: u32,
-        worker: u32,
+        version: Option<u32>,
         action: Action,
         text: &mut String,
     ) -> Result<(), StepFault>
-        requires opened { is_opened self.old connection ≡ true }
-        requires worker { worker ≡ (connection_at self.old connection).worker }
-        ensures settled { Settles named_cause None (does self.old connection action) self.old result self.new }
+        requires { is_opened self.old connection ≡ true }
+        ensures settled { Settles named_cause None (does self.old connection version action) self.old result self.new }
         ensures told { OnOk result (string_bytes text.new ≡ string_bytes text.old ++ joined (lines connection action)) }
     {
         let number = Word::Number(u64::from(connection));
         let place = connection as usize - 1;
         match action {
-            Action::Ask { command } => {
+            Action::Ask(command) => {
                 push_line(self.alloc, text, "asked", &[number])?;
-                ask_at(&mut self.connections, place, command);
+                ask_at(&mut self.connections, place, command.what);
             }
-            Action::Voice { speaker, packet } => {
-                return self.hear(connection, worker, speaker, packet, text);
+            Action::Voice(packet) => {
+                return self.hear(connection, packet, text);
             }
-            Action::Echo { frame } => {
+            Action::Echo(frame) => {
                 let digits = Word::Digits(frame.as_slice());
                 push_line(self.alloc, text, "echo", &[number, digits])?;
             }
-            Action::Keep { number: version } => {
+            Action::Keep => {
                 push_line(self.alloc, text, "kept", &[number])?;
                 keep_version_at(&mut self.connections, place, version);
             }
             Action::Ignore { why } => {
-                let code = Word::Number(u64::from(why.code()));
+                let code = Word::Number(u64::from(why));
                 push_line(self.alloc, text, "ignored", &[number, code])?;
             }
         }
@@ -92,15 +123,11 @@ impl Core {
     }
 
     /// The worker of a connection takes a voice packet.
-    fn hear(
-        &mut self,
-        connection: u32,
-        worker: u32,
-        speaker: SessionId,
-        payload: Octets,
-        text: &mut String,
-    ) -> Result<(), StepFault>
-        ensures settled { Settles named_cause None (hears self.old worker speaker (packet payload)) self.old result self.new }
+    fn hear(&mut self, connection: u32, payload: Octets, text: &mut String) -> Result<(), StepFault>
+        requires { is_opened self.old connection ≡ true }
+        ensures settled { Settles named_cause None
+            (hears self.old (connection_at self.old connection).worker (spoken (connection_at self.old connection).seat (packet payload)))
+            self.old result self.new }
         ensures told { OnOk result (string_bytes text.new ≡ string_bytes text.old ++ joined (heard_line connection (packet payload) ∷ [])) }
     {
         let number = Word::Number(u64::from(connection));
@@ -110,8 +137,20 @@ impl Core {
             return Ok(());
         }
         push_line(self.alloc, text, "heard", &[number])?;
-        let held = Held::new(speaker, payload);
-        hold_at(&mut self.workers, worker as usize, held);
+        self.hold(connection, payload);
         Ok(())
+    }
+
+    /// The worker of a connection holds a packet of the session that sits there.
+    fn hold(&mut self, connection: u32, payload: Octets)
+        requires opened { is_opened self.old connection ≡ true }
+        requires parses { IsOk (packet payload) }
+        ensures { self.new ≡ hears self.old (connection_at self.old connection).worker (spoken (connection_at self.old connection).seat (packet payload)) }
+    {
+        let place = connection as usize - 1;
+        let worker = self.connections[place].worker as usize;
+        if let Some(seat) = self.connections[place].seat {
+            hold_at(&mut self.workers, worker, Held::new(seat.session, payload));
+        }
     }
 }

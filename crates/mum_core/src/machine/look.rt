@@ -6,6 +6,7 @@ ghost use Rattle.mum_core.specs.Case.{Passes, first_that_stands, named_cause};
 ghost use Rattle.mum_core.specs.Line.{joined};
 ghost use Rattle.std.specs.Prelude.{◌<◌, ◌≤◌, ◌∷◌, [], IfOk, IfSome, length, map, slice_get};
 ghost use Rattle.std.specs.List.{All, flat_map};
+ghost use Rattle.std.specs.Option.{option_copied};
 ghost use Rattle.mum_history.specs.History.{state_at};
 ghost use Rattle.mum_history.specs.View.{IsViewOf};
 ghost use Rattle.mum_core.specs.Core.{state_at as core_state_at, worker_at};
@@ -13,10 +14,12 @@ ghost use Rattle.mum_core.specs.steps.Look.{audience, copies, forbids, does, lin
 
 use super::{Core, StepFault, illegal};
 use crate::route::{Member, heard};
-use crate::worker::{Outgoing, look_at};
+use crate::worker::{Held, Outgoing, look_at};
 use mum_base::OutOfMemory;
 use mum_history::{History, View};
 use mum_record::{Word, push_line, push_word};
+use mum_state::State;
+use mum_tree::Scratch;
 use std::alloc::Global;
 use std::collections::VecDeque;
 
@@ -84,9 +87,26 @@ fn go_to_at(
     }
 }
 
+/// Who hears a packet in a state, and the copies for them; nobody where there is none.
+fn heard_in(
+    alloc: Global,
+    state: &State,
+    held: Option<&Held>,
+    scratch: &mut Scratch,
+) -> Result<(Vec<Member>, VecDeque<Outgoing>), OutOfMemory>
+    ensures members { IfOk result (λ heard. heard.0.items ≡ audience state.now (option_copied held.entry)) }
+    ensures copies { IfOk result (λ heard. heard.1.items ≡ copies state.now (option_copied held.entry)) }
+{
+    match held {
+        Some(held) => heard(alloc, state, held, scratch),
+        None => Ok((Vec::new(alloc), VecDeque::new(alloc))),
+    }
+}
+
 impl Core {
     /// Who hears the packet that a worker holds, at a revision, and the copies for them; nobody where it
-    /// holds none.
+    /// holds none. A look at all accepted edits needs no view of its own.
+    #[tactic(auto, using(mum_history::proofs::Fronts::at_all))]
     fn heard_at(
         &mut self,
         worker: u32,
@@ -99,12 +119,17 @@ impl Core {
         ensures same { self.new ≡ self.old }
     {
         let place = worker as usize;
-        go_to_at(&mut self.views, place, self.alloc, &self.history, revision)?;
-        let state = self.views[place].state();
-        match self.workers[place].held() {
-            Some(held) => heard(self.alloc, state, held, &mut self.scratch),
-            None => Ok((Vec::new(self.alloc), VecDeque::new(self.alloc))),
+        let held = self.workers[place].held();
+        if revision == self.history.revision() {
+            return heard_in(self.alloc, self.history.current(), held, &mut self.scratch);
         }
+        go_to_at(&mut self.views, place, self.alloc, &self.history, revision)?;
+        heard_in(
+            self.alloc,
+            self.views[place].state(),
+            held,
+            &mut self.scratch,
+        )
     }
 
     /// Refuses a look that is not allowed.

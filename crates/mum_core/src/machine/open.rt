@@ -34,7 +34,7 @@ impl Core {
         ];
         push_line(self.alloc, text, "opened", &words)?;
         self.connections
-            .push(Connection::at(worker))
+            .push(Connection::at(worker as u8))
             .map_err(AllocError::from)?;
         Ok(())
     }

@@ -1,4 +1,4 @@
-use Rattle.mum_core.specs.Built.{Tell}
+use Rattle.mum_record.specs.declared.step.Step.TheVariants.{Tell}
 use Rattle.mum_core.proofs.Taken.{given_of}
 use Rattle.mum_core.proofs.machine.Core.step.Goals as goal
 

@@ -1,0 +1,8 @@
+use Rattle.std.proofs.Common.{◌∙◌, sym}
+use Rattle.mum_core.specs.Connection.{next_of_frame}
+use Rattle.mum_core.proofs.Nexts.{frame_answered}
+use Rattle.mum_core.proofs.connection.Connection.answer.Goals as goal
+
+pub returns-then-frame_is_next : goal.returns-then-frame_is_next
+returns-then-frame_is_next c =
+    frame_answered (next_of_frame c.args.self.now) c.args.reply c.args.self.now (sym c.frame_is_next.ensures ∙ c.if-frame_is_next.true)

@@ -1,0 +1,21 @@
+use Rattle.std.proofs.Common.{sym}
+use Rattle.std.proofs.lemmas.Result.{IfOk-weaker}
+use Rattle.mum_rules_user.specs.declared.message.UserMessage.TheVariants as messages
+use Rattle.mum_session.specs.declared.command.Asked.TheVariants.{User}
+use Rattle.mum_core.proofs.Nexts.{decided_of, frame_next, leave_next}
+use Rattle.mum_core.proofs.reply.decide_next.Goals as goal
+
+pub returns-in-Some-clause-verdict : goal.returns-in-Some-clause-verdict
+returns-in-Some-clause-verdict c =
+    let asker = c.args.connection.now in
+    let command = c.in-Some.command.now in
+    IfOk-weaker c.decide.result _ _
+    (λ decided is. decided_of c.args.state.now c.session-session.result asker command decided c.session-session.ensures (frame_next asker command (sym c.in-Some.ensures)) is)
+    c.decide.ensures.verdict
+
+pub returns-in-None-clause-verdict : goal.returns-in-None-clause-verdict
+returns-in-None-clause-verdict c =
+    let asker = c.args.connection.now in
+    IfOk-weaker c.decide_on_users.result _ _
+    (λ decided is. decided_of c.args.state.now c.session-session.result asker (User messages.Leave) decided c.session-session.ensures (leave_next asker (sym c.in-None.ensures) c.requires) is)
+    c.decide_on_users.ensures.verdict

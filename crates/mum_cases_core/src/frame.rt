@@ -66,15 +66,7 @@ fn answers(alloc: Global, name: &str, frames: &str) -> Result<String> {
         bail!("another beginning");
     };
     let Some(told) = told.strip_suffix(TOTALS) else {
-        let mut told = told_of(alloc, told)?;
-        if ran.status != 11 {
-            bail!("status {}", ran.status);
-        }
-        if !told.as_str().is_empty() {
-            told.push_str(", ")?;
-        }
-        told.push_str("not built")?;
-        return Ok(told);
+        bail!("status {}", ran.status);
     };
     Ok(told_of(alloc, told)?)
 }

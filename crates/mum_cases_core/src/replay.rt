@@ -4,8 +4,8 @@ use crate::script::{beginning, line};
 use anyhow::{Result, bail};
 use mum_base::Octets;
 use mum_cases::{Table, number};
-use mum_core::murmur;
 use mum_io::{MemSink, MemSource};
+use mum_server::murmur;
 use std::alloc::Global;
 
 pub struct Replays;
@@ -52,7 +52,21 @@ fn push_piece(alloc: Global, input: &mut String, piece: &str) -> Result<()> {
     Ok(())
 }
 
+/// Appends the line of a configuration, whose document is spelled.
+fn push_document(alloc: Global, input: &mut String, spelled: &str) -> Result<()> {
+    let document = match spelled.strip_prefix("spaces ") {
+        Some(count) => " ".repeat(alloc, number(count)? as usize)?,
+        None => String::from_str(alloc, spelled)?,
+    };
+    input.push_str("config ")?;
+    input.push_str(hex::encode(alloc, document.as_bytes())?.as_str())?;
+    Ok(())
+}
+
 fn push_unended(alloc: Global, input: &mut String, piece: &str) -> Result<()> {
+    if let Some(spelled) = piece.strip_prefix("document ") {
+        return push_document(alloc, input, spelled);
+    }
     let text = match piece.strip_prefix("spaces ") {
         Some(count) => " ".repeat(alloc, number(count)? as usize)?,
         None => line(alloc, piece)?,

@@ -4,7 +4,8 @@ use crate::opening::core_at;
 use crate::script::{beginning, line};
 use anyhow::{Result, bail};
 use mum_cases::Table;
-use mum_core::{Core, StepFault, is_built};
+use mum_cases_words::calls_of;
+use mum_core::{Core, StepFault};
 use mum_record::read_step;
 use std::alloc::Global;
 
@@ -13,9 +14,6 @@ pub struct Steps;
 /// What a core tells of the step of a line, or the two numbers of its refusal.
 fn reply(alloc: Global, core: &mut Core, line: &str) -> Result<String> {
     let step = read_step(alloc, line.as_bytes())?;
-    if !is_built(&step) {
-        return Ok(String::from_str(alloc, "not built")?);
-    }
     let mut told = String::new(alloc);
     match core.step(&step) {
         Ok(lines) => {
@@ -42,12 +40,21 @@ fn begin(alloc: Global, core: &mut Core, begun: &str) -> Result<()> {
     Ok(())
 }
 
+/// What a core tells of a piece of a script: of steps that come several times, what it tells last.
+fn last_reply(alloc: Global, core: &mut Core, piece: &str) -> Result<String> {
+    let mut told = String::new(alloc);
+    for call in &calls_of(alloc, piece)? {
+        let line = line(alloc, call.as_str())?;
+        told = reply(alloc, core, line.as_str())?;
+    }
+    Ok(told)
+}
+
 /// What a core tells of the steps of a script.
 fn replies(alloc: Global, core: &mut Core, script: &str) -> Result<String> {
     let mut answer = String::new(alloc);
     for piece in script.split(';') {
-        let line = line(alloc, piece.trim())?;
-        let told = reply(alloc, core, line.as_str())?;
+        let told = last_reply(alloc, core, piece.trim())?;
         if !answer.as_str().is_empty() {
             answer.push_str("; ")?;
         }

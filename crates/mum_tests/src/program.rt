@@ -1,17 +1,20 @@
-//! `mum_core`: reads and writes that fail in mid-stream.
+//! `mum_server`: reads and writes that fail in mid-stream.
 
 use mum_base::Octets;
-use mum_core::murmur;
 use mum_io::{MemSink, MemSource};
+use mum_server::murmur;
 use std::alloc::Global;
 use std::test::Fail;
 
 const INPUT: &str = "recording 1\nworkers 1\nconfig -\nopen 1 0\npublish\nend\n";
 
-/// The status of a run whose read and write with these numbers fail, what it wrote and what it said.
-fn ran(alloc: Global, read: u64, write: u64) -> Result<(u8, Octets, Octets), Fail> {
+/// The status of a run with these words whose read and write with these numbers fail, what it wrote and what
+/// it said.
+fn ran(alloc: Global, spelled: &str, read: u64, write: u64) -> Result<(u8, Octets, Octets), Fail> {
     let mut words = Vec::new(alloc);
-    words.push(String::from_str(alloc, "replay")?)?;
+    for word in spelled.split(' ') {
+        words.push(String::from_str(alloc, word)?)?;
+    }
     let bytes = Octets::of(alloc, INPUT.as_bytes())?;
     let mut source = MemSource::new(bytes, Vec::from_slice(alloc, &[read])?);
     let mut output = MemSink::new(alloc, Vec::from_slice(alloc, &[write])?);
@@ -32,7 +35,22 @@ fn failing_streams_leave_a_front(rt: HostRuntime) -> Result<(), Fail> {
         (0, 2, 4, "opened 1 0\n", "murmur: 4 WriteFault\n"),
     ];
     for (read, write, status, output, errors) in cases {
-        let (ended, written, said) = ran(rt.alloc(), read, write)?;
+        let (ended, written, said) = ran(rt.alloc(), "replay", read, write)?;
+        assert_eq!(rt; ended, status);
+        assert_eq!(rt; written.as_slice(), output.as_bytes());
+        assert_eq!(rt; said.as_slice(), errors.as_bytes());
+    }
+    Ok(())
+}
+
+#[test]
+fn an_exercise_reads_nothing_and_tells_a_failing_write(rt: HostRuntime) -> Result<(), Fail> {
+    // the read and the write that fail, the status, what is written, what is said
+    let line =
+        "exercise seed 7 steps 0 accepted 16 lacks 0 refused 0 ignored 0 looks 0 copies 0 full 0 stale 0\n";
+    let cases = [(1, 0, 0, line, ""), (0, 1, 4, "", "murmur: 4 WriteFault\n")];
+    for (read, write, status, output, errors) in cases {
+        let (ended, written, said) = ran(rt.alloc(), "exercise 7 0", read, write)?;
         assert_eq!(rt; ended, status);
         assert_eq!(rt; written.as_slice(), output.as_bytes());
         assert_eq!(rt; said.as_slice(), errors.as_bytes());

@@ -4,7 +4,7 @@
 
 mod streams;
 
-use mum_core::{murmur, out_of_memory};
+use mum_server::{murmur, out_of_memory};
 use std::io::ErrorKind;
 use std::process::ExitCode;
 use std::rt::Env;

@@ -1,0 +1,114 @@
+-- What a line of the configuration, and what a line of a step, is answered by.
+use Rattle.std.proofs.Common.{◌≡◌, ℕ, List, [], ◌∷◌, ◌++◌, Option, Some, None, Result, Ok, Err, true, false, refl, sym, ap, ◌∙◌}
+use Rattle.std.specs.Option.{option_map_or}
+use Rattle.mum_config.specs.Document.{ReadsText}
+use Rattle.mum_config.specs.Fault.{Fault}
+use Rattle.mum_config.specs.Reading.{Names as ConfigNames}
+use Rattle.mum_config.specs.declared.config.Config.{Config as Configuration}
+use Rattle.mum_config.specs.declared.fault.BadConfig.TheVariants as bad
+use Rattle.mum_config.specs.declared.fault.ConfigFault.{ConfigFault}
+use Rattle.mum_record.specs.declared.step.Step.{Step}
+use Rattle.mum_record.specs.declared.step.Step.TheVariants as words
+use Rattle.mum_record.specs.Head.{config_of}
+use Rattle.mum_record.specs.Reading.{step_of}
+use Rattle.mum_core.specs.Core.{CoreState, start}
+use Rattle.mum_core.specs.Line.{text_of}
+use Rattle.mum_core.specs.Step.{does, lines}
+use Rattle.mum_state.specs.After.{after}
+use Rattle.mum_state.specs.declared.edit.Edit.{Edit}
+use Rattle.mum_server.specs.declared.replay.Phase.{Phase}
+use Rattle.mum_server.specs.declared.replay.Phase.TheVariants.{Config, Running, Over}
+use Rattle.mum_server.specs.declared.end.LineFault.TheVariants.{TooLong, BadRecording, BadConfig, IllegalStep}
+use Rattle.mum_server.specs.declared.end.End.{End}
+use Rattle.mum_server.specs.declared.end.End.TheVariants.{Finished, Faulty, ReadFault, WriteFault, OutOfMemory}
+use Rattle.mum_server.specs.Opening.{document_edits, document_fault, opening}
+use Rattle.mum_server.specs.Replay.{Goes, Stops, answer, config_answer, opening_answer, phase_after, step_answer}
+use Rattle.mum_server.specs.Runs.{Begins, Describes, Names, Opens, is_end}
+
+-- what is read of a document that has bytes is what the recording says of it
+pub described : (n : ℕ) (document : List ℕ) (config : Configuration) → (document ≡ [] → ⊥) → ReadsText document (Ok config) → Describes n document (Ok config.edits)
+described n [] config filled reads = absurd (filled refl)
+described n (byte ∷ bytes) config filled reads = (reads.0, sym (ap (λ (found : Option Configuration). option_map_or (λ c. c.edits) found []) reads.1))
+
+pub undescribed : (n : ℕ) (document : List ℕ) (cause : ConfigFault) (key : List ℕ) → (document ≡ [] → ⊥) → ReadsText document (Err (bad.Fault cause key))
+    → Describes n document (Err (Faulty n (BadConfig cause key)))
+unfolding ConfigNames
+undescribed n [] cause key filled reads = absurd (filled refl)
+undescribed n (byte ∷ bytes) cause key filled reads = (reads, refl)
+
+-- a document without a fault opens at what it describes
+pub config_opens : (w : ℕ) (document : List ℕ) (edits : List Edit) (core : CoreState) → document_fault document ≡ None → edits ≡ document_edits document → core ≡ start (after edits) w
+    → config_answer w (Some document) ≡ Goes (Running core) []
+config_opens w document edits core good are is =
+    ap (λ (fault : Option Fault). opening_answer fault (Running (start (opening document) w))) good
+    ∙ ap (λ (c : CoreState). Goes (Running c) []) (ap (λ (es : List Edit). start (after es) w) (sym are) ∙ sym is)
+
+-- one with a fault stops there
+pub config_stops : (w : ℕ) (document : List ℕ) (fault : Fault) → document_fault document ≡ Some fault → config_answer w (Some document) ≡ Stops (BadConfig fault.cause fault.key)
+config_stops w document fault bad = ap (λ (f : Option Fault). opening_answer f (Running (start (opening document) w))) bad
+
+-- where no edits are described, nothing is opened
+pub opens_not : (n w : ℕ) (document : List ℕ) (end : End) → Describes n document (Err end) → Opens n w document (Err end)
+opens_not n w document (Faulty m (BadConfig cause key)) h = (config_stops w document (record { cause = cause; key = key }) h.0, h.1)
+opens_not n w document (Faulty m TooLong) h = absurd h
+opens_not n w document (Faulty m BadRecording) h = absurd h
+opens_not n w document (Faulty m (IllegalStep given against)) h = absurd h
+opens_not n w document OutOfMemory h = tt
+opens_not n w document Finished h = absurd h
+opens_not n w document ReadFault h = absurd h
+opens_not n w document WriteFault h = absurd h
+
+-- behind a line that names no document nothing begins
+pub unnamed_begins_not : (n w : ℕ) (line : List ℕ) (end : End) → Names n (config_of line) (Err end) → Begins n w line (Err end)
+unnamed_begins_not n w line (Faulty m fault) h = (ap (config_answer w) h.0 ∙ ap Stops (sym h.1), h.2)
+unnamed_begins_not n w line OutOfMemory h = tt
+unnamed_begins_not n w line Finished h = absurd h
+unnamed_begins_not n w line ReadFault h = absurd h
+unnamed_begins_not n w line WriteFault h = absurd h
+
+-- behind one that names a document begins what that opens
+pub named_begins : (n w : ℕ) (line document : List ℕ) (result : Result CoreState End) → config_of line ≡ Some document → Opens n w document result → Begins n w line result
+named_begins n w line document (Ok core) is h = ap (config_answer w) is ∙ h
+named_begins n w line document (Err (Faulty m fault)) is h = (ap (config_answer w) is ∙ h.0, h.1)
+named_begins n w line document (Err OutOfMemory) is h = tt
+named_begins n w line document (Err Finished) is h = absurd h
+named_begins n w line document (Err ReadFault) is h = absurd h
+named_begins n w line document (Err WriteFault) is h = absurd h
+
+-- and the line is answered so
+pub config_goes : (w : ℕ) (line : List ℕ) (core : CoreState) (phase : Phase) → config_answer w (config_of line) ≡ Goes (Running core) [] → phase ≡ Running core → answer (Config w) line ≡ Goes phase []
+unfolding answer
+config_goes w line core phase opens is = opens ∙ ap (λ (p : Phase). Goes p []) (sym is)
+
+abbrev pub IsDone : CoreState → Step → List ℕ → CoreState → List ℕ → Type 0
+IsDone core step old new text =
+    (step_answer core (Some step) ≡ Goes (phase_after core step) (lines core step)) × (new ≡ does core step) × (text ≡ old ++ text_of (lines core step))
+
+goes_by : (core new : CoreState) (step : Step) (line old text : List ℕ) (phase : Phase) → step_of line ≡ Some step → old ≡ [] → IsDone core step old new text → phase ≡ phase_after core step
+    → (told : List (List (List ℕ))) × (answer (Running core) line ≡ Goes phase told) × (text ≡ text_of told)
+unfolding answer
+goes_by core new step line old text phase said none h is = (
+  lines core step,
+  ap (step_answer core) said ∙ h.0 ∙ ap (λ (p : Phase). Goes p (lines core step)) (sym is),
+  h.2 ∙ ap (λ (xs : List ℕ). xs ++ text_of (lines core step)) none,
+)
+
+runs_on : (core : CoreState) (step : Step) → is_end step ≡ false → phase_after core step ≡ Running (does core step)
+runs_on core words.End more = cc
+runs_on core others more = refl
+
+ends_there : (core : CoreState) (step : Step) → is_end step ≡ true → phase_after core step ≡ Over
+ends_there core words.End last = refl
+ends_there core others last = cc
+
+-- a step that is not the last leaves the phase of steps
+pub step_goes : (core new : CoreState) (step : Step) (line old text : List ℕ) → step_of line ≡ Some step → is_end step ≡ false
+    → old ≡ [] → IsDone core step old new text
+    → (told : List (List (List ℕ))) × (answer (Running core) line ≡ Goes (Running new) told) × (text ≡ text_of told)
+step_goes core new step line old text said more none h = goes_by core new step line old text (Running new) said none h (ap Running h.1 ∙ sym (runs_on core step more))
+
+-- the last one leaves none
+pub step_ends : (core new : CoreState) (step : Step) (line old text : List ℕ) → step_of line ≡ Some step → is_end step ≡ true
+    → old ≡ [] → IsDone core step old new text
+    → (told : List (List (List ℕ))) × (answer (Running core) line ≡ Goes Over told) × (text ≡ text_of told)
+step_ends core new step line old text said last none h = goes_by core new step line old text Over said none h (sym (ends_there core step last))

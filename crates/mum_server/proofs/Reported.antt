@@ -1,0 +1,120 @@
+-- What the program answers, from the command that the words ask for and how its run ended.
+use Rattle.std.proofs.Common.{◌≡◌, ℕ, ◌^◌, ◌-◌, List, Option, Some, None, refl, sym, ap, ◌∙◌, subst, inl, inr, arith}
+use Rattle.std.specs.Fmt.{decimal}
+use Rattle.std.specs.Prelude.{◌⊎◌, IfSome, codes}
+use Rattle.mum_io.specs.Outside.{AppendsFront, Rose}
+use Rattle.mum_io.proofs.OutsideLemmas.{AppendsFront-whole}
+use Rattle.mum_record.proofs.Numbers.{number_within-decimal}
+use Rattle.mum_server.proofs.Asked.{words_asked}
+use Rattle.mum_server.specs.Command.{Asks, IsExercise, replay_words}
+use Rattle.mum_server.specs.End.{fault_status, said, said_of, status_of}
+use Rattle.mum_server.specs.Exercise.{exercise_outcome}
+use Rattle.mum_server.specs.Program.{Ends, IsCutShort, IsWhole, ReadsCounted, Reports, Tells, WritesCounted, outcome_of}
+use Rattle.mum_server.specs.Replay.{Outcome, replayed}
+use Rattle.mum_server.specs.declared.command.Command.{Command}
+use Rattle.mum_server.specs.declared.command.Command.TheVariants.{Replay, Exercise}
+use Rattle.mum_server.specs.declared.command.TheConstants.{ROUNDS_LIMIT}
+use Rattle.mum_server.specs.declared.end.End.{End}
+use Rattle.mum_server.specs.declared.end.End.TheVariants.{Finished, Faulty, ReadFault, WriteFault, OutOfMemory}
+use Rattle.mum_server.specs.declared.end.LineFault.{LineFault}
+use Rattle.mum_server.specs.declared.end.LineFault.TheVariants.{TooLong, BadRecording, BadConfig, IllegalStep}
+
+-- ---- the command
+
+-- the word that asks for a recording asks for nothing else
+pub asks_replay : (words : List (List ℕ)) (command : Command) → Asks words (Some command) → words ≡ replay_words → command ≡ Replay
+asks_replay words Replay asks is = refl
+asks_replay words (Exercise seed rounds) asks is = let other = sym is ∙ asks.words_are in cc
+
+-- words that ask for an exercise ask for that one
+pub asks_that : (words : List (List ℕ)) (command : Command) (seed rounds : ℕ) → Asks words (Some command) → IsExercise words seed rounds → command ≡ Exercise seed rounds
+asks_that words Replay seed rounds asks is = let other = sym asks ∙ is.words_are in cc
+asks_that words (Exercise s r) seed rounds asks is =
+    let same = words_asked words (codes "exercise") (decimal s) (decimal r) seed rounds asks.words_are is in
+    let fits = asks.seed_fits in
+    let limit = asks.within_limit in
+    let s_is = number_within-decimal 0 (2 ^ 64 - 1) s (omega arith) (omega arith) fits in
+    let r_is = number_within-decimal 0 ROUNDS_LIMIT r (omega arith) limit (omega arith) in
+    let s_same = sym s_is ∙ same.seeded in
+    let r_same = sym r_is ∙ same.counted in
+    cc
+
+-- ---- the run
+
+-- the run came to its end, or was cut short
+pub concluded : (outcome : Outcome) (end : End) (status : ℕ) (old new eold enew : Option (List ℕ)) (R W E : Type 0) → Ends outcome end old new → Reports end status eold enew E
+    → (end ≡ ReadFault → R) → (end ≡ WriteFault → W) → IsWhole outcome status old new ⊎ (AppendsFront old new outcome.text × IsCutShort status R W)
+concluded outcome Finished status old new eold enew R W E ends (inl h) read wrote = inl (record { status_is = h.0 ∙ ap status_of ends.0; whole = ends.1 })
+concluded outcome Finished status old new eold enew R W E ends (inr h) read wrote = absurd h.0
+concluded outcome (Faulty n fault) status old new eold enew R W E ends (inl h) read wrote = inl (record { status_is = h.0 ∙ ap status_of ends.0; whole = ends.1 })
+concluded outcome (Faulty n fault) status old new eold enew R W E ends (inr h) read wrote = inr (AppendsFront-whole old new outcome.text ends.1, inr (inr h.1))
+concluded outcome ReadFault status old new eold enew R W E ends (inl h) read wrote = inr (ends, inl (h.0, read refl))
+concluded outcome ReadFault status old new eold enew R W E ends (inr h) read wrote = absurd h.0
+concluded outcome WriteFault status old new eold enew R W E ends (inl h) read wrote = inr (ends, inr (inl (h.0, wrote refl)))
+concluded outcome WriteFault status old new eold enew R W E ends (inr h) read wrote = absurd h.0
+concluded outcome OutOfMemory status old new eold enew R W E ends (inl h) read wrote = inr (ends, inr (inr h.0))
+concluded outcome OutOfMemory status old new eold enew R W E ends (inr h) read wrote = absurd h.0
+
+fault_says : (fault : LineFault) (end : End) → said (fault_status fault) end ≡ said_of end
+fault_says TooLong end = refl
+fault_says BadRecording end = refl
+fault_says (BadConfig cause key) end = refl
+fault_says (IllegalStep given against) end = refl
+
+-- the line is that of the status
+pub says_so : (outcome : Outcome) (end : End) (status : ℕ) (old new eold enew : Option (List ℕ)) (E : Type 0) → Ends outcome end old new → Reports end status eold enew E
+    → Tells (said status outcome.ending) eold enew E
+says_so outcome Finished status old new eold enew E ends (inl h) = subst (λ (line : List ℕ). Tells line eold enew E) (sym (ap (λ (s : ℕ). said s outcome.ending) h.0 ∙ ap said_of (sym ends.0))) h.1
+says_so outcome Finished status old new eold enew E ends (inr h) = absurd h.0
+says_so outcome (Faulty n fault) status old new eold enew E ends (inl h) =
+    subst (λ (line : List ℕ). Tells line eold enew E) (sym (ap (λ (s : ℕ). said s outcome.ending) h.0 ∙ fault_says fault outcome.ending ∙ ap said_of (sym ends.0))) h.1
+says_so outcome (Faulty n fault) status old new eold enew E ends (inr h) = subst (λ (line : List ℕ). Tells line eold enew E) (sym (ap (λ (s : ℕ). said s outcome.ending) h.1)) h.2
+says_so outcome ReadFault status old new eold enew E ends (inl h) = subst (λ (line : List ℕ). Tells line eold enew E) (sym (ap (λ (s : ℕ). said s outcome.ending) h.0)) h.1
+says_so outcome ReadFault status old new eold enew E ends (inr h) = absurd h.0
+says_so outcome WriteFault status old new eold enew E ends (inl h) = subst (λ (line : List ℕ). Tells line eold enew E) (sym (ap (λ (s : ℕ). said s outcome.ending) h.0)) h.1
+says_so outcome WriteFault status old new eold enew E ends (inr h) = absurd h.0
+says_so outcome OutOfMemory status old new eold enew E ends (inl h) = subst (λ (line : List ℕ). Tells line eold enew E) (sym (ap (λ (s : ℕ). said s outcome.ending) h.0)) h.1
+says_so outcome OutOfMemory status old new eold enew E ends (inr h) = absurd h.0
+
+-- ---- both
+
+-- a recording whose bytes are told is replayed to an outcome of them
+of_replay : (left : Option (List ℕ)) (command : Command) (P Q : Outcome → Type 0) → command ≡ Replay → ((o : Outcome) → P o → Q o) → IfSome (outcome_of command left) P
+    → IfSome left (λ bytes. Q (replayed bytes))
+of_replay None Replay P Q is more h = tt
+of_replay (Some bytes) Replay P Q is more h = more (replayed bytes) h
+of_replay left (Exercise seed rounds) P Q is more h = absurd cc
+
+-- an exercise has its own outcome, whatever the input tells
+of_exercise : (left : Option (List ℕ)) (command : Command) (seed rounds : ℕ) (P : Outcome → Type 0) → command ≡ Exercise seed rounds → IfSome (outcome_of command left) P
+    → P (exercise_outcome seed rounds)
+of_exercise left command seed rounds P is h = subst (λ (asked : Command). IfSome (outcome_of asked left) P) is h
+
+read_rose : (end : End) (old new : ℕ) → ReadsCounted end old new → end ≡ ReadFault → Rose old new
+read_rose end old new counted is = subst (λ (e : End). ReadsCounted e old new) is counted
+
+write_rose : (end : End) (old new : ℕ) → WritesCounted end old new → end ≡ WriteFault → Rose old new
+write_rose end old new counted is = subst (λ (e : End). WritesCounted e old new) is counted
+
+pub replay_answered : (words : List (List ℕ)) (command : Command) (left : Option (List ℕ)) (end : End) (status : ℕ) (old new eold enew : Option (List ℕ)) (rold rnew wold wnew : ℕ) (E : Type 0)
+    → Asks words (Some command) → words ≡ replay_words → IfSome (outcome_of command left) (λ outcome. Ends outcome end old new) → Reports end status eold enew E
+    → ReadsCounted end rold rnew → WritesCounted end wold wnew
+    → IfSome left (λ bytes. IsWhole (replayed bytes) status old new ⊎ (AppendsFront old new (replayed bytes).text × IsCutShort status (Rose rold rnew) (Rose wold wnew)))
+replay_answered words command left end status old new eold enew rold rnew wold wnew E asks asked ends reports reads writes =
+    of_replay left command (λ o. Ends o end old new) (λ o. IsWhole o status old new ⊎ (AppendsFront old new o.text × IsCutShort status (Rose rold rnew) (Rose wold wnew))) (asks_replay words command asks asked)
+    (λ o h. concluded o end status old new eold enew (Rose rold rnew) (Rose wold wnew) E h reports (read_rose end rold rnew reads) (write_rose end wold wnew writes)) ends
+
+pub replay_said : (words : List (List ℕ)) (command : Command) (left : Option (List ℕ)) (end : End) (status : ℕ) (old new eold enew : Option (List ℕ)) (E : Type 0)
+    → Asks words (Some command) → words ≡ replay_words → IfSome (outcome_of command left) (λ outcome. Ends outcome end old new) → Reports end status eold enew E
+    → IfSome left (λ bytes. Tells (said status (replayed bytes).ending) eold enew E)
+replay_said words command left end status old new eold enew E asks asked ends reports =
+    of_replay left command (λ o. Ends o end old new) (λ o. Tells (said status o.ending) eold enew E) (asks_replay words command asks asked)
+    (λ o h. says_so o end status old new eold enew E h reports) ends
+
+pub exercise_answered : (words : List (List ℕ)) (command : Command) (left : Option (List ℕ)) (end : End) (status seed rounds : ℕ) (old new eold enew : Option (List ℕ)) (wold wnew : ℕ) (E : Type 0)
+    → Asks words (Some command) → IsExercise words seed rounds → IfSome (outcome_of command left) (λ outcome. Ends outcome end old new) → Reports end status eold enew E
+    → (end ≡ ReadFault → ⊥) → WritesCounted end wold wnew
+    → IsWhole (exercise_outcome seed rounds) status old new ⊎ (AppendsFront old new (exercise_outcome seed rounds).text × IsCutShort status ⊥ (Rose wold wnew))
+exercise_answered words command left end status seed rounds old new eold enew wold wnew E asks asked ends reports reads writes =
+    let h = of_exercise left command seed rounds (λ o. Ends o end old new) (asks_that words command seed rounds asks asked) ends in
+    concluded (exercise_outcome seed rounds) end status old new eold enew ⊥ (Rose wold wnew) E h reports reads (write_rose end wold wnew writes)

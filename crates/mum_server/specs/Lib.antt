@@ -1,0 +1,9 @@
+pub mod Command
+pub mod Opening
+pub mod End
+pub mod Replay
+pub mod Runs
+pub mod Draws
+pub mod Acts
+pub mod Exercise
+pub mod Program

@@ -1,0 +1,86 @@
+-- What the code that runs over a recording answers, in the words of its definition.
+use Rattle.std.specs.Prelude.{◌≡◌, ◌+◌, ◌-◌, ℕ, Bool, true, false, List, [], ◌∷◌, ◌++◌, length, Option, Some, None, Result, Ok, Err, ⊤, string_bytes}
+use Rattle.std.specs.List.{slice_split}
+use Rattle.std.specs.Borrow.{Bor}
+use Rattle.mum_record.specs.Head.{config_of}
+use Rattle.mum_record.specs.declared.step.Step.{Step}
+use Rattle.mum_record.specs.declared.step.Step.TheVariants as words
+use Rattle.mum_server.specs.declared.{end.End.End, end.End.TheVariants.Faulty, end.End.TheVariants.OutOfMemory, end.LineFault.TheVariants.BadRecording, end.LineFault.TheVariants.BadConfig, replay.Phase.Phase, replay.Phase.TheVariants.Running, replay.Run.Run}
+use Rattle.mum_core.specs.Core.{CoreState}
+use Rattle.mum_core.specs.Line.{text_of}
+use Rattle.mum_core.specs.Step.{does, lines}
+use Rattle.mum_state.specs.declared.edit.Edit.{Edit}
+use Rattle.mum_server.specs.Opening.{document_edits, document_fault}
+use Rattle.mum_server.specs.Replay.{Goes, Stops, answer, config_answer, step_answer, phase_after, line_answer, is_line_feed}
+
+-- line n was taken, with these bytes told; or it is where the run ends
+abbrev pub Answers : ℕ → Phase → List ℕ → Result ⊤ End → Phase → List ℕ → Type 0
+Answers n old line (Ok done) new text = (told : List (List (List ℕ))) × (answer old line ≡ Goes new told) × (text ≡ text_of told)
+Answers n old line (Err (Faulty m fault)) new text = (answer old line ≡ Stops fault) × (m ≡ n)
+Answers n old line (Err OutOfMemory) new text = Unit {0}
+Answers n old line (Err others) new text = ⊥
+
+-- the document that line n names, or that it names none
+abbrev pub Names : ℕ → Option (List ℕ) → Result (List ℕ) End → Type 0
+Names n named (Ok document) = named ≡ Some document
+Names n named (Err (Faulty m fault)) = (named ≡ None) × (fault ≡ BadRecording) × (m ≡ n)
+Names n named (Err OutOfMemory) = Unit {0}
+Names n named (Err others) = ⊥
+
+-- the edits of a document of line n, or its first fault
+abbrev pub Describes : ℕ → List ℕ → Result (List Edit) End → Type 0
+Describes n document (Ok edits) = (document_fault document ≡ None) × (edits ≡ document_edits document)
+Describes n document (Err (Faulty m (BadConfig cause key))) = (document_fault document ≡ Some (record { cause = cause; key = key })) × (m ≡ n)
+Describes n document (Err OutOfMemory) = Unit {0}
+Describes n document (Err others) = ⊥
+
+-- the core at what a document of line n describes, or the document's first fault
+abbrev pub Opens : ℕ → ℕ → List ℕ → Result CoreState End → Type 0
+Opens n workers document (Ok core) = config_answer workers (Some document) ≡ Goes (Running core) []
+Opens n workers document (Err (Faulty m fault)) = (config_answer workers (Some document) ≡ Stops fault) × (m ≡ n)
+Opens n workers document (Err OutOfMemory) = Unit {0}
+Opens n workers document (Err others) = ⊥
+
+-- the core at which the steps begin behind line n, or why the run ends there
+abbrev pub Begins : ℕ → ℕ → List ℕ → Result CoreState End → Type 0
+Begins n workers line (Ok core) = config_answer workers (config_of line) ≡ Goes (Running core) []
+Begins n workers line (Err (Faulty m fault)) = (config_answer workers (config_of line) ≡ Stops fault) × (m ≡ n)
+Begins n workers line (Err OutOfMemory) = Unit {0}
+Begins n workers line (Err others) = ⊥
+
+-- the step that line n says, or that it says none
+abbrev pub Says : ℕ → Option Step → Result Step End → Type 0
+Says n said (Ok step) = said ≡ Some step
+Says n said (Err (Faulty m fault)) = (said ≡ None) × (fault ≡ BadRecording) × (m ≡ n)
+Says n said (Err OutOfMemory) = Unit {0}
+Says n said (Err others) = ⊥
+
+-- the step of line n does what the definition says
+abbrev pub StepAnswers : ℕ → CoreState → Step → List ℕ → Result ⊤ End → CoreState → List ℕ → Type 0
+StepAnswers n core step old (Ok done) new text =
+    (step_answer core (Some step) ≡ Goes (phase_after core step) (lines core step)) × (new ≡ does core step) × (text ≡ old ++ text_of (lines core step))
+StepAnswers n core step old (Err (Faulty m fault)) new text = (step_answer core (Some step) ≡ Stops fault) × (m ≡ n)
+StepAnswers n core step old (Err OutOfMemory) new text = Unit {0}
+StepAnswers n core step old (Err others) new text = ⊥
+
+-- whether a step is the last
+abbrev pub is_end : Step → Bool
+is_end words.End = true
+is_end others = false
+
+-- a run took its next line
+pub record IsNext (old new : Run) (line : List ℕ) : Type 0 where
+  pub number : new.line ≡ old.line + 1
+  pub left : new.left ≡ old.left - (length line + 1)
+
+abbrev pub Advances : Run → List ℕ → Result ⊤ End → Run → Type 0
+Advances old line (Ok done) new =
+    (told : List (List (List ℕ))) × (line_answer old.phase old.left line ≡ Goes new.phase told) × (string_bytes new.text ≡ text_of told) × IsNext old new line
+Advances old line (Err (Faulty n fault)) new = (line_answer old.phase old.left line ≡ Stops fault) × (n ≡ old.line)
+Advances old line (Err OutOfMemory) new = Unit {0}
+Advances old line (Err others) new = ⊥
+
+-- the first line of the bytes and what follows its line feed, where one ends it
+abbrev pub IsSplit : List ℕ → Option (Bor (List ℕ) × Bor (List ℕ)) → Type 0
+IsSplit bytes None = slice_split is_line_feed bytes ≡ bytes ∷ []
+IsSplit bytes (Some (line, rest)) = slice_split is_line_feed bytes ≡ line.now ∷ slice_split is_line_feed rest.now

@@ -1,0 +1,62 @@
+//! What the words of the command line ask for.
+
+ghost use Rattle.std.specs.Prelude.{◌≡◌, ◌↔◌, ◌∷◌, [], ℕ, IsTrue, MatchOption, codes, map, string_bytes};
+ghost use Rattle.mum_server.specs.Command.{Asks, IsExercise, replay_words};
+
+use mum_record::number_within;
+
+/// The most rounds of an exercise.
+pub const ROUNDS_LIMIT: u64 = 200_000;
+
+/// What the program is to do.
+#[derive(Clone, Copy)]
+pub enum Command {
+    /// Run the recording that the input is, and write its transcript.
+    Replay,
+    /// Run the exercise of a seed, of so many rounds, and write a line of what came of it.
+    Exercise { seed: u64, rounds: u32 },
+}
+
+fn is_word(word: &str, name: &str) -> bool
+    ensures { IsTrue result ↔ (word.now ≡ name.now) }
+{
+    word == name
+}
+
+fn is_replay(words: &[String]) -> bool
+    ensures { IsTrue result ↔ (map string_bytes words.now ≡ replay_words) }
+{
+    match words {
+        [word] => is_word(word.as_str(), "replay"),
+        _ => false,
+    }
+}
+
+/// The seed and the number of rounds of the exercise that the words ask for.
+fn exercise_in(words: &[String]) -> Option<(u64, u32)>
+    ensures asked { MatchOption result
+        ((seed rounds : ℕ) → IsExercise (map string_bytes words.now) seed rounds → ⊥)
+        (λ numbers. IsExercise (map string_bytes words.now) numbers.0 numbers.1) }
+    ensures limit { ROUNDS_LIMIT ≡ 200000 }
+{
+    let [name, seed, rounds] = words else {
+        return None;
+    };
+    if !is_word(name.as_str(), "exercise") {
+        return None;
+    }
+    let seed = number_within(0, u64::MAX, seed.as_str())?;
+    let rounds = number_within(0, ROUNDS_LIMIT, rounds.as_str())?;
+    Some((seed, rounds as u32))
+}
+
+/// The command that the words ask for; none where they have no such shape.
+pub fn command_of(words: &[String]) -> Option<Command>
+    ensures { Asks (map string_bytes words.now) result }
+{
+    if is_replay(words) {
+        return Some(Command::Replay);
+    }
+    let (seed, rounds) = exercise_in(words)?;
+    Some(Command::Exercise { seed, rounds })
+}

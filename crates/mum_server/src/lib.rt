@@ -1,0 +1,19 @@
+//! The runs of the server: the program's call over a recording or an exercise. An exercise is a generated
+//! session of 16 users who talk and change channels, links, mutes, listening and voice targets.
+#![tactic(auto)]
+
+mod acts;
+mod command;
+pub mod draws;
+mod end;
+mod exercise;
+pub mod laws;
+mod opening;
+mod program;
+mod replay;
+mod tally;
+
+pub use draws::{Act, Draws, Round, USERS};
+pub use exercise::{DOCUMENT, WORKERS, generate};
+pub use program::{murmur, out_of_memory};
+pub use replay::{INPUT_LIMIT, LINE_LIMIT, limits};

@@ -1,0 +1,167 @@
+//! The program's call: its words, its streams, its status.
+
+ghost use Rattle.std.specs.Prelude.{◌≡◌, ◌⊎◌, ◌==◌, ℕ, map, string_bytes, IsTrue, IfSome};
+ghost use Rattle.std.specs.List.{list_any};
+ghost use Rattle.mum_io.specs.Outside.{AppendsFront, Rose};
+ghost use Rattle.mum_server.specs.Command.{IsExercise, IsNoCommand, replay_words};
+ghost use Rattle.mum_server.specs.End.{memory_line, read_fault_line, said, said_of, statuses, write_fault_line};
+ghost use Rattle.mum_server.specs.Exercise.{exercise_outcome};
+ghost use Rattle.mum_server.specs.Program.{IsWhole, IsCutShort, Tells, Ends, ReadsCounted, WritesCounted, Reports, outcome_of, usage_line};
+ghost use Rattle.mum_server.specs.Replay.{replayed};
+ghost use Rattle.mum_server.specs.declared.command.Command.TheVariants.{Exercise};
+ghost use Rattle.mum_server.specs.declared.end.End.TheVariants.{Faulty};
+
+use crate::command::{Command, command_of};
+use crate::end::{End, LineFault, MEMORY_LINE, READ_FAULT_LINE, WRITE_FAULT_LINE};
+use crate::exercise::account;
+use crate::replay::{INPUT_LIMIT, replay};
+use mum_io::{ReadFault, Sink, Source, read_up_to, write_all};
+use std::alloc::Global;
+
+const USAGE_LINE: &str =
+    "usage: murmur replay | audit | exercise SEED STEPS | serve ADDRESS SESSIONS [journal]\n";
+
+/// Reads the recording, and writes its transcript.
+fn run_recording<I: Source, O: Sink>(alloc: Global, input: &mut I, output: &mut O) -> End
+    ensures ends { IfSome (I.left input.old) (λ bytes. Ends (replayed bytes) result (O.written output.old) (O.written output.new)) }
+    ensures reads { ReadsCounted result (I.faults input.old) (I.faults input.new) }
+    ensures writes { WritesCounted result (O.faults output.old) (O.faults output.new) }
+{
+    match read_up_to(alloc, input, INPUT_LIMIT) {
+        Ok(bytes) => replay(alloc, &bytes, output),
+        Err(ReadFault::Failed) => End::ReadFault,
+        Err(ReadFault::OutOfMemory) => End::OutOfMemory,
+    }
+}
+
+/// Runs an exercise, and writes the line of what came of it.
+fn run_exercise<O: Sink>(alloc: Global, seed: u64, rounds: u32, output: &mut O) -> End
+    ensures ends { Ends (exercise_outcome seed rounds) result (O.written output.old) (O.written output.new) }
+    ensures writes { WritesCounted result (O.faults output.old) (O.faults output.new) }
+    ensures no_read { result ≡ End.ReadFault → ⊥ }
+{
+    let Ok(line) = account(alloc, seed, rounds) else {
+        return End::OutOfMemory;
+    };
+    match write_all(output, line.as_bytes()) {
+        Ok(()) => End::Finished,
+        Err(_) => End::WriteFault,
+    }
+}
+
+/// Runs what a command asks for. An exercise leaves the input alone.
+fn run<I: Source, O: Sink>(alloc: Global, command: Command, input: &mut I, output: &mut O) -> End
+    ensures ends { IfSome (outcome_of command (I.left input.old)) (λ outcome. Ends outcome result (O.written output.old) (O.written output.new)) }
+    ensures reads { ReadsCounted result (I.faults input.old) (I.faults input.new) }
+    ensures writes { WritesCounted result (O.faults output.old) (O.faults output.new) }
+    ensures untouched { (seed rounds : ℕ) → command ≡ Exercise seed rounds → (input.new ≡ input.old) × (result ≡ End.ReadFault → ⊥) }
+{
+    match command {
+        Command::Replay => run_recording(alloc, input, output),
+        Command::Exercise { seed, rounds } => run_exercise(alloc, seed, rounds, output),
+    }
+}
+
+/// Writes a line to the error stream, as far as that takes it.
+fn say<E: Sink>(errors: &mut E, line: &str)
+    ensures { Tells line.now (E.written errors.old) (E.written errors.new) (Rose (E.faults errors.old) (E.faults errors.new)) }
+{
+    let _ = write_all(errors, line.as_bytes());
+}
+
+/// Says that memory ran out, and gives the status of it. It takes no memory.
+pub fn out_of_memory<E: Sink>(errors: &mut E) -> u8
+    ensures status { result ≡ 70 }
+    ensures says { Tells memory_line (E.written errors.old) (E.written errors.new) (Rose (E.faults errors.old) (E.faults errors.new)) }
+{
+    say(errors, MEMORY_LINE);
+    70
+}
+
+/// Says what is wrong with a line, and gives the status of it, or that of want of memory.
+fn report_fault<E: Sink>(alloc: Global, n: u64, fault: &LineFault, errors: &mut E) -> u8
+    ensures { Reports (Faulty n fault.now) result (E.written errors.old) (E.written errors.new) (Rose (E.faults errors.old) (E.faults errors.new)) }
+{
+    let mut text = String::new(alloc);
+    if fault.push(alloc, &mut text, n).is_err() {
+        return out_of_memory(errors);
+    }
+    say(errors, text.as_str());
+    fault.status()
+}
+
+/// Says how the run ended, and gives its status. Only the line of a fault takes memory.
+fn report<E: Sink>(alloc: Global, end: &End, errors: &mut E) -> u8
+    ensures { Reports end.now result (E.written errors.old) (E.written errors.new) (Rose (E.faults errors.old) (E.faults errors.new)) }
+{
+    match end {
+        End::Finished => {
+            say(errors, "");
+            0
+        }
+        End::Faulty { line, fault } => report_fault(alloc, *line, fault, errors),
+        End::ReadFault => {
+            say(errors, READ_FAULT_LINE);
+            3
+        }
+        End::WriteFault => {
+            say(errors, WRITE_FAULT_LINE);
+            4
+        }
+        End::OutOfMemory => out_of_memory(errors),
+    }
+}
+
+/// The program. `replay` reads a recording from the input and writes its transcript to the output;
+/// `exercise SEED STEPS` runs a session that is drawn from a seed, and writes one line of what came of it.
+/// What goes wrong is said in one line on the error stream, and the exit status tells it. Other words are
+/// answered by the usage line.
+pub fn murmur<I: Source, O: Sink, E: Sink>(
+    alloc: Global,
+    words: &[String],
+    input: &mut I,
+    output: &mut O,
+    errors: &mut E,
+) -> u8
+    // The transcript and the status are those of the recording with its configuration, or the run is cut
+    // short for a cause.
+    ensures replay { map string_bytes words.now ≡ replay_words → IfSome (I.left input.old) (λ bytes.
+        IsWhole (replayed bytes) result (O.written output.old) (O.written output.new)
+        ⊎ (AppendsFront (O.written output.old) (O.written output.new) (replayed bytes).text
+        × IsCutShort result (Rose (I.faults input.old) (I.faults input.new)) (Rose (O.faults output.old) (O.faults output.new)))) }
+    // The line of that status is said.
+    ensures says { map string_bytes words.now ≡ replay_words → IfSome (I.left input.old) (λ bytes.
+        Tells (said result (replayed bytes).ending) (E.written errors.old) (E.written errors.new) (Rose (E.faults errors.old) (E.faults errors.new))) }
+    // An exercise reads nothing. Its line is written and the status is 0, or it is cut short by a write
+    // that failed or by want of memory.
+    ensures exercise { (seed rounds : ℕ) → IsExercise (map string_bytes words.now) seed rounds →
+        (input.new ≡ input.old)
+        × (IsWhole (exercise_outcome seed rounds) result (O.written output.old) (O.written output.new)
+        ⊎ (AppendsFront (O.written output.old) (O.written output.new) (exercise_outcome seed rounds).text
+        × IsCutShort result ⊥ (Rose (O.faults output.old) (O.faults output.new)))) }
+    ensures exercise_says { (seed rounds : ℕ) → IsExercise (map string_bytes words.now) seed rounds →
+        Tells (said result (exercise_outcome seed rounds).ending) (E.written errors.old) (E.written errors.new) (Rose (E.faults errors.old) (E.faults errors.new)) }
+    // Whatever the input tells of its bytes, the two faults have their cause.
+    ensures read_fault { result ≡ 3 → Rose (I.faults input.old) (I.faults input.new) }
+    ensures write_fault { result ≡ 4 → Rose (O.faults output.old) (O.faults output.new) }
+    // Other words are no command: nothing is read, and nothing but the usage is written.
+    ensures usage { IsNoCommand (map string_bytes words.now) → (result ≡ 1) × (input.new ≡ input.old) × (output.new ≡ output.old)
+        × Tells usage_line (E.written errors.old) (E.written errors.new) (Rose (E.faults errors.old) (E.faults errors.new)) }
+    // And the usage is for other words alone.
+    ensures usage_alone { result ≡ 1 → IsNoCommand (map string_bytes words.now) }
+    // A read or a write that failed is told as such.
+    ensures no_other_read { (result ≡ 3 → ⊥) → I.faults input.new ≡ I.faults input.old }
+    ensures no_other_write { (result ≡ 4 → ⊥) → O.faults output.new ≡ O.faults output.old }
+    // There is no other status, and these three have one line each.
+    ensures status { IsTrue (list_any (λ status. status == result) statuses) }
+    ensures read_line { result ≡ 3 → Tells read_fault_line (E.written errors.old) (E.written errors.new) (Rose (E.faults errors.old) (E.faults errors.new)) }
+    ensures write_line { result ≡ 4 → Tells write_fault_line (E.written errors.old) (E.written errors.new) (Rose (E.faults errors.old) (E.faults errors.new)) }
+    ensures memory_line { result ≡ 70 → Tells memory_line (E.written errors.old) (E.written errors.new) (Rose (E.faults errors.old) (E.faults errors.new)) }
+{
+    let Some(command) = command_of(words) else {
+        say(errors, USAGE_LINE);
+        return 1;
+    };
+    let end = run(alloc, command, input, output);
+    report(alloc, &end, errors)
+}

@@ -1,5 +1,5 @@
 //! Workloads of the libraries, one a word. Each prints a checksum of what it did, so that nothing of
-//! it can be left out; `bench/run` times them.
+//! it can be left out; `bench/run` times them. `recording SEED ROUNDS` prints the recording of an exercise.
 #![tactic(auto)]
 
 mod acl;
@@ -7,7 +7,9 @@ mod config;
 mod decide;
 mod frames;
 mod messages;
+mod notices;
 mod outbox;
+mod recording;
 mod roster;
 mod routes;
 mod state;
@@ -30,6 +32,7 @@ fn of_kind(alloc: Global, word: &str, kind: &str, length: usize, count: usize) -
         "acl" => acl::walks(alloc, kind, length, count),
         "config" => config::work(alloc, kind, length, count),
         "decide" => decide::work(alloc, kind, length, count),
+        "notices" => notices::work(alloc, kind, length, count),
         "roster" => roster::work(alloc, kind, length, count),
         "route" => routes::work(alloc, kind, length, count),
         "state" => state::work(alloc, kind, length, count),
@@ -96,8 +99,24 @@ fn checksum<R: Wait + Threads + Copy + Send + 'static>(
     }
 }
 
+/// The seed and the number of rounds of the exercise whose recording is asked for.
+fn exercise_in(words: &[String]) -> Option<(&str, &str)> {
+    match words {
+        [word, seed, rounds] if word.as_str() == "recording" => Some((
+            seed.as_str(),
+            rounds.as_str(),
+        )),
+        _ => None,
+    }
+}
+
 fn main(rt: HostRuntime) -> Result<()> {
     let words: Vec<String> = env::args(&rt)?.skip(1).collect(rt.alloc())?;
+    if let Some((seed, rounds)) = exercise_in(&words) {
+        let text = recording::text(rt.alloc(), seed, rounds)?;
+        print!(rt; "{text}")?;
+        return Ok(());
+    }
     let sum = checksum(rt, rt.alloc(), &words)?;
     println!(rt; "{sum}")?;
     Ok(())

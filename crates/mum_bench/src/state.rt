@@ -17,7 +17,7 @@ use std::sync::ledger::{Blank, Ledger};
 const STRIDE: usize = 37;
 
 /// Makes an edit that must fit.
-fn apply(state: &mut State, edit: &Edit) -> Result<()> {
+pub fn apply(state: &mut State, edit: &Edit) -> Result<()> {
     if !state.fits(edit) {
         bail!("an edit of a workload fits");
     }
@@ -103,16 +103,16 @@ fn join(alloc: Global, state: &State) -> Result<Edit> {
 
 /// What of a session a workload changes.
 #[derive(Clone, Copy)]
-struct Change {
-    session: SessionId,
-    channel: Option<ChannelId>,
-    mute: Option<bool>,
-    listen: Option<ChannelId>,
-    unlisten: Option<ChannelId>,
+pub struct Change {
+    pub session: SessionId,
+    pub channel: Option<ChannelId>,
+    pub mute: Option<bool>,
+    pub listen: Option<ChannelId>,
+    pub unlisten: Option<ChannelId>,
 }
 
 impl Change {
-    fn none(session: SessionId) -> Change {
+    pub fn none(session: SessionId) -> Change {
         Change {
             session,
             channel: None,
@@ -131,7 +131,7 @@ fn listed(alloc: Global, channel: Option<ChannelId>) -> Result<Items<ChannelId>>
     Ok(list)
 }
 
-fn set_user(alloc: Global, change: Change) -> Result<Edit> {
+pub fn set_user(alloc: Global, change: Change) -> Result<Edit> {
     Ok(Edit::SetUser {
         session: change.session,
         actor: change.session,

@@ -2,14 +2,12 @@
 //! exit status.
 #![tactic(auto)]
 
-mod streams;
-
+use mum_io::{Input, Output};
 use mum_server::{murmur, out_of_memory};
 use std::io::ErrorKind;
 use std::process::ExitCode;
 use std::rt::Env;
 use std::{env, io};
-use streams::{Input, Output};
 
 /// The words of the command line, without the program's name. A word that is not UTF-8 is an error of
 /// the kind `InvalidData`.

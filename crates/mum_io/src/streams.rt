@@ -1,9 +1,10 @@
-//! The standard streams as the server sees them. They count each call that failed, and tell nothing of
-//! what they carry.
+//! Readers and writers, as the standard streams are, as the server sees them. They count each call that
+//! failed, and tell nothing of what they carry.
 
 ghost use Rattle.std.specs.Prelude.{◌≡◌, None};
 
-use mum_io::{ReadEnd, Sink, Source, WriteEnd};
+use crate::sink::{Sink, WriteEnd};
+use crate::source::{ReadEnd, Source};
 use std::io::{Read, Write};
 
 /// A reader as a source. Nothing is read ahead.

@@ -4,7 +4,7 @@ ghost use Rattle.std.specs.Prelude.{◌+◌, ◌^◌, ◌<◌};
 ghost use Rattle.mum_fields.specs.Content.{content_of, block_size};
 
 /// What a field carries: the wire types 0, 1, 2 and 5 in that order.
-#[derive(Clone, Copy, Debug, PartialEq, Eq)]
+#[derive(Clone, Copy)]
 pub enum Value<'a> {
     Varint(u64),
     Fixed8(u64),
@@ -13,7 +13,7 @@ pub enum Value<'a> {
 }
 
 /// A field of a payload. Its number is from 1 to 536,870,911.
-#[derive(Clone, Copy, Debug, PartialEq, Eq)]
+#[derive(Clone, Copy)]
 pub struct Field<'a> {
     pub number: u32,
     pub value: Value<'a>,
@@ -21,7 +21,7 @@ pub struct Field<'a> {
 
 /// A field, and the place in the payload where its value begins: the first byte of its number, or
 /// the first byte of its block (behind the block's length).
-#[derive(Clone, Copy, Debug)]
+#[derive(Clone, Copy)]
 pub struct Placed<'a> {
     pub at: usize,
     pub field: Field<'a>,

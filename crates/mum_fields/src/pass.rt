@@ -20,7 +20,7 @@ use crate::size::block_size;
 pub const SLOTS: usize = 24;
 
 /// What is kept of the value of a field, or of a message.
-#[derive(Clone, Copy, Debug, PartialEq, Eq)]
+#[derive(Clone, Copy)]
 pub struct Part {
     /// How many bytes it is written with; 2^64 - 1 where they are more.
     pub length: u64,

@@ -1,7 +1,7 @@
 //! The fields of a message as data: what its table says of each of them, for the pass over a payload.
 
 /// A type whose values go as varints (Protocol Buffers, "Encoding", "More Integer Types").
-#[derive(Clone, Copy, Debug, PartialEq, Eq)]
+#[derive(Clone, Copy)]
 pub enum Scalar {
     /// `uint32`: the low 32 bits.
     Unsigned32,
@@ -14,7 +14,7 @@ pub enum Scalar {
 }
 
 /// The type of a field.
-#[derive(Clone, Copy, Debug, PartialEq, Eq)]
+#[derive(Clone, Copy)]
 pub enum Kind {
     Number(Scalar),
     /// `string`: a block that has to be UTF-8.
@@ -24,7 +24,7 @@ pub enum Kind {
 }
 
 /// What a message may have of a field.
-#[derive(Clone, Copy, Debug, PartialEq, Eq)]
+#[derive(Clone, Copy)]
 pub enum Label {
     Optional,
     Required,
@@ -34,7 +34,7 @@ pub enum Label {
 }
 
 /// A field as Mumble.proto gives it. Its number is from 1 to 536,870,911.
-#[derive(Clone, Copy, Debug, PartialEq, Eq)]
+#[derive(Clone, Copy)]
 pub struct FieldShape {
     pub label: Label,
     pub kind: Kind,
@@ -42,14 +42,14 @@ pub struct FieldShape {
 }
 
 /// A repeated field of messages in blocks, and the fields of those.
-#[derive(Clone, Copy, Debug)]
+#[derive(Clone, Copy)]
 pub struct BlocksShape<'a> {
     pub number: u32,
     pub inside: &'a [FieldShape],
 }
 
 /// A field of a message that may have messages in blocks.
-#[derive(Clone, Copy, Debug)]
+#[derive(Clone, Copy)]
 pub enum Shape<'a> {
     Field(FieldShape),
     Blocks(BlocksShape<'a>),

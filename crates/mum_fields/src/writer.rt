@@ -35,7 +35,7 @@ fn push_block_field(out: &mut Vec<u8>, number: u32, bytes: &[u8]) -> Result<(), 
 }
 
 /// A payload that is being written. Its contracts see the bytes so far.
-#[derive(Debug, Drop)]
+#[derive(Drop)]
 pub struct Writer {
     alloc: Global,
     bytes: Vec<u8>,

@@ -4,7 +4,7 @@ ghost use Rattle.std.specs.Prelude.{◌≡◌};
 ghost use Rattle.mum_policy.specs.Name.{asked_by, asks_of, is_built_in_without_members, meaning, reading_of, understood};
 
 /// What a group name asks of a session, behind its prefixes.
-#[derive(Clone, Copy, Debug)]
+#[derive(Clone, Copy)]
 pub(crate) enum Asked<'a> {
     Nobody,
     Everybody,
@@ -21,7 +21,7 @@ pub(crate) enum Asked<'a> {
 }
 
 /// A group name that was read.
-#[derive(Clone, Copy, Debug)]
+#[derive(Clone, Copy)]
 pub(crate) struct GroupName<'a> {
     pub(crate) negated: bool,
     /// Whether the channel that holds the entry is chosen, and not the one that is asked.

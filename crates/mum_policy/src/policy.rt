@@ -27,7 +27,7 @@ pub fn limits()
 
 /// A group as a channel defines it: accounts that it adds to those from the channels above, and
 /// accounts that it then removes.
-#[derive(Debug, Drop)]
+#[derive(Drop)]
 pub struct Group {
     pub name: Text,
     /// Whether the accounts of the channels above count here.
@@ -66,7 +66,7 @@ fn is_large(group: &Group) -> bool
 }
 
 /// Whom an entry speaks of.
-#[derive(Debug, Drop)]
+#[derive(Drop)]
 pub enum Whom {
     Account(AccountId),
     /// A group name, with its prefixes.
@@ -96,7 +96,7 @@ impl Whom {
 }
 
 /// An entry of an access control list.
-#[derive(Debug, Drop)]
+#[derive(Drop)]
 pub struct AclEntry {
     pub whom: Whom,
     /// Whether the entry applies in its own channel.
@@ -123,7 +123,7 @@ impl AclEntry {
 }
 
 /// The groups and the access control list of a channel.
-#[derive(Debug, Drop)]
+#[derive(Drop)]
 pub struct ChannelPolicy {
     /// Whether what the channels above leave holds here at first; else it is the start set.
     pub inherit_acls: bool,
@@ -191,7 +191,7 @@ impl ChannelPolicy {
 }
 
 /// A session, as entries and groups see it.
-#[derive(Clone, Copy, Debug)]
+#[derive(Clone, Copy)]
 pub struct Who<'a> {
     pub session: SessionId,
     /// The account that the session is of. Account 0 is SuperUser.

@@ -13,7 +13,7 @@ use std::marker::Brand;
 use std::sync::ledger::{Blank, Ledger};
 
 /// How far a walk has come.
-#[derive(Clone, Copy, Debug)]
+#[derive(Clone, Copy)]
 pub(crate) struct Walk {
     pub(crate) set: Perm,
     /// Whether the session may pass the channels so far.

@@ -18,7 +18,7 @@ use std::alloc::Global;
 use std::mem;
 
 /// Which line comes next.
-#[derive(Clone, Copy, Debug, PartialEq, Eq)]
+#[derive(Clone, Copy, PartialEq, Eq)]
 pub(crate) enum Stage {
     /// The first: `journal 1`.
     Version,

@@ -8,7 +8,7 @@ use std::alloc::AllocError;
 use thiserror::Error;
 
 /// A journal. It is read by `read_journal` and written by `write_journal`.
-#[derive(Debug, Drop)]
+#[derive(Drop)]
 pub struct Journal {
     /// How many workers there were, 1 to 8.
     pub workers: u8,
@@ -21,7 +21,7 @@ pub struct Journal {
 }
 
 /// A command and what was decided of it.
-#[derive(Debug, Drop)]
+#[derive(Drop)]
 pub struct ControlEntry {
     /// The connection that asked, from 1 on in the order in which they opened.
     pub connection: u32,
@@ -33,7 +33,7 @@ pub struct ControlEntry {
 }
 
 /// What a worker did.
-#[derive(Debug, Drop)]
+#[derive(Drop)]
 pub enum WorkerEntry {
     /// A packet of a connection was copied to those who heard it at a revision.
     Voice {
@@ -52,7 +52,7 @@ pub enum WorkerEntry {
 }
 
 /// A copy of a packet.
-#[derive(Clone, Copy, Debug, PartialEq, Eq)]
+#[derive(Clone, Copy)]
 pub struct Marked {
     /// The session that it was for.
     pub session: SessionId,

@@ -10,7 +10,7 @@ use mum_base::OutOfMemory;
 use std::alloc::Global;
 
 /// A word of a line.
-#[derive(Clone, Copy, Debug)]
+#[derive(Clone, Copy)]
 pub enum Word<'a> {
     /// A word as it stands.
     Name(&'a str),

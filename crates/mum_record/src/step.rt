@@ -9,7 +9,7 @@ use thiserror::Error;
 
 /// A step of a recording. Connections are numbered from 1 in the order in which they open, and
 /// workers from 0.
-#[derive(Debug, Drop)]
+#[derive(Drop)]
 pub enum Step {
     /// A connection begins at a worker.
     Open {

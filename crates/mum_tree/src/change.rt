@@ -8,7 +8,7 @@ use mum_base::{ChannelId, Text};
 /// What becomes another of a channel, as far as it is given, and the links that come and go
 /// (Mumble.proto, `ChannelState`). A channel in both lists is linked first, and then parted; the
 /// channel's own number in them means nothing.
-#[derive(Clone, Copy, Debug)]
+#[derive(Clone, Copy)]
 pub struct ChannelChange<'a> {
     pub name: Option<&'a str>,
     pub parent: Option<ChannelId>,

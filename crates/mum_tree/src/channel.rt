@@ -13,7 +13,7 @@ pub const CHANNEL_LIMIT: usize = 1024;
 pub const PATH_LIMIT: usize = 33;
 
 /// What describes a channel to its visitors (Mumble.proto, `ChannelState`).
-#[derive(Debug, Drop)]
+#[derive(Drop)]
 pub struct ChannelInfo {
     pub description: Text,
     /// Where clients sort it among its siblings.
@@ -47,7 +47,7 @@ impl ChannelInfo {
 }
 
 /// A channel.
-#[derive(Debug, Drop)]
+#[derive(Drop)]
 pub struct Channel {
     pub id: ChannelId,
     /// The channel above it. The root's is the root itself.
@@ -75,7 +75,7 @@ impl Channel {
 
 /// A channel and its place: a number below 1,024 that no other channel has, kept while the channel
 /// is there and given again once it is gone.
-#[derive(Debug, Drop)]
+#[derive(Drop)]
 pub struct Row {
     pub place: u16,
     pub channel: Channel,

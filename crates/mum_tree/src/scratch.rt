@@ -10,7 +10,7 @@ use std::alloc::Global;
 use std::marker::Model;
 
 /// A channel and the place that it has.
-#[derive(Clone, Copy, Debug)]
+#[derive(Clone, Copy)]
 struct Seat {
     id: ChannelId,
     place: u16,
@@ -18,7 +18,7 @@ struct Seat {
 
 /// Room to mark channels in, taken once and used again. A contract sees the channels that were
 /// marked last, in order of number.
-#[derive(Debug, Drop)]
+#[derive(Drop)]
 pub struct Scratch {
     /// The channels of the tree that was marked last, in order of number.
     seats: Vec<Seat>,

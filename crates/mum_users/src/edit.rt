@@ -16,7 +16,7 @@ use mum_base::{ChannelId, Octets, SessionId, Text};
 
 /// A change of several parts of a session at once, as the message UserState of the Mumble protocol
 /// carries it. What is `None` stays.
-#[derive(Clone, Copy, Debug)]
+#[derive(Clone, Copy)]
 pub struct UserChange<'a> {
     pub channel: Option<ChannelId>,
     pub flags: FlagChange,

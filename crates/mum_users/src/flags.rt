@@ -4,7 +4,7 @@ ghost use Rattle.std.specs.Prelude.{◌≡◌};
 ghost use Rattle.mum_users.specs.Flags.{silence_after};
 
 /// A change of flags, as the message UserState of the Mumble protocol carries it. What is `None` stays.
-#[derive(Clone, Copy, Debug, PartialEq, Eq)]
+#[derive(Clone, Copy)]
 pub struct FlagChange {
     pub mute: Option<bool>,
     pub deaf: Option<bool>,
@@ -16,7 +16,7 @@ pub struct FlagChange {
 }
 
 /// Whether one may not speak, and whether one may not hear.
-#[derive(Clone, Copy, Debug, PartialEq, Eq)]
+#[derive(Clone, Copy)]
 pub(crate) struct Silence {
     pub mute: bool,
     pub deaf: bool,

@@ -18,14 +18,14 @@ pub const CHANNEL_LISTENERS: usize = 64;
 pub const LISTENED_CHANNELS: usize = 32;
 
 /// A session that listens to a channel.
-#[derive(Clone, Copy, Debug, PartialEq, Eq)]
+#[derive(Clone, Copy)]
 pub struct ListenerPair {
     pub session: SessionId,
     pub channel: ChannelId,
 }
 
 /// An order in which pairs stand.
-#[derive(Clone, Copy, Debug)]
+#[derive(Clone, Copy)]
 pub(crate) enum PairOrder {
     /// By their sessions, those of one session by their channels.
     BySession,

@@ -7,7 +7,7 @@ use crate::user::User;
 use mum_base::ChannelId;
 
 /// Where a session is, and whether it may speak there.
-#[derive(Clone, Copy, Debug, PartialEq, Eq)]
+#[derive(Clone, Copy)]
 pub struct Seat {
     pub channel: ChannelId,
     /// It may not speak there.

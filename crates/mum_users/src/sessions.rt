@@ -14,7 +14,7 @@ use mum_base::{ChannelId, OutOfMemory, SessionId, Slot};
 use std::alloc::Global;
 
 /// A session with its slot.
-#[derive(Clone, Copy, Debug)]
+#[derive(Clone, Copy)]
 pub(crate) struct SessionSlot {
     pub session: SessionId,
     pub slot: Slot,

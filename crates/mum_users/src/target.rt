@@ -25,13 +25,13 @@ pub const TARGET_SESSIONS: usize = 128;
 pub const GROUP_BYTES: usize = 128;
 
 /// A voice target, as the message VoiceTarget of the Mumble protocol sets it.
-#[derive(Debug, Drop)]
+#[derive(Drop)]
 pub struct Target {
     pub items: Items<TargetItem>,
 }
 
 /// One of those whom a voice target reaches: these sessions, and those of a channel.
-#[derive(Debug, Drop)]
+#[derive(Drop)]
 pub struct TargetItem {
     pub sessions: Items<SessionId>,
     pub channel: Option<ChannelId>,
@@ -44,7 +44,7 @@ pub struct TargetItem {
 }
 
 /// A voice target that is set: that of a session, under a number.
-#[derive(Debug, Drop)]
+#[derive(Drop)]
 pub struct TargetRow {
     pub session: SessionId,
     /// 1 to 30.

@@ -45,7 +45,7 @@ pub fn is_context(bytes: &[u8]) -> bool
 }
 
 /// A session: a client that is logged in.
-#[derive(Debug, Drop)]
+#[derive(Drop)]
 pub struct User {
     /// Its number, given in order from 1 and never given again.
     pub session: SessionId,

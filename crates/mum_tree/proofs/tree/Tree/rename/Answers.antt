@@ -1,30 +1,42 @@
 use Rattle.std.proofs.Common.{◌≡◌, ◌∙◌, List, ap, sym, subst, set, None}
 use Rattle.mum_tree.specs.declared.channel.Row.{Row}
+use Rattle.mum_tree.specs.declared.channel.TheConstants.{CHANNEL_LIMIT}
+use Rattle.mum_tree.specs.Proper.{IsProper}
 use Rattle.mum_tree.specs.Refusals.{fault_of_rename}
-use Rattle.mum_tree.specs.State.{TreeState, with_channel}
+use Rattle.mum_tree.specs.State.{TreeState, changed, with_channel}
 use Rattle.mum_tree.proofs.Edits.{named, renaming}
 use Rattle.mum_tree.proofs.tree.Tree.rename.Goals as goal
+use Rattle.mum_tree.proofs.tree.Tree.rename.Goals.{After-index_mut-row}
+
+-- the tree as it was
+abbrev before : After-index_mut-row → TreeState
+before c = record { channels = c.self.inside.rows.items; links = c.self.inside.links.items; greatest = c.self.inside.greatest }
+
+-- the rows as they are left
+abbrev left : After-index_mut-row → List Row
+left c = set c.self.inside.rows.items c.in-Some.at (record c.index_mut-row.result.now { channel = named c.in_ok-name.name c.index_mut-row.result.now.channel })
+
+allowed : (c : After-index_mut-row) → fault_of_rename (before c) c.args.id c.args.name.now ≡ None
+allowed c = subst (λ (t : TreeState). fault_of_rename t c.args.id c.args.name.now ≡ None) (sym c.self.view_is) (sym c.cause_against_renaming.ensures ∙ c.in_default-cause_against_renaming.is)
+
+done : (c : After-index_mut-row) → (left c ≡ changed c.args.id (named c.args.name.now) c.self.inside.rows.items) × IsProper CHANNEL_LIMIT (with_channel (before c) c.args.id (named c.args.name.now))
+done c = renaming (before c) _ c.in-Some.at c.args.id c.index_mut-row.result.now c.args.name.now c.in_ok-name.name c.self.invariant c.deref.ensures.value (c.in-Some.ensures {u = tt}) c.index_mut-row.ensures.value (allowed c) (c.in_ok-name.ensures {u = tt})
+
+-- the tree with these rows
+abbrev with_rows : After-index_mut-row → List Row → TreeState
+with_rows c rows = record { channels = rows; links = c.self.inside.links.items; greatest = c.self.inside.greatest }
+
+proper : (c : After-index_mut-row) → IsProper CHANNEL_LIMIT (with_rows c (left c))
+proper c = let (made, proper) = done c in subst (λ (rows : List Row). IsProper CHANNEL_LIMIT (with_rows c rows)) (sym made) proper
 
 pub invariant_of-self : goal.invariant_of-self
-invariant_of-self c =
-    let tree : TreeState = record { channels = c.self.inside.rows.items; links = c.self.inside.links.items; greatest = c.self.inside.greatest } in
-    let allowed = subst (λ (t : TreeState). fault_of_rename t c.args.id c.args.name.now ≡ None) (sym c.self.view_is) (sym c.cause_against_renaming.ensures ∙ c.in_default-cause_against_renaming.is) in
-    let done = renaming tree _ c.in-Some.at c.args.id c.index_mut-row.result.now c.args.name.now c.in_ok-name.name c.self.invariant c.deref.ensures.value (c.in-Some.ensures {u = tt}) c.index_mut-row.ensures.value allowed (c.in_ok-name.ensures {u = tt}) in
-    rw done.0 done.1
+invariant_of-self c = proper (goal.at.invariant_of-self c).After-index_mut-row
 
 pub returns-clause-made : goal.returns-clause-made
 returns-clause-made c =
-    let tree : TreeState = record { channels = c.self.inside.rows.items; links = c.self.inside.links.items; greatest = c.self.inside.greatest } in
-    let row = c.index_mut-row.result.now in
-    let allowed = subst (λ (t : TreeState). fault_of_rename t c.args.id c.args.name.now ≡ None) (sym c.self.view_is) (sym c.cause_against_renaming.ensures ∙ c.in_default-cause_against_renaming.is) in
-    let done = renaming tree _ c.in-Some.at c.args.id row c.args.name.now c.in_ok-name.name c.self.invariant c.deref.ensures.value (c.in-Some.ensures {u = tt}) c.index_mut-row.ensures.value allowed (c.in_ok-name.ensures {u = tt}) in
-    let left : TreeState = record { channels = set tree.channels c.in-Some.at (record row { channel = named c.in_ok-name.name row.channel }); links = tree.links; greatest = tree.greatest } in
-    subst (λ (t : TreeState). (fault_of_rename t c.args.id c.args.name.now ≡ None) × (left ≡ with_channel t c.args.id (named c.args.name.now))) c.self.view_is
-    (allowed, ap (λ (rows : List Row). record { channels = rows; links = tree.links; greatest = tree.greatest }) done.0)
+    let end = (goal.at.returns-clause-made c).After-index_mut-row in
+    subst (λ (t : TreeState). (fault_of_rename t c.args.id c.args.name.now ≡ None) × (with_rows end (left end) ≡ with_channel t c.args.id (named c.args.name.now))) c.self.view_is
+    (allowed end, ap (with_rows end) (done end).0)
 
 pub returns-clause-proper : goal.returns-clause-proper
-returns-clause-proper c =
-    let tree : TreeState = record { channels = c.self.inside.rows.items; links = c.self.inside.links.items; greatest = c.self.inside.greatest } in
-    let allowed = subst (λ (t : TreeState). fault_of_rename t c.args.id c.args.name.now ≡ None) (sym c.self.view_is) (sym c.cause_against_renaming.ensures ∙ c.in_default-cause_against_renaming.is) in
-    let done = renaming tree _ c.in-Some.at c.args.id c.index_mut-row.result.now c.args.name.now c.in_ok-name.name c.self.invariant c.deref.ensures.value (c.in-Some.ensures {u = tt}) c.index_mut-row.ensures.value allowed (c.in_ok-name.ensures {u = tt}) in
-    rw done.0 done.1
+returns-clause-proper c = proper (goal.at.returns-clause-proper c).After-index_mut-row

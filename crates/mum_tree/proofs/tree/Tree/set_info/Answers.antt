@@ -1,27 +1,40 @@
-use Rattle.std.proofs.Common.{◌≡◌, List, ap, subst, set, None}
+use Rattle.std.proofs.Common.{◌≡◌, List, ap, sym, subst, set, None}
 use Rattle.mum_tree.specs.declared.channel.Row.{Row}
+use Rattle.mum_tree.specs.declared.channel.TheConstants.{CHANNEL_LIMIT}
+use Rattle.mum_tree.specs.Proper.{IsProper}
 use Rattle.mum_tree.specs.Refusals.{fault_of_set_info}
-use Rattle.mum_tree.specs.State.{TreeState, with_channel}
+use Rattle.mum_tree.specs.State.{TreeState, changed, with_channel}
 use Rattle.mum_tree.proofs.Edits.{informed, informing}
 use Rattle.mum_tree.proofs.tree.Tree.set_info.Goals as goal
+use Rattle.mum_tree.proofs.tree.Tree.set_info.Goals.{After-index_mut-row}
+
+-- the tree as it was
+abbrev before : After-index_mut-row → TreeState
+before c = record { channels = c.self.inside.rows.items; links = c.self.inside.links.items; greatest = c.self.inside.greatest }
+
+-- the tree with these rows
+abbrev with_rows : After-index_mut-row → List Row → TreeState
+with_rows c rows = record { channels = rows; links = c.self.inside.links.items; greatest = c.self.inside.greatest }
+
+-- the rows as they are left
+abbrev left : After-index_mut-row → List Row
+left c = set c.self.inside.rows.items c.in-Some.at (record c.index_mut-row.result.now { channel = informed c.args.info c.index_mut-row.result.now.channel })
+
+done : (c : After-index_mut-row) → (fault_of_set_info (before c) c.args.id ≡ None) × (left c ≡ changed c.args.id (informed c.args.info) c.self.inside.rows.items) × IsProper CHANNEL_LIMIT (with_channel (before c) c.args.id (informed c.args.info))
+done c = informing (before c) _ c.in-Some.at c.args.id c.index_mut-row.result.now c.args.info c.self.invariant c.deref.ensures.value (c.in-Some.ensures {u = tt}) c.index_mut-row.ensures.value
+
+proper : (c : After-index_mut-row) → IsProper CHANNEL_LIMIT (with_rows c (left c))
+proper c = let (allowed, made, proper) = done c in subst (λ (rows : List Row). IsProper CHANNEL_LIMIT (with_rows c rows)) (sym made) proper
 
 pub invariant_of-self : goal.invariant_of-self
-invariant_of-self c =
-    let tree : TreeState = record { channels = c.self.inside.rows.items; links = c.self.inside.links.items; greatest = c.self.inside.greatest } in
-    let done = informing tree _ c.in-Some.at c.args.id c.index_mut-row.result.now c.args.info c.self.invariant c.deref.ensures.value (c.in-Some.ensures {u = tt}) c.index_mut-row.ensures.value in
-    rw done.1 done.2
+invariant_of-self c = proper (goal.at.invariant_of-self c).After-index_mut-row
 
 pub returns-clause-made : goal.returns-clause-made
 returns-clause-made c =
-    let tree : TreeState = record { channels = c.self.inside.rows.items; links = c.self.inside.links.items; greatest = c.self.inside.greatest } in
-    let row = c.index_mut-row.result.now in
-    let done = informing tree _ c.in-Some.at c.args.id row c.args.info c.self.invariant c.deref.ensures.value (c.in-Some.ensures {u = tt}) c.index_mut-row.ensures.value in
-    let left : TreeState = record { channels = set tree.channels c.in-Some.at (record row { channel = informed c.args.info row.channel }); links = tree.links; greatest = tree.greatest } in
-    subst (λ (t : TreeState). (fault_of_set_info t c.args.id ≡ None) × (left ≡ with_channel t c.args.id (informed c.args.info))) c.self.view_is
-    (done.0, ap (λ (rows : List Row). record { channels = rows; links = tree.links; greatest = tree.greatest }) done.1)
+    let end = (goal.at.returns-clause-made c).After-index_mut-row in
+    let (allowed, made, proper) = done end in
+    subst (λ (t : TreeState). (fault_of_set_info t c.args.id ≡ None) × (with_rows end (left end) ≡ with_channel t c.args.id (informed c.args.info))) c.self.view_is
+    (allowed, ap (with_rows end) made)
 
 pub returns-clause-proper : goal.returns-clause-proper
-returns-clause-proper c =
-    let tree : TreeState = record { channels = c.self.inside.rows.items; links = c.self.inside.links.items; greatest = c.self.inside.greatest } in
-    let done = informing tree _ c.in-Some.at c.args.id c.index_mut-row.result.now c.args.info c.self.invariant c.deref.ensures.value (c.in-Some.ensures {u = tt}) c.index_mut-row.ensures.value in
-    rw done.1 done.2
+returns-clause-proper c = proper (goal.at.returns-clause-proper c).After-index_mut-row

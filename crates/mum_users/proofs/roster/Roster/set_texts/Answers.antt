@@ -1,20 +1,27 @@
-use Rattle.std.proofs.Common.{refl}
+use Rattle.std.proofs.Common.{refl, set}
 use Rattle.std.specs.Prelude.{unwrap_or}
 use Rattle.std.specs.Option.{option_copied}
 use Rattle.std.proofs.lemmas.Result.{err_from_is_err_and}
-use Rattle.mum_users.proofs.Rosters.{IsKept-set, IsProper-set, found, here_from, not_found}
+use Rattle.mum_users.specs.declared.user.TheConstants.{SESSIONS}
+use Rattle.mum_users.specs.Numbers.{IsKept}
+use Rattle.mum_users.proofs.Rosters.{IsKept-set, found, here_from, not_found}
 use Rattle.mum_users.proofs.roster.Roster.set_texts.Goals as goal
+use Rattle.mum_users.proofs.roster.Roster.set_texts.Goals.{After-change_texts}
 
 pub returns-in-None-clause-outcome : goal.returns-in-None-clause-outcome
 returns-in-None-clause-outcome c = (not_found _ _ c.args.session _ c.self.view_is c.as_slice.ensures.value c.in-None.ensures, refl)
 
-pub invariant_of-self : goal.invariant_of-self
-invariant_of-self c =
+-- what is left is a proper roster with the slots of its sessions
+kept : (c : After-change_texts) → IsKept SESSIONS (record { sessions = set c.self.inside.users.items c.in-Some.index c.change_texts.new.user; listeners = c.self.inside.listeners; targets = c.self.inside.targets.items; last = c.self.inside.last }) c.self.inside.slots.items
+kept c =
     rw (c.change_texts.ensures, c.in_ok-comment-in-Some.ensures, c.in_ok-context-in-Some.ensures) (
     IsKept-set _ _ c.args.session
     (λ user. record user { comment = unwrap_or (option_copied c.args.comment) user.comment; context = unwrap_or (option_copied c.args.context) user.context })
     _ _ c.index_mut.result.now (record { session = λ _. refl; slot = λ _. refl; name = λ _. refl })
     c.self.invariant c.as_slice.ensures.value c.in-Some.ensures c.index_mut.ensures.value)
+
+pub invariant_of-self : goal.invariant_of-self
+invariant_of-self c = kept (goal.at.invariant_of-self c).After-change_texts
 
 pub returns-in_ok-context-in-Some-clause-outcome : goal.returns-in_ok-context-in-Some-clause-outcome
 returns-in_ok-context-in-Some-clause-outcome c =
@@ -35,9 +42,4 @@ returns-in_err-context-in-Some-clause-outcome c =
     rw (p.1, p.2) (here_from _ _ c.args.session _ _ c.self.view_is c.as_slice.ensures.value c.in-Some.ensures, refl)
 
 pub returns-in_ok-context-in-Some-clause-proper : goal.returns-in_ok-context-in-Some-clause-proper
-returns-in_ok-context-in-Some-clause-proper c =
-    rw (c.change_texts.ensures, c.in_ok-comment-in-Some.ensures, c.in_ok-context-in-Some.ensures) (
-    IsProper-set _ c.args.session
-    (λ user. record user { comment = unwrap_or (option_copied c.args.comment) user.comment; context = unwrap_or (option_copied c.args.context) user.context })
-    _ _ c.index_mut.result.now (record { session = λ _. refl; slot = λ _. refl; name = λ _. refl })
-    c.self.invariant.proper c.as_slice.ensures.value c.in-Some.ensures c.index_mut.ensures.value)
+returns-in_ok-context-in-Some-clause-proper c = (kept (goal.at.returns-in_ok-context-in-Some-clause-proper c).After-change_texts).proper

@@ -1,17 +1,24 @@
-use Rattle.std.proofs.Common.{refl}
+use Rattle.std.proofs.Common.{refl, set}
 use Rattle.std.proofs.lemmas.Result.{err_from_is_err_and}
-use Rattle.mum_users.proofs.Rosters.{IsKept-set, IsProper-set, found, here_from, not_found}
+use Rattle.mum_users.specs.declared.user.TheConstants.{SESSIONS}
+use Rattle.mum_users.specs.Numbers.{IsKept}
+use Rattle.mum_users.proofs.Rosters.{IsKept-set, found, here_from, not_found}
 use Rattle.mum_users.proofs.roster.Roster.set_tokens.Goals as goal
+use Rattle.mum_users.proofs.roster.Roster.set_tokens.Goals.{After-index_mut-user}
 
 pub returns-in-None-clause-outcome : goal.returns-in-None-clause-outcome
 returns-in-None-clause-outcome c = (not_found _ _ c.args.session _ c.self.view_is c.as_slice.ensures.value c.in-None.ensures, refl)
 
-pub invariant_of-self : goal.invariant_of-self
-invariant_of-self c =
+-- what is left is a proper roster with the slots of its sessions
+kept : (c : After-index_mut-user) → IsKept SESSIONS (record { sessions = set c.self.inside.users.items c.in-Some.index (record c.index_mut-user.result.now { tokens = c.in_ok-tokens-in-Some.tokens }); listeners = c.self.inside.listeners; targets = c.self.inside.targets.items; last = c.self.inside.last }) c.self.inside.slots.items
+kept c =
     rw c.in_ok-tokens-in-Some.ensures (
     IsKept-set _ _ c.args.session (λ user. record user { tokens = c.args.tokens.now }) _ _ c.index_mut-user.result.now
     (record { session = λ _. refl; slot = λ _. refl; name = λ _. refl })
     c.self.invariant c.as_slice.ensures.value c.in-Some.ensures c.index_mut-user.ensures.value)
+
+pub invariant_of-self : goal.invariant_of-self
+invariant_of-self c = kept (goal.at.invariant_of-self c).After-index_mut-user
 
 pub returns-in_ok-tokens-in-Some-clause-outcome : goal.returns-in_ok-tokens-in-Some-clause-outcome
 returns-in_ok-tokens-in-Some-clause-outcome c =
@@ -26,8 +33,4 @@ returns-in_err-tokens-in-Some-clause-outcome c =
     rw (p.1, p.2) (here_from _ _ c.args.session _ _ c.self.view_is c.as_slice.ensures.value c.in-Some.ensures, refl)
 
 pub returns-in_ok-tokens-in-Some-clause-proper : goal.returns-in_ok-tokens-in-Some-clause-proper
-returns-in_ok-tokens-in-Some-clause-proper c =
-    rw c.in_ok-tokens-in-Some.ensures (
-    IsProper-set _ c.args.session (λ user. record user { tokens = c.args.tokens.now }) _ _ c.index_mut-user.result.now
-    (record { session = λ _. refl; slot = λ _. refl; name = λ _. refl })
-    c.self.invariant.proper c.as_slice.ensures.value c.in-Some.ensures c.index_mut-user.ensures.value)
+returns-in_ok-tokens-in-Some-clause-proper c = (kept (goal.at.returns-in_ok-tokens-in-Some-clause-proper c).After-index_mut-user).proper

@@ -1,15 +1,22 @@
-use Rattle.std.proofs.Common.{refl}
-use Rattle.mum_users.proofs.Rosters.{IsKept-set, IsProper-set, found, not_found}
+use Rattle.std.proofs.Common.{refl, set}
+use Rattle.mum_users.specs.declared.user.TheConstants.{SESSIONS}
+use Rattle.mum_users.specs.Numbers.{IsKept}
+use Rattle.mum_users.proofs.Rosters.{IsKept-set, found, not_found}
 use Rattle.mum_users.proofs.roster.Roster.suppress.Goals as goal
+use Rattle.mum_users.proofs.roster.Roster.suppress.Goals.{After-index_mut-user}
 
 pub returns-in-None-clause-outcome : goal.returns-in-None-clause-outcome
 returns-in-None-clause-outcome c = (not_found _ _ c.args.session _ c.self.view_is c.as_slice.ensures.value c.in-None.ensures, refl)
 
-pub invariant_of-self : goal.invariant_of-self
-invariant_of-self c =
+-- what is left is a proper roster with the slots of its sessions
+kept : (c : After-index_mut-user) → IsKept SESSIONS (record { sessions = set c.self.inside.users.items c.in-Some.index (record c.index_mut-user.result.now { suppress = c.args.on }); listeners = c.self.inside.listeners; targets = c.self.inside.targets.items; last = c.self.inside.last }) c.self.inside.slots.items
+kept c =
     IsKept-set _ _ c.args.session (λ user. record user { suppress = c.args.on }) _ _ c.index_mut-user.result.now
     (record { session = λ _. refl; slot = λ _. refl; name = λ _. refl })
     c.self.invariant c.as_slice.ensures.value c.in-Some.ensures c.index_mut-user.ensures.value
+
+pub invariant_of-self : goal.invariant_of-self
+invariant_of-self c = kept (goal.at.invariant_of-self c).After-index_mut-user
 
 pub returns-in-Some-clause-outcome : goal.returns-in-Some-clause-outcome
 returns-in-Some-clause-outcome c =
@@ -17,7 +24,4 @@ returns-in-Some-clause-outcome c =
     c.self.view_is c.self.invariant.proper c.as_slice.ensures.value c.in-Some.ensures c.index_mut-user.ensures.value
 
 pub returns-in-Some-clause-proper : goal.returns-in-Some-clause-proper
-returns-in-Some-clause-proper c =
-    IsProper-set _ c.args.session (λ user. record user { suppress = c.args.on }) _ _ c.index_mut-user.result.now
-    (record { session = λ _. refl; slot = λ _. refl; name = λ _. refl })
-    c.self.invariant.proper c.as_slice.ensures.value c.in-Some.ensures c.index_mut-user.ensures.value
+returns-in-Some-clause-proper c = (kept (goal.at.returns-in-Some-clause-proper c).After-index_mut-user).proper

@@ -9,7 +9,7 @@ use mum_cases_words::lines::{account_text, line_of};
 use mum_cases_words::perms::set_text;
 use mum_cases_words::targets::target_text;
 use mum_cases_words::told;
-use mum_cases_words::words::{add_number, channel, or_none, session, small, word_of};
+use mum_cases_words::words::{add_number, add_word, channel, session, small, word_of};
 use mum_policy::Who;
 use mum_state::State;
 use mum_tree::CHANNEL_LIMIT;
@@ -18,6 +18,28 @@ use mum_users::user::SESSIONS;
 use std::alloc::Global;
 use std::marker::Brand;
 use std::sync::ledger::{Blank, Ledger};
+
+/// The first words of the calls that ask.
+const QUESTIONS: [&str; 18] = [
+    "may",
+    "granted",
+    "named",
+    "listens",
+    "target-of",
+    "channels",
+    "sessions",
+    "where",
+    "suppressed",
+    "slots",
+    "settings",
+    "channel",
+    "place",
+    "policy",
+    "links",
+    "session",
+    "counts",
+    "next",
+];
 
 /// What the session may do in the channel, over a counter of the caller's choice.
 fn counted<L: Ledger>(
@@ -38,11 +60,11 @@ fn permissions(state: &State, session: SessionId, channel: ChannelId) -> Option<
     counted::<Brand>(Blank::new(1), state, session, channel)
 }
 
-/// A set, or `none` where nothing is said.
-fn given_set(alloc: Global, set: Option<Perm>) -> Result<String> {
+/// Adds a set, where one is said.
+fn add_set(alloc: Global, said: &mut String, set: Option<Perm>) -> Result<()> {
     match set {
-        Some(set) => set_text(alloc, set),
-        None => Ok(String::from_str(alloc, "none")?),
+        Some(set) => add_word(said, set_text(alloc, set)?.as_str()),
+        None => Ok(()),
     }
 }
 
@@ -58,7 +80,7 @@ fn granted_alike(state: &State, user: &User, channel: ChannelId) -> Option<Perm>
 }
 
 /// `SESSION CHANNEL`
-fn may(alloc: Global, state: &State, rest: &str) -> Result<String> {
+fn may(alloc: Global, said: &mut String, state: &State, rest: &str) -> Result<()> {
     let (who, place) = word_of(rest);
     let id = session(who)?;
     let at = channel(place)?;
@@ -66,110 +88,114 @@ fn may(alloc: Global, state: &State, rest: &str) -> Result<String> {
     if let Some(user) = state.roster().session(id) {
         ensure!(granted_alike(state, user, at) == set, "one set");
     }
-    given_set(alloc, set)
+    add_set(alloc, said, set)
 }
 
 /// `CHANNEL to WHO`
-fn granted(alloc: Global, state: &State, rest: &str) -> Result<String> {
+fn granted(alloc: Global, said: &mut String, state: &State, rest: &str) -> Result<()> {
     let (at, asker) = rest.split_once(" to ").context("somebody asks")?;
+    let at = channel(at)?;
     let (who, place, tokens) = asker_parts(asker);
     let asker = Asker::of(alloc, who, channel(place.unwrap_or("0"))?, tokens)?;
-    given_set(alloc, state.granted_to(&asker.who(), channel(at)?))
+    add_set(alloc, said, state.granted_to(&asker.who(), at))
 }
 
 /// The channels to which a session listens, whether it is here or not.
-fn listens(alloc: Global, state: &State, word: &str) -> Result<String> {
+fn listens(alloc: Global, said: &mut String, state: &State, word: &str) -> Result<()> {
     let id = session(word)?;
-    let mut list = String::new(alloc);
     for pair in state.roster().pairs_of(id) {
-        add_number(alloc, &mut list, pair.channel.0)?;
+        add_number(alloc, said, pair.channel.0)?;
     }
-    or_none(alloc, list)
+    Ok(())
 }
 
 /// `SESSION ID`, whether the session is here or not.
-fn target_in(alloc: Global, state: &State, rest: &str) -> Result<String> {
+fn target_in(alloc: Global, said: &mut String, state: &State, rest: &str) -> Result<()> {
     let (who, id) = word_of(rest);
     match state.roster().target(session(who)?, small(id)?) {
-        Some(target) => target_text(alloc, target),
-        None => Ok(String::from_str(alloc, "none")?),
+        Some(target) => add_word(said, target_text(alloc, target)?.as_str()),
+        None => Ok(()),
     }
 }
 
-fn named(alloc: Global, state: &State, name: &str) -> Result<String> {
+fn named(alloc: Global, said: &mut String, state: &State, name: &str) -> Result<()> {
     match state.account_named(name) {
-        Some(account) => account_text(alloc, account),
-        None => Ok(String::from_str(alloc, "none")?),
+        Some(account) => add_word(said, account_text(alloc, account)?.as_str()),
+        None => Ok(()),
     }
 }
 
 /// The numbers of the channels.
-fn channels(alloc: Global, state: &State) -> Result<String> {
-    let mut list = String::new(alloc);
+fn channels(alloc: Global, said: &mut String, state: &State) -> Result<()> {
     for i in 0..CHANNEL_LIMIT {
         let Some(id) = state.tree().nth(i) else {
             break;
         };
-        add_number(alloc, &mut list, id.0)?;
+        add_number(alloc, said, id.0)?;
     }
-    Ok(list)
+    Ok(())
 }
 
 /// The sessions by their slots, where each is, or those that are suppressed.
-fn sessions(alloc: Global, state: &State, word: &str) -> Result<String> {
-    let mut list = String::new(alloc);
+fn sessions(alloc: Global, said: &mut String, state: &State, word: &str) -> Result<()> {
     for user in state.roster().users() {
         match word {
-            "where" => add_number(alloc, &mut list, user.channel.0)?,
+            "where" => add_number(alloc, said, user.channel.0)?,
             "suppressed" if !user.suppress => {}
-            _ => add_number(alloc, &mut list, user.session.0)?,
+            _ => add_number(alloc, said, user.session.0)?,
         }
     }
-    or_none(alloc, list)
+    Ok(())
 }
 
 /// The counts of the first so many slots.
-fn slots(alloc: Global, state: &State, word: &str) -> Result<String> {
-    let mut list = String::new(alloc);
+fn slots(alloc: Global, said: &mut String, state: &State, word: &str) -> Result<()> {
     let many = channel(word)?.0 as usize;
     for slot in 0..many.min(SESSIONS) {
         let count = state.session_stamp(Slot(slot as u8));
-        add_number(alloc, &mut list, u32::try_from(count)?)?;
+        add_number(alloc, said, u32::try_from(count)?)?;
     }
-    Ok(list)
+    Ok(())
 }
 
-/// What the state has under a name, or `none`.
-fn found(alloc: Global, state: &State, name: &str) -> Result<String> {
+/// What the state has under a name, if it has it.
+fn found(alloc: Global, said: &mut String, state: &State, name: &str) -> Result<()> {
     let lines = told(alloc, state)?;
-    let text = line_of(lines.as_slice(), name).unwrap_or("none");
-    Ok(String::from_str(alloc, text)?)
+    match line_of(lines.as_slice(), name) {
+        Some(text) => add_word(said, text),
+        None => Ok(()),
+    }
 }
 
 /// Whether a call with this word asks, and changes nothing.
 pub fn is_question(word: &str) -> bool {
-    match word {
-        "may" | "granted" | "named" | "listens" | "target-of" => true,
-        "channels" | "sessions" | "where" | "suppressed" | "slots" => true,
-        "settings" | "channel" | "place" | "policy" | "links" | "session" | "counts" | "next" =>
-            true,
-        _ => false,
+    for question in QUESTIONS {
+        if question == word {
+            return true;
+        }
     }
+    false
 }
 
-/// What a question is answered by.
-pub fn asked(alloc: Global, state: &State, call: &str) -> Result<String> {
+fn add_answer(alloc: Global, said: &mut String, state: &State, call: &str) -> Result<()> {
     let (word, rest) = word_of(call);
     match word {
-        "may" => return may(alloc, state, rest),
-        "granted" => return granted(alloc, state, rest),
-        "named" => return named(alloc, state, rest),
-        "listens" => return listens(alloc, state, rest),
-        "target-of" => return target_in(alloc, state, rest),
-        "channels" => return channels(alloc, state),
-        "sessions" | "where" | "suppressed" => return sessions(alloc, state, word),
-        "slots" => return slots(alloc, state, rest),
+        "may" => return may(alloc, said, state, rest),
+        "granted" => return granted(alloc, said, state, rest),
+        "named" => return named(alloc, said, state, rest),
+        "listens" => return listens(alloc, said, state, rest),
+        "target-of" => return target_in(alloc, said, state, rest),
+        "channels" => return channels(alloc, said, state),
+        "sessions" | "where" | "suppressed" => return sessions(alloc, said, state, word),
+        "slots" => return slots(alloc, said, state, rest),
         _ => {}
     }
-    found(alloc, state, call)
+    found(alloc, said, state, call)
+}
+
+/// What a question is answered by; nothing where the state has nothing of the kind.
+pub fn asked(alloc: Global, state: &State, call: &str) -> Result<String> {
+    let mut said = String::new(alloc);
+    add_answer(alloc, &mut said, state, call)?;
+    Ok(said)
 }

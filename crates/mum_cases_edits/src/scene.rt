@@ -1,14 +1,14 @@
 //! A line of calls on a state.
 
 use crate::questions::{asked, is_question};
-use anyhow::Result;
+use anyhow::{Context, Result};
 use mum_cases_words::calls::edit;
 use mum_cases_words::lines::changes;
 use mum_cases_words::words::word_of;
 use mum_cases_words::{calls_of, edit_of, told};
 use mum_state::State;
 use std::alloc::Global;
-use std::mem::{replace, swap};
+use std::mem::{drop, replace, swap};
 
 /// What a line speaks of: the state that its calls go to, as it is and as it was before the last edit,
 /// another beside it, and what its calls have said.
@@ -16,25 +16,16 @@ use std::mem::{replace, swap};
 struct Scene {
     alloc: Global,
     state: State,
-    before: State,
-    other: State,
+    before: Option<State>,
+    other: Option<State>,
     said: String,
 }
 
-/// A list, or `nothing` where it is empty.
-fn or_nothing(alloc: Global, text: Result<String>) -> Result<String> {
-    let text = text?;
-    if text.is_empty() {
-        return Ok(String::from_str(alloc, "nothing")?);
-    }
-    Ok(text)
-}
-
-/// The names of what two states say another of, or `nothing`.
-fn differences(alloc: Global, before: &State, after: &State) -> Result<String> {
-    let before = told(alloc, before)?;
+/// The names of what two states say another of.
+fn differences(alloc: Global, before: &Option<State>, after: &State) -> Result<String> {
+    let before = told(alloc, before.as_ref().context("no other state")?)?;
     let after = told(alloc, after)?;
-    or_nothing(alloc, changes(alloc, before.as_slice(), after.as_slice()))
+    changes(alloc, before.as_slice(), after.as_slice())
 }
 
 impl Scene {
@@ -42,8 +33,8 @@ impl Scene {
         Ok(Scene {
             alloc,
             state: State::empty(alloc)?,
-            before: State::empty(alloc)?,
-            other: State::empty(alloc)?,
+            before: None,
+            other: None,
             said: String::new(alloc),
         })
     }
@@ -57,16 +48,27 @@ impl Scene {
         Ok(())
     }
 
-    /// The same of a text, where there was memory for it.
-    fn say_text(&mut self, text: Result<String>) -> Result<()> {
+    /// The same of a text, where there was memory for it, or of this word where it is empty.
+    fn say_text(&mut self, text: Result<String>, empty: &str) -> Result<()> {
         let text = text?;
+        if text.is_empty() {
+            return self.say(empty);
+        }
         self.say(text.as_str())
     }
 
     /// From here on the calls go to an equal state.
     fn copy(&mut self) -> Result<()> {
-        self.other = self.state.copy(self.alloc)?;
-        swap(&mut self.state, &mut self.other);
+        let copy = self.state.copy(self.alloc)?;
+        let state = replace(&mut self.state, copy);
+        drop(replace(&mut self.other, Some(state)));
+        Ok(())
+    }
+
+    /// From here on the calls go to the other state.
+    fn turn(&mut self) -> Result<()> {
+        let other = self.other.as_mut().context("no other state")?;
+        swap(&mut self.state, other);
         Ok(())
     }
 
@@ -74,29 +76,31 @@ impl Scene {
     fn say_fits(&mut self, call: &str) -> Result<()> {
         let edit = edit_of(self.alloc, &self.state, call)?;
         let fits = self.state.fits(&edit);
+        drop(edit);
         self.say(if fits { "yes" } else { "no" })
     }
 
     /// What is another since before the last edit.
     fn say_changes(&mut self) -> Result<()> {
         let text = differences(self.alloc, &self.before, &self.state);
-        self.say_text(text)
+        self.say_text(text, "nothing")
     }
 
     /// What the state has else than the other.
     fn say_differs(&mut self) -> Result<()> {
         let text = differences(self.alloc, &self.other, &self.state);
-        self.say_text(text)
+        self.say_text(text, "nothing")
     }
 
     /// What a question is answered by.
     fn say_asked(&mut self, call: &str) -> Result<()> {
         let text = asked(self.alloc, &self.state, call);
-        self.say_text(text)
+        self.say_text(text, "none")
     }
 
     fn edit(&mut self, call: &str) -> Result<()> {
-        self.before = self.state.copy(self.alloc)?;
+        let before = self.state.copy(self.alloc)?;
+        drop(replace(&mut self.before, Some(before)));
         if edit(self.alloc, &mut self.state, call)? {
             return Ok(());
         }
@@ -110,10 +114,7 @@ impl Scene {
         }
         match word {
             "copy" => self.copy(),
-            "other" => {
-                swap(&mut self.state, &mut self.other);
-                Ok(())
-            }
+            "other" => self.turn(),
             "fits" => self.say_fits(rest),
             "changes" => self.say_changes(),
             "differs" => self.say_differs(),
@@ -137,5 +138,7 @@ impl Scene {
 pub fn answer(alloc: Global, line: &str) -> Result<String> {
     let calls = calls_of(alloc, line)?;
     let mut scene = Scene::new(alloc)?;
-    scene.calls(calls.as_slice())
+    let said = scene.calls(calls.as_slice());
+    drop(scene);
+    said
 }

@@ -9,7 +9,7 @@ use std::alloc::Global;
 pub const ACCOUNT_LIMIT: usize = 1024;
 
 /// An account. Nobody but its owner logs in under its name.
-#[derive(Debug, Drop)]
+#[derive(Drop)]
 pub struct Account {
     /// Account 0 is SuperUser.
     pub account: AccountId,

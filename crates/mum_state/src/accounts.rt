@@ -138,8 +138,8 @@ impl Accounts {
         ensures { IfOk result (λ copy. copy ≡ self.now) }
     {
         Ok(Accounts {
-            by_name: copy_of_accounts(alloc, self.by_name.as_slice())?,
             numbers: Vec::from_slice(alloc, self.numbers.as_slice())?,
+            by_name: copy_of_accounts(alloc, self.by_name.as_slice())?,
         })
     }
 

@@ -1,11 +1,10 @@
 //! An edit, from what it sets to its counts.
 
-ghost use Rattle.std.specs.Prelude.{◌≡◌, ◌||◌, ◌<◌, ◌≤◌, ◌^◌, ◌==◌, ℕ, None, IfSome, IsTrue, OnErr, OnOk, length, false, if◌then◌else◌};
+ghost use Rattle.std.specs.Prelude.{◌≡◌, ◌||◌, ◌<◌, ◌≤◌, ◌^◌, None, IfSome, IsTrue, OnErr, OnOk, length};
 ghost use Rattle.std.specs.List.{All, list_all, list_any};
 ghost use Rattle.std.specs.Prelude.{◌+◌};
 ghost use Rattle.mum_tree.specs.Refusals.{fault_of_remove};
 ghost use Rattle.mum_tree.specs.Rows.{is_there};
-ghost use Rattle.mum_users.specs.Sessions.{suppressed};
 ghost use Rattle.mum_users.specs.State.{has_number};
 ghost use Rattle.mum_users.specs.declared.user.TheConstants.{SESSIONS};
 ghost use Rattle.mum_state.specs.Applied.{applied};
@@ -22,21 +21,14 @@ use crate::kind::{changes_paths, changes_routes, is_of_configuration, sets_polic
 use crate::moved::Hearing;
 use crate::parts::Parts;
 use crate::renewed::Renewed;
-use mum_base::{ChannelId, OutOfMemory, SessionId, Slot};
-
-// One if it holds, else nothing.
-fn one_if(holds: bool) -> u64
-    ensures { result ≡ (if holds then 1 else 0) }
-{
-    if holds { 1 } else { 0 }
-}
+use mum_base::{ChannelId, OutOfMemory, Slot};
 
 // One more where it holds.
 fn raised_where(holds: bool, count: u64) -> u64
     requires { count ≤ 2 ^ 63 }
     ensures { result ≡ raised_where holds count }
 {
-    count + one_if(holds)
+    if holds { count + 1 } else { count }
 }
 
 // One more for each renewed slot.
@@ -73,17 +65,6 @@ impl Parts {
         self.roster.seat_anew(&hearing);
     }
 
-    // A session may speak where it is.
-    fn clear(&mut self, session: SessionId)
-        requires { IsTrue (list_any (has_number session) self.old.roster.sessions) }
-        ensures { self.new ≡ record self.old { roster = suppressed self.old.roster session false } }
-    {
-        match self.roster.suppress(session, false) {
-            Ok(()) => {}
-            Err(_) => unreachable!(),
-        }
-    }
-
     // The session of an edit may speak where the edit says so.
     fn clear_by(&mut self, edit: &Edit)
         requires { IsTrue (list_all (λ session. list_any (has_number session) self.old.roster.sessions) (cleared_session edit.now)) }
@@ -94,7 +75,10 @@ impl Parts {
                 session,
                 clear_suppress: true,
                 ..
-            } => self.clear(session),
+            } => match self.roster.suppress(session, false) {
+                Ok(()) => {}
+                Err(_) => unreachable!(),
+            },
             _ => {}
         }
     }

@@ -33,22 +33,22 @@ fn bytes_of(octets: &Option<Octets>) -> Option<&[u8]>
 pub(crate) fn channel_change(edit: &Edit) -> Option<ChannelChange<'_>>
     ensures { option_map change_of result ≡ channel_change edit.now }
 {
-    match edit {
+    match *edit {
         Edit::EditChannel {
-            name,
+            ref name,
             parent,
-            description,
+            ref description,
             position,
             max_users,
-            links_add,
-            links_remove,
+            ref links_add,
+            ref links_remove,
             ..
         } => Some(ChannelChange {
             name: str_of(name),
-            parent: *parent,
+            parent,
             description: description.as_ref(),
-            position: *position,
-            max_users: *max_users,
+            position,
+            max_users,
             links_add: links_add.as_slice(),
             links_remove: links_remove.as_slice(),
         }),
@@ -60,7 +60,7 @@ pub(crate) fn channel_change(edit: &Edit) -> Option<ChannelChange<'_>>
 pub(crate) fn user_change(edit: &Edit) -> Option<UserChange<'_>>
     ensures { option_map user_edit_of result ≡ user_change edit.now }
 {
-    match edit {
+    match *edit {
         Edit::SetUser {
             channel,
             mute,
@@ -69,21 +69,21 @@ pub(crate) fn user_change(edit: &Edit) -> Option<UserChange<'_>>
             self_mute,
             self_deaf,
             recording,
-            comment,
-            context,
-            listen,
-            unlisten,
+            ref comment,
+            ref context,
+            ref listen,
+            ref unlisten,
             ..
         } => Some(UserChange {
-            channel: *channel,
+            channel,
             flags: FlagChange {
-                mute: *mute,
-                deaf: *deaf,
+                mute,
+                deaf,
                 suppress: None,
-                self_mute: *self_mute,
-                self_deaf: *self_deaf,
-                priority: *priority,
-                recording: *recording,
+                self_mute,
+                self_deaf,
+                priority,
+                recording,
             },
             comment: comment.as_ref(),
             context: bytes_of(context),

@@ -199,8 +199,8 @@ impl Channels {
     {
         Ok(Channels {
             alloc,
-            tree: Tree::new(alloc)?,
             policies: open_policies(alloc)?,
+            tree: Tree::new(alloc)?,
         })
     }
 
@@ -210,8 +210,8 @@ impl Channels {
     {
         Ok(Channels {
             alloc,
-            tree: self.tree.copy(alloc)?,
             policies: copy_of_policies(alloc, self.policies.as_slice())?,
+            tree: self.tree.copy(alloc)?,
         })
     }
 

@@ -6,7 +6,7 @@ pub const EDIT_LIMIT: u64 = 1 << 62;
 /// How many edits changed what permissions, and what routes, are computed from. Where both counts
 /// are those of an earlier state, so are the policies, the paths of channels, and all that a route
 /// reads.
-#[derive(Clone, Copy, Debug, PartialEq, Eq)]
+#[derive(Clone, Copy)]
 pub struct Stamps {
     pub policy: u64,
     pub routing: u64,

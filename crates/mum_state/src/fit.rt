@@ -15,7 +15,7 @@ ghost use Rattle.mum_users.specs.declared.target.TheConstants.{LAST_TARGET};
 ghost use Rattle.mum_users.specs.declared.user.TheConstants.{SESSIONS};
 ghost use Rattle.mum_state.specs.Fits.{fits, gives_right_numbers, has_room_for, holds_of_given, is_countable, sets_properly};
 ghost use Rattle.mum_state.specs.Parts.{channel_change, user_change};
-ghost use Rattle.mum_state.specs.Named.{given, named_account, named_channels, named_sessions, names_there};
+ghost use Rattle.mum_state.specs.Named.{given, named_account, named_channels, named_sessions};
 ghost use Rattle.mum_state.specs.Proper.{are_permissions, is_name, is_short, is_sound_entry, is_sound_policy, is_text};
 ghost use Rattle.mum_state.specs.State.{has_account, is_named};
 
@@ -120,15 +120,6 @@ fn has_room_for(raises: bool, revision: u64, count: u64) -> bool
 }
 
 impl Parts {
-    fn is_here_if_given(&self, session: Option<SessionId>) -> bool
-        ensures { result ≡ list_all (λ session. list_any (has_number session) self.now.roster.sessions) (given session) }
-    {
-        match session {
-            Some(session) => self.roster.is_here(session),
-            None => true,
-        }
-    }
-
     // The sessions that an edit names are here.
     fn sessions_here(&self, edit: &Edit) -> bool
         ensures { result ≡ list_all (λ session. list_any (has_number session) self.now.roster.sessions)
@@ -141,13 +132,20 @@ impl Parts {
             Edit::Kick { session, actor, .. } | Edit::SetUser { session, actor, .. } => {
                 self.roster.is_here(session) && self.roster.is_here(actor)
             }
-            Edit::MakeChannel { maker, .. } => self.is_here_if_given(maker),
-            Edit::EditChannel { actor, .. } | Edit::SetAcl { actor, .. } => {
-                self.is_here_if_given(actor)
+            Edit::MakeChannel {
+                maker: Some(actor),
+                ..
             }
-            Edit::RemoveChannel { actor, .. } | Edit::Text { actor, .. } => {
-                self.roster.is_here(actor)
+            | Edit::EditChannel {
+                actor: Some(actor),
+                ..
             }
+            | Edit::SetAcl {
+                actor: Some(actor),
+                ..
+            }
+            | Edit::RemoveChannel { actor, .. }
+            | Edit::Text { actor, .. } => self.roster.is_here(actor),
             _ => true,
         }
     }
@@ -214,13 +212,6 @@ impl Parts {
             } => self.accounts.has_number(account),
             _ => true,
         }
-    }
-
-    // Whom and what an edit names is there.
-    fn names_there(&self, edit: &Edit) -> bool
-        ensures { result ≡ names_there self.now edit.now }
-    {
-        self.sessions_here(edit) && self.channels_there(edit) && self.account_there(edit)
     }
 
     fn may_add(&self, account: AccountId, name: &Text) -> bool
@@ -404,11 +395,15 @@ impl Parts {
         }
     }
 
-    /// Whether an edit fits.
+    /// Whether an edit fits: whom and what it names is there, it is allowed, and it can be counted.
     pub(crate) fn fits(&self, edit: &Edit) -> bool
         requires { self.now.counts.revision < 2 ^ 63 }
         ensures { result ≡ fits self.now edit.now }
     {
-        self.names_there(edit) && self.is_allowed(edit) && self.is_countable(edit)
+        self.sessions_here(edit)
+            && self.channels_there(edit)
+            && self.account_there(edit)
+            && self.is_allowed(edit)
+            && self.is_countable(edit)
     }
 }

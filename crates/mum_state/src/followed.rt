@@ -1,8 +1,7 @@
 //! What follows from an edit, as it is told before the edit is made.
 
-ghost use Rattle.std.specs.Prelude.{◌≡◌, ◌==◌, ◌&&◌, ◌||◌, ◌<◌, ℕ, IsTrue, None, false, length, slice_index_or, slice_set, if◌then◌else◌};
+ghost use Rattle.std.specs.Prelude.{◌≡◌, ◌==◌, ◌&&◌, ◌||◌, ◌<◌, ℕ, IsTrue, false, length, slice_index_or, slice_set};
 ghost use Rattle.std.specs.List.{list_any};
-ghost use Rattle.std.specs.Option.{option_and_then};
 ghost use Rattle.mum_tree.specs.Rows.{is_below};
 ghost use Rattle.mum_users.specs.Proper.{SlotsRise};
 ghost use Rattle.mum_users.specs.State.{has_number};
@@ -140,25 +139,11 @@ impl Parts {
     fn temporary_around(&self, session: SessionId) -> Option<ChannelId>
         ensures { result ≡ temporary_around self.now session }
     {
-        let user = self.roster.session(session)?;
-        let channel = self.channels.tree().channel(user.channel)?;
-        if channel.temporary {
-            Some(user.channel)
+        let around = self.roster.session(session)?.channel;
+        if self.channels.tree().channel(around)?.temporary {
+            Some(around)
         } else {
             None
-        }
-    }
-
-    // The temporary channel in which its maker is that makes another.
-    fn left_by_maker(&self, temporary: bool, maker: Option<SessionId>) -> Option<ChannelId>
-        ensures { result ≡ (if temporary then option_and_then (temporary_around self.now) maker else None) }
-    {
-        if !temporary {
-            return None;
-        }
-        match maker {
-            Some(maker) => self.temporary_around(maker),
-            None => None,
         }
     }
 
@@ -169,10 +154,10 @@ impl Parts {
         match *edit {
             Edit::Leave { session } | Edit::Kick { session, .. } => self.temporary_around(session),
             Edit::MakeChannel {
-                temporary,
-                maker,
+                temporary: true,
+                maker: Some(maker),
                 ..
-            } => self.left_by_maker(temporary, maker),
+            } => self.temporary_around(maker),
             Edit::SetUser {
                 session,
                 channel: Some(_),

@@ -37,10 +37,12 @@ pub(crate) fn may_renew(edit: &Edit) -> bool
 pub(crate) fn is_of_configuration(edit: &Edit) -> bool
     ensures { result ≡ is_of_configuration edit.now }
 {
-    match edit {
-        Edit::SetServer { .. } | Edit::AddAccount { .. } => true,
-        Edit::MakeChannel { maker, .. } => maker.is_none(),
-        Edit::EditChannel { actor, .. } | Edit::SetAcl { actor, .. } => actor.is_none(),
+    match *edit {
+        Edit::SetServer { .. }
+        | Edit::AddAccount { .. }
+        | Edit::MakeChannel { maker: None, .. }
+        | Edit::EditChannel { actor: None, .. }
+        | Edit::SetAcl { actor: None, .. } => true,
         _ => false,
     }
 }
@@ -59,9 +61,14 @@ pub(crate) fn sets_policy(edit: &Edit) -> bool
 pub(crate) fn changes_paths(edit: &Edit) -> bool
     ensures { result ≡ changes_paths edit.now }
 {
-    match edit {
-        Edit::MakeChannel { .. } | Edit::RemoveChannel { .. } | Edit::SetAcl { .. } => true,
-        Edit::EditChannel { parent, .. } => parent.is_some(),
+    match *edit {
+        Edit::MakeChannel { .. }
+        | Edit::EditChannel {
+            parent: Some(_),
+            ..
+        }
+        | Edit::RemoveChannel { .. }
+        | Edit::SetAcl { .. } => true,
         _ => false,
     }
 }
@@ -70,38 +77,25 @@ pub(crate) fn changes_paths(edit: &Edit) -> bool
 pub(crate) fn changes_routes(edit: &Edit) -> bool
     ensures { result ≡ changes_routes edit.now }
 {
-    match edit {
+    match *edit {
         Edit::SetServer { .. } | Edit::AddAccount { .. } | Edit::Text { .. } => false,
         Edit::EditChannel {
-            parent,
-            links_add,
-            links_remove,
+            parent: None,
+            ref links_add,
+            ref links_remove,
             ..
-        } => {
-            !(parent.is_none()
-                && links_add.as_slice().is_empty()
-                && links_remove.as_slice().is_empty())
-        }
+        } => !(links_add.as_slice().is_empty() && links_remove.as_slice().is_empty()),
         Edit::SetUser {
-            channel,
-            mute,
-            deaf,
-            clear_suppress,
-            self_mute,
-            self_deaf,
-            listen,
-            unlisten,
+            channel: None,
+            mute: None,
+            deaf: None,
+            clear_suppress: false,
+            self_mute: None,
+            self_deaf: None,
+            ref listen,
+            ref unlisten,
             ..
-        } => {
-            !(channel.is_none()
-                && mute.is_none()
-                && deaf.is_none()
-                && !*clear_suppress
-                && self_mute.is_none()
-                && self_deaf.is_none()
-                && listen.as_slice().is_empty()
-                && unlisten.as_slice().is_empty())
-        }
+        } => !(listen.as_slice().is_empty() && unlisten.as_slice().is_empty()),
         _ => true,
     }
 }

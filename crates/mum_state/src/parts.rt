@@ -56,20 +56,20 @@ impl Parts {
     {
         Ok(Parts {
             alloc,
+            slot_counts: vec![in alloc; 0; SESSIONS]?,
+            channels: Channels::new(alloc)?,
+            roster: Roster::new(alloc)?,
+            accounts: Accounts::new(alloc),
             server: Server {
                 welcome: Text::empty(alloc),
                 bandwidth: DEFAULT_BANDWIDTH,
                 password: None,
             },
-            accounts: Accounts::new(alloc),
-            channels: Channels::new(alloc)?,
-            roster: Roster::new(alloc)?,
             revision: 0,
             stamps: Stamps {
                 policy: 0,
                 routing: 0,
             },
-            slot_counts: vec![in alloc; 0; SESSIONS]?,
         })
     }
 
@@ -79,13 +79,13 @@ impl Parts {
     {
         Ok(Parts {
             alloc,
+            slot_counts: Vec::from_slice(alloc, self.slot_counts.as_slice())?,
             server: self.server.copy(alloc)?,
             accounts: self.accounts.copy(alloc)?,
             channels: self.channels.copy(alloc)?,
             roster: self.roster.copy(alloc)?,
             revision: self.revision,
             stamps: self.stamps,
-            slot_counts: Vec::from_slice(alloc, self.slot_counts.as_slice())?,
         })
     }
 

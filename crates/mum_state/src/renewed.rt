@@ -1,6 +1,6 @@
 //! For whom an edit starts anew what was computed of a session.
 
-ghost use Rattle.std.specs.Prelude.{◌≡◌, ◌&&◌, not, false, slice_index_or};
+ghost use Rattle.std.specs.Prelude.{◌≡◌, ◌&&◌, not};
 ghost use Rattle.mum_state.specs.Renewed.{is_nobody, is_renewed_slot};
 
 use mum_base::Slot;
@@ -38,16 +38,10 @@ impl Renewed {
         match *self {
             Renewed::Nobody => false,
             Renewed::One(one) => one.0 == slot.0,
-            Renewed::Those(ref marks) => is_marked(marks, slot),
+            Renewed::Those(ref marks) => match marks.get(slot.0 as usize) {
+                Some(mark) => *mark,
+                None => false,
+            },
         }
-    }
-}
-
-fn is_marked(marks: &[bool], slot: Slot) -> bool
-    ensures { result ≡ slice_index_or marks.now slot.0 false }
-{
-    match marks.get(slot.0 as usize) {
-        Some(mark) => *mark,
-        None => false,
     }
 }

@@ -9,7 +9,7 @@ use std::alloc::Global;
 pub const DEFAULT_BANDWIDTH: u32 = 72_000;
 
 /// The settings of a server.
-#[derive(Debug, Drop)]
+#[derive(Drop)]
 pub struct Server {
     /// What a client is greeted with, at most 20,000 bytes.
     pub welcome: Text,

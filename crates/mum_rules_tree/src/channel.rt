@@ -2,15 +2,23 @@
 
 ghost use Rattle.std.specs.Prelude.{◌≡◌};
 ghost use Rattle.mum_tree.specs.Refusals.{name_of, parent_of};
-ghost use Rattle.mum_tree.specs.Rows.{is_there};
-ghost use Rattle.mum_rules_tree.specs.Asked.{channel_or_root};
+ghost use Rattle.std.specs.List.{list_all};
+ghost use Rattle.mum_state.specs.Fits.{holds_of_given};
+ghost use Rattle.mum_rules_tree.specs.Asked.{channel, channel_or_root, is_number_there};
 ghost use Rattle.mum_rules_tree.specs.Limits.{new_number};
 
 use mum_base::ChannelId;
 use mum_tree::Tree;
 
+/// The channel of a number.
+pub fn channel_numbered(number: u32) -> ChannelId
+    ensures { result ≡ channel number }
+{
+    ChannelId(number)
+}
+
 /// The channel of a number, or the root where a message has none.
-pub(crate) fn channel_or_root(number: Option<u32>) -> ChannelId
+pub fn channel_or_root(number: Option<u32>) -> ChannelId
     ensures { result ≡ channel_or_root number }
 {
     match number {
@@ -19,10 +27,23 @@ pub(crate) fn channel_or_root(number: Option<u32>) -> ChannelId
     }
 }
 
-pub(crate) fn is_there(tree: &Tree, id: ChannelId) -> bool
-    ensures { result ≡ is_there tree.now.channels id }
+/// Whether the channel that is named, if one is, is there.
+pub fn is_there_if_named(tree: &Tree, number: Option<u32>) -> bool
+    ensures { result ≡ holds_of_given (is_number_there tree.now) number }
 {
-    tree.channel(id).is_some()
+    match number {
+        Some(number) => tree.is_there(ChannelId(number)),
+        None => true,
+    }
+}
+
+/// Whether each of these channels is there.
+pub fn are_there(tree: &Tree, numbers: &[u32]) -> bool
+    ensures { result ≡ list_all (is_number_there tree.now) numbers.now }
+{
+    numbers
+        .iter()
+        .all(|number| tree.is_there(ChannelId(*number)))
 }
 
 /// The name of a channel, or an empty one where it is not there.

@@ -1,16 +1,14 @@
 //! What is decided of a message on channels.
 
 ghost use Rattle.std.specs.Prelude.{◌≡◌, IfOk, IsTrue, length, nat_lt};
-ghost use Rattle.std.specs.List.{list_all};
 ghost use Rattle.mum_policy.specs.Member.{asker_of};
-ghost use Rattle.mum_state.specs.Fits.{holds_of_given};
-ghost use Rattle.mum_rules_tree.specs.Asked.{command_of, is_named_there, is_number_there, is_query, names_there, payload_of};
+ghost use Rattle.mum_rules_tree.specs.Asked.{command_of, is_named_there, is_query, names_there, payload_of};
 ghost use Rattle.mum_rules_tree.specs.Decision.{FitsWhereAccepted};
 ghost use Rattle.mum_rules_tree.specs.Verdict.{command_verdict, tree_verdict};
 
 use crate::acl::{decide_policy, decide_query};
 use crate::asker::who_with;
-use crate::channel::{channel_or_root, is_there};
+use crate::channel::{are_there, channel_or_root, is_there_if_named};
 use crate::edit::decide_edit;
 use crate::make::decide_new;
 use crate::message::TreeMessage;
@@ -35,7 +33,7 @@ fn payload_of(alloc: Global, message: &TreeMessage) -> Result<Octets, OutOfMemor
 }
 
 /// Whether the payload of a message, as this server spells it, is above the limit of commands.
-pub fn is_too_long(alloc: Global, message: &TreeMessage) -> Result<bool, OutOfMemory>
+fn is_too_long(alloc: Global, message: &TreeMessage) -> Result<bool, OutOfMemory>
     ensures { IfOk result (λ long. long ≡ nat_lt COMMAND_LIMIT (length (payload_of message.now))) }
 {
     let payload = payload_of(alloc, message)?;
@@ -47,27 +45,9 @@ fn is_named_there(tree: &Tree, number: Option<u32>) -> bool
     ensures { result ≡ is_named_there tree.now number }
 {
     match number {
-        Some(number) => is_there(tree, ChannelId(number)),
+        Some(number) => tree.is_there(ChannelId(number)),
         None => false,
     }
-}
-
-/// Whether the channel that is named, if one is, is there.
-fn is_there_if_named(tree: &Tree, number: Option<u32>) -> bool
-    ensures { result ≡ holds_of_given (is_number_there tree.now) number }
-{
-    match number {
-        Some(number) => is_there(tree, ChannelId(number)),
-        None => true,
-    }
-}
-
-fn are_there(tree: &Tree, numbers: &[u32]) -> bool
-    ensures { result ≡ list_all (is_number_there tree.now) numbers.now }
-{
-    numbers
-        .iter()
-        .all(|number| is_there(tree, ChannelId(*number)))
 }
 
 /// Whether each channel that a message names is there.

@@ -7,7 +7,7 @@ use mum_state::Verdict;
 use mum_tree::TreeFault;
 
 /// For what a command is denied, after `PermissionDenied.DenyType` of Mumble.proto.
-#[derive(Clone, Copy, Debug, PartialEq, Eq)]
+#[derive(Clone, Copy)]
 pub enum DenyType {
     /// For a reason that has no type of its own.
     Text,

@@ -16,7 +16,7 @@ ghost use Rattle.mum_rules_tree.specs.Needs.{needs, needs_to_describe, needs_to_
 ghost use Rattle.mum_rules_tree.specs.Outcome.{edit_to_change};
 ghost use Rattle.mum_rules_tree.specs.Verdict.{command_verdict};
 
-use crate::channel::{name_of, parent_of};
+use crate::channel::{channel_numbered, name_of, parent_of};
 use crate::deny::{DenyType, deny_type_of};
 use crate::message::TreeMessage;
 use crate::needs::{Lack, need};
@@ -58,7 +58,7 @@ fn others(alloc: Global, id: ChannelId, numbers: &[u32]) -> Result<Items<Channel
     let mut channels = Vec::with_capacity(alloc, numbers.len())?;
     for number in numbers {
         if *number != id.0 {
-            channels.push(ChannelId(*number))?;
+            channels.push(channel_numbered(*number))?;
         }
     }
     Ok(Items::from_vec(channels))
@@ -111,7 +111,7 @@ fn need_on_others(state: &State, who: &Who<'_>, id: ChannelId, numbers: &[u32]) 
 {
     for number in numbers {
         if *number != id.0 {
-            need(state, who, Perm::LINK_CHANNEL, ChannelId(*number))?;
+            need(state, who, Perm::LINK_CHANNEL, channel_numbered(*number))?;
         }
     }
     Ok(())
@@ -175,7 +175,7 @@ fn is_name_given(name: Option<&str>) -> bool
 }
 
 /// Whether the text that is given, if one is, is not too long.
-fn is_text_given(text: Option<&Text>) -> bool
+pub fn is_text_given(text: Option<&Text>) -> bool
     ensures { result ≡ holds_of_given is_text (option_copied text.entry) }
 {
     match text {

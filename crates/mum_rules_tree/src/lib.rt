@@ -21,9 +21,11 @@ mod reason;
 mod remove;
 
 pub use asker::{tokens_for_once, who_with};
-pub use decide::{decide_tree, is_too_long};
+pub use channel::{are_there, channel_numbered, channel_or_root, is_there_if_named};
+pub use decide::decide_tree;
 pub use denials::denial;
 pub use deny::DenyType;
+pub use edit::is_text_given;
 pub use message::TreeMessage;
 pub use needs::{Lack, may, need};
 pub use reason::{COMMAND_LIMIT, Reason, takes_no_edits};

@@ -4,7 +4,7 @@ use mum_msg_rule::Acl;
 use mum_msg_state::{ChannelRemove, ChannelState};
 
 /// A message of a client on channels, as it was read.
-#[derive(Debug, Drop)]
+#[derive(Drop)]
 pub enum TreeMessage {
     /// A new channel, where it names none, or else other parts of one.
     State(ChannelState),

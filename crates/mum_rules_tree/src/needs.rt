@@ -9,7 +9,7 @@ use mum_policy::Who;
 use mum_state::{State, Verdict};
 
 /// A permission that is missing, and the channel where it is.
-#[derive(Clone, Copy, Debug, PartialEq, Eq)]
+#[derive(Clone, Copy)]
 pub struct Lack {
     pub perm: Perm,
     pub channel: ChannelId,

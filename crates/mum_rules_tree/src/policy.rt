@@ -6,7 +6,7 @@ ghost use Rattle.std.specs.Str.{bytes_eq};
 ghost use Rattle.mum_state.specs.Proper.{is_name};
 ghost use Rattle.mum_rules_tree.specs.Decision.{first_standing};
 ghost use Rattle.mum_rules_tree.specs.Limits.{limits_of_policy};
-ghost use Rattle.mum_rules_tree.specs.Policy.{accounts, entry_asked, group_asked, has_twice, is_inherited, permissions_among, policy_asked, true_unless_said, whom_asked};
+ghost use Rattle.mum_rules_tree.specs.Policy.{account, accounts, entry_asked, group_asked, has_twice, is_inherited, permissions_among, policy_asked, true_unless_said, whom_asked};
 
 use crate::deny::DenyType;
 use mum_base::{AccountId, Items, OutOfMemory, Perm, Text, check_name};
@@ -26,12 +26,18 @@ fn true_unless_said(said: Option<bool>) -> bool
     said.unwrap_or(true)
 }
 
+fn account_numbered(number: u32) -> AccountId
+    ensures { result ≡ account number }
+{
+    AccountId(number)
+}
+
 fn accounts(alloc: Global, numbers: &[u32]) -> Result<Items<AccountId>, OutOfMemory>
     ensures { IfOk result (λ listed. listed ≡ accounts numbers.now) }
 {
     let mut listed = Vec::with_capacity(alloc, numbers.len())?;
     for number in numbers {
-        listed.push(AccountId(*number))?;
+        listed.push(account_numbered(*number))?;
     }
     Ok(Items::from_vec(listed))
 }
@@ -52,7 +58,7 @@ fn whom_asked(alloc: Global, line: &AclLine) -> Result<Whom, OutOfMemory>
     ensures { IfOk result (λ whom. whom ≡ whom_asked line.now) }
 {
     match line.user_id {
-        Some(number) => Ok(Whom::Account(AccountId(number))),
+        Some(number) => Ok(Whom::Account(account_numbered(number))),
         None => Ok(Whom::Group(Text::share_or_empty(alloc, &line.group)?)),
     }
 }

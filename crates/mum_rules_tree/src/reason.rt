@@ -11,7 +11,7 @@ use mum_state::{EDIT_LIMIT, State, Verdict};
 pub const COMMAND_LIMIT: usize = 65_000;
 
 /// Why a command is ignored. The asker is not told.
-#[derive(Clone, Copy, Debug, PartialEq, Eq)]
+#[derive(Clone, Copy)]
 pub enum Reason {
     /// The connection has no session.
     NotLoggedIn,

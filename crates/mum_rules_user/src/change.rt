@@ -6,7 +6,6 @@ ghost use Rattle.mum_policy.specs.Member.{asker_of};
 ghost use Rattle.mum_users.specs.Sessions.{session_of};
 ghost use Rattle.mum_users.specs.State.{has_number};
 ghost use Rattle.mum_state.specs.Fits.{holds_of_given};
-ghost use Rattle.mum_state.specs.Proper.{is_text};
 ghost use Rattle.mum_users.specs.State.{is_context};
 ghost use Rattle.mum_rules_tree.specs.Decision.{all_met, first_standing};
 ghost use Rattle.mum_rules_user.specs.Asked.{Command, channels, session_or};
@@ -19,10 +18,10 @@ use crate::listening::{limit_of_listening, need_to_listen};
 use crate::moving::{is_full_for, need_to_move, new_channel};
 use crate::session::{channels, is_protected, session_or};
 use crate::speech::{clears_suppression, need_to_rule_speech, rules_speech};
-use mum_base::{ChannelId, Items, Octets, OutOfMemory, SessionId, Text, check_text};
+use mum_base::{ChannelId, Items, Octets, OutOfMemory, SessionId, Text};
 use mum_msg_state::UserState;
 use mum_policy::Who;
-use mum_rules_tree::{DenyType, Lack};
+use mum_rules_tree::{DenyType, Lack, is_text_given};
 use mum_state::{Edit, State, Verdict};
 use mum_users::Roster;
 use mum_users::user::is_context;
@@ -43,16 +42,6 @@ fn need_for_change(
     need_to_listen(state, who, message.listening_channel_add.as_slice())
 }
 
-/// Whether the text that is given, if one is, is not too long.
-fn is_text_if_given(text: &Option<Text>) -> bool
-    ensures { result ≡ holds_of_given is_text text.now }
-{
-    match text {
-        Some(text) => check_text(text.as_str()).is_ok(),
-        None => true,
-    }
-}
-
 fn is_context_if_given(context: &Option<Octets>) -> bool
     ensures { result ≡ holds_of_given is_context context.now }
 {
@@ -66,7 +55,7 @@ fn is_context_if_given(context: &Option<Octets>) -> bool
 fn has_long_text(message: &UserState) -> bool
     ensures { result ≡ has_long_text message.now }
 {
-    !is_text_if_given(&message.comment) || !is_context_if_given(&message.plugin_context)
+    !is_text_given(message.comment.as_ref()) || !is_context_if_given(&message.plugin_context)
 }
 
 /// The first limit that stands, where these are the channels to listen to.

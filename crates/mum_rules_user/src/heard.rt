@@ -1,8 +1,6 @@
 //! Which messages are heard, and which are ignored.
 
 ghost use Rattle.std.specs.Prelude.{◌≡◌, ◌∷◌, IfOk, [], length, nat_lt, not};
-ghost use Rattle.std.specs.List.{list_all};
-ghost use Rattle.mum_rules_tree.specs.Asked.{is_number_there};
 ghost use Rattle.mum_rules_tree.specs.Decision.{case_of, first_standing};
 ghost use Rattle.mum_rules_tree.specs.declared.reason.TheConstants.{COMMAND_LIMIT};
 ghost use Rattle.mum_state.specs.Fits.{holds_of_given};
@@ -10,12 +8,11 @@ ghost use Rattle.mum_rules_user.specs.Asked.{is_empty_text, is_here, names_there
 
 use crate::message::UserMessage;
 use crate::session::{is_here, is_oneself, session_or};
-use mum_base::{ChannelId, Octets, OutOfMemory, SessionId};
+use mum_base::{Octets, OutOfMemory, SessionId};
 use mum_msg_rule::Message;
 use mum_msg_state::UserState;
-use mum_rules_tree::{COMMAND_LIMIT, Reason};
+use mum_rules_tree::{COMMAND_LIMIT, Reason, are_there, is_there_if_named};
 use mum_state::State;
-use mum_tree::Tree;
 use mum_users::Roster;
 use std::alloc::Global;
 
@@ -34,7 +31,7 @@ fn payload_of(alloc: Global, message: &UserMessage) -> Result<Octets, OutOfMemor
 }
 
 /// Whether the payload of a message, as this server spells it, has more bytes than a command may have.
-pub fn is_too_long(alloc: Global, message: &UserMessage) -> Result<bool, OutOfMemory>
+pub(crate) fn is_too_long(alloc: Global, message: &UserMessage) -> Result<bool, OutOfMemory>
     ensures { IfOk result (λ long. long ≡ nat_lt COMMAND_LIMIT (length (payload_of message.now))) }
 {
     let payload = payload_of(alloc, message)?;
@@ -49,28 +46,6 @@ fn is_here_if_named(roster: &Roster, number: Option<u32>) -> bool
         Some(number) => is_here(roster, number),
         None => true,
     }
-}
-
-fn is_there(tree: &Tree, number: u32) -> bool
-    ensures { result ≡ is_number_there tree.now number }
-{
-    tree.is_there(ChannelId(number))
-}
-
-/// Whether the channel that is named, if one is, is there.
-fn is_there_if_named(tree: &Tree, number: Option<u32>) -> bool
-    ensures { result ≡ holds_of_given (is_number_there tree.now) number }
-{
-    match number {
-        Some(number) => is_there(tree, number),
-        None => true,
-    }
-}
-
-fn are_there(tree: &Tree, numbers: &[u32]) -> bool
-    ensures { result ≡ list_all (is_number_there tree.now) numbers.now }
-{
-    numbers.iter().all(|number| is_there(tree, *number))
 }
 
 /// Whether each session and each channel that a message names is there.

@@ -22,6 +22,5 @@ mod target;
 mod text;
 
 pub use decide::decide_user;
-pub use heard::is_too_long;
 pub use message::UserMessage;
 pub use reject::{OLDEST_VERSION, RejectType};

@@ -13,7 +13,7 @@ ghost use Rattle.mum_rules_user.specs.Limits.{limits_of_listening};
 
 use mum_base::{ChannelId, Perm, SessionId};
 use mum_policy::Who;
-use mum_rules_tree::{DenyType, Lack, need};
+use mum_rules_tree::{DenyType, Lack, channel_numbered, need};
 use mum_state::State;
 use mum_users::{FlagChange, Roster, UserChange, UserFault};
 
@@ -34,7 +34,7 @@ pub(crate) fn need_to_listen(state: &State, who: &Who<'_>, numbers: &[u32]) -> R
         (map (need (asker_of who.now) LISTEN) (channels numbers.now)) }
 {
     for number in numbers {
-        need(state, who, Perm::LISTEN, ChannelId(*number))?;
+        need(state, who, Perm::LISTEN, channel_numbered(*number))?;
     }
     Ok(())
 }

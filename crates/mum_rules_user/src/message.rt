@@ -4,7 +4,7 @@ use mum_msg_rule::{PermissionQuery, TextMessage, VoiceTarget};
 use mum_msg_state::{Authenticate, UserRemove, UserState};
 
 /// A message of a client on users, as it was read, or the end of its connection.
-#[derive(Debug, Drop)]
+#[derive(Drop)]
 pub enum UserMessage {
     /// A login, with the version that the client told before, if it told one; of a session, its access
     /// tokens anew.

@@ -12,18 +12,9 @@ use mum_frame::Frame;
 use mum_frame::kind::PERMISSION_QUERY;
 use mum_msg_rule::{Message, PermissionQuery};
 use mum_policy::Who;
-use mum_rules_tree::Reason;
+use mum_rules_tree::{Reason, channel_or_root};
 use mum_state::{State, Verdict};
 use std::alloc::Global;
-
-fn channel_or_root(number: Option<u32>) -> ChannelId
-    ensures { result ≡ channel_or_root number }
-{
-    match number {
-        Some(number) => ChannelId(number),
-        None => ChannelId::ROOT,
-    }
-}
 
 /// The frame that tells of the permissions in a channel.
 fn answer_frame(alloc: Global, id: ChannelId, held: Perm) -> Result<Frame, OutOfMemory>

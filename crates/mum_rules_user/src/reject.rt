@@ -9,7 +9,7 @@ use mum_state::Verdict;
 pub const OLDEST_VERSION: u32 = 0x0001_0200;
 
 /// For what a login is refused, after `Reject.RejectType` of Mumble.proto.
-#[derive(Clone, Copy, Debug, PartialEq, Eq)]
+#[derive(Clone, Copy)]
 pub enum RejectType {
     /// The client told that it is older than this server speaks.
     WrongVersion,

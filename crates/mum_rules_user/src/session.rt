@@ -1,12 +1,20 @@
 //! Sessions as messages name them.
 
 ghost use Rattle.std.specs.Prelude.{◌≡◌, IfOk};
-ghost use Rattle.mum_rules_user.specs.Asked.{channel_of, channels, is_here, is_oneself, session_or};
+ghost use Rattle.mum_rules_user.specs.Asked.{channel_of, channels, is_here, is_oneself, session_numbered, session_or};
 ghost use Rattle.mum_rules_user.specs.Limits.{is_protected, is_super_user};
 
 use mum_base::{AccountId, ChannelId, Items, OutOfMemory, SessionId};
+use mum_rules_tree::channel_numbered;
 use mum_users::Roster;
 use std::alloc::Global;
+
+/// The session of a number.
+pub(crate) fn session_numbered(number: u32) -> SessionId
+    ensures { result ≡ session_numbered number }
+{
+    SessionId(number)
+}
 
 /// The session of a number, or whoever asks where a message has none.
 pub(crate) fn session_or(actor: SessionId, number: Option<u32>) -> SessionId
@@ -62,7 +70,7 @@ pub(crate) fn channels(alloc: Global, numbers: &[u32]) -> Result<Items<ChannelId
 {
     let mut listed = Vec::with_capacity(alloc, numbers.len())?;
     for number in numbers {
-        listed.push(ChannelId(*number))?;
+        listed.push(channel_numbered(*number))?;
     }
     Ok(Items::from_vec(listed))
 }

@@ -3,18 +3,16 @@
 ghost use Rattle.std.specs.Prelude.{◌≡◌, IfOk, map};
 ghost use Rattle.mum_base.specs.declared.perm.TheConstants.Perm.{TEXT_MESSAGE};
 ghost use Rattle.mum_policy.specs.Member.{asker_of};
-ghost use Rattle.mum_state.specs.Proper.{is_text};
-ghost use Rattle.mum_rules_tree.specs.Asked.{text_or_empty};
 ghost use Rattle.mum_rules_tree.specs.Decision.{all_met, need};
 ghost use Rattle.mum_rules_user.specs.Asked.{Command, channels_of, channels_there, channels_told, session_numbered};
 ghost use Rattle.mum_rules_user.specs.Outcome.{edit_to_tell};
 ghost use Rattle.mum_rules_user.specs.Verdict.{command_verdict};
 
-use crate::session::channels;
+use crate::session::{channels, session_numbered};
 use mum_base::{ChannelId, Items, OutOfMemory, Perm, SessionId, Text, check_text};
 use mum_msg_rule::TextMessage;
 use mum_policy::Who;
-use mum_rules_tree::{DenyType, Lack, need};
+use mum_rules_tree::{DenyType, Lack, channel_numbered, need};
 use mum_state::{Edit, State, Verdict};
 use std::alloc::Global;
 
@@ -40,7 +38,7 @@ fn need_in_channels(state: &State, who: &Who<'_>, numbers: &[u32]) -> Result<(),
     let tree = state.tree();
     for number in numbers {
         if tree.is_there(ChannelId(*number)) {
-            need(state, who, Perm::TEXT_MESSAGE, ChannelId(*number))?;
+            need(state, who, Perm::TEXT_MESSAGE, channel_numbered(*number))?;
         }
     }
     Ok(())
@@ -56,22 +54,13 @@ fn need_to_tell(state: &State, who: &Who<'_>, message: &TextMessage) -> Result<(
     need_in_channels(state, who, message.tree_id.as_slice())
 }
 
-fn is_text(text: &Option<Text>) -> bool
-    ensures { result ≡ is_text (text_or_empty text.now) }
-{
-    match text {
-        Some(text) => check_text(text.as_str()).is_ok(),
-        None => true,
-    }
-}
-
 /// The sessions of these numbers, in their order.
 pub(crate) fn sessions(alloc: Global, numbers: &[u32]) -> Result<Items<SessionId>, OutOfMemory>
     ensures { IfOk result (λ listed. listed ≡ map session_numbered numbers.now) }
 {
     let mut listed = Vec::with_capacity(alloc, numbers.len())?;
     for number in numbers {
-        listed.push(SessionId(*number))?;
+        listed.push(session_numbered(*number))?;
     }
     Ok(Items::from_vec(listed))
 }
@@ -101,7 +90,7 @@ pub(crate) fn decide_text(
     if let Err(lack) = need_to_tell(state, who, message) {
         return Ok(lack.verdict());
     }
-    if !is_text(&message.message) {
+    if check_text(Text::or_empty(&message.message)).is_err() {
         return Ok(DenyType::TextTooLong.verdict());
     }
     Ok(Verdict::Accepted(edit_to_tell(alloc, who.session, message)?))

@@ -4,12 +4,20 @@
 //! behind ` as `.
 
 use anyhow::Result;
-use mum_base::{AccountId, Items, Text};
+use mum_base::{AccountId, Items};
 use mum_cases_words::policies::policy_of;
 use mum_cases_words::words::given_text;
-use mum_msg_rule::{Acl, AclGroup, AclLine};
+use mum_msg_rule::{Acl, AclGroup, AclLine, Message};
 use mum_policy::{AclEntry, Group, Whom};
 use std::alloc::Global;
+
+/// What a part says of each of its groups and entries beside what they are.
+#[derive(Clone, Copy)]
+struct Beside<'a> {
+    inherited: Option<bool>,
+    whole: bool,
+    alias: Option<&'a str>,
+}
 
 /// A truth value that goes unsaid where it is true, but for a whole part.
 fn said(value: bool, whole: bool) -> Option<bool> {
@@ -25,56 +33,53 @@ fn said_bits(bits: u32, whole: bool) -> Option<u32> {
     }
 }
 
-fn numbers(alloc: Global, accounts: &[AccountId]) -> Result<Items<u32>> {
-    let mut list = Items::new(alloc);
+fn add_accounts(list: &mut Items<u32>, accounts: &[AccountId]) -> Result<()> {
     for account in accounts {
         list.push(account.0)?;
     }
-    Ok(list)
+    Ok(())
 }
 
-fn group_of(
+fn fill_group(message: &mut AclGroup, group: &Group, beside: Beside<'_>) -> Result<()> {
+    message.name = Some(group.name.share()?);
+    message.inherited = beside.inherited;
+    message.inherit = said(group.inherit, beside.whole);
+    message.inheritable = said(group.inheritable, beside.whole);
+    add_accounts(&mut message.add, group.add.as_slice())?;
+    add_accounts(&mut message.remove, group.remove.as_slice())
+}
+
+fn group_of(alloc: Global, group: &Group, beside: Beside<'_>) -> Result<AclGroup> {
+    let mut message = AclGroup::new(alloc);
+    fill_group(&mut message, group, beside)?;
+    Ok(message)
+}
+
+fn fill_line(
     alloc: Global,
-    group: &Group,
-    inherited: Option<bool>,
-    whole: bool,
-) -> Result<AclGroup> {
-    let add = numbers(alloc, group.add.as_slice())?;
-    let remove = numbers(alloc, group.remove.as_slice())?;
-    Ok(AclGroup {
-        name: Some(group.name.share()?),
-        inherited,
-        inherit: said(group.inherit, whole),
-        inheritable: said(group.inheritable, whole),
-        add,
-        remove,
-        inherited_members: Items::new(alloc),
-    })
-}
-
-fn whom_of(whom: &Whom) -> Result<(Option<u32>, Option<Text>)> {
-    match whom {
-        Whom::Account(account) => Ok((Some(account.0), None)),
-        Whom::Group(name) => Ok((None, Some(name.share()?))),
-    }
-}
-
-fn line_of(
+    message: &mut AclLine,
     entry: &AclEntry,
-    inherited: Option<bool>,
-    whole: bool,
-    alias: Option<Text>,
-) -> Result<AclLine> {
-    let (user_id, group) = whom_of(&entry.whom)?;
-    Ok(AclLine {
-        apply_here: said(entry.here, whole),
-        apply_subs: said(entry.subs, whole),
-        inherited,
-        user_id,
-        group: if alias.is_some() { alias } else { group },
-        grant: said_bits(entry.grant.0, whole),
-        deny: said_bits(entry.deny.0, whole),
-    })
+    beside: Beside<'_>,
+) -> Result<()> {
+    message.apply_here = said(entry.here, beside.whole);
+    message.apply_subs = said(entry.subs, beside.whole);
+    message.inherited = beside.inherited;
+    message.grant = said_bits(entry.grant.0, beside.whole);
+    message.deny = said_bits(entry.deny.0, beside.whole);
+    match &entry.whom {
+        Whom::Account(account) => {
+            message.user_id = Some(account.0);
+            message.group = given_text(alloc, beside.alias)?;
+        }
+        Whom::Group(name) => message.group = Some(name.share()?),
+    }
+    Ok(())
+}
+
+fn line_of(alloc: Global, entry: &AclEntry, beside: Beside<'_>) -> Result<AclLine> {
+    let mut message = AclLine::new(alloc);
+    fill_line(alloc, &mut message, entry, beside)?;
+    Ok(message)
 }
 
 /// What a part says of being inherited, and the rest of it.
@@ -88,15 +93,7 @@ fn origin(part: &str) -> (Option<bool>, &str) {
     }
 }
 
-/// What a part says of each of its groups and entries beside what they are.
-#[derive(Clone, Copy)]
-struct Beside<'a> {
-    inherited: Option<bool>,
-    whole: bool,
-    alias: Option<&'a str>,
-}
-
-/// The same, and the part without it.
+/// What a part says beside, and the part without it.
 fn beside_of(part: &str) -> (Beside<'_>, &str) {
     let (inherited, part) = origin(part);
     let (whole, part) = match part.strip_prefix("whole ") {
@@ -122,13 +119,11 @@ fn add_groups(
     beside: Beside<'_>,
 ) -> Result<()> {
     for group in groups {
-        let group = group_of(alloc, group, beside.inherited, beside.whole)?;
-        message.groups.push(group)?;
+        message.groups.push(group_of(alloc, group, beside)?)?;
     }
     Ok(())
 }
 
-/// An alias stands beside an entry that is alone.
 fn add_entries(
     alloc: Global,
     message: &mut Acl,
@@ -136,13 +131,7 @@ fn add_entries(
     beside: Beside<'_>,
 ) -> Result<()> {
     for entry in entries {
-        let alias = match entries {
-            [_] => given_text(alloc, beside.alias)?,
-            _ => None,
-        };
-        message
-            .acls
-            .push(line_of(entry, beside.inherited, beside.whole, alias)?)?;
+        message.acls.push(line_of(alloc, entry, beside)?)?;
     }
     Ok(())
 }
@@ -154,24 +143,17 @@ fn add_part(alloc: Global, message: &mut Acl, part: &str) -> Result<()> {
     add_entries(alloc, message, policy.acls.as_slice(), beside)
 }
 
-/// The ACL message that sets a policy. `anew` says that the channel does not inherit, `follows` that it
-/// does, and `unread` that this is no query.
-pub fn acl_of(alloc: Global, channel_id: Option<u32>, parts: &str) -> Result<Acl> {
-    let mut message = Acl {
-        channel_id,
-        inherit_acls: None,
-        groups: Items::new(alloc),
-        acls: Items::new(alloc),
-        query: None,
-    };
+/// Fills the ACL message that sets a policy. `anew` says that the channel does not inherit, `follows` that
+/// it does, and `unread` that this is no query.
+pub fn fill_acl(alloc: Global, message: &mut Acl, parts: &str) -> Result<()> {
     for part in parts.split(',') {
         match part.trim() {
             "" => {}
             "anew" => message.inherit_acls = Some(false),
             "follows" => message.inherit_acls = Some(true),
             "unread" => message.query = Some(false),
-            part => add_part(alloc, &mut message, part)?,
+            part => add_part(alloc, message, part)?,
         }
     }
-    Ok(message)
+    Ok(())
 }

@@ -1,21 +1,28 @@
-//! Documents as the tables write them, and the table `faults`.
+//! Documents as the tables write them.
 
 use anyhow::{Result, bail};
-use mum_cases::{Table, number};
-use mum_config::{BadConfig, Config, read_config};
+use mum_cases::{bytes_of, number};
 use std::alloc::Global;
+
+/// What follows a `#`: the number, or with `-1` the one before, and the rest.
+fn add_numbered(alloc: Global, bytes: &mut Vec<u8>, piece: &str, number: u64) -> Result<()> {
+    let (shown, rest) = match piece.strip_prefix("-1") {
+        Some(rest) => (number.saturating_sub(1), rest),
+        None => (number, piece),
+    };
+    let text = format!(in alloc; "{shown}{rest}")?;
+    bytes.extend_from_slice(text.as_bytes())?;
+    Ok(())
+}
 
 /// `7` and `"id":#`, with `#-1` for the number before.
 fn add_item(alloc: Global, bytes: &mut Vec<u8>, item: &str, number: u64) -> Result<()> {
     for (place, piece) in item.split('#').enumerate() {
-        let (shown, rest) = match piece.strip_prefix("-1") {
-            Some(rest) => (number.saturating_sub(1), rest),
-            None => (number, piece),
-        };
         if place > 0 {
-            bytes.extend_from_slice(format!(in alloc; "{shown}")?.as_bytes())?;
+            add_numbered(alloc, bytes, piece, number)?;
+        } else {
+            bytes.extend_from_slice(piece.as_bytes())?;
         }
-        bytes.extend_from_slice(if place > 0 { rest } else { piece }.as_bytes())?;
     }
     Ok(())
 }
@@ -35,18 +42,8 @@ fn add_items(alloc: Global, bytes: &mut Vec<u8>, first: &str, rest: &str) -> Res
     Ok(())
 }
 
-/// What stands for `64*ab`, `hex ff` or `1..3 {"id":#}`.
-fn add_form(alloc: Global, bytes: &mut Vec<u8>, form: &str) -> Result<()> {
-    if let Some(digits) = form.strip_prefix("hex ") {
-        match hex::decode(alloc, digits) {
-            Ok(plain) => bytes.extend_from_slice(&plain)?,
-            Err(_) => bail!("no bytes: {digits}"),
-        }
-        return Ok(());
-    }
-    if let Some((first, rest)) = form.split_once("..") {
-        return add_items(alloc, bytes, first, rest);
-    }
+/// `64*ab`: the text so many times.
+fn add_copies(bytes: &mut Vec<u8>, form: &str) -> Result<()> {
     let Some((times, unit)) = form.split_once('*') else {
         bail!("no form: {form}");
     };
@@ -56,9 +53,20 @@ fn add_form(alloc: Global, bytes: &mut Vec<u8>, form: &str) -> Result<()> {
     Ok(())
 }
 
+/// What stands for `64*ab`, `hex ff` or `1..3 {"id":#}`.
+fn add_form(alloc: Global, bytes: &mut Vec<u8>, form: &str) -> Result<()> {
+    if let Some(digits) = form.strip_prefix("hex ") {
+        bytes.extend_from_slice(&bytes_of(alloc, digits)?)?;
+        return Ok(());
+    }
+    match form.split_once("..") {
+        Some((first, rest)) => add_items(alloc, bytes, first, rest),
+        None => add_copies(bytes, form),
+    }
+}
+
 /// The document that a line of a table writes.
-fn document(alloc: Global, text: &str) -> Result<Vec<u8>> {
-    let mut bytes = Vec::new(alloc);
+pub fn add_document(alloc: Global, bytes: &mut Vec<u8>, text: &str) -> Result<()> {
     for (place, piece) in text.split('<').enumerate() {
         if place == 0 {
             bytes.extend_from_slice(piece.as_bytes())?;
@@ -67,37 +75,8 @@ fn document(alloc: Global, text: &str) -> Result<Vec<u8>> {
         let Some((form, rest)) = piece.split_once('>') else {
             bail!("no form: {piece}");
         };
-        add_form(alloc, &mut bytes, form)?;
+        add_form(alloc, bytes, form)?;
         bytes.extend_from_slice(rest.as_bytes())?;
     }
-    Ok(bytes)
-}
-
-/// What `read_config` answers to a document.
-pub fn read(alloc: Global, text: &str) -> Result<Result<Config, BadConfig>> {
-    let bytes = document(alloc, text)?;
-    Ok(read_config(alloc, bytes.as_slice()))
-}
-
-/// `62 accounts[0].nick`
-pub fn fault_text(alloc: Global, error: BadConfig) -> Result<String> {
-    match error {
-        BadConfig::Fault { cause, key } => {
-            Ok(format!(in alloc; "{} {}", cause.code(), key.as_str())?)
-        }
-        BadConfig::OutOfMemory => bail!("memory ran out"),
-    }
-}
-
-pub struct Faults;
-
-impl Table for Faults {
-    const NAME: &'static str = "faults";
-
-    fn answer(alloc: Global, question: &str) -> Result<String> {
-        match read(alloc, question)? {
-            Ok(_) => Ok(String::from_str(alloc, "it is read")?),
-            Err(error) => fault_text(alloc, error),
-        }
-    }
+    Ok(())
 }

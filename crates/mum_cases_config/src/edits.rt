@@ -1,57 +1,88 @@
-//! The table `edits`.
+//! Edits as the tables `edits` and `examples` write them.
 
-use crate::documents::{fault_text, read};
 use crate::policies::add_policy;
 use anyhow::{Result, bail};
-use mum_base::{ChannelId, Text};
-use mum_cases::Table;
+use mum_base::{AccountId, ChannelId, Text};
 use mum_config::Config;
+use mum_policy::ChannelPolicy;
 use mum_state::{DEFAULT_BANDWIDTH, Edit};
 use mum_tree::ChannelInfo;
-use std::alloc::Global;
+
+fn add_digest(text: &mut String, digest: &[u8; 32]) -> Result<()> {
+    for byte in digest {
+        write!(text, "{byte:02x}")?;
+    }
+    Ok(())
+}
+
+fn add_number(text: &mut String, word: &str, number: i64) -> Result<()> {
+    write!(text, " {word} {number}")?;
+    Ok(())
+}
+
+fn add_quoted(text: &mut String, word: &str, quoted: &Text) -> Result<()> {
+    write!(text, " {word} \"{}\"", quoted.as_str())?;
+    Ok(())
+}
 
 fn add_server(
-    alloc: Global,
     text: &mut String,
     welcome: &Text,
     bandwidth: u32,
     password: &Option<[u8; 32]>,
 ) -> Result<()> {
-    text.push_str("; server")?;
+    text.push_str("server")?;
     if !welcome.as_slice().is_empty() {
-        text.push_str(format!(in alloc; " welcome \"{}\"", welcome.as_str())?.as_str())?;
+        add_quoted(text, "welcome", welcome)?;
     }
     if bandwidth != DEFAULT_BANDWIDTH {
-        text.push_str(format!(in alloc; " bandwidth {bandwidth}")?.as_str())?;
+        add_number(text, "bandwidth", i64::from(bandwidth))?;
     }
     if let Some(password) = password {
         text.push_str(" password ")?;
-        text.push_str(hex::encode(alloc, password.as_slice())?.as_str())?;
+        add_digest(text, password)?;
     }
     Ok(())
 }
 
-fn add_number(alloc: Global, text: &mut String, word: &str, number: i64) -> Result<()> {
-    text.push_str(format!(in alloc; " {word} {number}")?.as_str())?;
-    Ok(())
+fn add_account(
+    text: &mut String,
+    account: AccountId,
+    name: &Text,
+    digest: &[u8; 32],
+) -> Result<()> {
+    write!(text, "account {} {} ", account.0, name.as_str())?;
+    add_digest(text, digest)
 }
 
-fn add_description(alloc: Global, text: &mut String, description: &Text) -> Result<()> {
-    text.push_str(format!(in alloc; " text \"{}\"", description.as_str())?.as_str())?;
-    Ok(())
-}
-
-fn add_info(alloc: Global, text: &mut String, info: &ChannelInfo) -> Result<()> {
+fn add_info(text: &mut String, info: &ChannelInfo) -> Result<()> {
     if info.position != 0 {
-        add_number(alloc, text, "position", i64::from(info.position))?;
+        add_number(text, "position", i64::from(info.position))?;
     }
     if info.max_users != 0 {
-        add_number(alloc, text, "users", i64::from(info.max_users))?;
+        add_number(text, "users", i64::from(info.max_users))?;
     }
     if !info.description.as_slice().is_empty() {
-        add_description(alloc, text, &info.description)?;
+        add_quoted(text, "text", &info.description)?;
     }
     Ok(())
+}
+
+fn add_made(
+    text: &mut String,
+    id: ChannelId,
+    parent: ChannelId,
+    name: &Text,
+    info: &ChannelInfo,
+) -> Result<()> {
+    write!(
+        text,
+        "make {} under {} \"{}\"",
+        id.0,
+        parent.0,
+        name.as_str()
+    )?;
+    add_info(text, info)
 }
 
 /// What is given of an edit of a channel.
@@ -59,45 +90,45 @@ fn add_info(alloc: Global, text: &mut String, info: &ChannelInfo) -> Result<()> 
 struct Given<'a> {
     position: Option<i32>,
     max_users: Option<u32>,
-    description: Option<&'a Text>,
+    description: &'a Option<Text>,
     links: &'a [ChannelId],
 }
 
-fn add_given(alloc: Global, text: &mut String, given: &Given<'_>) -> Result<()> {
+fn add_given(text: &mut String, id: ChannelId, given: &Given<'_>) -> Result<()> {
+    write!(text, "edit {}", id.0)?;
     if let Some(position) = given.position {
-        add_number(alloc, text, "position", i64::from(position))?;
+        add_number(text, "position", i64::from(position))?;
     }
     if let Some(users) = given.max_users {
-        add_number(alloc, text, "users", i64::from(users))?;
+        add_number(text, "users", i64::from(users))?;
     }
     if let Some(description) = given.description {
-        add_description(alloc, text, description)?;
+        add_quoted(text, "text", description)?;
     }
     for link in given.links {
-        add_number(alloc, text, "links", i64::from(link.0))?;
+        add_number(text, "links", i64::from(link.0))?;
     }
     Ok(())
 }
 
-/// `; make 1 under 0 "A"`
-pub fn add_edit(alloc: Global, text: &mut String, edit: &Edit) -> Result<()> {
+fn add_acl(text: &mut String, channel: ChannelId, policy: &ChannelPolicy) -> Result<()> {
+    write!(text, "acl {}", channel.0)?;
+    add_policy(text, policy)
+}
+
+/// `make 1 under 0 "A"`
+fn add_edit(text: &mut String, edit: &Edit) -> Result<()> {
     match edit {
         Edit::SetServer {
             welcome,
             bandwidth,
             password,
-        } => add_server(alloc, text, welcome, *bandwidth, password),
+        } => add_server(text, welcome, *bandwidth, password),
         Edit::AddAccount {
             account,
             name,
             digest,
-        } => {
-            let digits = hex::encode(alloc, digest.as_slice())?;
-            let name = name.as_str();
-            let line = format!(in alloc; "; account {} {name} {}", account.0, digits.as_str())?;
-            text.push_str(line.as_str())?;
-            Ok(())
-        }
+        } => add_account(text, *account, name, digest),
         Edit::MakeChannel {
             id,
             parent,
@@ -105,12 +136,7 @@ pub fn add_edit(alloc: Global, text: &mut String, edit: &Edit) -> Result<()> {
             temporary: false,
             info,
             maker: None,
-        } => {
-            let name = name.as_str();
-            let line = format!(in alloc; "; make {} under {} \"{name}\"", id.0, parent.0)?;
-            text.push_str(line.as_str())?;
-            add_info(alloc, text, info)
-        }
+        } => add_made(text, *id, *parent, name, info),
         Edit::EditChannel {
             id,
             actor: None,
@@ -122,44 +148,37 @@ pub fn add_edit(alloc: Global, text: &mut String, edit: &Edit) -> Result<()> {
             links_add,
             ..
         } => {
-            text.push_str(format!(in alloc; "; edit {}", id.0)?.as_str())?;
             let given = Given {
                 position: *position,
                 max_users: *max_users,
-                description: description.as_ref(),
+                description,
                 links: links_add.as_slice(),
             };
-            add_given(alloc, text, &given)
+            add_given(text, *id, &given)
         }
         Edit::SetAcl {
             channel,
             actor: None,
             policy,
-        } => {
-            text.push_str(format!(in alloc; "; acl {}", channel.0)?.as_str())?;
-            add_policy(alloc, text, policy)
-        }
+        } => add_acl(text, *channel, policy),
         _ => bail!("no edit of a configuration"),
     }
 }
 
-fn config_text(alloc: Global, config: &Config) -> Result<String> {
-    let mut text = format!(in alloc; "{}", config.workers)?;
+/// `4; server; make 1 under 0 "A"`
+pub fn add_config(text: &mut String, config: &Config) -> Result<()> {
+    write!(text, "{}", config.workers)?;
     for edit in config.edits.as_slice() {
-        add_edit(alloc, &mut text, edit)?;
+        text.push_str("; ")?;
+        add_edit(text, edit)?;
     }
-    Ok(text)
+    Ok(())
 }
 
-pub struct Edits;
-
-impl Table for Edits {
-    const NAME: &'static str = "edits";
-
-    fn answer(alloc: Global, question: &str) -> Result<String> {
-        match read(alloc, question)? {
-            Ok(config) => config_text(alloc, &config),
-            Err(error) => fault_text(alloc, error),
-        }
+/// The edit at a place from 0.
+pub fn add_edit_at(text: &mut String, config: &Config, place: u64) -> Result<()> {
+    match config.edits.as_slice().get(place as usize) {
+        Some(edit) => add_edit(text, edit),
+        None => bail!("no such edit: {place}"),
     }
 }

@@ -2,20 +2,19 @@
 //! limits, and the documents of the folder `examples`. Its tables lie in the folder `data`.
 #![tactic(auto)]
 
+mod answers;
 mod documents;
 mod edits;
-mod examples;
 mod policies;
-mod sizes;
 
 use anyhow::Result;
 use mum_cases::Tally;
 
 fn main(rt: HostRuntime) -> Result<()> {
     let mut tally = Tally::new();
-    tally.compare::<documents::Faults, HostRuntime>(&rt)?;
-    tally.compare::<edits::Edits, HostRuntime>(&rt)?;
-    tally.compare::<sizes::Sizes, HostRuntime>(&rt)?;
-    tally.compare_files::<examples::Examples, HostRuntime>(&rt)?;
+    tally.compare::<answers::Faults, HostRuntime>(&rt)?;
+    tally.compare::<answers::Edits, HostRuntime>(&rt)?;
+    tally.compare::<answers::Sizes, HostRuntime>(&rt)?;
+    tally.compare_files::<answers::Examples, HostRuntime>(&rt)?;
     tally.finish(&rt)
 }

@@ -1,5 +1,5 @@
 -- Whom an entry speaks of, as it is read.
-use Rattle.std.proofs.Common.{◌≡◌, ℕ, List, Option, None, Some, option_map, refl, ap, ◌∙◌}
+use Rattle.std.proofs.Common.{◌≡◌, ℕ, List, Option, None, Some, is_some, option_map, refl, ap, ◌∙◌}
 use Rattle.std.specs.Prelude.{codes}
 use Rattle.std.specs.Option.{option_map_or}
 use Rattle.serde_json.specs.Data.{Data}
@@ -23,3 +23,8 @@ group_found (Some value) other is = absurd (cc)
 
 pub group_whom : (value : Data) (name : List ℕ) → None ≡ option_map number_of (get (codes "account") value) → name ≡ text_at (codes "group") value → Group name ≡ whom_of value
 group_whom value name is named = ap Group named ∙ group_found (get (codes "account") value) _ is
+
+-- what is lent is there where what it stands for is
+pub is_found : {X Y : Type 0} (f : X → Y) (found : Option X) (there : Option Y) → option_map f found ≡ there → is_some found ≡ is_some there
+is_found f None there same = ap is_some same
+is_found f (Some x) there same = ap is_some same

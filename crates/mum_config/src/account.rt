@@ -7,6 +7,7 @@ ghost use Rattle.mum_config.specs.Object.{elements_fault};
 ghost use Rattle.mum_config.specs.Reading.{Reads};
 
 use crate::fault::{BadConfig, ConfigFault, at_place};
+use crate::name::new_name;
 use crate::object::Object;
 use indexmap::IndexSet;
 use mum_base::AccountId;
@@ -16,22 +17,24 @@ use std::alloc::Global;
 
 const KEYS: [&str; 3] = ["id", "name", "password_sha256"];
 
-/// The edit that adds an account, whose number and name none of those before it has.
+/// Adds the edit that adds an account, whose number and name none of those before it has.
 fn read_account<'a>(
     alloc: Global,
     value: &'a Value,
     numbers: &mut IndexSet<u32>,
     names: &mut IndexSet<&'a str>,
-) -> Result<Edit, BadConfig>
+    edits: &mut Vec<Edit>,
+) -> Result<(), BadConfig>
     ensures reads { Reads (account_fault (record {
       numbers = numbers.old.keys;
       names = map (λ n. n.now) names.old.keys;
-    }) (view value.now))
-        (account_edit (view value.now)) result }
+    }) (view value.now)) tt result }
     ensures numbers { OnOk result
         (numbers.new.keys ≡ numbers.old.keys ++ account_number (view value.now) ∷ []) }
     ensures names { OnOk result (map (λ n. n.now) names.new.keys
         ≡ map (λ n. n.now) names.old.keys ++ account_name (view value.now) ∷ []) }
+    ensures edits { OnOk result
+        (edits.new.items ≡ edits.old.items ++ account_edit (view value.now) ∷ []) }
 {
     let object = Object {
         alloc,
@@ -42,15 +45,14 @@ fn read_account<'a>(
     let number = object.needed_number("id", 0, u32::MAX)?;
     let new_number = numbers.insert(number)?;
     object.refuse_if(!new_number, "id", ConfigFault::Twice)?;
-    let name = object.needed_name("name")?;
-    let new_name = names.insert(object.text_at("name"))?;
-    object.refuse_if(!new_name, "name", ConfigFault::Twice)?;
+    let name = new_name(&object, names)?;
     let digest = object.needed_digest("password_sha256")?;
-    Ok(Edit::AddAccount {
+    edits.push(Edit::AddAccount {
         account: AccountId(number),
         name,
         digest,
-    })
+    })?;
+    Ok(())
 }
 
 /// The edits that add accounts, at the end of others.
@@ -67,12 +69,11 @@ pub(crate) fn read_accounts(
     let mut numbers = IndexSet::new(alloc);
     let mut names = IndexSet::new(alloc);
     for (place, value) in values.iter().enumerate() {
-        let edit = at_place(
+        at_place(
             alloc,
             place,
-            read_account(alloc, value, &mut numbers, &mut names),
+            read_account(alloc, value, &mut numbers, &mut names, edits),
         )?;
-        edits.push(edit)?;
     }
     Ok(())
 }

@@ -9,7 +9,7 @@ ghost use Rattle.mum_config.specs.Reading.{Reads};
 ghost use Rattle.mum_config.specs.Channel.{ReadsDepths};
 
 use crate::fault::{BadConfig, ConfigFault, at_place};
-use crate::given::{GivenInfo, GivenPolicy};
+use crate::given::{GivenInfo, add_policy};
 use crate::object::Object;
 use indexmap::{IndexMap, IndexSet};
 use mum_base::{ChannelId, OutOfMemory, Text};
@@ -166,11 +166,10 @@ fn read_root<'a>(
     };
     object.open(&ROOT_KEYS)?;
     let number = number_in(&object, met.last)?;
-    let info = GivenInfo::read(&object)?;
-    let policy = GivenPolicy::read(&object)?;
     met.last = Some(number);
+    let info = GivenInfo::read(&object)?;
     info.push_root_edit(alloc, edits)?;
-    policy.push_edit(alloc, ChannelId(number), edits)?;
+    add_policy(&object, ChannelId(number), edits)?;
     Ok(())
 }
 
@@ -195,11 +194,10 @@ fn read_made<'a>(
     object.open(&KEYS)?;
     let number = number_in(&object, met.last)?;
     let parent = parent_in(&object, &met.depths)?;
-    let name = name_in(&object, parent.number, &mut met.seats)?;
-    let info = GivenInfo::read(&object)?;
-    let policy = GivenPolicy::read(&object)?;
     met.last = Some(number);
     met.depths.insert(number, parent.depth + 1)?;
+    let name = name_in(&object, parent.number, &mut met.seats)?;
+    let info = GivenInfo::read(&object)?;
     edits.push(Edit::MakeChannel {
         id: ChannelId(number),
         parent: ChannelId(parent.number),
@@ -208,7 +206,7 @@ fn read_made<'a>(
         info: info.into_info(alloc),
         maker: None,
     })?;
-    policy.push_edit(alloc, ChannelId(number), edits)?;
+    add_policy(&object, ChannelId(number), edits)?;
     Ok(())
 }
 
@@ -249,6 +247,26 @@ pub(crate) fn are_too_many(values: &[Value]) -> bool
     }
 }
 
+/// Adds the edits of channels to those that were met before.
+fn add_channels<'a>(
+    alloc: Global,
+    values: &'a [Value],
+    met: &mut Met<'a>,
+    edits: &mut Vec<Edit>,
+) -> Result<(), BadConfig>
+    ensures reads { Reads (elements_fault channel_fault with_channel_met (met_of met.old) 0
+        (map view values.now)) tt result }
+    ensures met { OnOk result
+        (met_of met.new ≡ fold with_channel_met (met_of met.old) (map view values.now)) }
+    ensures edits { OnOk result
+        (edits.new.items ≡ edits.old.items ++ flat_map channel_edits (map view values.now)) }
+{
+    for (place, value) in values.iter().enumerate() {
+        at_place(alloc, place, read_channel(alloc, value, met, edits))?;
+    }
+    Ok(())
+}
+
 /// Adds the edits of channels, and gives for each channel how many lead to it from the root.
 pub(crate) fn read_channels(
     alloc: Global,
@@ -261,8 +279,6 @@ pub(crate) fn read_channels(
         (edits.new.items ≡ edits.old.items ++ flat_map channel_edits (map view values.now)) }
 {
     let mut met = Met::new(alloc)?;
-    for (place, value) in values.iter().enumerate() {
-        at_place(alloc, place, read_channel(alloc, value, &mut met, edits))?;
-    }
+    add_channels(alloc, values, &mut met, edits)?;
     Ok(met.depths)
 }

@@ -144,6 +144,21 @@ fn links_in(
     object.at("links", read_links(object.alloc, values, depths, edits))
 }
 
+/// Adds the edits of the three lists, one after the other.
+fn lists_in(object: &Object<'_>, edits: &mut Vec<Edit>) -> Result<(), BadConfig>
+    ensures reads { let value = view object.now.value.now in
+        Reads (rows_fault object.now.dot.now (account_list_rows value ++ channel_list_rows value
+        ++ link_list_rows (channels_met value).depths value)) tt result }
+    ensures edits { let value = view object.now.value.now in OnOk result
+        (edits.new.items ≡ edits.old.items ++ (map account_edit (accounts_in value)
+        ++ flat_map channel_edits (channels_in value) ++ map link_edit (links_in value))) }
+{
+    accounts_in(object, edits)?;
+    let depths = channels_in(object, edits)?;
+    links_in(object, &depths, edits)?;
+    Ok(())
+}
+
 /// The configuration that a document describes.
 fn read_document(alloc: Global, document: &Value) -> Result<Config, BadConfig>
     ensures { Reads (object_fault_of (view document.now)) (config_of (view document.now)) result }
@@ -161,9 +176,7 @@ fn read_document(alloc: Global, document: &Value) -> Result<Config, BadConfig>
     let workers = settings.workers.unwrap_or(DEFAULT_WORKERS);
     let mut edits = Vec::new(alloc);
     edits.push(settings.into_edit(alloc))?;
-    accounts_in(&object, &mut edits)?;
-    let depths = channels_in(&object, &mut edits)?;
-    links_in(&object, &depths, &mut edits)?;
+    lists_in(&object, &mut edits)?;
     Ok(Config {
         workers: workers as u8,
         edits: Items::from_vec(edits),

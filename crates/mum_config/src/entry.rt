@@ -1,6 +1,6 @@
 //! Entries of a channel's access control list.
 
-ghost use Rattle.std.specs.Prelude.{◌≡◌, ◌++◌, codes, map};
+ghost use Rattle.std.specs.Prelude.{◌≡◌, ◌++◌, [], ◌∷◌, OnOk, codes, map};
 ghost use Rattle.serde_json.specs.Find.{get};
 ghost use Rattle.serde_json.specs.View.{view};
 ghost use Rattle.mum_config.specs.Fault.{within};
@@ -51,8 +51,11 @@ fn permissions_in(object: &Object<'_>, name: &str) -> Result<Perm, BadConfig>
     Ok(Perm(bits.unwrap_or(0) & Perm::ALL.0))
 }
 
-fn read_entry(alloc: Global, value: &Value) -> Result<AclEntry, BadConfig>
-    ensures { Reads (entry_fault (view value.now)) (entry_of (view value.now)) result }
+/// Adds an entry.
+fn read_entry(alloc: Global, value: &Value, entries: &mut Vec<AclEntry>) -> Result<(), BadConfig>
+    ensures reads { Reads (entry_fault (view value.now)) tt result }
+    ensures entries { OnOk result
+        (entries.new.items ≡ entries.old.items ++ entry_of (view value.now) ∷ []) }
 {
     let object = Object {
         alloc,
@@ -65,13 +68,14 @@ fn read_entry(alloc: Global, value: &Value) -> Result<AclEntry, BadConfig>
     let subs = object.flag("subs")?;
     let grant = permissions_in(&object, "grant")?;
     let deny = permissions_in(&object, "deny")?;
-    Ok(AclEntry {
+    entries.push(AclEntry {
         whom,
         here: here.unwrap_or(true),
         subs: subs.unwrap_or(true),
         grant,
         deny,
-    })
+    })?;
+    Ok(())
 }
 
 /// The entries of a channel, in order.
@@ -81,8 +85,7 @@ pub(crate) fn read_entries(alloc: Global, values: &[Value]) -> Result<Items<AclE
 {
     let mut entries = Vec::with_capacity(alloc, values.len())?;
     for (place, value) in values.iter().enumerate() {
-        let entry = at_place(alloc, place, read_entry(alloc, value))?;
-        entries.push(entry)?;
+        at_place(alloc, place, read_entry(alloc, value, &mut entries))?;
     }
     Ok(Items::from_vec(entries))
 }

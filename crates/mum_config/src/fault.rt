@@ -4,12 +4,13 @@ ghost use Rattle.std.specs.Prelude.{◌≡◌, ◌++◌, IfOk, Ok, Option, Some}
 ghost use Rattle.mum_config.specs.Fault.{Fault, fault_code, place_text, within};
 ghost use Rattle.mum_config.specs.Reading.{Names, Reads};
 
+use itoa::Buffer;
 use mum_base::{OutOfMemory, Text};
 use std::alloc::{AllocFailed, Global};
 use thiserror::Error;
 
 /// What is wrong at a key of a document, in the order in which it is looked for at one key.
-#[derive(Clone, Copy, Debug, PartialEq, Eq, Error)]
+#[derive(Clone, Copy, Debug, Error)]
 pub enum ConfigFault {
     /// The text is no JSON, nests deeper than 127, or is not UTF-8.
     #[error("it is no JSON")]
@@ -123,6 +124,27 @@ pub(crate) fn seen_from(alloc: Global, way: &str, error: BadConfig) -> BadConfig
     }
 }
 
+/// The way to an element of a list, as `[3]`, unless memory runs out.
+fn place_way(alloc: Global, place: usize) -> Result<Text, OutOfMemory>
+    ensures { IfOk result (λ way. way ≡ place_text place) }
+{
+    let mut way = String::from_str(alloc, "[")?;
+    way.push_str(Buffer::new().format(place as u64))?;
+    way.push_str("]")?;
+    Ok(Text::from_string(way))
+}
+
+/// The same error, seen from the list that has what it is about at this place.
+fn seen_at(alloc: Global, place: usize, error: BadConfig) -> BadConfig
+    ensures { (fault : Option Fault) → Names error fault →
+        Names result (within (place_text place) fault) }
+{
+    match place_way(alloc, place) {
+        Ok(way) => seen_from(alloc, way.as_str(), error),
+        Err(_) => BadConfig::OutOfMemory,
+    }
+}
+
 /// What was read of the element at a place of a list, seen from the list.
 pub(crate) fn at_place<T: Drop>(
     alloc: Global,
@@ -135,9 +157,6 @@ pub(crate) fn at_place<T: Drop>(
 {
     match read {
         Ok(value) => Ok(value),
-        Err(error) => {
-            let way = format!(in alloc; "[{place}]")?;
-            Err(seen_from(alloc, way.as_str(), error))
-        }
+        Err(error) => Err(seen_at(alloc, place, error)),
     }
 }

@@ -2,9 +2,9 @@
 
 ghost use Rattle.std.specs.Prelude.{◌≡◌, ◌++◌, OnOk};
 ghost use Rattle.serde_json.specs.View.{view};
-ghost use Rattle.mum_config.specs.Channel.{entry_list_rows, group_list_rows};
+ghost use Rattle.mum_config.specs.Channel.{entry_list_rows, group_list_rows, policy_edits, policy_rows};
 ghost use Rattle.mum_config.specs.Object.{rows_fault};
-ghost use Rattle.mum_config.specs.Policy.{acls_at, groups_at};
+ghost use Rattle.mum_config.specs.Policy.{acls_at, given_policy, groups_at};
 ghost use Rattle.mum_config.specs.Reading.{Reads};
 
 use crate::entry::read_entries;
@@ -120,9 +120,6 @@ fn acls_in(object: &Object<'_>) -> Result<Option<Items<AclEntry>>, BadConfig>
 }
 
 impl GivenPolicy {
-    ghost use Rattle.mum_config.specs.Channel.{policy_edits, policy_rows};
-    ghost use Rattle.mum_config.specs.Policy.{given_policy};
-
     pub fn read(object: &Object<'_>) -> Result<GivenPolicy, BadConfig>
         ensures { Reads (rows_fault object.now.dot.now (policy_rows (view object.now.value.now)))
             (given_policy (view object.now.value.now)) result }
@@ -164,4 +161,20 @@ impl GivenPolicy {
         }
         Ok(())
     }
+}
+
+/// Adds the edit of the policy that an object gives the channel, if it gives something of one.
+pub(crate) fn add_policy(
+    object: &Object<'_>,
+    channel: ChannelId,
+    edits: &mut Vec<Edit>,
+) -> Result<(), BadConfig>
+    ensures reads { Reads (rows_fault object.now.dot.now (policy_rows (view object.now.value.now)))
+        tt result }
+    ensures edits { OnOk result (edits.new.items
+        ≡ edits.old.items ++ policy_edits channel (given_policy (view object.now.value.now))) }
+{
+    let policy = GivenPolicy::read(object)?;
+    policy.push_edit(object.alloc, channel, edits)?;
+    Ok(())
 }

@@ -1,6 +1,6 @@
 //! Groups of a channel.
 
-ghost use Rattle.std.specs.Prelude.{◌≡◌, [], OnOk, map};
+ghost use Rattle.std.specs.Prelude.{◌≡◌, ◌++◌, [], ◌∷◌, OnOk, map};
 ghost use Rattle.serde_json.specs.View.{view};
 ghost use Rattle.mum_config.specs.Account.{greatest};
 ghost use Rattle.mum_config.specs.Object.{each_fault, elements_fault, rows_fault};
@@ -8,7 +8,8 @@ ghost use Rattle.mum_config.specs.Policy.{account_of, accounts_at, group_fault, 
 ghost use Rattle.mum_config.specs.Reading.{Reads};
 ghost use Rattle.mum_config.specs.Value.{number_fault};
 
-use crate::fault::{BadConfig, ConfigFault, at_place, fault_at};
+use crate::fault::{BadConfig, at_place, fault_at};
+use crate::name::new_name;
 use crate::object::Object;
 use crate::value::read_number;
 use indexmap::IndexSet;
@@ -53,16 +54,18 @@ fn accounts_in(object: &Object<'_>, name: &str) -> Result<Items<AccountId>, BadC
     }
 }
 
-/// A group, whose name none of those before it has.
+/// Adds a group, whose name none of those before it has.
 fn read_group<'a>(
     alloc: Global,
     value: &'a Value,
     names: &mut IndexSet<&'a str>,
-) -> Result<Group, BadConfig>
-    ensures reads { Reads (group_fault (map (λ n. n.now) names.old.keys) (view value.now))
-        (group_of (view value.now)) result }
+    groups: &mut Vec<Group>,
+) -> Result<(), BadConfig>
+    ensures reads { Reads (group_fault (map (λ n. n.now) names.old.keys) (view value.now)) tt result }
     ensures names { OnOk result (map (λ n. n.now) names.new.keys
         ≡ with_group_met (map (λ n. n.now) names.old.keys) (view value.now)) }
+    ensures groups { OnOk result
+        (groups.new.items ≡ groups.old.items ++ group_of (view value.now) ∷ []) }
 {
     let object = Object {
         alloc,
@@ -70,20 +73,19 @@ fn read_group<'a>(
         dot: ".",
     };
     object.open(&KEYS)?;
-    let name = object.needed_name("name")?;
-    let new_name = names.insert(object.text_at("name"))?;
-    object.refuse_if(!new_name, "name", ConfigFault::Twice)?;
+    let name = new_name(&object, names)?;
     let inherit = object.flag("inherit")?;
     let inheritable = object.flag("inheritable")?;
     let add = accounts_in(&object, "add")?;
     let remove = accounts_in(&object, "remove")?;
-    Ok(Group {
+    groups.push(Group {
         name,
         inherit: inherit.unwrap_or(true),
         inheritable: inheritable.unwrap_or(true),
         add,
         remove,
-    })
+    })?;
+    Ok(())
 }
 
 /// The groups of a channel, of which no two have one name.
@@ -91,11 +93,14 @@ pub(crate) fn read_groups(alloc: Global, values: &[Value]) -> Result<Items<Group
     ensures { Reads (elements_fault group_fault with_group_met [] 0 (map view values.now))
         (map group_of (map view values.now)) result }
 {
-    let mut names = IndexSet::new(alloc);
     let mut groups = Vec::with_capacity(alloc, values.len())?;
+    let mut names = IndexSet::new(alloc);
     for (place, value) in values.iter().enumerate() {
-        let group = at_place(alloc, place, read_group(alloc, value, &mut names))?;
-        groups.push(group)?;
+        at_place(
+            alloc,
+            place,
+            read_group(alloc, value, &mut names, &mut groups),
+        )?;
     }
     Ok(Items::from_vec(groups))
 }

@@ -10,6 +10,7 @@ mod fault;
 mod given;
 mod group;
 mod link;
+mod name;
 mod object;
 mod value;
 

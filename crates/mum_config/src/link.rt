@@ -1,6 +1,6 @@
 //! Links between channels.
 
-ghost use Rattle.std.specs.Prelude.{◌≡◌, ◌++◌, [], ◌∷◌, IfOk, OnOk, false, map, true};
+ghost use Rattle.std.specs.Prelude.{◌≡◌, ◌++◌, [], ◌∷◌, OnOk, false, map, true};
 ghost use Rattle.std.specs.Option.{option_map};
 ghost use Rattle.serde_json.specs.View.{view};
 ghost use Rattle.mum_config.specs.Link.{AreCounted, crowding_fault, end_fault, ends_of, is_crowded, is_new, join_edit, link_count, link_edit, link_fault, pair_of, with_ends, with_link_met};
@@ -99,13 +99,13 @@ fn read_end(alloc: Global, value: &Value, depths: &IndexMap<u32, usize>) -> Resu
     Ok(number)
 }
 
-/// The edit that adds a link to its first channel.
-fn link_edit(alloc: Global, from: u32, to: u32) -> Result<Edit, OutOfMemory>
-    ensures { IfOk result (λ edit. edit ≡ join_edit from to) }
+/// Adds the edit that adds a link to its first channel.
+fn push_link(alloc: Global, from: u32, to: u32, edits: &mut Vec<Edit>) -> Result<(), OutOfMemory>
+    ensures { OnOk result (edits.new.items ≡ edits.old.items ++ join_edit from to ∷ []) }
 {
     let mut links_add = Items::new(alloc);
     links_add.push(ChannelId(to))?;
-    Ok(Edit::EditChannel {
+    edits.push(Edit::EditChannel {
         id: ChannelId(from),
         actor: None,
         name: None,
@@ -115,7 +115,8 @@ fn link_edit(alloc: Global, from: u32, to: u32) -> Result<Edit, OutOfMemory>
         max_users: None,
         links_add,
         links_remove: Items::new(alloc),
-    })
+    })?;
+    Ok(())
 }
 
 /// The two values of a pair.
@@ -129,18 +130,20 @@ fn pair_in(value: &Value) -> Option<(&Value, &Value)>
     Some((&values[0], &values[1]))
 }
 
-/// The edit of a link.
+/// Adds the edit of a link.
 fn read_link(
     alloc: Global,
     value: &Value,
     depths: &IndexMap<u32, usize>,
     met: &mut Met,
-) -> Result<Edit, BadConfig>
+    edits: &mut Vec<Edit>,
+) -> Result<(), BadConfig>
     requires { AreCounted met.old.counts.entries met.old.ends.keys }
-    ensures reads { Reads (link_fault depths.now.entries met.old.ends.keys (view value.now))
-        (link_edit (view value.now)) result }
+    ensures reads { Reads (link_fault depths.now.entries met.old.ends.keys (view value.now)) tt result }
     ensures met { OnOk result (met.new.ends.keys ≡ with_link_met met.old.ends.keys (view value.now)) }
     ensures counted { OnOk result (AreCounted met.new.counts.entries met.new.ends.keys) }
+    ensures edits { OnOk result
+        (edits.new.items ≡ edits.old.items ++ link_edit (view value.now) ∷ []) }
 {
     let Some((first, second)) = pair_in(value) else {
         return Err(fault_at(alloc, ConfigFault::WrongKind, ""));
@@ -148,7 +151,8 @@ fn read_link(
     let from = at_place(alloc, 0, read_end(alloc, first, depths))?;
     let to = at_place(alloc, 1, read_end(alloc, second, depths))?;
     met.note(alloc, from, to)?;
-    Ok(link_edit(alloc, from, to)?)
+    push_link(alloc, from, to, edits)?;
+    Ok(())
 }
 
 /// Adds the edits of links between channels of which these are the depths.
@@ -168,8 +172,11 @@ pub(crate) fn read_links(
         counts: IndexMap::new(alloc),
     };
     for (place, value) in values.iter().enumerate() {
-        let edit = at_place(alloc, place, read_link(alloc, value, depths, &mut met))?;
-        edits.push(edit)?;
+        at_place(
+            alloc,
+            place,
+            read_link(alloc, value, depths, &mut met, edits),
+        )?;
     }
     Ok(())
 }

@@ -36,11 +36,11 @@ returns-in_err-info-clause-reads c =
     let p = err_from_is_err_and c.from_residual-in_err-info.result c.from_residual-in_err-info.ensures.1 in
     rw (p.1, p.2) (later _ _ _ (c.in_ok-open.ensures.0) (rows_later (codes ".") (number_rows c.args.met.now.last (view c.args.value.now)) ((parent_rows c.args.met.now.depths.entries (view c.args.value.now)) ++ (name_rows (seats_of c.args.met.now.seats.keys) (view c.args.value.now)) ++ (info_rows (view c.args.value.now)) ++ (policy_rows (view c.args.value.now))) _ (c.in_ok-number.ensures.0) (rows_later (codes ".") (parent_rows c.args.met.now.depths.entries (view c.args.value.now)) ((name_rows (seats_of c.args.met.now.seats.keys) (view c.args.value.now)) ++ (info_rows (view c.args.value.now)) ++ (policy_rows (view c.args.value.now))) _ (c.in_ok-parent.ensures.reads.0) (rows_later (codes ".") (name_rows (seats_of c.args.met.now.seats.keys) (view c.args.value.now)) ((info_rows (view c.args.value.now)) ++ (policy_rows (view c.args.value.now))) _ (c.in_ok-name.ensures.reads.0) (rows_first (codes ".") (info_rows (view c.args.value.now)) (policy_rows (view c.args.value.now)) _ (c.in_err-info.ensures))))))
 
-pub returns-in_err-policy-clause-reads : goal.returns-in_err-policy-clause-reads
+pub returns-in_err-add_policy-clause-reads : goal.returns-in_err-add_policy-clause-reads
 unfolding made_fault
-returns-in_err-policy-clause-reads c =
-    let p = err_from_is_err_and c.from_residual-in_err-policy.result c.from_residual-in_err-policy.ensures.1 in
-    rw (p.1, p.2) (later _ _ _ (c.in_ok-open.ensures.0) (rows_later (codes ".") (number_rows c.args.met.now.last (view c.args.value.now)) ((parent_rows c.args.met.now.depths.entries (view c.args.value.now)) ++ (name_rows (seats_of c.args.met.now.seats.keys) (view c.args.value.now)) ++ (info_rows (view c.args.value.now)) ++ (policy_rows (view c.args.value.now))) _ (c.in_ok-number.ensures.0) (rows_later (codes ".") (parent_rows c.args.met.now.depths.entries (view c.args.value.now)) ((name_rows (seats_of c.args.met.now.seats.keys) (view c.args.value.now)) ++ (info_rows (view c.args.value.now)) ++ (policy_rows (view c.args.value.now))) _ (c.in_ok-parent.ensures.reads.0) (rows_later (codes ".") (name_rows (seats_of c.args.met.now.seats.keys) (view c.args.value.now)) ((info_rows (view c.args.value.now)) ++ (policy_rows (view c.args.value.now))) _ (c.in_ok-name.ensures.reads.0) (rows_later (codes ".") (info_rows (view c.args.value.now)) (policy_rows (view c.args.value.now)) _ (c.in_ok-info.ensures.0) (c.in_err-policy.ensures))))))
+returns-in_err-add_policy-clause-reads c =
+    let p = err_from_is_err_and c.from_residual-in_err-add_policy.result c.from_residual-in_err-add_policy.ensures.1 in
+    rw (p.1, p.2) (later _ _ _ (c.in_ok-open.ensures.0) (rows_later (codes ".") (number_rows c.args.met.now.last (view c.args.value.now)) ((parent_rows c.args.met.now.depths.entries (view c.args.value.now)) ++ (name_rows (seats_of c.args.met.now.seats.keys) (view c.args.value.now)) ++ (info_rows (view c.args.value.now)) ++ (policy_rows (view c.args.value.now))) _ (c.in_ok-number.ensures.0) (rows_later (codes ".") (parent_rows c.args.met.now.depths.entries (view c.args.value.now)) ((name_rows (seats_of c.args.met.now.seats.keys) (view c.args.value.now)) ++ (info_rows (view c.args.value.now)) ++ (policy_rows (view c.args.value.now))) _ (c.in_ok-parent.ensures.reads.0) (rows_later (codes ".") (name_rows (seats_of c.args.met.now.seats.keys) (view c.args.value.now)) ((info_rows (view c.args.value.now)) ++ (policy_rows (view c.args.value.now))) _ (c.in_ok-name.ensures.reads.0) (rows_later (codes ".") (info_rows (view c.args.value.now)) (policy_rows (view c.args.value.now)) _ (c.in_ok-info.ensures.0) c.in_err-add_policy.ensures.reads)))))
 
 pub returns-in_err-insert-clause-reads : goal.returns-in_err-insert-clause-reads
 unfolding made_fault
@@ -54,16 +54,10 @@ returns-in_err-push-clause-reads c =
     let p = err_from_is_err_and c.from_residual-in_err-push.result c.from_residual-in_err-push.ensures.1 in
     rw p.1 (out_of_memory _ _ p.2)
 
-pub returns-in_err-push_edit-clause-reads : goal.returns-in_err-push_edit-clause-reads
-unfolding made_fault
-returns-in_err-push_edit-clause-reads c =
-    let p = err_from_is_err_and c.from_residual-in_err-push_edit.result c.from_residual-in_err-push_edit.ensures.1 in
-    rw p.1 (out_of_memory _ _ p.2)
-
 pub returns-clause-reads : goal.returns-clause-reads
 unfolding made_fault
 returns-clause-reads c = (
-  none_said _ _ (c.in_ok-open.ensures.0) (rows_none (codes ".") (number_rows c.args.met.now.last (view c.args.value.now)) ((parent_rows c.args.met.now.depths.entries (view c.args.value.now)) ++ (name_rows (seats_of c.args.met.now.seats.keys) (view c.args.value.now)) ++ (info_rows (view c.args.value.now)) ++ (policy_rows (view c.args.value.now))) (c.in_ok-number.ensures.0) (rows_none (codes ".") (parent_rows c.args.met.now.depths.entries (view c.args.value.now)) ((name_rows (seats_of c.args.met.now.seats.keys) (view c.args.value.now)) ++ (info_rows (view c.args.value.now)) ++ (policy_rows (view c.args.value.now))) (c.in_ok-parent.ensures.reads.0) (rows_none (codes ".") (name_rows (seats_of c.args.met.now.seats.keys) (view c.args.value.now)) ((info_rows (view c.args.value.now)) ++ (policy_rows (view c.args.value.now))) (c.in_ok-name.ensures.reads.0) (rows_none (codes ".") (info_rows (view c.args.value.now)) (policy_rows (view c.args.value.now)) (c.in_ok-info.ensures.0) (c.in_ok-policy.ensures.0))))),
+  none_said _ _ (c.in_ok-open.ensures.0) (rows_none (codes ".") (number_rows c.args.met.now.last (view c.args.value.now)) ((parent_rows c.args.met.now.depths.entries (view c.args.value.now)) ++ (name_rows (seats_of c.args.met.now.seats.keys) (view c.args.value.now)) ++ (info_rows (view c.args.value.now)) ++ (policy_rows (view c.args.value.now))) (c.in_ok-number.ensures.0) (rows_none (codes ".") (parent_rows c.args.met.now.depths.entries (view c.args.value.now)) ((name_rows (seats_of c.args.met.now.seats.keys) (view c.args.value.now)) ++ (info_rows (view c.args.value.now)) ++ (policy_rows (view c.args.value.now))) (c.in_ok-parent.ensures.reads.0) (rows_none (codes ".") (name_rows (seats_of c.args.met.now.seats.keys) (view c.args.value.now)) ((info_rows (view c.args.value.now)) ++ (policy_rows (view c.args.value.now))) (c.in_ok-name.ensures.reads.0) (rows_none (codes ".") (info_rows (view c.args.value.now)) (policy_rows (view c.args.value.now)) (c.in_ok-info.ensures.0) c.in_ok-add_policy.ensures.reads.0)))),
   refl,
 )
 
@@ -75,7 +69,7 @@ returns-clause-met c =
 pub returns-clause-edits : goal.returns-clause-edits
 unfolding channel_edits
 returns-clause-edits c =
-    rw (c.in_ok-push_edit.ensures, c.in_ok-push.ensures.items, c.requires, c.into_info.ensures, c.in_ok-info.ensures.1, c.in_ok-policy.ensures.1, c.in_ok-name.ensures.reads.1, c.in_ok-number.ensures.1, ap (λ p. p.number) c.in_ok-parent.ensures.reads.1)
+    rw (c.in_ok-add_policy.ensures.edits, c.in_ok-push.ensures.items, c.requires, c.into_info.ensures, c.in_ok-info.ensures.1, c.in_ok-name.ensures.reads.1, c.in_ok-number.ensures.1, ap (λ p. p.number) c.in_ok-parent.ensures.reads.1)
     (simp append_assoc)
 
 pub name_in-requires : goal.name_in-requires

@@ -24,35 +24,21 @@ returns-in_err-push c =
     let p = err_from_is_err_and c.from_residual-in_err-push.result c.from_residual-in_err-push.ensures.1 in
     rw p.1 (out_of_memory _ _ p.2)
 
-pub returns-in_err-accounts_in : goal.returns-in_err-accounts_in
+pub returns-in_err-lists_in : goal.returns-in_err-lists_in
 unfolding object_fault_of config_of edits_of
-returns-in_err-accounts_in c =
-    let p = err_from_is_err_and c.from_residual-in_err-accounts_in.result c.from_residual-in_err-accounts_in.ensures.1 in
-    rw (p.1, p.2) (later _ _ _ (document_none _ (sym c.is_object.ensures ∙ c.if-not-is_object.false)) (later _ _ _ (c.in_ok-refuse_others.ensures.0) (rows_later [] (settings_rows (view c.args.document.now)) ((account_list_rows (view c.args.document.now)) ++ (channel_list_rows (view c.args.document.now)) ++ (link_list_rows (channels_met (view c.args.document.now)).depths (view c.args.document.now))) _ (c.in_ok-settings.ensures.reads.0) (rows_first [] (account_list_rows (view c.args.document.now)) ((channel_list_rows (view c.args.document.now)) ++ (link_list_rows (channels_met (view c.args.document.now)).depths (view c.args.document.now))) _ (c.in_err-accounts_in.ensures.reads)))))
-
-pub returns-in_err-depths : goal.returns-in_err-depths
-unfolding object_fault_of config_of edits_of
-returns-in_err-depths c =
-    let p = err_from_is_err_and c.from_residual-in_err-depths.result c.from_residual-in_err-depths.ensures.1 in
-    rw (p.1, p.2) (later _ _ _ (document_none _ (sym c.is_object.ensures ∙ c.if-not-is_object.false)) (later _ _ _ (c.in_ok-refuse_others.ensures.0) (rows_later [] (settings_rows (view c.args.document.now)) ((account_list_rows (view c.args.document.now)) ++ (channel_list_rows (view c.args.document.now)) ++ (link_list_rows (channels_met (view c.args.document.now)).depths (view c.args.document.now))) _ (c.in_ok-settings.ensures.reads.0) (rows_later [] (account_list_rows (view c.args.document.now)) ((channel_list_rows (view c.args.document.now)) ++ (link_list_rows (channels_met (view c.args.document.now)).depths (view c.args.document.now))) _ (c.in_ok-accounts_in.ensures.reads.0) (rows_first [] (channel_list_rows (view c.args.document.now)) (link_list_rows (channels_met (view c.args.document.now)).depths (view c.args.document.now)) _ (c.in_err-depths.ensures.reads))))))
-
-pub returns-in_err-links_in : goal.returns-in_err-links_in
-unfolding object_fault_of config_of edits_of
-returns-in_err-links_in c =
-    let p = err_from_is_err_and c.from_residual-in_err-links_in.result c.from_residual-in_err-links_in.ensures.1 in
-    rw (p.1, p.2) (later _ _ _ (document_none _ (sym c.is_object.ensures ∙ c.if-not-is_object.false)) (later _ _ _ (c.in_ok-refuse_others.ensures.0) (rows_later [] (settings_rows (view c.args.document.now)) ((account_list_rows (view c.args.document.now)) ++ (channel_list_rows (view c.args.document.now)) ++ (link_list_rows (channels_met (view c.args.document.now)).depths (view c.args.document.now))) _ (c.in_ok-settings.ensures.reads.0) (rows_later [] (account_list_rows (view c.args.document.now)) ((channel_list_rows (view c.args.document.now)) ++ (link_list_rows (channels_met (view c.args.document.now)).depths (view c.args.document.now))) _ (c.in_ok-accounts_in.ensures.reads.0) (rows_later [] (channel_list_rows (view c.args.document.now)) (link_list_rows (channels_met (view c.args.document.now)).depths (view c.args.document.now)) _ (c.in_ok-depths.ensures.reads.0) ((rw c.in_ok-depths.ensures.reads.1 at c.in_err-links_in.ensures.reads)))))))
+returns-in_err-lists_in c =
+    let p = err_from_is_err_and c.from_residual-in_err-lists_in.result c.from_residual-in_err-lists_in.ensures.1 in
+    rw (p.1, p.2) (later _ _ _ (document_none _ (sym c.is_object.ensures ∙ c.if-not-is_object.false)) (later _ _ _ (c.in_ok-refuse_others.ensures.0) (rows_later [] (settings_rows (view c.args.document.now)) (account_list_rows (view c.args.document.now) ++ channel_list_rows (view c.args.document.now) ++ link_list_rows (channels_met (view c.args.document.now)).depths (view c.args.document.now)) _ c.in_ok-settings.ensures.reads.0 c.in_err-lists_in.ensures.reads)))
 
 pub returns : goal.returns
 unfolding object_fault_of config_of edits_of
 returns c = (
-  none_said _ _ (document_none _ (sym c.is_object.ensures ∙ c.if-not-is_object.false)) (none_said _ _ (c.in_ok-refuse_others.ensures.0) (rows_none [] (settings_rows (view c.args.document.now)) ((account_list_rows (view c.args.document.now)) ++ (channel_list_rows (view c.args.document.now)) ++ (link_list_rows (channels_met (view c.args.document.now)).depths (view c.args.document.now))) (c.in_ok-settings.ensures.reads.0) (rows_none [] (account_list_rows (view c.args.document.now)) ((channel_list_rows (view c.args.document.now)) ++ (link_list_rows (channels_met (view c.args.document.now)).depths (view c.args.document.now))) (c.in_ok-accounts_in.ensures.reads.0) (rows_none [] (channel_list_rows (view c.args.document.now)) (link_list_rows (channels_met (view c.args.document.now)).depths (view c.args.document.now)) (c.in_ok-depths.ensures.reads.0) ((rw c.in_ok-depths.ensures.reads.1 at c.in_ok-links_in.ensures.reads.0)))))),
+  none_said _ _ (document_none _ (sym c.is_object.ensures ∙ c.if-not-is_object.false)) (none_said _ _ (c.in_ok-refuse_others.ensures.0) (rows_none [] (settings_rows (view c.args.document.now)) (account_list_rows (view c.args.document.now) ++ channel_list_rows (view c.args.document.now) ++ link_list_rows (channels_met (view c.args.document.now)).depths (view c.args.document.now)) c.in_ok-settings.ensures.reads.0 c.in_ok-lists_in.ensures.reads.0)),
   rw (
     c.unwrap_or-workers.ensures,
     ap (λ s. s.workers) c.in_ok-settings.ensures.reads.1,
     c.from_vec.ensures,
-    c.in_ok-links_in.ensures.edits,
-    c.in_ok-depths.ensures.edits,
-    c.in_ok-accounts_in.ensures.edits,
+    c.in_ok-lists_in.ensures.edits,
     c.in_ok-push.ensures.items,
     c.new-edits.ensures.items,
     c.into_edit.ensures,

@@ -38,77 +38,91 @@ fn heard(state: &State, speaker: SessionId, target: u8, scratch: &mut Scratch) -
     counted::<Brand>(Blank::new(1), state, speaker, target, scratch)
 }
 
+/// `2/0`
+fn push_member(alloc: Global, text: &mut String, session: SessionId, context: u8) -> Result<()> {
+    let member = format!(in alloc; "{}/{context}", session.0)?;
+    text.push_str(member.as_str())?;
+    Ok(())
+}
+
 /// `2/0 4/3`, or `nobody`
-fn audience_text(alloc: Global, audience: &Audience) -> Result<String> {
-    let mut text = String::new(alloc);
-    for i in 0..audience.len() {
-        let (session, context) = audience.at(i);
-        let member = format!(in alloc; "{}/{context}", session.0)?;
-        if i > 0 {
-            text.push_str(" ")?;
-        }
-        text.push_str(member.as_str())?;
-    }
+fn push_audience(alloc: Global, text: &mut String, audience: &Audience) -> Result<()> {
     if audience.is_empty() {
         text.push_str("nobody")?;
     }
-    Ok(text)
+    for i in 0..audience.len() {
+        let (session, context) = audience.at(i);
+        if i > 0 {
+            text.push_str(" ")?;
+        }
+        push_member(alloc, text, session, context)?;
+    }
+    Ok(())
 }
 
-/// The state that the calls of a line lead to, and what they have said. What was marked for one packet
-/// is still marked when the next is routed.
+/// The state that the calls of a line lead to. What was marked for one packet is still marked when the
+/// next is routed.
 #[derive(Drop)]
 struct Scene {
     alloc: Global,
     state: State,
     scratch: Scratch,
-    said: String,
 }
 
 impl Scene {
-    /// Who hears a packet.
-    fn say_route(&mut self, speaker: SessionId, target: u8) -> Result<()> {
+    /// Says who hears a packet.
+    fn say_route(&mut self, said: &mut String, speaker: SessionId, target: u8) -> Result<()> {
         ensure!(target <= LOOPBACK, "no target: {target}");
-        let audience = heard(&self.state, speaker, target, &mut self.scratch);
-        let text = audience_text(self.alloc, &audience)?;
-        if !self.said.is_empty() {
-            self.said.push_str("; ")?;
+        if !said.is_empty() {
+            said.push_str("; ")?;
         }
-        self.said.push_str(text.as_str())?;
+        let audience = heard(&self.state, speaker, target, &mut self.scratch);
+        push_audience(self.alloc, said, &audience)
+    }
+
+    fn make(&mut self, call: &str) -> Result<()> {
+        let fits = edit(self.alloc, &mut self.state, call)?;
+        ensure!(fits, "does not fit: {call}");
         Ok(())
     }
 
     /// `talk 1`, `whisper 1 7`, `loopback 1`, or an edit.
-    fn call(&mut self, call: &str) -> Result<()> {
+    fn call(&mut self, said: &mut String, call: &str) -> Result<()> {
         let (word, rest) = word_of(call);
         match word {
-            "talk" => self.say_route(session(rest)?, TALK),
-            "loopback" => self.say_route(session(rest)?, LOOPBACK),
+            "talk" => self.say_route(said, session(rest)?, TALK),
+            "loopback" => self.say_route(said, session(rest)?, LOOPBACK),
             "whisper" => {
                 let (who, target) = word_of(rest);
-                self.say_route(session(who)?, small(target)?)
+                self.say_route(said, session(who)?, small(target)?)
             }
-            _ => {
-                ensure!(
-                    edit(self.alloc, &mut self.state, call)?,
-                    "does not fit: {call}"
-                );
-                Ok(())
-            }
+            _ => self.make(call),
         }
     }
+
+    /// All calls of a line.
+    fn calls(&mut self, said: &mut String, line: &str) -> Result<()> {
+        for call in &calls_of(self.alloc, line)? {
+            self.call(said, call.as_str())?;
+        }
+        Ok(())
+    }
+}
+
+fn say(alloc: Global, said: &mut String, line: &str) -> Result<()> {
+    let state = State::empty(alloc)?;
+    let scratch = Scratch::new(alloc)?;
+    let mut scene = Scene {
+        alloc,
+        state,
+        scratch,
+    };
+    scene.calls(said, line)
 }
 
 /// What the calls of a line say.
 pub fn answer(alloc: Global, line: &str) -> Result<String> {
-    let mut scene = Scene {
-        alloc,
-        state: State::empty(alloc)?,
-        scratch: Scratch::new(alloc)?,
-        said: String::new(alloc),
-    };
-    for call in &calls_of(alloc, line)? {
-        scene.call(call.as_str())?;
-    }
-    Ok(scene.said)
+    let mut said = String::new(alloc);
+    say(alloc, &mut said, line)?;
+    Ok(said)
 }

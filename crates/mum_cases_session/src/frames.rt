@@ -1,6 +1,6 @@
 //! The table `frames`.
 
-use anyhow::{Result, bail};
+use anyhow::{Context, Result, bail};
 use mum_base::{Octets, ReplyEnd, SessionId, Slot};
 use mum_cases::{Table, bytes_of, hex_of};
 use mum_frame::Frame;
@@ -15,129 +15,138 @@ pub struct Frames;
 /// The most bytes that are shown one by one.
 const SHOWN: usize = 64;
 
-fn shown_bytes(alloc: Global, bytes: &[u8]) -> Result<String> {
+fn push(text: &mut String, more: String) -> Result<()> {
+    text.push_str(more.as_str())?;
+    Ok(())
+}
+
+fn push_bytes(alloc: Global, text: &mut String, bytes: &[u8]) -> Result<()> {
     if bytes.len() > SHOWN {
         let count = bytes.len();
-        return Ok(format!(in alloc; "{count} bytes")?);
+        return push(text, format!(in alloc; "{count} bytes")?);
     }
-    hex_of(alloc, bytes)
+    push(text, hex_of(alloc, bytes)?)
 }
 
-fn shown_message<M: Message>(alloc: Global, word: &str, message: &M) -> Result<String> {
+/// A word and the bytes after it.
+fn push_piece(alloc: Global, text: &mut String, word: &str, bytes: &[u8]) -> Result<()> {
+    text.push_str(word)?;
+    push_bytes(alloc, text, bytes)
+}
+
+fn push_message<M: Message>(
+    alloc: Global,
+    text: &mut String,
+    word: &str,
+    message: &M,
+) -> Result<()> {
     let payload = message.encode(alloc)?;
-    let bytes = shown_bytes(alloc, payload.as_slice())?;
-    Ok(format!(in alloc; "{word} {bytes}")?)
+    push_piece(alloc, text, word, payload.as_slice())
 }
 
-fn shown_on_channels(alloc: Global, message: &TreeMessage) -> Result<String> {
+fn push_on_channels(alloc: Global, text: &mut String, message: &TreeMessage) -> Result<()> {
     match message {
-        TreeMessage::State(message) => shown_message(alloc, "channel", message),
-        TreeMessage::Remove(message) => shown_message(alloc, "remove", message),
-        TreeMessage::Acl(message) => shown_message(alloc, "acl", message),
+        TreeMessage::State(message) => push_message(alloc, text, "channel ", message),
+        TreeMessage::Remove(message) => push_message(alloc, text, "remove ", message),
+        TreeMessage::Acl(message) => push_message(alloc, text, "acl ", message),
     }
 }
 
-fn with_version(alloc: Global, login: &str, version: &Option<u32>) -> Result<String> {
+fn push_version(alloc: Global, text: &mut String, version: &Option<u32>) -> Result<()> {
     match version {
-        Some(version) => Ok(format!(in alloc; "{login} version {version}")?),
-        None => Ok(String::from_str(alloc, login)?),
+        Some(version) => push(text, format!(in alloc; " version {version}")?),
+        None => Ok(()),
     }
 }
 
-fn shown_on_users(alloc: Global, message: &UserMessage) -> Result<String> {
+fn push_on_users(alloc: Global, text: &mut String, message: &UserMessage) -> Result<()> {
     match message {
         UserMessage::Join(message, version) => {
-            let login = shown_message(alloc, "join", message)?;
-            with_version(alloc, login.as_str(), version)
+            push_message(alloc, text, "join ", message)?;
+            push_version(alloc, text, version)
         }
-        UserMessage::User(message) => shown_message(alloc, "user", message),
-        UserMessage::Kick(message) => shown_message(alloc, "kick", message),
-        UserMessage::Text(message) => shown_message(alloc, "text", message),
-        UserMessage::Target(message) => shown_message(alloc, "target", message),
-        UserMessage::Query(message) => shown_message(alloc, "query", message),
-        UserMessage::Leave => Ok(String::from_str(alloc, "leave")?),
+        UserMessage::User(message) => push_message(alloc, text, "user ", message),
+        UserMessage::Kick(message) => push_message(alloc, text, "kick ", message),
+        UserMessage::Text(message) => push_message(alloc, text, "text ", message),
+        UserMessage::Target(message) => push_message(alloc, text, "target ", message),
+        UserMessage::Query(message) => push_message(alloc, text, "query ", message),
+        UserMessage::Leave => Ok(text.push_str("leave")?),
     }
 }
 
-fn shown_what(alloc: Global, what: &Asked) -> Result<String> {
-    match what {
-        Asked::Tree(message) => shown_on_channels(alloc, message),
-        Asked::User(message) => shown_on_users(alloc, message),
-    }
-}
-
-fn shown_command(alloc: Global, command: &Command) -> Result<String> {
-    let Command {
-        connection,
-        worker,
-        session,
-        what,
-    } = command;
-    let what = shown_what(alloc, what)?;
+fn push_as(alloc: Global, text: &mut String, session: &Option<SessionId>) -> Result<()> {
     match session {
-        Some(session) => {
-            let session = session.0;
-            Ok(format!(in alloc; "ask {connection}/{worker} as {session} {what}")?)
-        }
-        None => Ok(format!(in alloc; "ask {connection}/{worker} {what}")?),
+        Some(session) => push(text, format!(in alloc; "as {} ", session.0)?),
+        None => Ok(()),
     }
 }
 
-fn shown(alloc: Global, action: &Action) -> Result<String> {
+fn push_command(alloc: Global, text: &mut String, command: &Command) -> Result<()> {
+    let (connection, worker) = (command.connection, command.worker);
+    push(text, format!(in alloc; "ask {connection}/{worker} ")?)?;
+    push_as(alloc, text, &command.session)?;
+    match &command.what {
+        Asked::Tree(message) => push_on_channels(alloc, text, message),
+        Asked::User(message) => push_on_users(alloc, text, message),
+    }
+}
+
+fn push_action(alloc: Global, text: &mut String, action: &Action) -> Result<()> {
     match action {
-        Action::Ask(command) => shown_command(alloc, command),
-        Action::Voice(packet) => {
-            let bytes = shown_bytes(alloc, packet.as_slice())?;
-            Ok(format!(in alloc; "voice {bytes}")?)
-        }
-        Action::Echo(frame) => {
-            let bytes = shown_bytes(alloc, frame.as_slice())?;
-            Ok(format!(in alloc; "echo {bytes}")?)
-        }
-        Action::Keep => Ok(String::from_str(alloc, "keep")?),
-        Action::Ignore { why } => Ok(format!(in alloc; "ignore {why}")?),
+        Action::Ask(command) => push_command(alloc, text, command),
+        Action::Voice(packet) => push_piece(alloc, text, "voice ", packet.as_slice()),
+        Action::Echo(frame) => push_piece(alloc, text, "echo ", frame.as_slice()),
+        Action::Keep => Ok(text.push_str("keep")?),
+        Action::Ignore { why } => push(text, format!(in alloc; "ignore {why}")?),
     }
 }
 
-/// What a frame of a type and a payload asks for.
-fn asked(alloc: Global, session: &mut Session, kind: &str, payload: &str) -> Result<String> {
+fn push_asked(alloc: Global, text: &mut String, session: &mut Session, frame: Frame) -> Result<()> {
     if session.awaits_reply() {
         bail!("a reply is awaited");
     }
-    let Ok(kind) = kind.parse::<u16>() else {
-        bail!("no type: {kind}");
-    };
-    let payload = Octets::from_vec(bytes_of(alloc, payload)?);
-    let action = session.frame(alloc, Frame { kind, payload })?;
-    shown(alloc, &action)
+    let action = session.frame(alloc, frame)?;
+    push_action(alloc, text, &action)
 }
 
-fn joined(session: &mut Session, number_of: &str) -> Result<()> {
-    let Ok(number) = number_of.parse::<u32>() else {
-        bail!("no session: {number_of}");
-    };
+/// Adds what a frame of a type and a payload asks for.
+fn ask(
+    alloc: Global,
+    text: &mut String,
+    session: &mut Session,
+    kind: &str,
+    payload: &str,
+) -> Result<()> {
+    if !text.is_empty() {
+        text.push_str("; ")?;
+    }
+    let kind = kind.parse::<u16>().context("a type is a number")?;
+    let payload = Octets::from_vec(bytes_of(alloc, payload)?);
+    push_asked(alloc, text, session, Frame { kind, payload })
+}
+
+fn joined(session: &mut Session, number: &str) -> Result<()> {
+    let number = number.parse::<u32>().context("a session is a number")?;
     session.answered(ReplyEnd::Joined(SessionId(number), Slot(0)));
     Ok(())
 }
 
-/// What one step answers; a reply answers nothing.
-fn step(alloc: Global, session: &mut Session, step: &str) -> Result<Option<String>> {
-    if step == "decided" {
-        session.answered(ReplyEnd::Decided);
-        return Ok(None);
+fn replied(session: &mut Session, word: &str) -> Result<()> {
+    match word {
+        "decided" => session.answered(ReplyEnd::Decided),
+        "rejected" => session.answered(ReplyEnd::Rejected),
+        _ => bail!("no step: {word}"),
     }
-    if step == "rejected" {
-        session.answered(ReplyEnd::Rejected);
-        return Ok(None);
+    Ok(())
+}
+
+/// Adds what one step answers; a reply answers nothing.
+fn step(alloc: Global, text: &mut String, session: &mut Session, step: &str) -> Result<()> {
+    match step.split_once(' ') {
+        Some(("joined", number)) => joined(session, number),
+        Some((kind, payload)) => ask(alloc, text, session, kind, payload),
+        None => replied(session, step),
     }
-    let Some((word, rest)) = step.split_once(' ') else {
-        bail!("no step: {step}");
-    };
-    if word == "joined" {
-        joined(session, rest)?;
-        return Ok(None);
-    }
-    Ok(Some(asked(alloc, session, word, rest)?))
 }
 
 impl Table for Frames {
@@ -147,12 +156,7 @@ impl Table for Frames {
         let mut session = Session::new(7, 2);
         let mut answer = String::new(alloc);
         for part in question.split("; ") {
-            if let Some(told) = step(alloc, &mut session, part)? {
-                if !answer.is_empty() {
-                    answer.push_str("; ")?;
-                }
-                answer.push_str(told.as_str())?;
-            }
+            step(alloc, &mut answer, &mut session, part)?;
         }
         Ok(answer)
     }

@@ -1,36 +1,52 @@
 //! The table `draws`.
 
 use anyhow::{Result, bail};
+use mum_base::OutOfMemory;
 use mum_cases::{Table, number};
+use mum_record::{Word, push_line, push_word};
 use mum_server::{Act, Draws, Round};
 use std::alloc::Global;
 
 pub struct DrawnRounds;
 
-/// What is done in a round, in words.
-fn shown(alloc: Global, round: &Round) -> Result<String> {
-    let connection = round.connection;
-    Ok(match round.act {
-        Act::Talk { target } => format!(in alloc; "{connection} talks to {target}")?,
-        Act::Enter { channel } => {
-            let channel = channel.0;
-            format!(in alloc; "{connection} enters {channel}")?
+/// What an act does, and the number that it does it with.
+fn words_of(act: Act) -> (&'static str, Option<u32>) {
+    match act {
+        Act::Talk { target } => ("talks to", Some(u32::from(target))),
+        Act::Enter { channel } => ("enters", Some(channel.0)),
+        Act::Link { channel } => ("links", Some(channel.0)),
+        Act::SetSelfMute { muted: true } => ("mutes itself", None),
+        Act::SetSelfMute { muted: false } => ("unmutes itself", None),
+        Act::Listen { channel } => ("listens to", Some(channel.0)),
+        Act::Aim { channel } => ("aims at", Some(channel.0)),
+    }
+}
+
+/// Appends what is done in a round, in words.
+fn push_round(alloc: Global, text: &mut String, round: &Round) -> Result<(), OutOfMemory> {
+    push_word(alloc, text, &Word::Number(u64::from(round.connection)))?;
+    text.push_str(" ")?;
+    let (verb, number) = words_of(round.act);
+    match number {
+        Some(number) => push_line(alloc, text, verb, &[Word::Number(u64::from(number))]),
+        None => text.push_str(verb),
+    }
+}
+
+/// Appends the rounds of a seed from the first to the last.
+fn push_rounds(alloc: Global, text: &mut String, seed: u64, first: u64, last: u64) -> Result<()> {
+    let mut draws = Draws::new(seed);
+    for place in 1..=last {
+        let round = draws.round();
+        if place < first {
+            continue;
         }
-        Act::Link { channel } => {
-            let channel = channel.0;
-            format!(in alloc; "{connection} links {channel}")?
+        if place > first {
+            text.push_str("; ")?;
         }
-        Act::SetSelfMute { muted: true } => format!(in alloc; "{connection} mutes itself")?,
-        Act::SetSelfMute { muted: false } => format!(in alloc; "{connection} unmutes itself")?,
-        Act::Listen { channel } => {
-            let channel = channel.0;
-            format!(in alloc; "{connection} listens to {channel}")?
-        }
-        Act::Aim { channel } => {
-            let channel = channel.0;
-            format!(in alloc; "{connection} aims at {channel}")?
-        }
-    })
+        push_round(alloc, text, &round)?;
+    }
+    Ok(())
 }
 
 impl Table for DrawnRounds {
@@ -43,20 +59,9 @@ impl Table for DrawnRounds {
         let Some((first, last)) = rounds.split_once('-') else {
             bail!("no first and last round: {rounds}");
         };
-        let (first, last) = (number(first)?, number(last)?);
-        let mut draws = Draws::new(number(seed)?);
+        let (seed, first, last) = (number(seed)?, number(first)?, number(last)?);
         let mut text = String::new(alloc);
-        for place in 1..=last {
-            let round = draws.round();
-            if place < first {
-                continue;
-            }
-            if place > first {
-                text.push_str("; ")?;
-            }
-            let words = shown(alloc, &round)?;
-            text.push_str(words.as_str())?;
-        }
+        push_rounds(alloc, &mut text, seed, first, last)?;
         Ok(text)
     }
 }

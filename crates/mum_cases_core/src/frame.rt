@@ -1,21 +1,23 @@
 //! The table `frame`.
 
-use crate::replay::{Ran, run};
+use crate::replay::{HEAD, Ran, run};
 use crate::script::beginning;
 use anyhow::{Result, bail};
 use mum_base::OutOfMemory;
 use mum_cases::{Table, bytes_of, number};
 use mum_frame::put_frame;
+use mum_record::{Word, push_word};
 use std::alloc::Global;
 
 pub struct Frames;
 
 const TOTALS: &str = "totals looks 0 copies 0 full 0 stale 0\n";
 
-/// The digits of the frame that a word spells: `TYPE/PAYLOAD`, or the digits themselves.
-fn digits_of(alloc: Global, word: &str) -> Result<String> {
+/// Appends the digits of the frame that a word spells: `TYPE/PAYLOAD`, or the digits themselves.
+fn push_frame(alloc: Global, input: &mut String, word: &str) -> Result<()> {
     let Some((kind, payload)) = word.split_once('/') else {
-        return Ok(String::from_str(alloc, word)?);
+        input.push_str(word)?;
+        return Ok(());
     };
     let kind = number(kind)?;
     let payload = bytes_of(alloc, payload)?;
@@ -23,52 +25,81 @@ fn digits_of(alloc: Global, word: &str) -> Result<String> {
         bail!("no frame: {word}");
     }
     let frame = put_frame(alloc, kind as u16, &payload)?;
-    Ok(hex::encode(alloc, frame.as_slice())?)
+    push_word(alloc, input, &Word::Digits(frame.as_slice()))?;
+    Ok(())
+}
+
+/// Appends steps, then frames of connection 1, and the end.
+fn push_steps(alloc: Global, input: &mut String, steps: &str, frames: &str) -> Result<()> {
+    input.push_str(steps)?;
+    for word in frames.split(' ') {
+        input.push_str("frame 1 ")?;
+        push_frame(alloc, input, word)?;
+        input.push_str("\n")?;
+    }
+    input.push_str("end\n")?;
+    Ok(())
 }
 
 /// Replays frames of connection 1 behind what a run begins with.
 fn ran_with(alloc: Global, steps: &str, frames: &str) -> Result<Ran> {
-    let mut input = String::from_str(alloc, "recording 1\nworkers 1\nconfig -\n")?;
-    input.push_str(steps)?;
-    for word in frames.split(' ') {
-        let digits = digits_of(alloc, word)?;
-        input.push_str("frame 1 ")?;
-        input.push_str(digits.as_str())?;
-        input.push_str("\n")?;
-    }
-    input.push_str("end\n")?;
+    let mut input = String::from_str(alloc, HEAD)?;
+    push_steps(alloc, &mut input, steps, frames)?;
     run(alloc, &["replay"], input.as_str())
 }
 
-/// The lines without the first number of each, which is that of the connection.
-fn told_of(alloc: Global, lines: &str) -> Result<String, OutOfMemory> {
-    let mut told = String::new(alloc);
-    for line in lines.lines() {
-        if !told.as_str().is_empty() {
-            told.push_str(", ")?;
-        }
-        match line.split_once(" 1") {
-            Some((verb, rest)) => {
-                told.push_str(verb)?;
-                told.push_str(rest)?;
-            }
-            None => told.push_str(line)?,
-        }
-    }
-    Ok(told)
+/// Appends a line without its first number, which is that of the connection.
+fn push_told(answer: &mut String, line: &str) -> Result<(), OutOfMemory> {
+    let Some((verb, rest)) = line.split_once(" 1") else {
+        return answer.push_str(line);
+    };
+    answer.push_str(verb)?;
+    answer.push_str(rest)
 }
 
-/// What is told of frames behind a beginning.
-fn answers(alloc: Global, name: &str, frames: &str) -> Result<String> {
-    let begun = beginning(name)?;
-    let ran = ran_with(alloc, begun.steps, frames)?;
-    let Some(told) = ran.output.as_str().strip_prefix(begun.told) else {
+/// Appends what a run told behind a beginning.
+fn push_run(answer: &mut String, ran: &Ran, begun: &str) -> Result<()> {
+    let Some(told) = ran.output.as_str().strip_prefix(begun) else {
         bail!("another beginning");
     };
     let Some(told) = told.strip_suffix(TOTALS) else {
         bail!("status {}", ran.status);
     };
-    Ok(told_of(alloc, told)?)
+    for (place, line) in told.lines().enumerate() {
+        if place > 0 {
+            answer.push_str(", ")?;
+        }
+        push_told(answer, line)?;
+    }
+    Ok(())
+}
+
+/// Appends what is told of frames behind a beginning.
+fn push_answers(alloc: Global, answer: &mut String, name: &str, frames: &str) -> Result<()> {
+    let begun = beginning(name)?;
+    let ran = ran_with(alloc, begun.steps, frames)?;
+    push_run(answer, &ran, begun.told)
+}
+
+/// Appends what is told of each of several frames, before the login and after it.
+fn push_each(alloc: Global, answer: &mut String, frames: &str) -> Result<()> {
+    for (place, frame) in frames.split(' ').enumerate() {
+        if place > 0 {
+            answer.push_str(" | ")?;
+        }
+        push_answers(alloc, answer, "opened", frame)?;
+        answer.push_str("; ")?;
+        push_answers(alloc, answer, "one user", frame)?;
+    }
+    Ok(())
+}
+
+/// Appends what is told of the frames of a case.
+fn push_case(alloc: Global, answer: &mut String, name: &str, frames: &str) -> Result<()> {
+    if name == "each" {
+        return push_each(alloc, answer, frames);
+    }
+    push_answers(alloc, answer, name, frames)
 }
 
 impl Table for Frames {
@@ -78,20 +109,8 @@ impl Table for Frames {
         let Some((name, frames)) = question.split_once("; ") else {
             bail!("no beginning and frames: {question}");
         };
-        if name != "each" {
-            return answers(alloc, name, frames);
-        }
         let mut answer = String::new(alloc);
-        for frame in frames.split(' ') {
-            let before = answers(alloc, "opened", frame)?;
-            let after = answers(alloc, "one user", frame)?;
-            if !answer.as_str().is_empty() {
-                answer.push_str(" | ")?;
-            }
-            answer.push_str(before.as_str())?;
-            answer.push_str("; ")?;
-            answer.push_str(after.as_str())?;
-        }
+        push_case(alloc, &mut answer, name, frames)?;
         Ok(answer)
     }
 }

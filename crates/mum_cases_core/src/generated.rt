@@ -6,7 +6,7 @@ ghost use Rattle.mum_record.specs.Grammar.{IsWritable};
 use anyhow::{Result, bail, ensure};
 use mum_cases::{Table, number};
 use mum_frame::whole_frame;
-use mum_record::{Step, write_step};
+use mum_record::{Step, Word, push_line, write_step};
 use mum_server::generate;
 use std::alloc::Global;
 
@@ -42,16 +42,38 @@ fn has_line(step: &Step) -> bool
     }
 }
 
-/// The lines of steps, with what parts them behind each.
-fn lines_of(alloc: Global, steps: &[Step]) -> Result<String> {
-    let mut text = String::new(alloc);
-    for step in steps {
-        ensure!(has_line(step), "a step of an exercise has a line");
-        let line = write_step(alloc, step)?;
-        text.push_str(str::from_utf8(line.as_slice())?)?;
-        text.push_str("; ")?;
+/// Appends the line of a step, with what parts it from the next.
+fn push_step(alloc: Global, text: &mut String, step: &Step) -> Result<()> {
+    ensure!(has_line(step), "a step of an exercise has a line");
+    let line = write_step(alloc, step)?;
+    text.push_str(str::from_utf8(line.as_slice())?)?;
+    text.push_str("; ")?;
+    Ok(())
+}
+
+/// Appends the lines of the steps that are asked for, and how many steps there are.
+fn push_chosen(alloc: Global, text: &mut String, steps: &[Step], range: &str) -> Result<()> {
+    let (from, to) = range_of(range)?;
+    let Some(chosen) = steps.get(from..to) else {
+        bail!("no such steps: {range}");
+    };
+    for step in chosen {
+        push_step(alloc, text, step)?;
     }
-    Ok(text)
+    push_line(alloc, text, "of", &[Word::Number(steps.len() as u64)])?;
+    Ok(())
+}
+
+/// Appends what is asked for of the exercise of a seed.
+fn push_exercise(
+    alloc: Global,
+    text: &mut String,
+    seed: &str,
+    rounds: &str,
+    range: &str,
+) -> Result<()> {
+    let steps = generate(alloc, number(seed)?, rounds_of(rounds)?)?;
+    push_chosen(alloc, text, steps.as_slice(), range)
 }
 
 impl Table for Generated {
@@ -63,14 +85,8 @@ impl Table for Generated {
         else {
             bail!("no seed, rounds and range: {question}");
         };
-        let (from, to) = range_of(range)?;
-        let steps = generate(alloc, number(seed)?, rounds_of(rounds)?)?;
-        let Some(chosen) = steps.as_slice().get(from..to) else {
-            bail!("no such steps: {range}");
-        };
-        let mut text = lines_of(alloc, chosen)?;
-        let count = steps.len();
-        text.push_str(format!(in alloc; "of {count}")?.as_str())?;
+        let mut text = String::new(alloc);
+        push_exercise(alloc, &mut text, seed, rounds, range)?;
         Ok(text)
     }
 }

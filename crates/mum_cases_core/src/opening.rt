@@ -1,6 +1,6 @@
 //! Openings of a core, as tables spell them: edits that fit one after another.
 
-ghost use Rattle.std.specs.Prelude.{◌≡◌, IfOk};
+ghost use Rattle.std.specs.Prelude.{◌≡◌};
 ghost use Rattle.mum_state.specs.State.{empty_state};
 
 use anyhow::{Result, ensure};
@@ -19,6 +19,17 @@ fn add(history: &mut History, edit: Edit, call: &str) -> Result<()>
     Ok(())
 }
 
+/// Adds the edits that calls spell.
+fn add_calls(alloc: Global, history: &mut History, calls: &[String]) -> Result<()>
+    ensures { history.new.opening ≡ history.old.opening }
+{
+    for call in calls {
+        let edit = edit_of(alloc, history.current(), call.as_str())?;
+        add(history, edit, call.as_str())?;
+    }
+    Ok(())
+}
+
 /// Adds the edits that a line spells; none where it is empty.
 fn add_all(alloc: Global, history: &mut History, line: &str) -> Result<()>
     ensures { history.new.opening ≡ history.old.opening }
@@ -27,31 +38,19 @@ fn add_all(alloc: Global, history: &mut History, line: &str) -> Result<()>
         return Ok(());
     }
     let calls = calls_of(alloc, line)?;
-    for call in &calls {
-        let edit = edit_of(alloc, history.current(), call.as_str())?;
-        add(history, edit, call.as_str())?;
-    }
-    Ok(())
+    add_calls(alloc, history, &calls)
 }
 
-/// The history of the empty state with the edits that a line spells.
-fn opening(alloc: Global, line: &str) -> Result<History>
-    ensures { IfOk result (λ history. history.opening ≡ empty_state) }
+/// A core of one worker at the state to which a history leads after the edits that a line spells.
+fn core_after(alloc: Global, history: &mut History, line: &str) -> Result<Core>
+    requires { history.old.opening ≡ empty_state }
 {
-    let mut history = History::open(alloc, State::empty(alloc)?)?;
-    add_all(alloc, &mut history, line)?;
-    Ok(history)
-}
-
-/// A core of one worker at the state to which a history led.
-fn core_after(alloc: Global, history: &History) -> Result<Core>
-    requires { history.now.opening ≡ empty_state }
-{
+    add_all(alloc, history, line)?;
     Ok(Core::open(alloc, 1, history.accepted())?)
 }
 
 /// A core of one worker that opens with the edits that a line spells.
 pub fn core_at(alloc: Global, line: &str) -> Result<Core> {
-    let history = opening(alloc, line)?;
-    core_after(alloc, &history)
+    let mut history = History::open(alloc, State::empty(alloc)?)?;
+    core_after(alloc, &mut history, line)
 }

@@ -1,16 +1,18 @@
 //! The table `replay`.
 
-use crate::script::{beginning, line};
+use crate::script::{beginning, push_meaning};
 use anyhow::{Result, bail};
-use mum_base::Octets;
+use mum_base::{Octets, OutOfMemory};
 use mum_cases::{Table, number};
 use mum_io::{MemSink, MemSource};
+use mum_record::{Word, push_line};
 use mum_server::murmur;
 use std::alloc::Global;
 
 pub struct Replays;
 
-const HEAD: &str = "recording 1\nworkers 1\nconfig -\n";
+/// The head of a recording of one worker.
+pub const HEAD: &str = "recording 1\nworkers 1\nconfig -\n";
 
 /// What a run of the program did.
 #[derive(Drop)]
@@ -24,22 +26,73 @@ fn text_of(alloc: Global, bytes: &[u8]) -> Result<String> {
     Ok(String::from_str(alloc, str::from_utf8(bytes)?)?)
 }
 
-/// Runs the program with these words over memory.
-pub fn run(alloc: Global, words: &[&str], input: &str) -> Result<Ran> {
-    let mut owned = Vec::new(alloc);
+/// Appends words, each a text of its own.
+fn add_words(alloc: Global, owned: &mut Vec<String>, words: &[&str]) -> Result<()> {
     for word in words {
         owned.push(String::from_str(alloc, word)?)?;
     }
+    Ok(())
+}
+
+/// What a run did that ended with this status and wrote this.
+fn ran_of(alloc: Global, status: u8, output: &[u8], errors: &[u8]) -> Result<Ran> {
+    Ok(Ran {
+        status,
+        output: text_of(alloc, output)?,
+        errors: text_of(alloc, errors)?,
+    })
+}
+
+/// Runs the program with these words over memory.
+fn run_words(alloc: Global, words: &[String], input: &str) -> Result<Ran> {
     let bytes = Octets::of(alloc, input.as_bytes())?;
     let mut source = MemSource::new(bytes, Vec::new(alloc));
     let mut output = MemSink::new(alloc, Vec::new(alloc));
     let mut errors = MemSink::new(alloc, Vec::new(alloc));
-    let status = murmur(alloc, &owned, &mut source, &mut output, &mut errors);
-    Ok(Ran {
-        status,
-        output: text_of(alloc, output.bytes())?,
-        errors: text_of(alloc, errors.bytes())?,
-    })
+    let status = murmur(alloc, words, &mut source, &mut output, &mut errors);
+    ran_of(alloc, status, output.bytes(), errors.bytes())
+}
+
+/// The same with words that are borrowed.
+pub fn run(alloc: Global, words: &[&str], input: &str) -> Result<Ran> {
+    let mut owned = Vec::new(alloc);
+    add_words(alloc, &mut owned, words)?;
+    run_words(alloc, &owned, input)
+}
+
+/// Appends spaces, as many as a word says.
+fn push_spaces(alloc: Global, input: &mut String, count: &str) -> Result<()> {
+    let spaces = " ".repeat(alloc, number(count)? as usize)?;
+    input.push_str(spaces.as_str())?;
+    Ok(())
+}
+
+/// Appends the line of a configuration with this document.
+fn push_config(alloc: Global, input: &mut String, document: &str) -> Result<(), OutOfMemory> {
+    push_line(alloc, input, "config", &[Word::Digits(document.as_bytes())])
+}
+
+/// Appends the line of a configuration, whose document is spelled.
+fn push_document(alloc: Global, input: &mut String, spelled: &str) -> Result<()> {
+    let Some(count) = spelled.strip_prefix("spaces ") else {
+        push_config(alloc, input, spelled)?;
+        return Ok(());
+    };
+    let document = " ".repeat(alloc, number(count)? as usize)?;
+    push_config(alloc, input, document.as_str())?;
+    Ok(())
+}
+
+/// Appends the line that a piece of a script spells, without its end.
+fn push_unended(alloc: Global, input: &mut String, piece: &str) -> Result<()> {
+    if let Some(spelled) = piece.strip_prefix("document ") {
+        return push_document(alloc, input, spelled);
+    }
+    if let Some(count) = piece.strip_prefix("spaces ") {
+        return push_spaces(alloc, input, count);
+    }
+    push_meaning(input, piece)?;
+    Ok(())
 }
 
 /// Appends the line that a piece of a script spells.
@@ -52,70 +105,67 @@ fn push_piece(alloc: Global, input: &mut String, piece: &str) -> Result<()> {
     Ok(())
 }
 
-/// Appends the line of a configuration, whose document is spelled.
-fn push_document(alloc: Global, input: &mut String, spelled: &str) -> Result<()> {
-    let document = match spelled.strip_prefix("spaces ") {
-        Some(count) => " ".repeat(alloc, number(count)? as usize)?,
-        None => String::from_str(alloc, spelled)?,
-    };
-    input.push_str("config ")?;
-    input.push_str(hex::encode(alloc, document.as_bytes())?.as_str())?;
-    Ok(())
-}
-
-fn push_unended(alloc: Global, input: &mut String, piece: &str) -> Result<()> {
-    if let Some(spelled) = piece.strip_prefix("document ") {
-        return push_document(alloc, input, spelled);
-    }
-    let text = match piece.strip_prefix("spaces ") {
-        Some(count) => " ".repeat(alloc, number(count)? as usize)?,
-        None => line(alloc, piece)?,
-    };
-    input.push_str(text.as_str())?;
-    Ok(())
-}
-
-/// The lines of a text, parted by `; `.
-fn shown(alloc: Global, text: &str) -> Result<String> {
-    let mut shown = String::new(alloc);
+/// Appends the lines of a text, each with `; ` behind it.
+fn push_lines(answer: &mut String, text: &str) -> Result<(), OutOfMemory> {
     for line in text.lines() {
-        shown.push_str(line)?;
-        shown.push_str("; ")?;
+        answer.push_str(line)?;
+        answer.push_str("; ")?;
     }
-    Ok(shown)
+    Ok(())
 }
 
-/// What was told behind a beginning, what was said of it, and the status.
-fn account(alloc: Global, ran: &Ran, begun: &str) -> Result<String> {
+/// Appends what was told behind a beginning, what was said of it, and the status.
+fn push_account(alloc: Global, answer: &mut String, ran: &Ran, begun: &str) -> Result<()> {
     let Some(told) = ran.output.as_str().strip_prefix(begun) else {
         bail!("another beginning");
     };
-    let told = shown(alloc, told)?;
-    let said = shown(alloc, ran.errors.as_str())?;
-    let status = ran.status;
-    Ok(format!(in alloc; "{told}{said}status {status}")?)
+    push_lines(answer, told)?;
+    push_lines(answer, ran.errors.as_str())?;
+    push_line(
+        alloc,
+        answer,
+        "status",
+        &[Word::Number(u64::from(ran.status))],
+    )?;
+    Ok(())
 }
 
-/// Replays a script behind a beginning; behind `bare` even the head of the recording is the script's.
-fn replayed(alloc: Global, name: &str, script: &str) -> Result<String> {
-    let mut input = String::new(alloc);
-    let mut told = "";
-    if name != "bare" {
-        let begun = beginning(name)?;
-        input.push_str(HEAD)?;
-        input.push_str(begun.steps)?;
-        told = begun.told;
+/// Appends a beginning, and gives what is told of it; behind `bare` even the head of the recording is the
+/// script's.
+fn push_beginning(input: &mut String, name: &str) -> Result<&'static str> {
+    if name == "bare" {
+        return Ok("");
     }
+    let begun = beginning(name)?;
+    input.push_str(HEAD)?;
+    input.push_str(begun.steps)?;
+    Ok(begun.told)
+}
+
+/// Appends a beginning and the lines of a script, and gives what is told of the beginning.
+fn push_script(
+    alloc: Global,
+    input: &mut String,
+    name: &str,
+    script: &str,
+) -> Result<&'static str> {
+    let told = push_beginning(input, name)?;
     for piece in script.split(';') {
-        push_piece(alloc, &mut input, piece.trim())?;
+        push_piece(alloc, input, piece.trim())?;
     }
-    let ran = run(alloc, &["replay"], input.as_str())?;
-    account(alloc, &ran, told)
+    Ok(told)
 }
 
-/// Runs the program with other words.
-fn with_words(alloc: Global, spelled: &str) -> Result<String> {
-    let mut words = Vec::new(alloc);
+/// Appends what comes of a script behind a beginning.
+fn push_replayed(alloc: Global, answer: &mut String, name: &str, script: &str) -> Result<()> {
+    let mut input = String::new(alloc);
+    let told = push_script(alloc, &mut input, name, script)?;
+    let ran = run(alloc, &["replay"], input.as_str())?;
+    push_account(alloc, answer, &ran, told)
+}
+
+/// Adds the words that a text spells.
+fn add_spelled<'a>(words: &mut Vec<&'a str>, spelled: &'a str) -> Result<(), OutOfMemory> {
     for word in spelled.split(' ') {
         match word {
             "" => {}
@@ -123,20 +173,34 @@ fn with_words(alloc: Global, spelled: &str) -> Result<String> {
             _ => words.push(word)?,
         }
     }
+    Ok(())
+}
+
+/// Appends what comes of a run with other words.
+fn push_run(alloc: Global, answer: &mut String, spelled: &str) -> Result<()> {
+    let mut words = Vec::new(alloc);
+    add_spelled(&mut words, spelled)?;
     let ran = run(alloc, &words, HEAD)?;
-    account(alloc, &ran, "")
+    push_account(alloc, answer, &ran, "")
+}
+
+/// Appends the answer of a case.
+fn push_case(alloc: Global, answer: &mut String, question: &str) -> Result<()> {
+    if let Some(words) = question.strip_prefix("words") {
+        return push_run(alloc, answer, words);
+    }
+    let Some((name, script)) = question.split_once("; ") else {
+        bail!("no beginning and lines: {question}");
+    };
+    push_replayed(alloc, answer, name, script)
 }
 
 impl Table for Replays {
     const NAME: &'static str = "replay";
 
     fn answer(alloc: Global, question: &str) -> Result<String> {
-        if let Some(words) = question.strip_prefix("words") {
-            return with_words(alloc, words);
-        }
-        let Some((name, script)) = question.split_once("; ") else {
-            bail!("no beginning and lines: {question}");
-        };
-        replayed(alloc, name, script)
+        let mut answer = String::new(alloc);
+        push_case(alloc, &mut answer, question)?;
+        Ok(answer)
     }
 }

@@ -1,7 +1,7 @@
 //! Scripts of steps as the tables spell them: steps parted by `;`, where names stand for frames.
 
 use anyhow::{Result, bail};
-use std::alloc::Global;
+use mum_base::OutOfMemory;
 
 /// Steps that a script may begin with, and what is told of them.
 #[derive(Clone, Copy)]
@@ -72,17 +72,16 @@ fn meaning(word: &str) -> &str {
     }
 }
 
-/// The line that a piece of a script spells.
-pub fn line(alloc: Global, piece: &str) -> Result<String> {
-    let mut line = String::new(alloc);
+/// Appends the line that a piece of a script spells.
+pub fn push_meaning(text: &mut String, piece: &str) -> Result<(), OutOfMemory> {
     if piece == "blank" {
-        return Ok(line);
+        return Ok(());
     }
-    for word in piece.split(' ') {
-        if !line.as_str().is_empty() {
-            line.push_str(" ")?;
+    for (place, word) in piece.split(' ').enumerate() {
+        if place > 0 {
+            text.push_str(" ")?;
         }
-        line.push_str(meaning(word))?;
+        text.push_str(meaning(word))?;
     }
-    Ok(line)
+    Ok(())
 }

@@ -1,75 +1,109 @@
 //! The table `step`.
 
 use crate::opening::core_at;
-use crate::script::{beginning, line};
+use crate::script::{beginning, push_meaning};
 use anyhow::{Result, bail};
+use mum_base::Text;
 use mum_cases::Table;
 use mum_cases_words::calls_of;
-use mum_core::{Core, StepFault};
-use mum_record::read_step;
+use mum_core::{Core, Effects, StepFault};
+use mum_record::{Word, push_line, push_word, read_step};
 use std::alloc::Global;
 
 pub struct Steps;
 
-/// What a core tells of the step of a line, or the two numbers of its refusal.
-fn reply(alloc: Global, core: &mut Core, line: &str) -> Result<String> {
-    let step = read_step(alloc, line.as_bytes())?;
-    let mut told = String::new(alloc);
-    match core.step(&step) {
-        Ok(lines) => {
-            for line in lines.as_slice() {
-                if !told.as_str().is_empty() {
-                    told.push_str(", ")?;
-                }
-                told.push_str(str::from_utf8(line.as_slice())?)?;
-            }
+/// Appends lines, parted by commas.
+fn push_lines(text: &mut String, lines: &[Text]) -> Result<()> {
+    for (place, line) in lines.iter().enumerate() {
+        if place > 0 {
+            text.push_str(", ")?;
         }
+        text.push_str(str::from_utf8(line.as_slice())?)?;
+    }
+    Ok(())
+}
+
+/// Appends what a core tells of a step, or the two numbers of its refusal.
+fn push_told(alloc: Global, text: &mut String, told: Result<Effects, StepFault>) -> Result<()> {
+    match told {
+        Ok(lines) => push_lines(text, lines.as_slice()),
         Err(StepFault::Illegal { given, against }) => {
-            return Ok(format!(in alloc; "{given} against {against}")?);
+            push_word(alloc, text, &Word::Number(given))?;
+            push_line(alloc, text, " against", &[Word::Number(against)])?;
+            Ok(())
         }
         Err(StepFault::OutOfMemory) => bail!("out of memory"),
     }
-    Ok(told)
+}
+
+/// Appends what a core tells of the step of a line.
+fn push_reply(alloc: Global, text: &mut String, core: &mut Core, line: &str) -> Result<()> {
+    let step = read_step(alloc, line.as_bytes())?;
+    push_told(alloc, text, core.step(&step))
+}
+
+/// Appends what a core tells of the step that a piece of a script spells.
+fn push_piece(alloc: Global, text: &mut String, core: &mut Core, piece: &str) -> Result<()> {
+    let mut line = String::new(alloc);
+    push_meaning(&mut line, piece)?;
+    push_reply(alloc, text, core, line.as_str())
+}
+
+/// Takes the step that a piece of a script spells, of which nothing is told.
+fn pass(alloc: Global, core: &mut Core, piece: &str) -> Result<()> {
+    let mut told = String::new(alloc);
+    push_piece(alloc, &mut told, core, piece)
 }
 
 /// Takes the steps of a beginning, of which nothing is told.
 fn begin(alloc: Global, core: &mut Core, begun: &str) -> Result<()> {
     for line in beginning(begun)?.steps.lines() {
-        let _ = reply(alloc, core, line)?;
+        pass(alloc, core, line)?;
     }
     Ok(())
 }
 
-/// What a core tells of a piece of a script: of steps that come several times, what it tells last.
-fn last_reply(alloc: Global, core: &mut Core, piece: &str) -> Result<String> {
-    let mut told = String::new(alloc);
-    for call in &calls_of(alloc, piece)? {
-        let line = line(alloc, call.as_str())?;
-        told = reply(alloc, core, line.as_str())?;
+/// Takes steps, and appends what the core tells of the last of them.
+fn push_last(alloc: Global, text: &mut String, core: &mut Core, calls: &[String]) -> Result<()> {
+    let Some((last, before)) = calls.split_last() else {
+        return Ok(());
+    };
+    for call in before {
+        pass(alloc, core, call.as_str())?;
     }
-    Ok(told)
+    push_piece(alloc, text, core, last.as_str())
 }
 
-/// What a core tells of the steps of a script.
-fn replies(alloc: Global, core: &mut Core, script: &str) -> Result<String> {
-    let mut answer = String::new(alloc);
-    for piece in script.split(';') {
-        let told = last_reply(alloc, core, piece.trim())?;
-        if !answer.as_str().is_empty() {
-            answer.push_str("; ")?;
+/// The same of steps that a piece of a script spells, which may come several times.
+fn push_calls(alloc: Global, text: &mut String, core: &mut Core, piece: &str) -> Result<()> {
+    let calls = calls_of(alloc, piece)?;
+    push_last(alloc, text, core, &calls)
+}
+
+/// Appends what a core tells of the steps of a script.
+fn push_script(alloc: Global, text: &mut String, core: &mut Core, script: &str) -> Result<()> {
+    for (place, piece) in script.split(';').enumerate() {
+        if place > 0 {
+            text.push_str("; ")?;
         }
-        answer.push_str(told.as_str())?;
+        push_calls(alloc, text, core, piece.trim())?;
     }
-    Ok(answer)
+    Ok(())
 }
 
-/// What a core tells of a script behind a beginning.
-fn run(alloc: Global, core: &mut Core, steps: &str) -> Result<String> {
+/// Appends what a core tells of a script behind a beginning.
+fn run(alloc: Global, text: &mut String, core: &mut Core, steps: &str) -> Result<()> {
     let Some((begun, script)) = steps.split_once("; ") else {
         bail!("no beginning and steps: {steps}");
     };
     begin(alloc, core, begun)?;
-    replies(alloc, core, script)
+    push_script(alloc, text, core, script)
+}
+
+/// Appends what a core tells that opens with edits.
+fn push_case(alloc: Global, text: &mut String, edits: &str, steps: &str) -> Result<()> {
+    let mut core = core_at(alloc, edits)?;
+    run(alloc, text, &mut core, steps)
 }
 
 impl Table for Steps {
@@ -77,7 +111,8 @@ impl Table for Steps {
 
     fn answer(alloc: Global, question: &str) -> Result<String> {
         let (edits, steps) = question.split_once(" | ").unwrap_or(("", question));
-        let mut core = core_at(alloc, edits)?;
-        run(alloc, &mut core, steps)
+        let mut text = String::new(alloc);
+        push_case(alloc, &mut text, edits, steps)?;
+        Ok(text)
     }
 }

@@ -2,9 +2,6 @@
 //! its own.
 
 ghost use Rattle.std.specs.Prelude.{◌≡◌, ◌∷◌, [], IfOk, length, replicate};
-ghost use Rattle.std.specs.List.{All};
-ghost use Rattle.mum_history.specs.History.{begun};
-ghost use Rattle.mum_history.specs.View.{IsViewOf};
 ghost use Rattle.mum_record.specs.Grammar.{IsRecordable};
 ghost use Rattle.mum_core.specs.declared.machine.StepFault.TheVariants.{Illegal};
 ghost use Rattle.mum_core.specs.declared.slot.TheConstants.{SLOTS as slots};
@@ -16,9 +13,9 @@ use crate::post::{NoticeQueue, empty_posts};
 use crate::slot::SLOTS;
 use crate::worker::Worker;
 use mum_base::{Items, OutOfMemory, Text};
-use mum_history::{History, View, state_after};
+use mum_history::{History, View, readers, state_after};
 use mum_record::Step;
-use mum_state::{Edit, State};
+use mum_state::Edit;
 use mum_tree::Scratch;
 use std::alloc::{AllocError, Global};
 use std::marker::Model;
@@ -139,18 +136,6 @@ fn idle_workers(alloc: Global, count: u8) -> Result<Vec<Worker>, OutOfMemory>
     Ok(workers)
 }
 
-/// Views of the opening, one for each worker.
-fn opening_views(alloc: Global, count: u8, history: &History) -> Result<Vec<View>, OutOfMemory>
-    ensures each { IfOk result (λ views. All (IsViewOf history.now.opening history.now.accepted) views.items) }
-    ensures count { IfOk result (λ views. length views.items ≡ count) }
-{
-    let mut views = Vec::new(alloc);
-    for _number in 0..count {
-        views.push(View::of(alloc, history)?)?;
-    }
-    Ok(views)
-}
-
 /// An outbox for each slot.
 fn empty_outboxes(alloc: Global) -> Result<Vec<Outbox>, OutOfMemory>
     ensures empty { IfOk result (λ outboxes. outboxes.items ≡ replicate slots []) }
@@ -161,17 +146,6 @@ fn empty_outboxes(alloc: Global) -> Result<Vec<Outbox>, OutOfMemory>
         outboxes.push(Outbox::new(alloc)?)?;
     }
     Ok(outboxes)
-}
-
-/// The history of an opening that no edit changed yet, and views of it, one for each worker.
-fn readers(alloc: Global, count: u8, opening: State) -> Result<(History, Vec<View>), OutOfMemory>
-    ensures history { IfOk result (λ readers. readers.0 ≡ begun opening) }
-    ensures each { IfOk result (λ readers. All (IsViewOf opening []) readers.1.items) }
-    ensures count { IfOk result (λ readers. length readers.1.items ≡ count) }
-{
-    let history = History::open(alloc, opening)?;
-    let views = opening_views(alloc, count, &history)?;
-    Ok((history, views))
 }
 
 /// Workers that have done nothing, and an outbox for each slot.

@@ -84,7 +84,7 @@ pub(crate) fn decide_next(
 }
 
 /// The verdict as it is told, where an edit is of this revision.
-fn mark_of(revision: u64, verdict: &Verdict) -> Mark
+pub(crate) fn mark_of(revision: u64, verdict: &Verdict) -> Mark
     ensures { result ≡ mark revision verdict.now }
 {
     match *verdict {

@@ -1,6 +1,6 @@
 //! The list of accepted edits, and the state after all of them.
 
-ghost use Rattle.std.specs.Prelude.{◌≡◌, ◌-◌, ◌≤◌, IfOk, IsTrue, OnErr, OnOk, length};
+ghost use Rattle.std.specs.Prelude.{◌≡◌, ◌-◌, ◌≤◌, IfOk, IsTrue, OnErr, OnOk, Some, length};
 ghost use Rattle.mum_state.specs.After.{all_fit, at};
 ghost use Rattle.mum_state.specs.Applied.{applied};
 ghost use Rattle.mum_state.specs.Fits.{fits};
@@ -35,13 +35,29 @@ impl Model for History {
     ghost invariant = { λ h. IsKept h.opening h.accepted.items h.published h.current h.spare };
 }
 
+/// Two copies of a state.
+fn two_copies(alloc: Global, state: &State) -> Result<(State, State), OutOfMemory>
+    ensures one { IfOk result (λ copies. copies.0 ≡ state.now) }
+    ensures other { IfOk result (λ copies. copies.1 ≡ state.now) }
+{
+    let one = state.copy(alloc)?;
+    Ok((one, state.copy(alloc)?))
+}
+
+/// Puts the next state in place of the current one, which becomes the spare one.
+fn renew(current: &mut State, spare: &mut Option<State>, next: State)
+    ensures next { current.new ≡ next }
+    ensures behind { spare.new ≡ Some current.old }
+{
+    *spare = Some(mem::replace(current, next));
+}
+
 impl History {
     /// The history of a state that no edit changed yet. It keeps two copies of it.
     pub fn open(alloc: Global, opening: State) -> Result<History, OutOfMemory>
         ensures { IfOk result (λ history. history ≡ begun opening) }
     {
-        let current = opening.copy(alloc)?;
-        let spare = opening.copy(alloc)?;
+        let (current, spare) = two_copies(alloc, &opening)?;
         Ok(History {
             alloc,
             opening,
@@ -141,7 +157,7 @@ impl History {
     {
         self.accepted.reserve(1)?;
         self.accepted.push_reserved(edit);
-        self.spare = Some(mem::replace(&mut self.current, next));
+        renew(&mut self.current, &mut self.spare, next);
         Ok(())
     }
 

@@ -10,4 +10,4 @@ mod view;
 
 pub use history::History;
 pub use opening::state_after;
-pub use view::View;
+pub use view::{View, readers};

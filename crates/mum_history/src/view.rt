@@ -1,7 +1,8 @@
 //! A state after the first so many accepted edits.
 
-ghost use Rattle.std.specs.Prelude.{◌≡◌, ◌+◌, ◌<◌, ◌≤◌, IfOk, OnErr, OnOk, length};
-ghost use Rattle.mum_history.specs.History.{state_at};
+ghost use Rattle.std.specs.Prelude.{◌≡◌, ◌+◌, ◌<◌, ◌≤◌, [], IfOk, OnErr, OnOk, length};
+ghost use Rattle.std.specs.List.{All};
+ghost use Rattle.mum_history.specs.History.{begun, state_at};
 ghost use Rattle.mum_history.specs.View.{IsViewOf};
 
 use crate::history::History;
@@ -26,13 +27,12 @@ impl Model for View {
 }
 
 impl View {
-    /// The opening of a history.
-    pub fn of(alloc: Global, history: &History) -> Result<View, OutOfMemory>
-        ensures view { IfOk result (IsViewOf history.now.opening history.now.accepted) }
-        ensures revision { IfOk result (λ view. view.revision ≡ 0) }
+    /// A view of the opening of a history, before all edits.
+    fn of(alloc: Global, opening: &State) -> Result<View, OutOfMemory>
+        ensures { IfOk result (IsViewOf opening.now []) }
     {
         Ok(View {
-            state: history.opening().copy(alloc)?,
+            state: opening.copy(alloc)?,
             revision: 0,
         })
     }
@@ -99,4 +99,30 @@ impl View {
         }
         Ok(())
     }
+}
+
+/// So many views of an opening.
+fn opening_views(alloc: Global, count: u8, opening: &State) -> Result<Vec<View>, OutOfMemory>
+    ensures each { IfOk result (λ views. All (IsViewOf opening.now []) views.items) }
+    ensures count { IfOk result (λ views. length views.items ≡ count) }
+{
+    let mut views = Vec::new(alloc);
+    for _number in 0..count {
+        views.push(View::of(alloc, opening)?)?;
+    }
+    Ok(views)
+}
+
+/// The history of an opening that no edit changed yet, and so many views of it.
+pub fn readers(
+    alloc: Global,
+    count: u8,
+    opening: State,
+) -> Result<(History, Vec<View>), OutOfMemory>
+    ensures history { IfOk result (λ readers. readers.0 ≡ begun opening) }
+    ensures each { IfOk result (λ readers. All (IsViewOf opening []) readers.1.items) }
+    ensures count { IfOk result (λ readers. length readers.1.items ≡ count) }
+{
+    let views = opening_views(alloc, count, &opening)?;
+    Ok((History::open(alloc, opening)?, views))
 }

@@ -1,6 +1,6 @@
 //! The step `edit`: the control owner decides the command of a connection that waits.
 
-ghost use Rattle.std.specs.Prelude.{◌≡◌, ◌++◌, ◌∷◌, [], IfOk, MatchResult, None, OnErr, OnOk, decimal, is_some, length, string_bytes, true};
+ghost use Rattle.std.specs.Prelude.{◌≡◌, ◌++◌, ◌<◌, ◌∷◌, [], IfOk, IfSome, MatchResult, None, OnErr, OnOk, decimal, is_some, length, string_bytes, true};
 ghost use Rattle.mum_base.specs.Refusal.{Settles};
 ghost use Rattle.std.specs.List.{AllByRecursion};
 ghost use Rattle.std.specs.Prelude.{IsTrue};
@@ -12,15 +12,16 @@ ghost use Rattle.mum_core.specs.Case.{first_that_stands, named_cause};
 ghost use Rattle.mum_core.specs.Connection.{next_command};
 ghost use Rattle.mum_core.specs.Core.{connection_at, current as core_current, is_opened};
 ghost use Rattle.mum_core.specs.Line.{joined, mark_words, said_of};
-ghost use Rattle.mum_core.specs.Reply.{edits_of};
+ghost use Rattle.mum_core.specs.Reply.{edits_of, mark, reply, seat_of};
+ghost use Rattle.mum_core.specs.declared.slot.TheConstants.{SLOTS as slots};
 ghost use Rattle.mum_core.specs.steps.Edit.{forbids, does, lines, next_revision, noticed, with_reply};
 ghost use Rattle.mum_notify.specs.Notices.{FitsFrame, notices as edit_notices};
 
 use super::{Core, StepFault, illegal};
 use crate::connection::{Connection, Reply, answer_at};
 use crate::post::NoticeQueue;
-use crate::reply::{decide_next, reply};
-use mum_base::{Mark, OutOfMemory};
+use crate::reply::{decide_next, mark_of, reply};
+use mum_base::{Mark, OutOfMemory, SessionId};
 use mum_history::History;
 use mum_notify::notices;
 use mum_record::{Word, push_line};
@@ -72,6 +73,24 @@ fn push_mark(
         }
         Mark::Ignored { why } => push_number(alloc, text, "ignored", connection, u64::from(why)),
     }
+}
+
+/// Appends the line that tells a verdict, and gives what the connection is answered.
+fn tell_verdict(
+    alloc: Global,
+    text: &mut String,
+    connection: u32,
+    revision: u64,
+    session: Option<SessionId>,
+    verdict: &Verdict,
+) -> Result<Reply, OutOfMemory>
+    requires { IfSome (seat_of verdict.now) (λ seat. seat.slot.0 < slots) }
+    ensures reply { IfOk result (λ answered. answered ≡ reply revision session verdict.now) }
+    ensures told { IfOk result (λ _. string_bytes text.new ≡ string_bytes text.old
+        ++ joined (said_of connection (mark_words (mark revision verdict.now)) ∷ [])) }
+{
+    push_mark(alloc, text, connection, &mark_of(revision, verdict))?;
+    reply(alloc, revision, session, verdict)
 }
 
 /// Puts the notices that tell of an edit behind those that are pending, and gives their number.
@@ -184,8 +203,8 @@ impl Core {
         let asker = self.asker(connection)?;
         let session = asker.session();
         let verdict = decide_next(self.alloc, self.history.current(), asker)?;
-        let reply = reply(self.alloc, self.next_revision(), session, &verdict)?;
-        push_mark(self.alloc, text, connection, &reply.mark)?;
+        let revision = self.next_revision();
+        let reply = tell_verdict(self.alloc, text, connection, revision, session, &verdict)?;
         self.settle(connection, verdict, reply)?;
         Ok(())
     }

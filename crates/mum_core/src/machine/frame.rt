@@ -7,6 +7,7 @@ ghost use Rattle.mum_core.specs.Line.{joined};
 ghost use Rattle.std.specs.Prelude.{◌∷◌, [], None, true};
 ghost use Rattle.mum_frame.specs.Frame.{IsOneFrame, kind_of, payload_of};
 ghost use Rattle.mum_voice.specs.Packet.{packet};
+ghost use Rattle.mum_session.specs.declared.action.Action.TheVariants.{Ask, Echo, Ignore, Keep};
 ghost use Rattle.mum_session.specs.Action.{action as session_action, after_frame};
 ghost use Rattle.mum_core.specs.Core.{connection_at, is_opened};
 ghost use Rattle.mum_core.specs.Machine.{machine_of};
@@ -19,7 +20,7 @@ use crate::worker::{Held, hold_at};
 use mum_base::{Octets, OutOfMemory};
 use mum_frame::{Frame, whole_frame};
 use mum_record::{Word, push_line};
-use mum_session::Action;
+use mum_session::{Action, Command};
 use mum_voice::Packet;
 use std::alloc::Global;
 
@@ -96,29 +97,67 @@ impl Core {
         ensures settled { Settles named_cause None (does self.old connection version action) self.old result self.new }
         ensures told { OnOk result (string_bytes text.new ≡ string_bytes text.old ++ joined (lines connection action)) }
     {
-        let number = Word::Number(u64::from(connection));
-        let place = connection as usize - 1;
         match action {
-            Action::Ask(command) => {
-                push_line(self.alloc, text, "asked", &[number])?;
-                ask_at(&mut self.connections, place, command.what);
-            }
-            Action::Voice(packet) => {
-                return self.hear(connection, packet, text);
-            }
-            Action::Echo(frame) => {
-                let digits = Word::Digits(frame.as_slice());
-                push_line(self.alloc, text, "echo", &[number, digits])?;
-            }
-            Action::Keep => {
-                push_line(self.alloc, text, "kept", &[number])?;
-                keep_version_at(&mut self.connections, place, version);
-            }
-            Action::Ignore { why } => {
-                let code = Word::Number(u64::from(why));
-                push_line(self.alloc, text, "ignored", &[number, code])?;
-            }
+            Action::Ask(command) => self.ask(connection, command, text),
+            Action::Voice(packet) => self.hear(connection, packet, text),
+            Action::Echo(frame) => self.echo(connection, &frame, text),
+            Action::Keep => self.keep(connection, version, text),
+            Action::Ignore { why } => self.ignore(connection, why, text),
         }
+    }
+
+    /// The command of a frame waits to be decided.
+    fn ask(&mut self, connection: u32, command: Command, text: &mut String) -> Result<(), StepFault>
+        requires { is_opened self.old connection ≡ true }
+        ensures settled { Settles named_cause None (does self.old connection None (Ask command)) self.old result self.new }
+        ensures told { OnOk result (string_bytes text.new ≡ string_bytes text.old ++ joined (lines connection (Ask command))) }
+    {
+        let number = Word::Number(u64::from(connection));
+        push_line(self.alloc, text, "asked", &[number])?;
+        ask_at(&mut self.connections, connection as usize - 1, command.what);
+        Ok(())
+    }
+
+    /// A Ping is answered by this frame.
+    fn echo(&self, connection: u32, frame: &Octets, text: &mut String) -> Result<(), StepFault>
+        ensures settled { Settles named_cause None self.now self.now result self.now }
+        ensures told { OnOk result (string_bytes text.new ≡ string_bytes text.old ++ joined (lines connection (Echo frame.now))) }
+    {
+        let words = [
+            Word::Number(u64::from(connection)),
+            Word::Digits(frame.as_slice()),
+        ];
+        push_line(self.alloc, text, "echo", &words)?;
+        Ok(())
+    }
+
+    /// The connection has told this version.
+    fn keep(
+        &mut self,
+        connection: u32,
+        version: Option<u32>,
+        text: &mut String,
+    ) -> Result<(), StepFault>
+        requires { is_opened self.old connection ≡ true }
+        ensures settled { Settles named_cause None (does self.old connection version Keep) self.old result self.new }
+        ensures told { OnOk result (string_bytes text.new ≡ string_bytes text.old ++ joined (lines connection Keep)) }
+    {
+        let number = Word::Number(u64::from(connection));
+        push_line(self.alloc, text, "kept", &[number])?;
+        keep_version_at(&mut self.connections, connection as usize - 1, version);
+        Ok(())
+    }
+
+    /// A frame is passed over, for this reason.
+    fn ignore(&self, connection: u32, why: u8, text: &mut String) -> Result<(), StepFault>
+        ensures settled { Settles named_cause None self.now self.now result self.now }
+        ensures told { OnOk result (string_bytes text.new ≡ string_bytes text.old ++ joined (lines connection (Ignore why))) }
+    {
+        let words = [
+            Word::Number(u64::from(connection)),
+            Word::Number(u64::from(why)),
+        ];
+        push_line(self.alloc, text, "ignored", &words)?;
         Ok(())
     }
 

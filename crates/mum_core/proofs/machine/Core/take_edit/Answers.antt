@@ -3,8 +3,8 @@ use Rattle.mum_core.proofs.Decided.{fitting_seat}
 use Rattle.mum_core.proofs.Framed.{decided_told}
 use Rattle.mum_core.proofs.machine.Core.take_edit.Goals as goal
 
-pub reply-requires : goal.reply-requires
-reply-requires c = fitting_seat c.current.result.now c.in_ok-verdict.verdict c.in_ok-verdict.ensures.fits
+pub tell_verdict-requires : goal.tell_verdict-requires
+tell_verdict-requires c = fitting_seat c.current.result.now c.in_ok-verdict.verdict c.in_ok-verdict.ensures.fits
 
 pub settle-requires-clause-frame : goal.settle-requires-clause-frame
 settle-requires-clause-frame c =

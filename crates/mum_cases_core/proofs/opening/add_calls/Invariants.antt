@@ -1,5 +1,5 @@
 use Rattle.std.proofs.Common.{◌≡◌}
-use Rattle.mum_cases_core.proofs.opening.add_all.Given as goal
+use Rattle.mum_cases_core.proofs.opening.add_calls.Given as goal
 
 abbrev pub invariant-loop-call : goal.invariant-loop-call
 invariant-loop-call l = l.history.opening ≡ l.fn.history.opening

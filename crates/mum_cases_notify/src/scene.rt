@@ -2,67 +2,52 @@
 
 ghost use Rattle.std.specs.Prelude.{◌≤◌, length};
 
-use crate::shown::frame_text;
+use crate::shown::Shown;
 use anyhow::{Result, bail, ensure};
 use mum_base::SessionId;
+use mum_cases_words::calls::{calls_of, edit, make};
+use mum_cases_words::edit_of;
 use mum_cases_words::words::{session, word_of};
-use mum_cases_words::{calls_of, edit_of};
 use mum_notify::{Notice, fits_frame, notices, sync_block};
 use mum_state::{Edit, State};
 use std::alloc::Global;
-use std::mem::replace;
 
-/// What a line speaks of: a state, that before the last edit, and what its calls have said.
-#[derive(Drop)]
-struct Scene {
-    alloc: Global,
-    state: State,
-    before: State,
-    said: String,
-}
-
-/// Who gets a parcel: the number of the session, with `!` where it is the last that it gets, and with its
-/// slot where that is not the slot of the session.
-fn reader(alloc: Global, before: &State, after: &State, notice: &Notice) -> Result<String> {
-    let number = notice.to.0;
+/// Whether a parcel is for the slot of its session, which may be gone.
+fn has_its_slot(before: &State, after: &State, notice: &Notice) -> bool {
     let user = match after.roster().session(notice.to) {
         Some(user) => Some(user),
         None => before.roster().session(notice.to),
     };
-    let is_its_slot = match user {
+    match user {
         Some(user) => user.slot == notice.slot,
         None => false,
-    };
-    if !is_its_slot {
-        return Ok(format!(in alloc; "{number}@{}", notice.slot.0)?);
     }
-    if notice.last {
-        return Ok(format!(in alloc; "{number}!")?);
-    }
-    Ok(format!(in alloc; "{number}")?)
 }
 
-/// Parcels: those of one frame behind those who get it, and those of the same readers behind one another.
-#[derive(Drop)]
-struct Listing {
-    text: String,
-    readers: String,
+/// Who gets a parcel: the number of the session, with `!` where it is the last that it gets, and with its
+/// slot where that is not the slot of the session.
+fn tell_reader(shown: &mut Shown, before: &State, after: &State, notice: &Notice) -> Result<()> {
+    let number = notice.to.0;
+    if !has_its_slot(before, after, notice) {
+        write!(shown.text, "{number}@{}", notice.slot.0)?;
+    } else if notice.last {
+        write!(shown.text, "{number}!")?;
+    } else {
+        write!(shown.text, "{number}")?;
+    }
+    Ok(())
 }
 
-impl Listing {
-    /// One frame more, and who gets it.
-    fn add(&mut self, readers: String, message: &str) -> Result<()> {
-        if !self.text.is_empty() {
-            self.text.push_str(" | ")?;
+/// Who gets a frame.
+fn tell_readers(shown: &mut Shown, before: &State, after: &State, run: &[Notice]) -> Result<()> {
+    for (i, notice) in run.iter().enumerate() {
+        if i > 0 {
+            shown.text.push_str(" ")?;
         }
-        if readers.as_str() != self.readers.as_str() {
-            self.text.push_str(readers.as_str())?;
-            self.text.push_str(": ")?;
-        }
-        self.text.push_str(message)?;
-        self.readers = readers;
-        Ok(())
+        tell_reader(shown, before, after, notice)?;
     }
+    shown.text.push_str(": ")?;
+    Ok(())
 }
 
 /// How many parcels of one frame stand at the head.
@@ -77,23 +62,45 @@ fn run_length(list: &[Notice], bytes: &[u8]) -> usize
     list.len()
 }
 
-fn readers(alloc: Global, before: &State, after: &State, list: &[Notice]) -> Result<String> {
-    let mut text = String::new(alloc);
-    for notice in list {
-        if !text.is_empty() {
-            text.push_str(" ")?;
-        }
-        text.push_str(reader(alloc, before, after, notice)?.as_str())?;
+/// Whether two frames go to the same sessions in one order.
+fn go_alike(run: &[Notice], other: &[Notice]) -> bool {
+    if run.len() != other.len() {
+        return false;
     }
-    Ok(text)
+    for (one, two) in run.iter().zip(other) {
+        if one.to.0 != two.to.0 || one.slot.0 != two.slot.0 || one.last != two.last {
+            return false;
+        }
+    }
+    true
+}
+
+/// The parcels of one frame, behind those of another. Who gets it is told where that is not as before.
+fn tell_run(
+    shown: &mut Shown,
+    before: &State,
+    after: &State,
+    last: &[Notice],
+    run: &[Notice],
+) -> Result<()> {
+    if !last.is_empty() {
+        shown.text.push_str(" | ")?;
+    }
+    if !go_alike(last, run) {
+        tell_readers(shown, before, after, run)?;
+    }
+    Ok(())
 }
 
 /// Parcels in their order, or `nothing`.
-fn listed(alloc: Global, before: &State, after: &State, list: &[Notice]) -> Result<String> {
-    let mut listing = Listing {
-        text: String::new(alloc),
-        readers: String::new(alloc),
-    };
+fn tell_parcels(shown: &mut Shown, before: &State, after: &State, list: &[Notice]) -> Result<()> {
+    if !shown.text.is_empty() {
+        shown.text.push_str("; ")?;
+    }
+    if list.is_empty() {
+        shown.text.push_str("nothing")?;
+    }
+    let mut last = &list[..0];
     let mut at = 0;
     while at < list.len() {
         let rest = &list[at..];
@@ -102,109 +109,83 @@ fn listed(alloc: Global, before: &State, after: &State, list: &[Notice]) -> Resu
         if count == 0 {
             bail!("a frame that is not its own");
         }
-        let who = readers(alloc, before, after, &rest[..count])?;
-        listing.add(who, frame_text(alloc, bytes)?.as_str())?;
+        let run = &rest[..count];
+        tell_run(shown, before, after, last, run)?;
+        shown.frame(bytes)?;
+        last = run;
         at += count;
     }
-    if listing.text.is_empty() {
-        listing.text.push_str("nothing")?;
-    }
-    Ok(listing.text)
+    Ok(())
 }
 
 /// What is told of an edit that led from one state to another.
-fn told_text(alloc: Global, before: &State, edit: &Edit, after: &State) -> Result<String> {
-    if !fits_frame(alloc, edit)? {
+fn tell_edit(shown: &mut Shown, before: &State, edit: &Edit, after: &State) -> Result<()> {
+    if !fits_frame(shown.alloc, edit)? {
         bail!("a frame does not take it");
     }
-    let told = notices(alloc, before, edit, after)?;
-    listed(alloc, before, after, told.as_slice())
+    let told = notices(shown.alloc, before, edit, after)?;
+    tell_parcels(shown, before, after, told.as_slice())
 }
 
 /// What a session is told first.
-fn first_text(alloc: Global, state: &State, session: SessionId) -> Result<String> {
-    let told = sync_block(alloc, state, session)?;
-    listed(alloc, state, state, told.as_slice())
+fn tell_first(shown: &mut Shown, state: &State, session: SessionId) -> Result<()> {
+    let told = sync_block(shown.alloc, state, session)?;
+    tell_parcels(shown, state, state, told.as_slice())
 }
 
-/// The state of another is copied into this one.
-fn keep(alloc: Global, kept: &mut State, state: &State) -> Result<()> {
-    *kept = state.copy(alloc)?;
+/// Makes an edit of a state, of which `before` is a copy, and says what is told of it. It must fit.
+fn make_from(shown: &mut Shown, before: &State, state: &mut State, edit: &Edit) -> Result<()> {
+    ensure!(make(state, edit)?, "does not fit");
+    tell_edit(shown, before, edit, state)
+}
+
+/// Makes an edit, and says what is told of it.
+fn make_aloud(shown: &mut Shown, state: &mut State, edit: &Edit) -> Result<()> {
+    let before = state.copy(shown.alloc)?;
+    make_from(shown, &before, state, edit)
+}
+
+/// Makes the edit that a call spells, and says what is told of it.
+fn tell_spelled(shown: &mut Shown, state: &mut State, call: &str) -> Result<()> {
+    let edit = edit_of(shown.alloc, state, call)?;
+    make_aloud(shown, state, &edit)
+}
+
+fn call(shown: &mut Shown, state: &mut State, call: &str) -> Result<()> {
+    let (word, rest) = word_of(call);
+    match word {
+        "tells" => tell_spelled(shown, state, rest),
+        "sync" => tell_first(shown, state, session(rest)?),
+        _ => {
+            ensure!(edit(shown.alloc, state, call)?, "does not fit");
+            Ok(())
+        }
+    }
+}
+
+/// What these calls say, one after the other, from this state on.
+fn calls_from(shown: &mut Shown, state: &mut State, calls: &[String]) -> Result<()> {
+    for one in calls {
+        call(shown, state, one.as_str())?;
+    }
     Ok(())
 }
 
-/// Makes an edit, which must fit.
-fn make(state: &mut State, edit: &Edit) -> Result<()> {
-    ensure!(state.fits(edit), "does not fit");
-    state.apply(edit)?;
-    Ok(())
+/// What these calls say from the empty state on.
+fn all_calls(shown: &mut Shown, calls: &[String]) -> Result<()> {
+    let mut state = State::empty(shown.alloc)?;
+    calls_from(shown, &mut state, calls)
 }
 
-impl Scene {
-    fn new(alloc: Global) -> Result<Scene> {
-        Ok(Scene {
-            alloc,
-            state: State::empty(alloc)?,
-            before: State::empty(alloc)?,
-            said: String::new(alloc),
-        })
-    }
-
-    /// What one call says more, where there was memory for it.
-    fn say(&mut self, text: Result<String>) -> Result<()> {
-        let text = text?;
-        if !self.said.is_empty() {
-            self.said.push_str("; ")?;
-        }
-        self.said.push_str(text.as_str())?;
-        Ok(())
-    }
-
-    /// Makes an edit, and says what is told of it.
-    fn tell(&mut self, edit: Result<Edit>) -> Result<()> {
-        let edit = edit?;
-        keep(self.alloc, &mut self.before, &self.state)?;
-        make(&mut self.state, &edit)?;
-        let text = told_text(self.alloc, &self.before, &edit, &self.state);
-        self.say(text)
-    }
-
-    /// Makes an edit, and says nothing.
-    fn make(&mut self, edit: Result<Edit>) -> Result<()> {
-        let edit = edit?;
-        make(&mut self.state, &edit)
-    }
-
-    fn call(&mut self, call: &str) -> Result<()> {
-        let (word, rest) = word_of(call);
-        match word {
-            "tells" => {
-                let edit = edit_of(self.alloc, &self.state, rest);
-                self.tell(edit)
-            }
-            "sync" => {
-                let text = first_text(self.alloc, &self.state, session(rest)?);
-                self.say(text)
-            }
-            _ => {
-                let edit = edit_of(self.alloc, &self.state, call);
-                self.make(edit)
-            }
-        }
-    }
-
-    /// What these calls say.
-    fn calls(&mut self, calls: &[String]) -> Result<String> {
-        for call in calls {
-            self.call(call.as_str())?;
-        }
-        Ok(replace(&mut self.said, String::new(self.alloc)))
-    }
+/// What the calls of a line say.
+fn tell_line(shown: &mut Shown, line: &str) -> Result<()> {
+    let calls = calls_of(shown.alloc, line)?;
+    all_calls(shown, &calls)
 }
 
 /// What the calls of a line say.
 pub fn answer(alloc: Global, line: &str) -> Result<String> {
-    let calls = calls_of(alloc, line)?;
-    let mut scene = Scene::new(alloc)?;
-    scene.calls(&calls)
+    let mut shown = Shown::new(alloc);
+    tell_line(&mut shown, line)?;
+    Ok(shown.text)
 }

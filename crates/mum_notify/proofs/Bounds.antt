@@ -1,19 +1,12 @@
 -- How many bytes payloads take at most: a varint takes ten, so a number of a message twenty with its key, and a text
 -- twenty and its own. What a proper state holds is short enough.
-use Rattle.std.proofs.Common.{◌≡◌, ℕ, zero, suc, ◌+◌, ◌*◌, ◌≤◌, ◌/◌, ◌==◌, Bool, true, false, not, cond, List, [], ◌∷◌, ◌++◌, length, map, filter, Option, Some, None, refl, sym, ap, ◌∙◌, subst, arith, nat_lt}
-use Rattle.std.specs.List.{count_by, find, flat_map, list_all}
-use Rattle.std.specs.Option.{option_map, option_map_or}
+use Rattle.std.proofs.Common.{◌≡◌, ℕ, zero, suc, ◌+◌, ◌*◌, ◌≤◌, ◌/◌, Bool, true, false, List, [], ◌∷◌, ◌++◌, length, Option, Some, None, refl, ap, arith, nat_lt}
 use Rattle.std.proofs.lemmas.List.{length-append}
-use Rattle.std.proofs.lemmas.List.Sums.{length-filter}
-use Rattle.mum_base.specs.declared.number.ChannelId.{ChannelId}
-use Rattle.mum_base.specs.declared.number.SessionId.{SessionId}
-use Rattle.mum_fields.specs.Field.{wire_type}
 use Rattle.mum_fields.specs.declared.shape.Kind.{Kind}
 use Rattle.mum_fields.specs.declared.shape.Kind.TheVariants.{Number, Utf8, Raw}
 use Rattle.mum_fields.specs.declared.shape.Label.{Label}
 use Rattle.mum_fields.specs.declared.shape.Label.TheVariants.{Optional, Required, RequiredOr, Repeated}
-use Rattle.mum_fields.specs.declared.shape.Scalar.{Scalar}
-use Rattle.mum_fields.specs.Table.{Layout, Nothing, Field, Blocks, One, Scalar_of, Value, Values, each_item, each_message, items, layout, one_item, parts, row_items, scalar_number, spelled}
+use Rattle.mum_fields.specs.Table.{Layout, Nothing, Field, Blocks, One, Value, Values, each_item, each_message, items, layout, one_item, parts, row_items, scalar_number, spelled}
 use Rattle.mum_fields.specs.Varint.{shortest, shortest_with}
 use Rattle.mum_fields.specs.Written.{Item, block_item, block_items, each_block, each_number, number_items, spelling, varint_item, written}
 use Rattle.mum_msg_rule.specs.Messages.{permission_query}

@@ -1,6 +1,6 @@
 -- Each parcel is one whole frame within the limit of a frame.
-use Rattle.std.proofs.Common.{◌≡◌, ℕ, ◌<◌, ◌==◌, Bool, true, false, not, cond, List, [], ◌∷◌, ◌++◌, map, filter, Option, Some, None, refl, arith}
-use Rattle.std.specs.List.{All, flat_map, list_all}
+use Rattle.std.proofs.Common.{◌≡◌, ℕ, ◌<◌, Bool, true, false, cond, List, [], ◌∷◌, ◌++◌, map, filter, Option, Some, None, refl, arith}
+use Rattle.std.specs.List.{All, flat_map}
 use Rattle.std.specs.Option.{option_map_or}
 use Rattle.std.proofs.lemmas.List.Elements.{All-append, All-cons, All-map, All-nil, All-weaker}
 use Rattle.mum_base.specs.declared.number.ChannelId.{ChannelId}
@@ -9,10 +9,8 @@ use Rattle.mum_frame.specs.Frame.{IsOneFrame, spelling_of}
 use Rattle.mum_frame.specs.declared.kind.TheConstants.{CHANNEL_REMOVE, CHANNEL_STATE, CODEC_VERSION, PERMISSION_QUERY, SERVER_SYNC, TEXT_MESSAGE, USER_REMOVE, USER_STATE, VERSION}
 use Rattle.mum_msg_state.specs.declared.channel_state.ChannelState.{ChannelState}
 use Rattle.mum_msg_state.specs.declared.user_state.UserState.{UserState}
-use Rattle.mum_tree.specs.State.{TreeState}
 use Rattle.mum_tree.specs.declared.channel.Channel.{Channel}
 use Rattle.mum_users.specs.Sessions.{session_of}
-use Rattle.mum_users.specs.State.{has_number}
 use Rattle.mum_users.specs.declared.user.User.{User}
 use Rattle.mum_state.specs.Named.{given}
 use Rattle.mum_state.specs.Proper.{IsProper, is_sound_user}
@@ -20,10 +18,10 @@ use Rattle.mum_state.specs.State.{StateValue}
 use Rattle.mum_state.specs.declared.edit.Edit.{Edit}
 use Rattle.mum_state.specs.declared.edit.Edit.TheVariants.{Join, Kick, Leave, MakeChannel, SetAcl, Text}
 use Rattle.mum_state.proofs.Listed.{all_at}
-use Rattle.mum_notify.specs.Channels.{channel_change_told, channel_changes_told, channel_difference, channel_ids, channel_of, channel_told, edited_channels, has_links, if_it_tells, links_told, new_channel, new_channels_told, tells_of_channel}
+use Rattle.mum_notify.specs.Channels.{channel_change_told, channel_changes_told, channel_difference, channel_ids, channel_of, channel_told, edited_channels, has_links, if_it_tells, links_told, new_channels_told, tells_of_channel}
 use Rattle.mum_notify.specs.Gone.{channel_gone, channels_gone, departure, last_parcel, user_kicked, user_left}
 use Rattle.mum_notify.specs.Notices.{FitsFrame, arrival, closes, notices, others}
-use Rattle.mum_notify.specs.Parcels.{IsWithinFrame, all_to_each, channel_frame, channel_gone_frame, channel_gone_payload, channel_payload, codecs_frame, codecs_payload, parcel, permissions_frame, permissions_payload, sync_frame, sync_payload, text_frame, text_payload, to_each, user_frame, user_gone_frame, user_gone_payload, user_payload, version_frame, version_payload}
+use Rattle.mum_notify.specs.Parcels.{IsWithinFrame, all_to_each, channel_frame, channel_gone_frame, channel_gone_payload, channel_payload, codecs_frame, codecs_payload, parcel, permissions_payload, sync_frame, sync_payload, text_frame, text_payload, to_each, user_frame, user_gone_frame, user_gone_payload, user_payload, version_frame, version_payload}
 use Rattle.mum_notify.specs.Sync.{all_links_told, server_codecs, server_version, sync_block, sync_frames, sync_parcels, tree_order, tree_told, welcome_told}
 use Rattle.mum_notify.specs.Texts.{is_for, permission_parcel, permission_parcels, permissions_told, text_parcels, text_told}
 use Rattle.mum_notify.specs.Users.{tells_of_user, user_change_told, user_changes_told, user_difference, user_told, watched, whom_to_watch}

@@ -13,7 +13,7 @@ use Rattle.mum_tree.specs.Rows.{is_root}
 use Rattle.mum_tree.specs.State.{TreeState}
 use Rattle.mum_users.specs.Order.{IsBelowAll, Rises}
 use Rattle.mum_notify.specs.Channels.{channel_ids, children, family, is_child}
-use Rattle.mum_notify.specs.Seats.{is_not_after, is_under, kids_of, seat_of, seats_of}
+use Rattle.mum_notify.specs.Seats.{is_not_after, is_under, kids_of, seats_of}
 use Rattle.mum_notify.specs.declared.seats.Seat.{Seat}
 
 no_lower : (a b : ℕ) → a ≤ b → IsTrue (nat_le a b)

@@ -15,7 +15,7 @@ use Rattle.mum_users.specs.Sessions.{session_of}
 use Rattle.mum_users.specs.State.{RosterState, has_number}
 use Rattle.mum_users.specs.declared.user.User.{User}
 use Rattle.mum_base.specs.declared.number.TheConstants.ChannelId.{ROOT}
-use Rattle.mum_tree.specs.Rows.{is_there, row_of}
+use Rattle.mum_tree.specs.Rows.{is_there}
 use Rattle.mum_tree.specs.declared.channel.Row.{Row}
 use Rattle.std.specs.Option.{is_some}
 use Rattle.mum_state.proofs.Listed.{all_at}

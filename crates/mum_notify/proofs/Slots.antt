@@ -1,5 +1,5 @@
 -- One frame goes out by slots.
-use Rattle.std.proofs.Common.{◌≡◌, ℕ, zero, suc, ◌+◌, ◌<◌, ◌≤◌, List, [], ◌∷◌, length, get_or, arith}
+use Rattle.std.proofs.Common.{ℕ, zero, suc, ◌+◌, ◌<◌, ◌≤◌, List, [], ◌∷◌, length, get_or, arith}
 use Rattle.std.specs.List.{AllPairs}
 use Rattle.mum_users.specs.Proper.{SlotsRise}
 use Rattle.mum_users.specs.declared.user.User.{User}

@@ -31,13 +31,13 @@ use Rattle.mum_state.specs.Set.{set_by, with_tree}
 use Rattle.mum_state.specs.State.{StateValue}
 use Rattle.mum_state.specs.Suppression.{with_clearing, with_suppression}
 use Rattle.mum_state.specs.declared.edit.Edit.{Edit}
-use Rattle.mum_state.specs.declared.edit.Edit.TheVariants.{AddAccount, EditChannel, Join, Kick, Leave, MakeChannel, RemoveChannel, SetAcl, SetServer, SetTarget, SetTokens, SetUser, Text}
+use Rattle.mum_state.specs.declared.edit.Edit.TheVariants.{EditChannel, MakeChannel, RemoveChannel}
 use Rattle.mum_state.proofs.Gone.{there_without_subtree}
 use Rattle.mum_state.proofs.Heard.{clearing_tree, heard_members}
 use Rattle.mum_state.proofs.Keeping.{fit_proper}
 use Rattle.mum_state.proofs.Leftover.{closed_by, left_alone}
 use Rattle.mum_state.proofs.Renewing.{there_known}
-use Rattle.mum_notify.specs.Channels.{channel_of, edited_channels, in_order, with_channel}
+use Rattle.mum_notify.specs.Channels.{channel_of, edited_channels, with_channel}
 use Rattle.mum_notify.proofs.Families.{same_channel}
 use Rattle.mum_notify.proofs.Seated.{filter_alike}
 

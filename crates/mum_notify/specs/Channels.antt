@@ -1,12 +1,11 @@
 -- What is told of channels that are new or changed.
-use Rattle.std.specs.Prelude.{ℕ, zero, suc, ◌==◌, ◌&&◌, ◌||◌, not, Bool, false, nat_lt, ℤ, pos, List, [], ◌∷◌, ◌++◌, map, filter, fold, Option, Some, None, is_some, if◌then◌else◌}
+use Rattle.std.specs.Prelude.{ℕ, zero, suc, ◌==◌, ◌&&◌, ◌||◌, not, Bool, false, nat_lt, pos, List, [], ◌∷◌, ◌++◌, map, filter, fold, Option, Some, None, is_some, if◌then◌else◌}
 use Rattle.std.specs.List.{flat_map, position_or_len, slice_get}
 use Rattle.std.specs.Option.{option_map, option_map_or}
 use Rattle.std.specs.Ordering.{int_eq}
 use Rattle.std.specs.Str.{bytes_eq}
 use Rattle.mum_base.specs.Channels.{is_among}
 use Rattle.mum_base.specs.declared.number.ChannelId.{ChannelId}
-use Rattle.mum_base.specs.declared.number.TheConstants.ChannelId.{ROOT}
 use Rattle.mum_msg_state.specs.declared.channel_state.ChannelState.{ChannelState}
 use Rattle.mum_tree.specs.Refusals.{parent_of}
 use Rattle.mum_tree.specs.Rows.{is_root, row_of}

@@ -1,7 +1,6 @@
 -- What holds of all that is told, in words of its own.
 use Rattle.std.specs.Prelude.{◌≡◌, ◌≢◌, ℕ, ◌<◌, ◌⊎◌, true, false, List, ◌∷◌, ◌++◌, filter, Option, Some, None, IsTrue}
 use Rattle.std.specs.List.{All, AllPairs, Contains}
-use Rattle.std.specs.Option.{option_map}
 use Rattle.mum_base.specs.Channels.{is_among}
 use Rattle.mum_base.specs.declared.number.ChannelId.{ChannelId}
 use Rattle.mum_base.specs.declared.number.SessionId.{SessionId}

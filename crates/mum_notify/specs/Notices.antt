@@ -1,5 +1,5 @@
 -- Who is told what of an edit, in which order.
-use Rattle.std.specs.Prelude.{ℕ, not, Bool, List, [], ◌++◌, map, filter, ⊤}
+use Rattle.std.specs.Prelude.{not, Bool, List, [], ◌++◌, map, filter, ⊤}
 use Rattle.std.specs.List.{flat_map}
 use Rattle.mum_base.specs.declared.number.SessionId.{SessionId}
 use Rattle.mum_users.specs.Sessions.{session_of}

@@ -1,5 +1,5 @@
 -- What a session that joins is told first.
-use Rattle.std.specs.Prelude.{ℕ, pos, true, List, [], ◌∷◌, ◌++◌, map, filter, codes, Option, Some, None}
+use Rattle.std.specs.Prelude.{ℕ, pos, true, List, [], ◌∷◌, ◌++◌, map, codes, Some, None}
 use Rattle.std.specs.List.{flat_map}
 use Rattle.mum_base.specs.declared.number.ChannelId.{ChannelId}
 use Rattle.mum_base.specs.declared.number.SessionId.{SessionId}

@@ -6,7 +6,7 @@ ghost use Rattle.mum_notify.specs.Notices.{FitsFrame};
 ghost use Rattle.mum_notify.specs.Parcels.{IsWithinFrame, text_payload, user_gone_payload};
 ghost use Rattle.mum_notify.specs.Texts.{text_told};
 
-use crate::frames::{text_fits, user_gone_fits};
+use crate::frames::is_within;
 use crate::gone::user_kicked;
 use crate::texts::{TextSent, text_told};
 use mum_base::{ChannelId, Items, OutOfMemory, SessionId, Text};
@@ -24,7 +24,7 @@ fn kick_fits(
         ↔ IsWithinFrame (user_gone_payload (user_kicked session actor reason.now ban))) }
 {
     let told = user_kicked(session, actor, reason, ban)?;
-    user_gone_fits(alloc, &told)
+    is_within(alloc, &told)
 }
 
 fn sent_fits(
@@ -48,7 +48,7 @@ fn sent_fits(
         trees,
     };
     let told = text_told(alloc, &text, message)?;
-    text_fits(alloc, &told)
+    is_within(alloc, &told)
 }
 
 /// Whether one frame takes what the edit itself says: the message by which it puts a session out, or its

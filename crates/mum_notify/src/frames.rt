@@ -28,25 +28,12 @@ fn frame_of<M: Message>(alloc: Global, kind: u16, message: &M) -> Result<Octets,
     frame.into_shared()
 }
 
-fn is_within<M: Message>(alloc: Global, message: &M) -> Result<bool, OutOfMemory>
+/// Whether one frame takes the message.
+pub(crate) fn is_within<M: Message>(alloc: Global, message: &M) -> Result<bool, OutOfMemory>
     ensures { IfOk result (λ fits. IsTrue fits ↔ IsWithinFrame (spelled M.rows message.now)) }
 {
     let payload = message.encode(alloc)?;
     Ok(payload.as_slice().len() <= PAYLOAD_LIMIT)
-}
-
-/// Whether one frame takes the message.
-pub(crate) fn user_gone_fits(alloc: Global, message: &UserRemove) -> Result<bool, OutOfMemory>
-    ensures { IfOk result (λ fits. IsTrue fits ↔ IsWithinFrame (user_gone_payload message.now)) }
-{
-    is_within(alloc, message)
-}
-
-/// Whether one frame takes the message.
-pub(crate) fn text_fits(alloc: Global, message: &TextMessage) -> Result<bool, OutOfMemory>
-    ensures { IfOk result (λ fits. IsTrue fits ↔ IsWithinFrame (text_payload message.now)) }
-{
-    is_within(alloc, message)
 }
 
 pub(crate) fn version_frame(alloc: Global, message: &Version) -> Result<Octets, OutOfMemory>

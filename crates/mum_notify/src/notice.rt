@@ -3,7 +3,7 @@
 use mum_base::{Items, Octets, SessionId, Slot};
 
 /// A frame for one session.
-#[derive(Debug, Drop)]
+#[derive(Drop)]
 pub struct Notice {
     pub to: SessionId,
     /// The slot of that session, also where the session is gone.

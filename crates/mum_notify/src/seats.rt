@@ -13,7 +13,7 @@ use mum_tree::{PATH_LIMIT, Tree};
 use std::alloc::Global;
 
 /// A channel under another.
-#[derive(Clone, Copy, Debug)]
+#[derive(Clone, Copy)]
 pub(crate) struct Seat {
     pub(crate) parent: ChannelId,
     pub(crate) id: ChannelId,

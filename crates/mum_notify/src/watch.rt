@@ -7,7 +7,7 @@ use mum_base::SessionId;
 use mum_state::Edit;
 
 /// Whose row, or whose listening, an edit can change.
-#[derive(Clone, Copy, Debug)]
+#[derive(Clone, Copy)]
 pub(crate) enum Watch {
     Nobody,
     One(SessionId),

@@ -1,5 +1,5 @@
 -- What a user of an exercise asks for fits one frame.
-use Rattle.std.proofs.Common.{◌≡◌, ℕ, ◌+◌, ◌*◌, ◌^◌, ◌<◌, ◌≤◌, Bool, List, [], ◌∷◌, ◌++◌, length, Option, Some, None, true, refl, sym, ap, ◌∙◌, subst, arith}
+use Rattle.std.proofs.Common.{◌≡◌, ℕ, ◌^◌, ◌<◌, ◌≤◌, Bool, List, [], ◌∷◌, length, Some, None, true, sym, ap, ◌∙◌, subst, arith}
 use Rattle.std.specs.Prelude.{ℤ, IfOk, Result, codes, decimal}
 use Rattle.std.proofs.lemmas.Fmt.{length-decimal-le}
 use Rattle.std.proofs.lemmas.List.{length-append}
@@ -7,7 +7,6 @@ use Rattle.std.proofs.lemmas.Result.{IfOk-weaker}
 use Rattle.mum_fields.specs.declared.shape.Kind.TheVariants.{Raw}
 use Rattle.mum_fields.specs.declared.shape.Label.TheVariants.{Repeated}
 use Rattle.mum_fields.specs.Table.{Table, items, layout, parts, spelled}
-use Rattle.mum_fields.specs.Written.{written}
 use Rattle.mum_frame.specs.Frame.{IsOneFrame, spelling_of}
 use Rattle.mum_frame.specs.declared.frame.TheConstants.{PAYLOAD_LIMIT}
 use Rattle.mum_msg_rule.specs.Messages.{target_block, voice_target}

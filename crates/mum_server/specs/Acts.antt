@@ -1,10 +1,9 @@
 -- What a user of an exercise asks for, as frames on the wire.
-use Rattle.std.specs.Prelude.{ℕ, ◌+◌, Bool, true, List, [], ◌∷◌, ◌++◌, Option, Some, None, codes, decimal}
+use Rattle.std.specs.Prelude.{ℕ, ◌+◌, Bool, true, List, [], ◌∷◌, ◌++◌, Some, None, codes, decimal}
 use Rattle.mum_fields.specs.Table.{spelled}
 use Rattle.mum_frame.specs.Frame.{spelling_of}
 use Rattle.mum_frame.specs.declared.kind.TheConstants.{AUTHENTICATE, CHANNEL_STATE, UDP_TUNNEL, USER_STATE, VOICE_TARGET}
 use Rattle.mum_msg_rule.specs.Messages.{voice_target}
-use Rattle.mum_msg_rule.specs.declared.target_block.TargetBlock.{TargetBlock}
 use Rattle.mum_msg_rule.specs.declared.voice_target.VoiceTarget.{VoiceTarget}
 use Rattle.mum_msg_state.specs.Messages.{authenticate, channel_state, user_state}
 use Rattle.mum_msg_state.specs.declared.authenticate.Authenticate.{Authenticate}

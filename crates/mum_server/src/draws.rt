@@ -19,7 +19,7 @@ const CHANNELS: u32 = 8;
 const CASES: u32 = 16;
 
 /// What a user does in a round.
-#[derive(Clone, Copy, Debug, PartialEq, Eq)]
+#[derive(Clone, Copy)]
 pub enum Act {
     /// Speaks: to the channel (target 0), or to the first voice target.
     Talk { target: u8 },
@@ -36,7 +36,7 @@ pub enum Act {
 }
 
 /// A round: who does what.
-#[derive(Clone, Copy, Debug, PartialEq, Eq)]
+#[derive(Clone, Copy)]
 pub struct Round {
     /// The connection of the user, 1 to 16.
     pub connection: u32,

@@ -5,5 +5,6 @@ use Rattle.mum_notify.specs.Parcels.{IsWithinFrame, user_gone_payload}
 use Rattle.mum_notify.proofs.fitting.kick_fits.Goals as goal
 
 pub returns : goal.returns
+unfolding user_gone_payload
 returns c =
-    subst (λ (told : UserRemove). IfOk c.user_gone_fits.result (λ fits. IsTrue fits ↔ IsWithinFrame (user_gone_payload told))) c.in_ok-told.ensures c.user_gone_fits.ensures
+    subst (λ (told : UserRemove). IfOk c.is_within.result (λ fits. IsTrue fits ↔ IsWithinFrame (user_gone_payload told))) c.in_ok-told.ensures c.is_within.ensures

@@ -6,8 +6,9 @@ use Rattle.mum_notify.proofs.Sent.{text_read}
 use Rattle.mum_notify.proofs.fitting.sent_fits.Goals as goal
 
 pub returns : goal.returns
+unfolding text_payload
 returns c =
-    subst (λ (told : TextMessage). IfOk c.text_fits.result (λ fits. IsTrue fits ↔ IsWithinFrame (text_payload told)))
+    subst (λ (told : TextMessage). IfOk c.is_within.result (λ fits. IsTrue fits ↔ IsWithinFrame (text_payload told)))
     (text_read c.args.actor c.args.sessions.now c.as_slice-sessions.result.now c.args.channels.now c.as_slice-channels.result.now c.args.trees.now c.as_slice-trees.result.now c.args.message.now c.in_ok-told.told
     c.as_slice-sessions.ensures c.as_slice-channels.ensures c.as_slice-trees.ensures c.in_ok-told.ensures)
-    c.text_fits.ensures
+    c.is_within.ensures

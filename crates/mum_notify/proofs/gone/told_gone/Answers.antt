@@ -1,4 +1,4 @@
-use Rattle.std.proofs.Common.{◌≡◌, ◌∙◌, Bool, sym}
+use Rattle.std.proofs.Common.{◌∙◌, Bool, sym}
 use Rattle.mum_base.specs.declared.number.ChannelId.{ChannelId}
 use Rattle.mum_notify.specs.Gone.{is_told_gone}
 use Rattle.mum_notify.proofs.Pieces.{dropped_at, kept_at}

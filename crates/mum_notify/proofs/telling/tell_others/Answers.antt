@@ -1,4 +1,4 @@
-use Rattle.std.proofs.Common.{◌≡◌, ◌∙◌, Bool, not, sym}
+use Rattle.std.proofs.Common.{◌∙◌, Bool, not, sym}
 use Rattle.mum_users.specs.State.{has_number}
 use Rattle.mum_users.specs.declared.user.User.{User}
 use Rattle.mum_notify.specs.Parcels.{parcel}

@@ -1,4 +1,4 @@
-use Rattle.std.proofs.Common.{◌≡◌, ◌∙◌, Bool, sym}
+use Rattle.std.proofs.Common.{◌∙◌, Bool, sym}
 use Rattle.mum_users.specs.declared.user.User.{User}
 use Rattle.mum_notify.specs.Parcels.{parcel}
 use Rattle.mum_notify.specs.Texts.{is_for}

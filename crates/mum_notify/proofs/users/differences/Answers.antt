@@ -1,4 +1,4 @@
-use Rattle.std.proofs.Common.{◌<◌, [], arith}
+use Rattle.std.proofs.Common.{[], arith}
 use Rattle.mum_notify.specs.Users.{user_difference}
 use Rattle.mum_notify.specs.Parcels.{user_frame}
 use Rattle.mum_notify.proofs.Pieces.{told_more}

@@ -1,8 +1,9 @@
 //! The calls that change a roster, as the table `roster` spells them.
 
-use crate::readers::fault_text;
+use crate::readers::say_fault;
+use crate::said::{say, say_number};
 use anyhow::{Context, Result, bail};
-use mum_base::{ChannelId, SessionId, Text};
+use mum_base::{AccountId, ChannelId, SessionId, Text};
 use mum_cases::number;
 use mum_cases_words::flags::{flags, flags_text};
 use mum_cases_words::targets::target_of;
@@ -53,18 +54,37 @@ fn set_target(alloc: Global, roster: &mut Roster, session: SessionId, rest: &str
 }
 
 fn edit(alloc: Global, roster: &mut Roster, session: SessionId, parts: &str) -> Result<Done> {
-    let channel = given_channel(part(parts, "channel"))?;
-    let flags = flags(part(parts, "flags").unwrap_or(""))?;
     let listen = channels(alloc, part(parts, "listen").unwrap_or(""))?;
     let unlisten = channels(alloc, part(parts, "unlisten").unwrap_or(""))?;
+    edit_with(
+        alloc,
+        roster,
+        session,
+        parts,
+        listen.as_slice(),
+        unlisten.as_slice(),
+    )
+}
+
+/// The same with the channels that are listened to from now on, and those that are not.
+fn edit_with<'a>(
+    alloc: Global,
+    roster: &mut Roster,
+    session: SessionId,
+    parts: &'a str,
+    listen: &'a [ChannelId],
+    unlisten: &'a [ChannelId],
+) -> Result<Done> {
+    let channel = given_channel(part(parts, "channel"))?;
+    let flags = flags(part(parts, "flags").unwrap_or(""))?;
     let comment = Text::of_given(alloc, part(parts, "comment"))?;
     let change = UserChange {
         channel,
         flags,
         comment: comment.as_ref(),
         context: part(parts, "context").map(|text| text.as_bytes()),
-        listen: listen.as_slice(),
-        unlisten: unlisten.as_slice(),
+        listen,
+        unlisten,
     };
     Ok(roster.edit(session, &change))
 }
@@ -113,73 +133,91 @@ fn change(
 }
 
 /// Lets so many sessions join.
-fn join_many(alloc: Global, roster: &mut Roster, count: u64) -> Result<()> {
-    for place in 0..count {
+fn joins(alloc: Global, roster: &mut Roster, word: &str) -> Result<()> {
+    for place in 0..number(word)? {
         let name = format!(in alloc; "user{}", place.wrapping_add(1))?;
         roster.join(name.as_str(), None, &[])?;
     }
     Ok(())
 }
 
+/// The name and the account of who joins.
+fn joining(text: &str) -> Result<(&str, Option<AccountId>)> {
+    match text.split_once(" account ") {
+        Some((name, word)) => Ok((name, Some(account(word)?))),
+        None => Ok((text, None)),
+    }
+}
+
 /// `NAME account 7 tokens one two`
-fn join(alloc: Global, roster: &mut Roster, text: &str) -> Result<String> {
+fn join(alloc: Global, told: &mut String, roster: &mut Roster, text: &str) -> Result<()> {
     let (text, words) = text.split_once(" tokens ").unwrap_or((text, ""));
-    let (name, account) = match text.split_once(" account ") {
-        Some((name, word)) => (name, Some(account(word)?)),
-        None => (text, None),
-    };
-    match roster.join(name, account, texts(alloc, words)?.as_slice()) {
-        Ok(session) => Ok(format!(in alloc; "{}", session.0)?),
-        Err(fault) => fault_text(alloc, fault),
+    let (name, account) = joining(text)?;
+    let tokens = texts(alloc, words)?;
+    match roster.join(name, account, tokens.as_slice()) {
+        Ok(session) => say_number(told, session.0),
+        Err(fault) => say_fault(told, fault),
     }
 }
 
 /// The flags of a session where the call set them, else that it went well.
-fn done_text(alloc: Global, roster: &Roster, word: &str, session: SessionId) -> Result<String> {
-    if word == "flags" {
-        let user = roster.session(session).context("it is here")?;
-        return flags_text(alloc, user);
+fn say_done(
+    alloc: Global,
+    told: &mut String,
+    roster: &Roster,
+    word: &str,
+    session: SessionId,
+) -> Result<()> {
+    if word != "flags" {
+        return say(told, "ok");
     }
-    Ok(String::from_str(alloc, "ok")?)
+    let user = roster.session(session).context("it is here")?;
+    let flags = flags_text(alloc, user)?;
+    say(told, flags.as_str())
 }
 
+/// One call for each of some sessions, up to the first fault.
 fn change_each(
     alloc: Global,
+    told: &mut String,
     roster: &mut Roster,
     word: &str,
-    sessions: &str,
     rest: &str,
-) -> Result<String> {
-    let mut text = String::from_str(alloc, "no session")?;
+) -> Result<()> {
+    let (sessions, rest) = word_of(rest);
+    let mut last = None;
     for number in numbers(sessions)? {
         let session = SessionId(number);
-        text = match change(alloc, roster, word, session, rest)? {
-            Ok(()) => done_text(alloc, roster, word, session)?,
-            Err(fault) => return fault_text(alloc, fault),
-        };
+        if let Err(fault) = change(alloc, roster, word, session, rest)? {
+            return say_fault(told, fault);
+        }
+        last = Some(session);
     }
-    Ok(text)
+    match last {
+        Some(session) => say_done(alloc, told, roster, word, session),
+        None => say(told, "no session"),
+    }
 }
 
-fn close(alloc: Global, roster: &mut Roster, rest: &str) -> Result<String> {
+fn close(alloc: Global, roster: &mut Roster, rest: &str) -> Result<()> {
     let channels = channels(alloc, rest)?;
     roster.close(&Gone { channels });
-    Ok(String::from_str(alloc, "ok")?)
-}
-
-fn joins(alloc: Global, roster: &mut Roster, rest: &str) -> Result<String> {
-    join_many(alloc, roster, number(rest)?)?;
-    Ok(String::from_str(alloc, "ok")?)
+    Ok(())
 }
 
 /// What a change answers: `ok`, the flags after it, the number of who joined, or the fault.
-pub fn answer(alloc: Global, roster: &mut Roster, word: &str, rest: &str) -> Result<String> {
+pub fn answer(
+    alloc: Global,
+    told: &mut String,
+    roster: &mut Roster,
+    word: &str,
+    rest: &str,
+) -> Result<()> {
     match word {
-        "joins" => return joins(alloc, roster, rest),
-        "join" => return join(alloc, roster, rest),
-        "close" => return close(alloc, roster, rest),
-        _ => {}
+        "joins" => joins(alloc, roster, rest)?,
+        "close" => close(alloc, roster, rest)?,
+        "join" => return join(alloc, told, roster, rest),
+        _ => return change_each(alloc, told, roster, word, rest),
     }
-    let (sessions, rest) = word_of(rest);
-    change_each(alloc, roster, word, sessions, rest)
+    say(told, "ok")
 }

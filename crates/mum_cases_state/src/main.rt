@@ -10,6 +10,7 @@ mod permissions;
 mod policy;
 mod readers;
 mod roster;
+mod said;
 mod tree;
 
 use anyhow::Result;

@@ -1,6 +1,7 @@
 //! The table `members`.
 
 use crate::path::{Lists, path_of};
+use crate::said::{say, say_number};
 use anyhow::{Result, ensure};
 use mum_base::{AccountId, ChannelId};
 use mum_cases::Table;
@@ -21,43 +22,53 @@ fn is_in(alloc: Global, lists: &Lists, path: &[ChannelId], number: Option<u32>) 
 }
 
 /// The accounts in the group, asked in the last channel of the path.
-fn listed(alloc: Global, lists: &Lists, path: &[ChannelId]) -> Result<String> {
-    let mut text = String::new(alloc);
+fn add_members(alloc: Global, told: &mut String, lists: &Lists, path: &[ChannelId]) -> Result<()> {
+    let before = told.len();
     for number in 5u32..10 {
         if is_in(alloc, lists, path, Some(number))? {
-            if !text.is_empty() {
-                text.push_str(" ")?;
-            }
-            text.push_str(format!(in alloc; "{number}")?.as_str())?;
+            add_account(told, before, number)?;
         }
     }
     if is_in(alloc, lists, path, None)? {
-        text.push_str(" guest")?;
+        say(told, " guest")?;
     }
-    if text.is_empty() {
-        return Ok(String::from_str(alloc, "none")?);
+    if told.len() == before {
+        return say(told, "none");
     }
-    Ok(text)
+    Ok(())
+}
+
+/// One more account of those that begin here.
+fn add_account(told: &mut String, begin: usize, number: u32) -> Result<()> {
+    if told.len() > begin {
+        say(told, " ")?;
+    }
+    say_number(told, number)
 }
 
 /// The same, asked in each channel of the path in turn.
-fn listed_in_each(alloc: Global, lists: &Lists, path: &[ChannelId]) -> Result<String> {
-    let mut text = String::new(alloc);
+fn add_each(alloc: Global, told: &mut String, lists: &Lists, path: &[ChannelId]) -> Result<()> {
     for end in 0..path.len() {
         if end > 0 {
-            text.push_str("; ")?;
+            say(told, "; ")?;
         }
-        text.push_str(listed(alloc, lists, &path[..end + 1])?.as_str())?;
+        add_members(alloc, told, lists, &path[..end + 1])?;
     }
-    Ok(text)
+    Ok(())
+}
+
+fn answer_to(alloc: Global, told: &mut String, question: &str) -> Result<()> {
+    let lists = path_of(alloc, question)?;
+    let path = lists.path(alloc)?;
+    add_each(alloc, told, &lists, path.as_slice())
 }
 
 impl Table for Definitions {
     const NAME: &'static str = "members";
 
     fn answer(alloc: Global, question: &str) -> Result<String> {
-        let lists = path_of(alloc, question)?;
-        let path = lists.path(alloc)?;
-        listed_in_each(alloc, &lists, path.as_slice())
+        let mut told = String::new(alloc);
+        answer_to(alloc, &mut told, question)?;
+        Ok(told)
     }
 }

@@ -6,7 +6,7 @@ ghost use Rattle.mum_policy.specs.Walk.{BeginsAtRoot};
 use anyhow::{Result, bail};
 use mum_base::ChannelId;
 use mum_cases_words::askers::{Asker, asker_parts};
-use mum_cases_words::policies::policy_of;
+use mum_cases_words::policies::{open_policy, policy_of};
 use mum_policy::{ChannelPolicy, Policies};
 use std::alloc::Global;
 
@@ -69,11 +69,24 @@ impl Lists {
     /// `A: PART, PART`
     fn add(&mut self, alloc: Global, channel: &str) -> Result<()> {
         let (name, parts) = channel.split_once(':').unwrap_or((channel, ""));
-        let policy = policy_of(alloc, parts)?;
-        self.add_policy(policy.copy(alloc)?)?;
+        self.add_policy(policy_copy(alloc, parts)?)?;
         self.names.push(String::from_str(alloc, name.trim())?)?;
         Ok(())
     }
+
+    /// `root: PART, PART; A; B: PART`
+    fn add_all(&mut self, alloc: Global, text: &str) -> Result<()> {
+        for channel in text.split(';') {
+            self.add(alloc, channel)?;
+        }
+        Ok(())
+    }
+}
+
+/// A copy of the policy that has these parts.
+pub fn policy_copy(alloc: Global, parts: &str) -> Result<ChannelPolicy> {
+    let policy = policy_of(alloc, parts)?;
+    Ok(policy.copy(alloc)?)
 }
 
 /// Whether the path begins at the root.
@@ -86,16 +99,14 @@ pub fn begins_at_root(path: &[ChannelId]) -> bool
     }
 }
 
-/// `root: PART, PART; A; B: PART`
+/// The channels that a text spells.
 pub fn path_of(alloc: Global, text: &str) -> Result<Lists> {
     let mut lists = Lists {
         names: Vec::new(alloc),
-        root: policy_of(alloc, "")?,
+        root: open_policy(alloc),
         below: Vec::new(alloc),
     };
-    for channel in text.split(';') {
-        lists.add(alloc, channel)?;
-    }
+    lists.add_all(alloc, text)?;
     Ok(lists)
 }
 

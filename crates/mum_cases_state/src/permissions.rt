@@ -3,6 +3,7 @@
 ghost use Rattle.std.specs.Prelude.{◌≡◌, ◌<◌};
 
 use crate::path::{Lists, asker_of, begins_at_root, path_of};
+use crate::said::say;
 use anyhow::{Context, Result, ensure};
 use mum_base::{ChannelId, Perm, Steps};
 use mum_cases::Table;
@@ -45,27 +46,50 @@ fn checked_set(lists: &Lists, path: &[ChannelId], who: &Who) -> Result<Perm> {
     Ok(set)
 }
 
-/// The same in each channel of the path in turn.
-fn sets_in_each(alloc: Global, lists: &Lists, path: &[ChannelId], who: &Who) -> Result<String> {
-    let mut text = String::new(alloc);
-    for end in 0..path.len() {
-        let set = checked_set(lists, &path[..end + 1], who)?;
-        if end > 0 {
-            text.push_str("; ")?;
-        }
-        text.push_str(set_text(alloc, set)?.as_str())?;
+/// The same in a channel, behind what parts it from the one before.
+fn add_set(
+    alloc: Global,
+    told: &mut String,
+    lists: &Lists,
+    path: &[ChannelId],
+    who: &Who,
+) -> Result<()> {
+    let set = checked_set(lists, path, who)?;
+    if !told.is_empty() {
+        say(told, "; ")?;
     }
-    Ok(text)
+    let text = set_text(alloc, set)?;
+    say(told, text.as_str())
+}
+
+/// The same in each channel of the path in turn.
+fn add_sets(
+    alloc: Global,
+    told: &mut String,
+    lists: &Lists,
+    path: &[ChannelId],
+    who: &Who,
+) -> Result<()> {
+    for end in 0..path.len() {
+        add_set(alloc, told, lists, &path[..end + 1], who)?;
+    }
+    Ok(())
+}
+
+fn answer_to(alloc: Global, told: &mut String, question: &str) -> Result<()> {
+    let (channels, who) = question.split_once(" | ").context("nobody asks")?;
+    let lists = path_of(alloc, channels)?;
+    let asker = asker_of(alloc, &lists, who)?;
+    let path = lists.path(alloc)?;
+    add_sets(alloc, told, &lists, path.as_slice(), &asker.who())
 }
 
 impl Table for Walks {
     const NAME: &'static str = "permissions";
 
     fn answer(alloc: Global, question: &str) -> Result<String> {
-        let (channels, who) = question.split_once(" | ").context("nobody asks")?;
-        let lists = path_of(alloc, channels)?;
-        let asker = asker_of(alloc, &lists, who)?;
-        let path = lists.path(alloc)?;
-        sets_in_each(alloc, &lists, path.as_slice(), &asker.who())
+        let mut told = String::new(alloc);
+        answer_to(alloc, &mut told, question)?;
+        Ok(told)
     }
 }

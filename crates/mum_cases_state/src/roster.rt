@@ -2,7 +2,8 @@
 
 use crate::changes;
 use crate::readers::{is_reader, read};
-use anyhow::{Context, Result, ensure};
+use crate::said::say;
+use anyhow::{Result, ensure};
 use mum_cases::Table;
 use mum_cases_words::words::word_of;
 use mum_users::Roster;
@@ -19,62 +20,80 @@ struct Two {
 }
 
 impl Two {
-    fn answer(&mut self, alloc: Global, call: &str) -> Result<String> {
-        let (word, rest) = word_of(call);
-        if word == "copy" {
-            self.aside = self.now.copy(alloc)?;
-            return Ok(String::from_str(alloc, "ok")?);
-        }
-        if word == "swap" {
-            mem::swap(&mut self.now, &mut self.aside);
-            return Ok(String::from_str(alloc, "ok")?);
-        }
-        if is_reader(word) {
-            return read(alloc, &self.now, word, rest);
-        }
-        changes::answer(alloc, &mut self.now, word, rest)
-    }
-
-    /// Calls that must go well.
-    fn prepare(&mut self, alloc: Global, calls: &str) -> Result<()> {
-        for call in calls.split("; ") {
-            let text = self.answer(alloc, call)?;
-            let begins_with_fault = text.as_str().starts_with('4') && text.as_str().contains(' ');
-            ensure!(!begins_with_fault, "{call}: {text}");
-        }
+    /// Sets a copy aside.
+    fn copy(&mut self, alloc: Global) -> Result<()> {
+        self.aside = self.now.copy(alloc)?;
         Ok(())
     }
 
-    /// What each of these calls answers.
-    fn answers(&mut self, alloc: Global, calls: &str) -> Result<String> {
-        let mut text = String::new(alloc);
-        for call in calls.split("; ") {
-            if !text.is_empty() {
-                text.push_str("; ")?;
-            }
-            text.push_str(self.answer(alloc, call)?.as_str())?;
+    /// What a call answers, where nothing was told before.
+    fn answer(&mut self, alloc: Global, told: &mut String, call: &str) -> Result<()> {
+        let (word, rest) = word_of(call);
+        if word == "copy" {
+            self.copy(alloc)?;
+            return say(told, "ok");
         }
-        Ok(text)
+        if word == "swap" {
+            mem::swap(&mut self.now, &mut self.aside);
+            return say(told, "ok");
+        }
+        if is_reader(word) {
+            return read(alloc, told, &self.now, word, rest);
+        }
+        changes::answer(alloc, told, &mut self.now, word, rest)
     }
 
-    /// The same of those behind ` | `, where calls that must go well stand before it.
-    fn line(&mut self, alloc: Global, line: &str) -> Result<String> {
-        let Some((before, calls)) = line.split_once(" | ") else {
-            return self.answers(alloc, line);
-        };
-        self.prepare(alloc, before)?;
-        self.answers(alloc, calls)
+    /// A call that must go well.
+    fn prepare(&mut self, alloc: Global, call: &str) -> Result<()> {
+        let mut told = String::new(alloc);
+        self.answer(alloc, &mut told, call)?;
+        let begins_with_fault = told.as_str().starts_with('4') && told.as_str().contains(' ');
+        ensure!(!begins_with_fault, "{call}: {told}");
+        Ok(())
     }
+
+    /// What a call answers, behind what was told before.
+    fn add_answer(&mut self, alloc: Global, told: &mut String, call: &str) -> Result<()> {
+        let mut more = String::new(alloc);
+        self.answer(alloc, &mut more, call)?;
+        if !told.is_empty() {
+            say(told, "; ")?;
+        }
+        say(told, more.as_str())
+    }
+
+    /// What calls answer: those behind ` | `, where calls that must go well stand before it.
+    fn line(&mut self, alloc: Global, told: &mut String, line: &str) -> Result<()> {
+        let (before, calls) = match line.split_once(" | ") {
+            Some((before, calls)) => (Some(before), calls),
+            None => (None, line),
+        };
+        if let Some(before) = before {
+            for call in before.split("; ") {
+                self.prepare(alloc, call)?;
+            }
+        }
+        for call in calls.split("; ") {
+            self.add_answer(alloc, told, call)?;
+        }
+        Ok(())
+    }
+}
+
+fn answer_to(alloc: Global, told: &mut String, question: &str) -> Result<()> {
+    let mut two = Two {
+        now: Roster::new(alloc)?,
+        aside: Roster::new(alloc)?,
+    };
+    two.line(alloc, told, question)
 }
 
 impl Table for Calls {
     const NAME: &'static str = "roster";
 
     fn answer(alloc: Global, question: &str) -> Result<String> {
-        let mut two = Two {
-            now: Roster::new(alloc)?,
-            aside: Roster::new(alloc)?,
-        };
-        two.line(alloc, question)
+        let mut told = String::new(alloc);
+        answer_to(alloc, &mut told, question)?;
+        Ok(told)
     }
 }

@@ -1,13 +1,15 @@
 //! The table `tree`. A line is a sequence of calls; its words stand at the head of the table.
 
+use crate::said::{say, say_number};
 use anyhow::{Result, bail};
 use mum_base::{ChannelId, Text};
 use mum_cases::{Table, number};
 use mum_cases_words::channels::{channel_text, links_text};
 use mum_cases_words::words::{
-    add_number, channel, channels, head_of, number_of, or_none, position, word_of,
+    add_number, channel, channels, given_channel, given_number, given_position, head_of, number_of,
+    or_none, part, position, word_of,
 };
-use mum_tree::{ChannelChange, ChannelInfo, Scratch, Tree, TreeFault};
+use mum_tree::{Channel, ChannelChange, ChannelInfo, Scratch, Tree, TreeFault};
 use std::alloc::Global;
 use std::mem::{replace, swap};
 
@@ -32,64 +34,9 @@ fn place_number(word: &str) -> Result<usize> {
     Ok(number(word)? as usize)
 }
 
-/// The parts of a change, as far as a line gives them.
-#[derive(Drop)]
-struct Parts<'a> {
-    name: Option<&'a str>,
-    parent: Option<ChannelId>,
-    description: Option<&'a str>,
-    position: Option<i32>,
-    max_users: Option<u32>,
-    links: Vec<ChannelId>,
-    unlinks: Vec<ChannelId>,
-}
-
-impl<'a> Parts<'a> {
-    fn none(alloc: Global) -> Parts<'a> {
-        Parts {
-            name: None,
-            parent: None,
-            description: None,
-            position: None,
-            max_users: None,
-            links: Vec::new(alloc),
-            unlinks: Vec::new(alloc),
-        }
-    }
-
-    fn set(&mut self, alloc: Global, part: &'a str) -> Result<()> {
-        let (word, value) = word_of(part);
-        match word {
-            "name" => self.name = Some(value),
-            "parent" => self.parent = Some(channel(value)?),
-            "text" => self.description = Some(value),
-            "position" => self.position = Some(position(value)?),
-            "users" => self.max_users = Some(number_of(value)?),
-            "links" => self.links = channels(alloc, value)?,
-            "unlinks" => self.unlinks = channels(alloc, value)?,
-            _ => bail!("no part of a change: {part}"),
-        }
-        Ok(())
-    }
-
-    /// The parts behind the number of the channel, if there are any.
-    fn of(alloc: Global, words: &'a str) -> Result<Parts<'a>> {
-        let mut parts = Parts::none(alloc);
-        if !words.is_empty() {
-            for part in words.split(", ") {
-                parts.set(alloc, part)?;
-            }
-        }
-        Ok(parts)
-    }
-}
-
-/// A number, or `none`.
-fn shown(alloc: Global, found: Option<u32>) -> Result<String> {
-    match found {
-        Some(number) => Ok(format!(in alloc; "{number}")?),
-        None => Ok(String::from_str(alloc, "none")?),
-    }
+fn row_of(alloc: Global, channel: &Channel) -> Result<String> {
+    let copy = channel.share()?;
+    channel_text(alloc, &copy)
 }
 
 impl Bench {
@@ -104,18 +51,26 @@ impl Bench {
         })
     }
 
-    /// What one call says more.
-    fn say(&mut self, text: &str) -> Result<()> {
+    /// Parts what one call says from what was said before.
+    fn part(&mut self) -> Result<()> {
         if !self.said.is_empty() {
             self.said.push_str("; ")?;
         }
-        self.said.push_str(text)?;
         Ok(())
     }
 
-    fn say_number(&mut self, found: Option<u32>) -> Result<()> {
-        let text = shown(self.alloc, found)?;
-        self.say(text.as_str())
+    /// What one call says more.
+    fn say(&mut self, text: &str) -> Result<()> {
+        self.part()?;
+        say(&mut self.said, text)
+    }
+
+    /// A number, or `none`.
+    fn add_found(&mut self, found: Option<u32>) -> Result<()> {
+        match found {
+            Some(number) => say_number(&mut self.said, number),
+            None => say(&mut self.said, "none"),
+        }
     }
 
     /// A refusal is said by its name and number, and of what was done nothing.
@@ -123,9 +78,9 @@ impl Bench {
         let Err(fault) = outcome else {
             return Ok(());
         };
-        let code = shown(self.alloc, fault.code().map(u32::from))?;
-        let text = format!(in self.alloc; "{fault:?} {code}")?;
-        self.say(text.as_str())
+        self.part()?;
+        write!(self.said, "{fault:?} ")?;
+        self.add_found(fault.code().map(u32::from))
     }
 
     /// The channel that a word names in the round of a call that is done several times.
@@ -194,18 +149,33 @@ impl Bench {
 
     /// `ID` and the parts, each after a comma.
     fn edit(&mut self, words: &str, round: u32) -> Result<()> {
-        let (id, rest) = head_of(words);
+        let (id, parts) = head_of(words);
         let id = self.channel(id, round)?;
-        let parts = Parts::of(self.alloc, rest)?;
-        let description = Text::of_given(self.alloc, parts.description)?;
+        let links = channels(self.alloc, part(parts, "links").unwrap_or(""))?;
+        let unlinks = channels(self.alloc, part(parts, "unlinks").unwrap_or(""))?;
+        self.edit_with(id, parts, links.as_slice(), unlinks.as_slice())
+    }
+
+    /// The same with the channels that are linked from now on, and those that are not.
+    fn edit_with<'a>(
+        &mut self,
+        id: ChannelId,
+        parts: &'a str,
+        links_add: &'a [ChannelId],
+        links_remove: &'a [ChannelId],
+    ) -> Result<()> {
+        let parent = given_channel(part(parts, "parent"))?;
+        let position = given_position(part(parts, "position"))?;
+        let max_users = given_number(part(parts, "users"))?;
+        let description = Text::of_given(self.alloc, part(parts, "text"))?;
         let change = ChannelChange {
-            name: parts.name,
-            parent: parts.parent,
+            name: part(parts, "name"),
+            parent,
             description: description.as_ref(),
-            position: parts.position,
-            max_users: parts.max_users,
-            links_add: parts.links.as_slice(),
-            links_remove: parts.unlinks.as_slice(),
+            position,
+            max_users,
+            links_add,
+            links_remove,
         };
         let outcome = self.tree.edit(id, &change);
         self.settle(outcome)
@@ -276,7 +246,8 @@ impl Bench {
         match word {
             "next" | "nth" | "place" => {
                 let found = self.asked(word, rest, round)?;
-                self.say_number(found)
+                self.part()?;
+                self.add_found(found)
             }
             "full" => {
                 let full = self.tree.full();
@@ -305,7 +276,7 @@ impl Bench {
     fn tell_channel(&mut self, word: &str, round: u32) -> Result<()> {
         let id = self.channel(word, round)?;
         let row = match self.tree.channel(id) {
-            Some(channel) => channel_text(self.alloc, &channel.share()?)?,
+            Some(channel) => row_of(self.alloc, channel)?,
             None => String::from_str(self.alloc, "none")?,
         };
         self.say(row.as_str())

@@ -2,9 +2,10 @@
 
 ghost use Rattle.std.specs.Prelude.{◌<◌};
 
+use crate::words::{say, say_number, small_number};
 use anyhow::{Result, bail};
 use mum_base::{Octets, SessionId};
-use mum_cases::{FileTable, bytes_of, number};
+use mum_cases::{FileTable, bytes_of};
 use mum_frame::kind::UDP_TUNNEL;
 use mum_frame::{Frame, Framer};
 use mum_voice::{OPUS, Packet, read_varint};
@@ -12,16 +13,22 @@ use std::alloc::Global;
 
 pub struct Clients;
 
+/// The type of a frame, as `0003`.
+fn kind_of(alloc: Global, word: &str) -> Result<u16> {
+    let kind = bytes_of(alloc, word)?;
+    let [high, low] = *kind.as_slice() else {
+        bail!("no type: {word}");
+    };
+    Ok(u16::from_be_bytes([high, low]))
+}
+
 /// The frame of a line behind its side, as `0003 0805  # Ping`.
 fn frame_of(alloc: Global, line: &str) -> Result<Frame> {
     let mut words = line.split(' ');
-    let kind = bytes_of(alloc, words.next().unwrap_or_default())?;
-    let [high, low] = *kind.as_slice() else {
-        bail!("no type: {line}");
-    };
+    let kind = kind_of(alloc, words.next().unwrap_or_default())?;
     let payload = bytes_of(alloc, words.next().unwrap_or_default())?;
     Ok(Frame {
-        kind: u16::from_be_bytes([high, low]),
+        kind,
         payload: Octets::from_vec(payload),
     })
 }
@@ -37,15 +44,21 @@ fn sent(alloc: Global, text: &str) -> Result<Vec<Frame>> {
     Ok(frames)
 }
 
-/// The stream of frames: of each its type, the length of its payload, and the payload.
+/// Adds a frame to a stream: its type, the length of its payload, and the payload.
+fn add_frame(stream: &mut Vec<u8>, frame: &Frame) -> Result<()> {
+    let payload = frame.payload.as_slice();
+    let length = u32::try_from(payload.len())?;
+    stream.extend_from_slice(&frame.kind.to_be_bytes())?;
+    stream.extend_from_slice(&length.to_be_bytes())?;
+    stream.extend_from_slice(payload)?;
+    Ok(())
+}
+
+/// The stream of frames.
 fn stream_of(alloc: Global, frames: &[Frame]) -> Result<Vec<u8>> {
     let mut stream = Vec::new(alloc);
     for frame in frames {
-        let payload = frame.payload.as_slice();
-        let length = u32::try_from(payload.len())?;
-        stream.extend_from_slice(&frame.kind.to_be_bytes())?;
-        stream.extend_from_slice(&length.to_be_bytes())?;
-        stream.extend_from_slice(payload)?;
+        add_frame(&mut stream, frame)?;
     }
     Ok(stream)
 }
@@ -61,14 +74,25 @@ fn take_all(framer: &mut Framer, frames: &mut Vec<Frame>, most: usize) -> Result
     Ok(())
 }
 
+/// Feeds a framer with a stream in pieces of this many bytes, and adds all that it gives.
+fn feed_all(
+    framer: &mut Framer,
+    frames: &mut Vec<Frame>,
+    stream: &[u8],
+    size: usize,
+) -> Result<()> {
+    for piece in stream.chunks(size.max(1)) {
+        framer.feed(piece)?;
+        take_all(framer, frames, stream.len())?;
+    }
+    Ok(())
+}
+
 /// All that a framer gives of a stream that comes in pieces of this many bytes.
 fn given(alloc: Global, stream: &[u8], size: usize) -> Result<Vec<Frame>> {
     let mut framer = Framer::new(alloc);
     let mut frames = Vec::new(alloc);
-    for piece in stream.chunks(size.max(1)) {
-        framer.feed(piece)?;
-        take_all(&mut framer, &mut frames, stream.len())?;
-    }
+    feed_all(&mut framer, &mut frames, stream, size)?;
     Ok(frames)
 }
 
@@ -97,19 +121,38 @@ fn same_frames(sent: &[Frame], given: &[Frame]) -> Result<u64> {
     Ok(number)
 }
 
-fn same_text(alloc: Global, sent: &[Frame], given: &[Frame]) -> Result<String> {
-    let number = same_frames(sent, given)?;
-    Ok(format!(in alloc; "{number} frames as they were sent")?)
+/// That frames come out as they were sent, in pieces of this many bytes.
+fn say_pieces(alloc: Global, told: &mut String, sent: &[Frame], size: usize) -> Result<()> {
+    let given = given_again(alloc, sent, size)?;
+    let number = same_frames(sent, &given)?;
+    say_number(told, "", number)?;
+    say(told, " frames as they were sent")
 }
 
-/// That the frames come out as they were sent, in pieces of this many bytes.
-fn frames_in_pieces(alloc: Global, text: &str, size: usize) -> Result<String> {
+/// The same of the frames of a conversation.
+fn frames_in_pieces(alloc: Global, told: &mut String, text: &str, size: usize) -> Result<()> {
     let sent = sent(alloc, text)?;
-    let given = given_again(alloc, &sent, size)?;
-    same_text(alloc, &sent, &given)
+    say_pieces(alloc, told, &sent, size)
 }
 
-/// That the copy of a packet is its kind and the context, the session, and the rest as it came.
+/// Whether the copy of a packet is its kind and the context, the session, and the rest as it came.
+fn is_copy(packet: &[u8], copy: &[u8], spelling: &[u8], context: u8) -> bool {
+    let (Some((head, rest)), Some((head_copy, rest_copy))) = (
+        packet.split_first(),
+        copy.split_first(),
+    ) else {
+        return false;
+    };
+    if *head_copy >> 5 != *head >> 5 || *head_copy & 0x1F != context {
+        return false;
+    }
+    match rest_copy.strip_prefix(spelling) {
+        Some(behind) => behind == rest,
+        None => false,
+    }
+}
+
+/// That a packet is copied so for a session.
 fn check_copy(packet: &[u8], session: SessionId, spelling: &[u8], context: u8) -> Result<()>
     requires { context < 4 }
 {
@@ -118,19 +161,10 @@ fn check_copy(packet: &[u8], session: SessionId, spelling: &[u8], context: u8) -
         Err(fault) => bail!("{fault}"),
     };
     let copy = parsed.copy_for(session, context, true);
-    let (Some((head, rest)), Some((head_copy, rest_copy))) = (
-        packet.split_first(),
-        copy.split_first(),
-    ) else {
-        bail!("no header");
-    };
-    if *head_copy >> 5 != *head >> 5 || *head_copy & 0x1F != context {
-        bail!("another header");
+    if !is_copy(packet, &copy, spelling, context) {
+        bail!("another header, session or rest");
     }
-    match rest_copy.strip_prefix(spelling) {
-        Some(behind) if behind == rest => Ok(()),
-        _ => bail!("another session or rest"),
-    }
+    Ok(())
 }
 
 /// The same in each context.
@@ -154,29 +188,32 @@ fn copied(frames: &[Frame], session: SessionId, spelling: &[u8]) -> Result<u64> 
     Ok(packets)
 }
 
-fn copies_text(
+/// That each voice packet is copied so for a session.
+fn say_copies(
     alloc: Global,
+    told: &mut String,
     frames: &[Frame],
     session: SessionId,
-    spelling: &[u8],
-) -> Result<String> {
-    let packets = copied(frames, session, spelling)?;
-    Ok(format!(in alloc; "{packets} packets with the session put in")?)
+    spelling: &str,
+) -> Result<()> {
+    let spelling = bytes_of(alloc, spelling)?;
+    let packets = copied(frames, session, &spelling)?;
+    say_number(told, "", packets)?;
+    say(told, " packets with the session put in")
 }
 
-/// That each voice packet is copied so for a session: `SESSION spelled BYTES`.
-fn copies(alloc: Global, text: &str, rest: &str) -> Result<String> {
+/// The same of those of a conversation: `SESSION spelled BYTES`.
+fn copies(alloc: Global, told: &mut String, text: &str, rest: &str) -> Result<()> {
     let Some((session, spelling)) = rest.split_once(" spelled ") else {
         bail!("no session: {rest}");
     };
-    let session = SessionId(u32::try_from(number(session)?)?);
-    let spelling = bytes_of(alloc, spelling)?;
+    let session = SessionId(small_number(session)?);
     let frames = sent(alloc, text)?;
-    copies_text(alloc, &frames, session, &spelling)
+    say_copies(alloc, told, &frames, session, spelling)
 }
 
 /// Counts of voice packets: all, those to a target, and those that end a transmission.
-#[derive(Clone, Copy, Default)]
+#[derive(Clone, Copy)]
 struct VoiceCounts {
     packets: u64,
     targeted: u64,
@@ -209,7 +246,11 @@ impl VoiceCounts {
 
 /// What the voice packets among frames are.
 fn counted(frames: &[Frame]) -> Result<VoiceCounts> {
-    let mut spoken = VoiceCounts::default();
+    let mut spoken = VoiceCounts {
+        packets: 0,
+        targeted: 0,
+        last: 0,
+    };
     for frame in frames {
         if frame.kind == UDP_TUNNEL {
             spoken.count(frame.payload.as_slice())?;
@@ -218,41 +259,39 @@ fn counted(frames: &[Frame]) -> Result<VoiceCounts> {
     Ok(spoken)
 }
 
-fn counts_text(alloc: Global, frames: &[Frame]) -> Result<String> {
-    let spoken = counted(frames)?;
-    let (all, to_target, last) = (spoken.packets, spoken.targeted, spoken.last);
-    Ok(format!(in alloc;
-        "{all} packets of Opus, {to_target} to a target, {last} end a transmission"
-    )?)
+fn say_counts(told: &mut String, counts: VoiceCounts) -> Result<()> {
+    say_number(told, "", counts.packets)?;
+    say_number(told, " packets of Opus, ", counts.targeted)?;
+    say_number(told, " to a target, ", counts.last)?;
+    say(told, " end a transmission")
 }
 
 /// What the voice packets of a conversation are.
-fn spoken(alloc: Global, text: &str) -> Result<String> {
+fn spoken(alloc: Global, told: &mut String, text: &str) -> Result<()> {
     let frames = sent(alloc, text)?;
-    counts_text(alloc, &frames)
+    say_counts(told, counted(&frames)?)
 }
 
-/// `in pieces of SIZE`
-fn in_pieces(alloc: Global, text: &str, size: &str) -> Result<String> {
-    let size = usize::try_from(number(size)?)?;
-    frames_in_pieces(alloc, text, size)
+fn answer_to(alloc: Global, told: &mut String, text: &str, question: &str) -> Result<()> {
+    if let Some(size) = question.strip_prefix("in pieces of ") {
+        return frames_in_pieces(alloc, told, text, small_number(size)? as usize);
+    }
+    if let Some(rest) = question.strip_prefix("copied from ") {
+        return copies(alloc, told, text, rest);
+    }
+    match question {
+        "in one piece" => frames_in_pieces(alloc, told, text, usize::MAX),
+        "spoken" => spoken(alloc, told, text),
+        _ => bail!("no question: {question}"),
+    }
 }
 
 impl FileTable for Clients {
     const NAME: &'static str = "client";
 
     fn answer(alloc: Global, text: &str, question: &str) -> Result<String> {
-        if let Some(size) = question.strip_prefix("in pieces of ") {
-            return in_pieces(alloc, text, size);
-        }
-        if let Some(rest) = question.strip_prefix("copied from ") {
-            return copies(alloc, text, rest);
-        }
-        match question {
-            "in one piece" => return frames_in_pieces(alloc, text, usize::MAX),
-            "spoken" => return spoken(alloc, text),
-            _ => {}
-        }
-        bail!("no question: {question}")
+        let mut told = String::new(alloc);
+        answer_to(alloc, &mut told, text, question)?;
+        Ok(told)
     }
 }

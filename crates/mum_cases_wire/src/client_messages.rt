@@ -1,6 +1,7 @@
 //! The table `client-messages`: what the stock client and server wrote, decoded and written again.
 
 use crate::messages::{decoded, written};
+use crate::words::{say, say_number};
 use anyhow::{Result, bail};
 use mum_cases::{Table, bytes_of};
 use mum_fields::Reader;
@@ -8,35 +9,46 @@ use std::alloc::Global;
 
 pub struct ClientMessages;
 
-/// The numbers of the fields of a payload, as they come.
-fn numbers(alloc: Global, payload: &[u8]) -> Result<Vec<u32>> {
-    let mut numbers = Vec::new(alloc);
+/// Whether a payload has a field of this number.
+fn has_field(payload: &[u8], number: u32) -> Result<bool> {
     let mut reader = Reader::new(payload);
     for _ in 0..payload.len() {
         match reader.next_field()? {
-            Some(field) => numbers.push(field.number)?,
+            Some(field) if field.number == number => return Ok(true),
+            Some(_) => {}
             None => break,
         }
     }
-    Ok(numbers)
+    Ok(false)
 }
 
-/// The fields of a payload that are not written again, or that what is written differs otherwise.
-fn difference_of(alloc: Global, payload: &[u8], again: &[u8]) -> Result<String> {
-    let kept = numbers(alloc, again)?;
-    let mut told = String::new(alloc);
-    told.push_str(", passes over")?;
-    let empty = told.len();
-    for number in &numbers(alloc, payload)? {
-        if !kept.contains(number) {
-            write!(told, " {number}")?;
+/// The fields of a payload that are not written again.
+fn add_missing(told: &mut String, payload: &[u8], again: &[u8]) -> Result<()> {
+    let mut before = ", passes over ";
+    let mut reader = Reader::new(payload);
+    for _ in 0..payload.len() {
+        let Some(field) = reader.next_field()? else {
+            break;
+        };
+        if !has_field(again, field.number)? {
+            say_number(told, before, u64::from(field.number))?;
+            before = " ";
         }
     }
-    if told.len() == empty {
-        told.clear();
-        told.push_str(", is written otherwise")?;
+    Ok(())
+}
+
+/// The fields that are passed over, or that what is written differs otherwise.
+fn add_difference(told: &mut String, payload: &[u8], again: &[u8]) -> Result<()> {
+    if payload == again {
+        return Ok(());
     }
-    Ok(told)
+    let length = told.len();
+    add_missing(told, payload, again)?;
+    if told.len() == length {
+        say(told, ", is written otherwise")?;
+    }
+    Ok(())
 }
 
 impl Table for ClientMessages {
@@ -47,12 +59,9 @@ impl Table for ClientMessages {
             bail!("no message and payload");
         };
         let payload = bytes_of(alloc, digits)?;
-        let told = decoded(alloc, name, &payload)?;
         let again = written(alloc, name, &payload)?;
-        if again.as_slice() == payload.as_slice() {
-            return Ok(told);
-        }
-        let difference = difference_of(alloc, &payload, again.as_slice())?;
-        Ok(format!(in alloc; "{told}{difference}")?)
+        let mut told = decoded(alloc, name, &payload)?;
+        add_difference(&mut told, &payload, again.as_slice())?;
+        Ok(told)
     }
 }

@@ -1,8 +1,8 @@
 //! Faults in words: a name for each code, and the place.
 
+use crate::words::{say, say_number};
 use anyhow::{Result, bail};
 use mum_fields::{FieldFault, MessageFault};
-use std::alloc::Global;
 
 fn name_of(code: u8) -> &'static str {
     match code {
@@ -16,16 +16,17 @@ fn name_of(code: u8) -> &'static str {
     }
 }
 
-pub fn of_field(alloc: Global, fault: &FieldFault) -> Result<String> {
-    let FieldFault { code, at } = *fault;
-    let name = name_of(code);
-    Ok(format!(in alloc; "{name} at {at}")?)
+pub fn say_field(told: &mut String, fault: &FieldFault) -> Result<()> {
+    say(told, name_of(fault.code))?;
+    say_number(told, " at ", fault.at as u64)
 }
 
-pub fn of_message(alloc: Global, fault: &MessageFault) -> Result<String> {
+pub fn say_message(told: &mut String, fault: &MessageFault) -> Result<()> {
     match fault {
-        MessageFault::Field(fault) => of_field(alloc, fault),
-        MessageFault::MissingField { number } => Ok(format!(in alloc; "missing {number}")?),
+        MessageFault::Field(fault) => say_field(told, fault),
+        MessageFault::MissingField { number } => {
+            say_number(told, "missing ", u64::from(*number))
+        }
         MessageFault::OutOfMemory => bail!("out of memory"),
     }
 }

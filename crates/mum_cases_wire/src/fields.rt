@@ -2,132 +2,147 @@
 
 use crate::faults;
 use crate::payload::payload;
+use crate::words::{part, say, say_hex, say_number, small_number};
 use anyhow::{Context, Result, bail};
-use mum_cases::{Table, bytes_of, hex_of, number};
+use mum_cases::{Table, bytes_of, number};
 use mum_fields::{
-    FaultKind, Field, MessageFault, Packed, Reader, Value, VarintType, Writer, read_text,
+    FaultKind, Field, FieldFault, MessageFault, Packed, Reader, Value, VarintType, Writer,
+    read_text,
 };
 use std::alloc::Global;
 use std::fmt::Display;
 
-fn add_field(alloc: Global, told: &mut String, field: &Field<'_>) -> Result<()> {
-    let number = field.number;
+fn say_digits(alloc: Global, told: &mut String, mark: &str, bytes: &[u8]) -> Result<()> {
+    say(told, mark)?;
+    say_hex(alloc, told, bytes)
+}
+
+/// A field behind what parts it from the one before.
+fn add_field(alloc: Global, told: &mut String, between: &str, field: &Field<'_>) -> Result<()> {
+    part(told, between)?;
+    say_number(told, "", u64::from(field.number))?;
     match field.value {
-        Value::Varint(value) => write!(told, "{number}:{value} ")?,
-        Value::Fixed8(value) => write!(told, "{number}.{value:016x} ")?,
-        Value::Block(block) => {
-            let digits = hex_of(alloc, block)?;
-            write!(told, "{number}={digits} ")?;
-        }
-        Value::Fixed4(value) => write!(told, "{number}.{value:08x} ")?,
+        Value::Varint(value) => say_number(told, ":", value),
+        Value::Fixed8(value) => say_digits(alloc, told, ".", &value.to_be_bytes()),
+        Value::Block(block) => say_digits(alloc, told, "=", block),
+        Value::Fixed4(value) => say_digits(alloc, told, ".", &value.to_be_bytes()),
     }
-    Ok(())
+}
+
+/// The same of a number of a packed block.
+fn add_number(told: &mut String, number: u64) -> Result<()> {
+    part(told, " ")?;
+    say_number(told, "", number)
+}
+
+/// The same of a fault.
+fn add_fault(told: &mut String, between: &str, fault: &FieldFault) -> Result<()> {
+    part(told, between)?;
+    faults::say_field(told, fault)
+}
+
+/// Whether the next field is answered by this fault.
+fn is_fault_again(reader: &mut Reader<'_>, fault: FieldFault) -> bool {
+    match reader.next_field() {
+        Ok(_) => false,
+        Err(again) => again == fault,
+    }
 }
 
 /// Each field up to the end or the first fault, which a second call answers again.
-fn each_field(alloc: Global, bytes: &[u8]) -> Result<String> {
-    let mut told = String::new(alloc);
+fn each_field(alloc: Global, told: &mut String, bytes: &[u8]) -> Result<()> {
     let mut reader = Reader::new(bytes);
     for _ in 0..=bytes.len() {
         match reader.next_field() {
-            Ok(Some(field)) => add_field(alloc, &mut told, &field)?,
+            Ok(Some(field)) => add_field(alloc, told, " ", &field)?,
             Ok(None) => break,
             Err(fault) => {
-                told.push_str(faults::of_field(alloc, &fault)?.as_str())?;
-                if reader.next_field() != Err(fault) {
-                    told.push_str(", then another")?;
+                add_fault(told, " ", &fault)?;
+                if !is_fault_again(&mut reader, fault) {
+                    say(told, ", then another")?;
                 }
                 break;
             }
         }
     }
-    Ok(String::from_str(alloc, told.as_str().trim_end())?)
+    Ok(())
 }
 
 /// Each field of a block that begins at a place of a payload, with the place of its value.
-fn places(alloc: Global, place: u32, block: &[u8]) -> Result<String> {
-    let mut told = String::new(alloc);
+fn places(alloc: Global, told: &mut String, place: u32, block: &[u8]) -> Result<()> {
     let mut reader = Reader::within(block, place as usize);
     for _ in 0..=block.len() {
         match reader.next_placed() {
             Ok(Some(placed)) => {
-                add_field(alloc, &mut told, &placed.field)?;
-                write!(told, "at {}, ", placed.at)?;
+                add_field(alloc, told, ", ", &placed.field)?;
+                say_number(told, " at ", placed.at as u64)?;
             }
             Ok(None) => break,
-            Err(fault) => {
-                told.push_str(faults::of_field(alloc, &fault)?.as_str())?;
-                break;
-            }
+            Err(fault) => return add_fault(told, ", ", &fault),
         }
     }
-    Ok(String::from_str(alloc, told.as_str().trim_end_matches(", "))?)
+    Ok(())
 }
 
 /// The numbers of a packed block that begins at a place of a payload.
-fn packed_numbers(alloc: Global, place: u32, block: &[u8]) -> Result<String> {
-    let mut told = String::new(alloc);
+fn packed_numbers(told: &mut String, place: u32, block: &[u8]) -> Result<()> {
     let mut numbers = Packed::within(block, place as usize);
     for _ in 0..=block.len() {
         match numbers.next_number() {
-            Ok(Some(number)) => write!(told, "{number} ")?,
+            Ok(Some(number)) => add_number(told, number)?,
             Ok(None) => break,
-            Err(fault) => {
-                told.push_str(faults::of_field(alloc, &fault)?.as_str())?;
-                break;
-            }
+            Err(fault) => return add_fault(told, " ", &fault),
         }
     }
-    Ok(String::from_str(alloc, told.as_str().trim_end())?)
+    Ok(())
 }
 
-fn text(alloc: Global, place: u32, block: &[u8]) -> Result<String> {
+fn text(told: &mut String, place: u32, block: &[u8]) -> Result<()> {
     match read_text(block, place as usize) {
-        Ok(text) => Ok(format!(in alloc; "\"{text}\"")?),
-        Err(fault) => faults::of_field(alloc, &fault),
+        Ok(text) => say_quoted(told, text),
+        Err(fault) => faults::say_field(told, &fault),
     }
 }
 
-fn shown<N: Display + Drop>(alloc: Global, number: N) -> Result<String> {
-    Ok(format!(in alloc; "{number}")?)
+fn say_quoted(told: &mut String, text: &str) -> Result<()> {
+    write!(told, "\"{text}\"")?;
+    Ok(())
+}
+
+fn say_value<N: Display>(told: &mut String, number: &N) -> Result<()> {
+    write!(told, "{number}")?;
+    Ok(())
 }
 
 /// What a varint stands for in a field of a type.
-fn value(alloc: Global, kind: &str, word: &str) -> Result<String> {
+fn value(told: &mut String, kind: &str, word: &str) -> Result<()> {
     let varint = number(word)?;
     match kind {
-        "u32" => return shown(alloc, u32::from_varint(varint)),
-        "u64" => return shown(alloc, u64::from_varint(varint)),
-        "i32" => return shown(alloc, i32::from_varint(varint)),
-        "bool" => return shown(alloc, bool::from_varint(varint)),
-        _ => {}
+        "u32" => say_value(told, &u32::from_varint(varint)),
+        "u64" => say_value(told, &u64::from_varint(varint)),
+        "i32" => say_value(told, &i32::from_varint(varint)),
+        "bool" => say_value(told, &bool::from_varint(varint)),
+        _ => bail!("no such type: {kind}"),
     }
-    bail!("no such type: {kind}")
 }
 
 /// The varint that a value of a type is written as.
-fn varint(alloc: Global, kind: &str, word: &str) -> Result<String> {
-    let varint = match kind {
-        "u32" => word.parse::<u32>().context("a number")?.to_varint(),
-        "u64" => number(word)?.to_varint(),
-        "i32" => word.parse::<i32>().context("a number")?.to_varint(),
-        "bool" => (word == "true").to_varint(),
+fn varint(kind: &str, word: &str) -> Result<u64> {
+    match kind {
+        "u32" => Ok(small_number(word)?.to_varint()),
+        "u64" => Ok(number(word)?.to_varint()),
+        "i32" => Ok(word.parse::<i32>().context("a number")?.to_varint()),
+        "bool" => Ok((word == "true").to_varint()),
         _ => bail!("no such type: {kind}"),
-    };
-    Ok(format!(in alloc; "{varint}")?)
+    }
 }
 
-/// The number of a field, from 1 to 536,870,911.
-fn field_number(word: &str) -> Result<u32> {
-    word.parse::<u32>().context("the number of a field")
-}
-
-/// Writes `NUMBER:VARINT` or `NUMBER=BYTES`.
+/// Writes `NUMBER:VARINT` or `NUMBER=BYTES`, with a number from 1 to 536,870,911.
 fn put(alloc: Global, writer: &mut Writer, word: &str) -> Result<()> {
     let Some((digits, value)) = word.split_once([':', '=']) else {
         bail!("no field: {word}");
     };
-    let field = field_number(digits)?;
+    let field = small_number(digits)?;
     if field == 0 || field > 536_870_911 {
         bail!("no such number of a field");
     }
@@ -139,88 +154,77 @@ fn put(alloc: Global, writer: &mut Writer, word: &str) -> Result<()> {
     Ok(())
 }
 
-fn written(alloc: Global, words: &str) -> Result<String> {
+fn written(alloc: Global, told: &mut String, words: &str) -> Result<()> {
     let mut writer = Writer::new(alloc);
     for word in words.split(' ') {
         put(alloc, &mut writer, word)?;
     }
-    hex_of(alloc, writer.finish().as_slice())
+    say_hex(alloc, told, writer.finish().as_slice())
 }
 
-fn code_of(alloc: Global, fault: &MessageFault) -> Result<String> {
+fn say_code(told: &mut String, fault: &MessageFault) -> Result<()> {
     match fault.code() {
-        Some(code) => Ok(format!(in alloc; "{code}")?),
-        None => Ok(String::from_str(alloc, "none")?),
+        Some(code) => say_number(told, "", u64::from(code)),
+        None => say(told, "none"),
     }
 }
 
 /// The number of a fault, by itself, at a place and as the fault of a message.
-fn code(alloc: Global, name: &str) -> Result<String> {
+fn code(told: &mut String, name: &str) -> Result<()> {
     let kind = match name {
         "Truncated" => FaultKind::Truncated,
         "BadWireType" => FaultKind::BadWireType,
         "BadVarint" => FaultKind::BadVarint,
         "BadText" => FaultKind::BadText,
         "BadLength" => FaultKind::BadLength,
-        "MissingField" => {
-            let fault = MessageFault::MissingField { number: 1 };
-            return code_of(alloc, &fault);
-        }
-        "OutOfMemory" => return code_of(alloc, &MessageFault::OutOfMemory),
+        "MissingField" => return say_code(told, &MessageFault::MissingField { number: 1 }),
+        "OutOfMemory" => return say_code(told, &MessageFault::OutOfMemory),
         _ => bail!("no such fault: {name}"),
     };
     let fault = kind.at(3);
     if fault.code != kind.code() || fault.at != 3 {
         bail!("another code at its place");
     }
-    code_of(alloc, &MessageFault::from(fault))
-}
-
-/// The place of a block, and its bytes.
-fn placed(text: &str) -> Result<(u32, &str)> {
-    let (place, digits) = text.split_once(' ').unwrap_or((text, "-"));
-    Ok((place.parse::<u32>().context("a place")?, digits))
+    say_code(told, &MessageFault::from(fault))
 }
 
 /// The answer about a block that begins at a place of a payload.
-fn answer_at(alloc: Global, verb: &str, place: u32, block: &[u8]) -> Result<String> {
+fn answer_at(alloc: Global, told: &mut String, verb: &str, place: u32, block: &[u8]) -> Result<()> {
     match verb {
-        "places" => return places(alloc, place, block),
-        "packed" => return packed_numbers(alloc, place, block),
-        "text" => return text(alloc, place, block),
-        _ => {}
+        "places" => places(alloc, told, place, block),
+        "packed" => packed_numbers(told, place, block),
+        "text" => text(told, place, block),
+        _ => bail!("no such question: {verb}"),
     }
-    bail!("no such question: {verb}")
 }
 
-fn all_fields(alloc: Global, rest: &str) -> Result<String> {
+fn all_fields(alloc: Global, told: &mut String, rest: &str) -> Result<()> {
     let bytes = payload(alloc, rest)?;
-    each_field(alloc, bytes.as_slice())
+    each_field(alloc, told, bytes.as_slice())
 }
 
-fn value_of(alloc: Global, rest: &str) -> Result<String> {
-    let (kind, word) = rest.split_once(' ').context("a type and a number")?;
-    value(alloc, kind, word)
+/// The answer about a block: its place, if that is said, and its bytes.
+fn block(alloc: Global, told: &mut String, verb: &str, rest: &str) -> Result<()> {
+    let (place, digits) = rest.split_once(' ').unwrap_or((rest, "-"));
+    let place = small_number(place)?;
+    let block = bytes_of(alloc, digits)?;
+    answer_at(alloc, told, verb, place, block.as_slice())
 }
 
-fn varint_of(alloc: Global, rest: &str) -> Result<String> {
-    let (kind, word) = rest.split_once(' ').context("a type and a number")?;
-    varint(alloc, kind, word)
-}
-
-fn answer_to(alloc: Global, question: &str) -> Result<String> {
+fn answer_to(alloc: Global, told: &mut String, question: &str) -> Result<()> {
     let (verb, rest) = question.split_once(' ').unwrap_or((question, ""));
     match verb {
-        "fields" => return all_fields(alloc, rest),
-        "write" => return written(alloc, rest),
-        "code" => return code(alloc, rest),
-        "value" => return value_of(alloc, rest),
-        "varint" => return varint_of(alloc, rest),
+        "fields" => return all_fields(alloc, told, rest),
+        "write" => return written(alloc, told, rest),
+        "code" => return code(told, rest),
         _ => {}
     }
-    let (place, digits) = placed(rest)?;
-    let block = bytes_of(alloc, digits)?;
-    answer_at(alloc, verb, place, block.as_slice())
+    let (kind, word) = rest.split_once(' ').unwrap_or((rest, ""));
+    match verb {
+        "value" => value(told, kind, word),
+        "varint" => say_number(told, "", varint(kind, word)?),
+        _ => block(alloc, told, verb, rest),
+    }
 }
 
 pub struct Fields;
@@ -229,6 +233,8 @@ impl Table for Fields {
     const NAME: &'static str = "fields";
 
     fn answer(alloc: Global, question: &str) -> Result<String> {
-        answer_to(alloc, question)
+        let mut told = String::new(alloc);
+        answer_to(alloc, &mut told, question)?;
+        Ok(told)
     }
 }

@@ -1,34 +1,36 @@
 //! The table `frames`.
 
-use crate::words::{add, bytes_or_text, shown_bytes};
-use anyhow::{Result, bail, ensure};
+use crate::words::{bytes_or_text, part, say, say_bytes, say_number};
+use anyhow::{Result, bail};
 use mum_cases::{Table, number};
 use mum_frame::{Frame, FrameFault, Framer, PAYLOAD_LIMIT, ROOM_LIMIT, put_frame, whole_frame};
 use std::alloc::Global;
 
 pub struct Frames;
 
-fn shown(alloc: Global, frame: &Frame) -> Result<String> {
-    let payload = shown_bytes(alloc, frame.payload.as_slice())?;
-    Ok(format!(in alloc; "type {} {payload}", frame.kind)?)
+fn say_frame(alloc: Global, told: &mut String, frame: &Frame) -> Result<()> {
+    say_number(told, "type ", u64::from(frame.kind))?;
+    say(told, " ")?;
+    say_bytes(alloc, told, frame.payload.as_slice())
 }
 
-fn shown_fault(alloc: Global, fault: FrameFault) -> Result<String> {
-    match fault.code() {
-        Some(code) => Ok(format!(in alloc; "{code} {fault}")?),
-        None => Ok(format!(in alloc; "{fault}")?),
+fn say_fault(told: &mut String, fault: FrameFault) -> Result<()> {
+    if let Some(code) = fault.code() {
+        write!(told, "{code} ")?;
     }
+    write!(told, "{fault}")?;
+    Ok(())
 }
 
-fn shown_next(alloc: Global, framer: &mut Framer) -> Result<String> {
+fn say_next(alloc: Global, told: &mut String, framer: &mut Framer) -> Result<()> {
     match framer.next() {
-        Ok(Some(frame)) => shown(alloc, &frame),
-        Ok(None) => Ok(String::from_str(alloc, "none")?),
-        Err(fault) => shown_fault(alloc, fault),
+        Ok(Some(frame)) => say_frame(alloc, told, &frame),
+        Ok(None) => say(told, "none"),
+        Err(fault) => say_fault(told, fault),
     }
 }
 
-fn shown_room(framer: &Framer) -> &'static str {
+fn room_name(framer: &Framer) -> &'static str {
     if framer.room() <= ROOM_LIMIT {
         "at most 128 KiB"
     } else {
@@ -36,54 +38,72 @@ fn shown_room(framer: &Framer) -> &'static str {
     }
 }
 
-/// What a framer answers to calls: `+BYTES` feeds, `next` asks for a frame, `room` for its memory.
-fn answers(alloc: Global, calls: &str) -> Result<String> {
-    let mut framer = Framer::new(alloc);
-    let mut answer = String::new(alloc);
-    for call in calls.split(' ') {
-        if let Some(bytes) = call.strip_prefix('+') {
-            framer.feed(&bytes_or_text(alloc, bytes)?)?;
-        } else if call == "next" {
-            let part = shown_next(alloc, &mut framer)?;
-            add(&mut answer, "; ", part.as_str())?;
-        } else if call == "room" {
-            add(&mut answer, "; ", shown_room(&framer))?;
-        } else {
-            bail!("no call: {call}");
-        }
+fn feed(alloc: Global, framer: &mut Framer, word: &str) -> Result<()> {
+    let bytes = bytes_or_text(alloc, word)?;
+    framer.feed(&bytes)?;
+    Ok(())
+}
+
+/// What a framer answers to a call: `+BYTES` feeds, `next` asks for a frame, `room` for its memory.
+fn call(alloc: Global, told: &mut String, framer: &mut Framer, call: &str) -> Result<()> {
+    if let Some(word) = call.strip_prefix('+') {
+        return feed(alloc, framer, word);
     }
-    Ok(answer)
+    part(told, "; ")?;
+    match call {
+        "next" => say_next(alloc, told, framer),
+        "room" => say(told, room_name(framer)),
+        _ => bail!("no call: {call}"),
+    }
 }
 
-fn add_frame(alloc: Global, answer: &mut String, frame: &Frame) -> Result<()> {
-    let part = shown(alloc, frame)?;
-    add(answer, "; ", part.as_str())
-}
-
-/// The frames that a framer has whole, at most so many.
-fn add_all(alloc: Global, answer: &mut String, framer: &mut Framer, most: usize) -> Result<()> {
-    for _ in 0..most {
-        let Some(frame) = framer.next()? else {
-            break;
-        };
-        add_frame(alloc, answer, &frame)?;
+fn calls(alloc: Global, told: &mut String, calls: &str) -> Result<()> {
+    let mut framer = Framer::new(alloc);
+    for one in calls.split(' ') {
+        call(alloc, told, &mut framer, one)?;
     }
     Ok(())
 }
 
-/// The frames of a stream that comes in pieces of this many bytes.
-fn in_pieces(alloc: Global, stream: &[u8], size: usize) -> Result<String> {
-    let mut framer = Framer::new(alloc);
-    let mut answer = String::new(alloc);
-    for piece in stream.chunks(size.max(1)) {
-        framer.feed(piece)?;
-        add_all(alloc, &mut answer, &mut framer, stream.len())?;
+fn add_frame(alloc: Global, told: &mut String, frame: &Frame) -> Result<()> {
+    part(told, "; ")?;
+    say_frame(alloc, told, frame)
+}
+
+/// The frames that a framer has whole, at most so many.
+fn add_all(alloc: Global, told: &mut String, framer: &mut Framer, most: usize) -> Result<()> {
+    for _ in 0..most {
+        let Some(frame) = framer.next()? else {
+            break;
+        };
+        add_frame(alloc, told, &frame)?;
     }
-    Ok(answer)
+    Ok(())
+}
+
+fn add_piece(
+    alloc: Global,
+    told: &mut String,
+    framer: &mut Framer,
+    piece: &[u8],
+    most: usize,
+) -> Result<()> {
+    framer.feed(piece)?;
+    add_all(alloc, told, framer, most)
+}
+
+/// The frames of a stream that comes in pieces of this many bytes.
+fn in_pieces(alloc: Global, told: &mut String, stream: &[u8], size: usize) -> Result<()> {
+    let mut framer = Framer::new(alloc);
+    for piece in stream.chunks(size.max(1)) {
+        add_piece(alloc, told, &mut framer, piece, stream.len())?;
+    }
+    Ok(())
 }
 
 fn check_pieces(alloc: Global, stream: &[u8], size: usize, whole: &str) -> Result<()> {
-    let cut = in_pieces(alloc, stream, size)?;
+    let mut cut = String::new(alloc);
+    in_pieces(alloc, &mut cut, stream, size)?;
     if cut.as_str() != whole {
         bail!("{cut} in pieces of {size}");
     }
@@ -91,89 +111,103 @@ fn check_pieces(alloc: Global, stream: &[u8], size: usize, whole: &str) -> Resul
 }
 
 /// The frames of a stream, the same in pieces of every size.
-fn in_all_pieces(alloc: Global, stream: &[u8]) -> Result<String> {
-    let whole = in_pieces(alloc, stream, stream.len())?;
+fn in_all_pieces(alloc: Global, told: &mut String, stream: &[u8]) -> Result<()> {
+    in_pieces(alloc, told, stream, stream.len())?;
     for size in 1..stream.len() {
-        check_pieces(alloc, stream, size, whole.as_str())?;
+        check_pieces(alloc, stream, size, told.as_str())?;
     }
-    Ok(whole)
-}
-
-/// What comes of a frame in two parts, of which the first is none.
-fn waits_at(alloc: Global, framer: &mut Framer, before: &[u8], rest: &[u8]) -> Result<String> {
-    framer.feed(before)?;
-    check_none(framer)?;
-    framer.feed(rest)?;
-    let answer = shown_next(alloc, framer)?;
-    check_none(framer)?;
-    Ok(answer)
-}
-
-fn check_none(framer: &mut Framer) -> Result<()> {
-    let next = framer.next()?;
-    ensure!(next.is_none(), "a frame that is not whole");
     Ok(())
 }
 
+fn check_none(framer: &mut Framer) -> Result<()> {
+    if framer.next()?.is_some() {
+        bail!("a frame that is not whole");
+    }
+    Ok(())
+}
+
+/// What comes of a frame in two parts, of which the first is none.
+fn waits_at(
+    alloc: Global,
+    told: &mut String,
+    framer: &mut Framer,
+    before: &[u8],
+    rest: &[u8],
+) -> Result<()> {
+    framer.feed(before)?;
+    check_none(framer)?;
+    framer.feed(rest)?;
+    told.clear();
+    say_next(alloc, told, framer)?;
+    check_none(framer)
+}
+
 /// What comes of a frame that is cut at each place: none before its last byte.
-fn waits(alloc: Global, wire: &[u8]) -> Result<String> {
-    let mut answer = String::new(alloc);
+fn waits(alloc: Global, told: &mut String, wire: &[u8]) -> Result<()> {
     for cut in 0..wire.len() {
         let mut framer = Framer::new(alloc);
-        answer = waits_at(alloc, &mut framer, &wire[..cut], &wire[cut..])?;
+        waits_at(alloc, told, &mut framer, &wire[..cut], &wire[cut..])?;
     }
-    Ok(answer)
+    Ok(())
 }
 
 /// The frame that bytes are alone, which must be written as them.
-fn alone(alloc: Global, wire: &[u8]) -> Result<String> {
+fn alone(alloc: Global, told: &mut String, wire: &[u8]) -> Result<()> {
     let Some(view) = whole_frame(wire) else {
-        return Ok(String::from_str(alloc, "no frame")?);
+        return say(told, "no frame");
     };
-    shown(alloc, &view.to_frame(alloc)?)
+    let frame = view.to_frame(alloc)?;
+    say_frame(alloc, told, &frame)
 }
 
 /// A type and a payload as they are written.
-fn written(alloc: Global, kind: &str, payload: &[u8]) -> Result<String> {
+fn written(alloc: Global, told: &mut String, kind: &str, payload: &[u8]) -> Result<()> {
     if payload.len() > PAYLOAD_LIMIT {
         bail!("a payload above the limit");
     }
     let kind = u16::try_from(number(kind)?)?;
-    shown_bytes(alloc, put_frame(alloc, kind, payload)?.as_slice())
+    let frame = put_frame(alloc, kind, payload)?;
+    say_bytes(alloc, told, frame.as_slice())
 }
 
-fn put(alloc: Global, rest: &str) -> Result<String> {
+fn put(alloc: Global, told: &mut String, rest: &str) -> Result<()> {
     let Some((kind, payload)) = rest.split_once(' ') else {
         bail!("no type and payload: {rest}");
     };
-    written(alloc, kind, &bytes_or_text(alloc, payload)?)
+    let payload = bytes_or_text(alloc, payload)?;
+    written(alloc, told, kind, &payload)
 }
 
 /// The answer about a stream or a frame.
-fn answer_about(alloc: Global, verb: &str, bytes: &[u8]) -> Result<String> {
+fn answer_about(alloc: Global, told: &mut String, verb: &str, bytes: &[u8]) -> Result<()> {
     match verb {
-        "pieces" => return in_all_pieces(alloc, bytes),
-        "waits" => return waits(alloc, bytes),
-        "alone" => return alone(alloc, bytes),
+        "pieces" => in_all_pieces(alloc, told, bytes),
+        "waits" => waits(alloc, told, bytes),
+        "alone" => alone(alloc, told, bytes),
+        _ => bail!("no question: {verb}"),
+    }
+}
+
+fn answer_to(alloc: Global, told: &mut String, question: &str) -> Result<()> {
+    let Some((verb, rest)) = question.split_once(' ') else {
+        bail!("no question: {question}");
+    };
+    match verb {
+        "framer" => return calls(alloc, told, rest),
+        "put" => return put(alloc, told, rest),
+        "fault" => return say_fault(told, FrameFault::OutOfMemory),
         _ => {}
     }
-    bail!("no question: {verb}")
+    let bytes = bytes_or_text(alloc, rest)?;
+    answer_about(alloc, told, verb, bytes.as_slice())
 }
 
 impl Table for Frames {
     const NAME: &'static str = "frames";
 
     fn answer(alloc: Global, question: &str) -> Result<String> {
-        let Some((verb, rest)) = question.split_once(' ') else {
-            bail!("no question: {question}");
-        };
-        match verb {
-            "framer" => return answers(alloc, rest),
-            "put" => return put(alloc, rest),
-            "fault" => return shown_fault(alloc, FrameFault::OutOfMemory),
-            _ => {}
-        }
-        let bytes = bytes_or_text(alloc, rest)?;
-        answer_about(alloc, verb, bytes.as_slice())
+        let mut told = String::new(alloc);
+        answer_to(alloc, &mut told, question)?;
+        Ok(told)
     }
 }

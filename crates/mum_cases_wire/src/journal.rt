@@ -1,8 +1,9 @@
 //! The table `journal`.
 
+use crate::words::{say, say_hex, say_number};
 use anyhow::{Result, bail};
 use mum_base::{Cause, Mark};
-use mum_cases::{Table, bytes_of, hex_of};
+use mum_cases::{Table, bytes_of};
 use mum_record::{
     ControlEntry, Journal, JournalFault, Marked, WorkerEntry, read_config_line, read_journal,
     write_journal,
@@ -24,47 +25,72 @@ fn cause_name(cause: Cause) -> &'static str {
 }
 
 /// A verdict in words.
-fn verdict(alloc: Global, mark: &Mark) -> Result<String> {
-    Ok(match mark {
-        Mark::Accepted { revision } => format!(in alloc; "accepted at {revision}")?,
-        Mark::Lacks { perm, channel } => {
-            let (perm, channel) = (perm.0, channel.0);
-            format!(in alloc; "lacks {perm} in channel {channel}")?
-        }
-        Mark::Refused { kind } => format!(in alloc; "refused by {kind}")?,
-        Mark::Rejected { kind } => format!(in alloc; "rejected by {kind}")?,
-        Mark::Answer => String::from_str(alloc, "answered")?,
-        Mark::Ignored { why } => format!(in alloc; "ignored for {why}")?,
-    })
-}
-
-/// A control entry in words.
-fn control(alloc: Global, entry: &ControlEntry) -> Result<String> {
-    let connection = entry.connection;
-    let verdict = verdict(alloc, &entry.verdict)?;
-    let Some(frame) = &entry.frame else {
-        return Ok(format!(in alloc; "{connection} leaves, {verdict}")?);
-    };
-    let digits = hex_of(alloc, frame.as_slice())?;
-    match entry.version {
-        Some(version) => Ok(format!(in alloc;
-            "{connection} of version {version} asks {digits}, {verdict}"
-        )?),
-        None => Ok(format!(in alloc; "{connection} asks {digits}, {verdict}")?),
+fn say_verdict(told: &mut String, mark: &Mark) -> Result<()> {
+    match *mark {
+        Mark::Accepted { revision } => say_number(told, "accepted at ", revision),
+        Mark::Lacks { perm, channel } => say_lack(told, perm.0, channel.0),
+        Mark::Refused { kind } => say_number(told, "refused by ", u64::from(kind)),
+        Mark::Rejected { kind } => say_number(told, "rejected by ", u64::from(kind)),
+        Mark::Answer => say(told, "answered"),
+        Mark::Ignored { why } => say_number(told, "ignored for ", u64::from(why)),
     }
 }
 
-/// Appends a copy in words.
-fn push_copy(alloc: Global, text: &mut String, copy: &Marked) -> Result<()> {
-    let (session, context) = (copy.session.0, copy.context);
-    let mark = if copy.sent { "sent" } else { "full" };
-    let words = format!(in alloc; ", {session} in context {context} {mark}")?;
-    text.push_str(words.as_str())?;
+fn say_lack(told: &mut String, perm: u32, channel: u32) -> Result<()> {
+    say_number(told, "lacks ", u64::from(perm))?;
+    say_number(told, " in channel ", u64::from(channel))
+}
+
+/// What a command asks, with the version that was given before it.
+fn say_command(alloc: Global, told: &mut String, version: Option<u32>, frame: &[u8]) -> Result<()> {
+    if let Some(version) = version {
+        say_number(told, " of version ", u64::from(version))?;
+    }
+    say(told, " asks ")?;
+    say_hex(alloc, told, frame)
+}
+
+/// A control entry in words.
+fn say_control(alloc: Global, told: &mut String, entry: &ControlEntry) -> Result<()> {
+    say_number(told, "; ", u64::from(entry.connection))?;
+    match &entry.frame {
+        Some(frame) => say_command(alloc, told, entry.version, frame.as_slice())?,
+        None => say(told, " leaves")?,
+    }
+    say(told, ", ")?;
+    say_verdict(told, &entry.verdict)
+}
+
+/// A copy in words.
+fn say_copy(told: &mut String, copy: &Marked) -> Result<()> {
+    say_number(told, ", ", u64::from(copy.session.0))?;
+    say_number(told, " in context ", u64::from(copy.context))?;
+    say(told, if copy.sent { " sent" } else { " full" })
+}
+
+fn say_packet(
+    alloc: Global,
+    told: &mut String,
+    revision: u64,
+    packet: &[u8],
+    copies: &[Marked],
+) -> Result<()> {
+    say_number(told, " at ", revision)?;
+    say(told, " speaks ")?;
+    say_hex(alloc, told, packet)?;
+    for copy in copies {
+        say_copy(told, copy)?;
+    }
     Ok(())
 }
 
+fn say_closing(told: &mut String, cause: Cause) -> Result<()> {
+    say(told, " closes, ")?;
+    say(told, cause_name(cause))
+}
+
 /// An entry of a worker in words.
-fn entry(alloc: Global, entry: &WorkerEntry) -> Result<String> {
+fn say_entry(alloc: Global, told: &mut String, entry: &WorkerEntry) -> Result<()> {
     match entry {
         WorkerEntry::Voice {
             connection,
@@ -72,40 +98,42 @@ fn entry(alloc: Global, entry: &WorkerEntry) -> Result<String> {
             packet,
             copies,
         } => {
-            let digits = hex_of(alloc, packet.as_slice())?;
-            let mut text = format!(in alloc; "{connection} at {revision} speaks {digits}")?;
-            for copy in copies.as_slice() {
-                push_copy(alloc, &mut text, copy)?;
-            }
-            Ok(text)
+            say_number(told, "; ", u64::from(*connection))?;
+            say_packet(alloc, told, *revision, packet.as_slice(), copies.as_slice())
         }
         WorkerEntry::Closed { connection, cause } => {
-            let cause = cause_name(*cause);
-            Ok(format!(in alloc; "{connection} closes, {cause}")?)
+            say_number(told, "; ", u64::from(*connection))?;
+            say_closing(told, *cause)
         }
     }
 }
 
+/// A worker and its entries in words.
+fn say_worker(
+    alloc: Global,
+    told: &mut String,
+    number: usize,
+    entries: &[WorkerEntry],
+) -> Result<()> {
+    say_number(told, "; worker ", number as u64)?;
+    for entry in entries {
+        say_entry(alloc, told, entry)?;
+    }
+    Ok(())
+}
+
 /// A whole journal in words: its workers, its configuration, its entries.
-fn shown(alloc: Global, journal: &Journal) -> Result<String> {
-    let config = hex_of(alloc, journal.config.as_slice())?;
-    let workers = journal.workers;
-    let mut text = format!(in alloc; "{workers} workers, configuration {config}")?;
-    for one in journal.controls.as_slice() {
-        let words = control(alloc, one)?;
-        text.push_str("; ")?;
-        text.push_str(words.as_str())?;
+fn say_journal(alloc: Global, told: &mut String, journal: &Journal) -> Result<()> {
+    say_number(told, "", u64::from(journal.workers))?;
+    say(told, " workers, configuration ")?;
+    say_hex(alloc, told, journal.config.as_slice())?;
+    for entry in journal.controls.as_slice() {
+        say_control(alloc, told, entry)?;
     }
     for (number, entries) in journal.by_worker.as_slice().iter().enumerate() {
-        let words = format!(in alloc; "; worker {number}")?;
-        text.push_str(words.as_str())?;
-        for one in entries.as_slice() {
-            let words = entry(alloc, one)?;
-            text.push_str("; ")?;
-            text.push_str(words.as_str())?;
-        }
+        say_worker(alloc, told, number, entries.as_slice())?;
     }
-    Ok(text)
+    Ok(())
 }
 
 /// Appends a line as the table spells it: as it stands, or behind a `=` the digits of its bytes.
@@ -133,42 +161,56 @@ fn text_of(alloc: Global, lines: &str) -> Result<Vec<u8>> {
 }
 
 /// The journal of a text in words, or its first faulty line. It must be written as the same text.
-fn read(alloc: Global, text: &[u8]) -> Result<String> {
+fn read(alloc: Global, told: &mut String, text: &[u8]) -> Result<()> {
     let journal = match read_journal(alloc, text) {
         Ok(journal) => journal,
-        Err(JournalFault::NotALine { line }) => return Ok(format!(in alloc; "line {line}")?),
+        Err(JournalFault::NotALine { line }) => return say_number(told, "line ", line),
         Err(JournalFault::OutOfMemory) => bail!("out of memory"),
     };
     let written = write_journal(alloc, &journal)?;
     if written.as_slice() != text {
         bail!("written as another text");
     }
-    shown(alloc, &journal)
+    say_journal(alloc, told, &journal)
 }
 
 /// The document of a configuration that a line names.
-fn config(alloc: Global, line: &str) -> Result<String> {
+fn config(alloc: Global, told: &mut String, line: &str) -> Result<()> {
     match read_config_line(alloc, line.as_bytes()) {
-        Ok(document) => hex_of(alloc, document.as_slice()),
-        Err(_) => Ok(String::from_str(alloc, "no line")?),
+        Ok(document) => say_hex(alloc, told, document.as_slice()),
+        Err(_) => say(told, "no line"),
     }
+}
+
+/// The lines of a journal that stand before and behind those of a question.
+fn lines_around(verb: &str) -> Result<(&'static str, &'static str)> {
+    match verb {
+        "journal" => Ok(("", "")),
+        "control" => Ok(("journal 1;workers 1;config -;", ";worker 0;end;")),
+        "worker" => Ok(("journal 1;workers 1;config -;worker 0;", ";end;")),
+        _ => bail!("no call: {verb}"),
+    }
+}
+
+fn answer_to(alloc: Global, told: &mut String, question: &str) -> Result<()> {
+    let Some((verb, spelled)) = question.split_once(' ') else {
+        bail!("no call and text: {question}");
+    };
+    if verb == "config" {
+        return config(alloc, told, spelled);
+    }
+    let (before, behind) = lines_around(verb)?;
+    let lines = format!(in alloc; "{before}{spelled}{behind}")?;
+    let text = text_of(alloc, lines.as_str())?;
+    read(alloc, told, &text)
 }
 
 impl Table for Journals {
     const NAME: &'static str = "journal";
 
     fn answer(alloc: Global, question: &str) -> Result<String> {
-        let Some((verb, spelled)) = question.split_once(' ') else {
-            bail!("no call and text: {question}");
-        };
-        let text = match verb {
-            "journal" => format!(in alloc; "{spelled}")?,
-            "control" => format!(in alloc; "journal 1;workers 1;config -;{spelled};worker 0;end;")?,
-            "worker" => format!(in alloc; "journal 1;workers 1;config -;worker 0;{spelled};end;")?,
-            "config" => return config(alloc, spelled),
-            _ => bail!("no call: {verb}"),
-        };
-        let text = text_of(alloc, text.as_str())?;
-        read(alloc, &text)
+        let mut told = String::new(alloc);
+        answer_to(alloc, &mut told, question)?;
+        Ok(told)
     }
 }

@@ -1,9 +1,9 @@
 //! The table `list`.
 
-use crate::words::{add, bytes_or_text};
+use crate::words::{bytes_or_text, part, say, say_hex, say_number};
 use anyhow::{Result, bail};
 use mum_base::{Items, Octets, Text};
-use mum_cases::{Table, hex_of, number};
+use mum_cases::{Table, number};
 use std::alloc::Global;
 
 pub struct Lists;
@@ -14,24 +14,31 @@ fn text_in(alloc: Global, word: &str) -> Result<Text> {
 }
 
 /// A text and its bytes.
-fn shown(alloc: Global, text: &Text) -> Result<String> {
-    let bytes = hex_of(alloc, text.as_slice())?;
-    Ok(format!(in alloc; "{} {bytes}", text.as_str())?)
+fn say_text(alloc: Global, told: &mut String, text: &Text) -> Result<()> {
+    say(told, text.as_str())?;
+    say(told, " ")?;
+    say_hex(alloc, told, text.as_slice())
 }
 
-fn octets(alloc: Global, way: &str, word: &str) -> Result<String> {
-    let bytes = bytes_or_text(alloc, word)?;
-    let octets = match way {
-        "of" => Octets::of(alloc, &bytes)?,
-        "from" => Octets::from_vec(bytes),
-        "copy" => Octets::of(alloc, &bytes)?.share()?,
-        "shared" => Octets::from_vec(bytes)
-            .into_shared()?
-            .into_shared()?
-            .share()?,
+/// Bytes that are made so.
+fn octets_of(alloc: Global, way: &str, bytes: Vec<u8>) -> Result<Octets> {
+    match way {
+        "of" => Ok(Octets::of(alloc, &bytes)?),
+        "from" => Ok(Octets::from_vec(bytes)),
+        "copy" => Ok(Octets::of(alloc, &bytes)?.share()?),
+        "shared" => Ok(
+            Octets::from_vec(bytes)
+                .into_shared()?
+                .into_shared()?
+                .share()?,
+        ),
         _ => bail!("no way to make octets: {way}"),
-    };
-    hex_of(alloc, octets.as_slice())
+    }
+}
+
+fn octets(alloc: Global, told: &mut String, way: &str, word: &str) -> Result<()> {
+    let octets = octets_of(alloc, way, bytes_or_text(alloc, word)?)?;
+    say_hex(alloc, told, octets.as_slice())
 }
 
 fn taken_over(alloc: Global, text: &Text) -> Result<Text> {
@@ -39,51 +46,74 @@ fn taken_over(alloc: Global, text: &Text) -> Result<Text> {
     Ok(Text::from_string(string))
 }
 
-fn text(alloc: Global, way: &str, word: &str) -> Result<String> {
-    let text = text_in(alloc, word)?;
+/// A text that is made of another so.
+fn text_made(alloc: Global, way: &str, text: &Text) -> Result<Text> {
     match way {
-        "of" => shown(alloc, &text),
-        "from" => shown(alloc, &taken_over(alloc, &text)?),
-        "share" => shown(alloc, &text.share()?),
-        "from-share" => shown(alloc, &taken_over(alloc, &text)?.share()?),
-        "empty" => hex_of(alloc, Text::empty(alloc).as_slice()),
+        "from" => taken_over(alloc, text),
+        "share" => Ok(text.share()?),
+        "from-share" => Ok(taken_over(alloc, text)?.share()?),
         _ => bail!("no way to make a text: {way}"),
     }
 }
 
-fn items(alloc: Global, way: &str, words: &str) -> Result<String> {
+fn text(alloc: Global, told: &mut String, way: &str, word: &str) -> Result<()> {
+    if way == "empty" {
+        return say_hex(alloc, told, Text::empty(alloc).as_slice());
+    }
+    let text = text_in(alloc, word)?;
+    if way == "of" {
+        return say_text(alloc, told, &text);
+    }
+    let made = text_made(alloc, way, &text)?;
+    say_text(alloc, told, &made)
+}
+
+fn add_items(items: &mut Items<u64>, words: &str) -> Result<()> {
+    for word in words.split(' ') {
+        items.push(number(word)?)?;
+    }
+    Ok(())
+}
+
+fn say_items(told: &mut String, items: &[u64]) -> Result<()> {
+    for item in items {
+        part(told, " ")?;
+        say_number(told, "", *item)?;
+    }
+    Ok(())
+}
+
+fn items(alloc: Global, told: &mut String, way: &str, words: &str) -> Result<()> {
     let mut items = match way {
         "new" => Items::new(alloc),
         "from" => Items::from_vec(Vec::from_slice(alloc, &[0, 1])?),
         _ => bail!("no way to make items: {way}"),
     };
-    for word in words.split(' ') {
-        items.push(number(word)?)?;
+    add_items(&mut items, words)?;
+    say_items(told, items.as_slice())
+}
+
+fn answer_to(alloc: Global, told: &mut String, question: &str) -> Result<()> {
+    let Some((list, rest)) = question.split_once(' ') else {
+        bail!("no list: {question}");
+    };
+    let Some((way, words)) = rest.split_once(' ') else {
+        bail!("no way to make a list: {question}");
+    };
+    match list {
+        "octets" => octets(alloc, told, way, words),
+        "text" => text(alloc, told, way, words),
+        "items" => items(alloc, told, way, words),
+        _ => bail!("no list: {list}"),
     }
-    let mut answer = String::new(alloc);
-    for item in items.as_slice() {
-        let word = format!(in alloc; "{item}")?;
-        add(&mut answer, " ", word.as_str())?;
-    }
-    Ok(answer)
 }
 
 impl Table for Lists {
     const NAME: &'static str = "list";
 
     fn answer(alloc: Global, question: &str) -> Result<String> {
-        let Some((list, rest)) = question.split_once(' ') else {
-            bail!("no list: {question}");
-        };
-        let Some((way, words)) = rest.split_once(' ') else {
-            bail!("no way to make a list: {question}");
-        };
-        match list {
-            "octets" => return octets(alloc, way, words),
-            "text" => return text(alloc, way, words),
-            "items" => return items(alloc, way, words),
-            _ => {}
-        }
-        bail!("no list: {list}")
+        let mut told = String::new(alloc);
+        answer_to(alloc, &mut told, question)?;
+        Ok(told)
     }
 }

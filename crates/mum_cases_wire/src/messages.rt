@@ -1,11 +1,11 @@
 //! The table of messages: decoded, written again, cut at every place, and given every field.
 
-use crate::faults;
 use crate::payload::{payload, push_block, push_varint};
 use crate::shown::{Shown, Told};
+use crate::words::{part, say, say_hex, say_number};
 use anyhow::{Context, Result, bail};
 use mum_base::Octets;
-use mum_cases::{Table, hex_of, number};
+use mum_cases::{Table, number};
 use mum_msg_rule::{
     Acl, AclGroup, AclLine, PermissionDenied, PermissionQuery, TargetBlock, TextMessage,
     VoiceTarget,
@@ -29,20 +29,22 @@ const VALUES: [(u64, &str, &[u8]); 4] = [
 ];
 
 fn told<M: Told>(alloc: Global, payload: &[u8]) -> Result<String> {
+    let mut shown = Shown::new(alloc);
     match M::decode(alloc, payload) {
-        Ok(message) => {
-            let mut shown = Shown::new(alloc);
-            message.tell(&mut shown)?;
-            shown.finish()
-        }
-        Err(fault) => faults::of_message(alloc, &fault),
+        Ok(message) => shown.message(&message),
+        Err(fault) => shown.fault(&fault),
     }
+    shown.finish()
+}
+
+fn encoded<M: Told>(alloc: Global, payload: &[u8]) -> Result<Octets> {
+    let message = M::decode(alloc, payload)?;
+    Ok(message.encode(alloc)?)
 }
 
 fn again<M: Told>(alloc: Global, payload: &[u8]) -> Result<Octets> {
-    let message = M::decode(alloc, payload)?;
-    let written = message.encode(alloc)?;
     let surveyed = M::survey(payload)?;
+    let written = encoded::<M>(alloc, payload)?;
     if surveyed != written.as_slice().len() as u64 {
         bail!("surveyed as {surveyed} bytes");
     }
@@ -101,17 +103,22 @@ pub fn written(alloc: Global, name: &str, payload: &[u8]) -> Result<Octets> {
     bail!("no such message: {name}")
 }
 
-/// One more run of cuts that end alike.
+/// A run of cuts that end alike, from this length on.
+#[derive(Drop)]
+struct Run {
+    first: usize,
+    outcome: String,
+}
+
+/// One more run, up to this length.
 fn add_run(told: &mut String, first: usize, last: usize, outcome: &str) -> Result<()> {
-    if !told.is_empty() {
-        told.push_str("; ")?;
+    part(told, "; ")?;
+    say_number(told, "", first as u64)?;
+    if first != last {
+        say_number(told, "-", last as u64)?;
     }
-    if first == last {
-        write!(told, "{first} {outcome}")?;
-    } else {
-        write!(told, "{first}-{last} {outcome}")?;
-    }
-    Ok(())
+    say(told, " ")?;
+    say(told, outcome)
 }
 
 /// What becomes of a payload that ends there: whole, or its fault.
@@ -149,27 +156,43 @@ fn cut_at(alloc: Global, name: &str, around: &Option<Around>, left: &[u8]) -> Re
     outcome(alloc, name, bytes.as_slice())
 }
 
+/// Ends a run where what becomes of this length is something else.
+fn add_cut(told: &mut String, run: &mut Run, length: usize, outcome: String) -> Result<()> {
+    if length > 0 && outcome.as_str() != run.outcome.as_str() {
+        add_run(told, run.first, length - 1, run.outcome.as_str())?;
+        run.first = length;
+    }
+    run.outcome = outcome;
+    Ok(())
+}
+
+/// The last run, and what becomes of the whole.
+fn add_whole(told: &mut String, run: &Run, length: usize, outcome: &str) -> Result<()> {
+    if length > 0 {
+        add_run(told, run.first, length - 1, run.outcome.as_str())?;
+    }
+    add_run(told, length, length, outcome)
+}
+
 /// What becomes of a payload or a block at every place where it may be cut, by the bytes that are
 /// left.
-fn cuts(alloc: Global, name: &str, around: &Option<Around>, payload: &[u8]) -> Result<String> {
-    let mut told = String::new(alloc);
-    let mut first = 0;
-    let mut before = String::new(alloc);
-    for (length, _byte) in payload.iter().enumerate() {
-        let now = cut_at(alloc, name, around, &payload[..length])?;
-        if length > 0 && now.as_str() != before.as_str() {
-            add_run(&mut told, first, length - 1, before.as_str())?;
-            first = length;
-        }
-        before = now;
+fn cuts(
+    alloc: Global,
+    told: &mut String,
+    name: &str,
+    around: &Option<Around>,
+    payload: &[u8],
+) -> Result<()> {
+    let mut run = Run {
+        first: 0,
+        outcome: String::new(alloc),
+    };
+    for length in 0..payload.len() {
+        let outcome = cut_at(alloc, name, around, &payload[..length])?;
+        add_cut(told, &mut run, length, outcome)?;
     }
-    let length = payload.len();
-    if length > 0 {
-        add_run(&mut told, first, length - 1, before.as_str())?;
-    }
-    let now = cut_at(alloc, name, around, payload)?;
-    add_run(&mut told, length, length, now.as_str())?;
-    Ok(told)
+    let outcome = cut_at(alloc, name, around, payload)?;
+    add_whole(told, &run, payload.len(), outcome.as_str())
 }
 
 fn framed_by(alloc: Global, before: &str, digits: &str, after: &str) -> Result<Around> {
@@ -183,13 +206,13 @@ fn framed_by(alloc: Global, before: &str, digits: &str, after: &str) -> Result<A
 }
 
 /// `PAYLOAD | NUMBER | BLOCK | PAYLOAD`, the block cut at every place.
-fn cuts_inside(alloc: Global, name: &str, question: &str) -> Result<String> {
+fn cuts_inside(alloc: Global, told: &mut String, name: &str, question: &str) -> Result<()> {
     let (before, rest) = question.split_once(" | ").context("a payload")?;
     let (digits, rest) = rest.split_once(" | ").context("a number")?;
     let (block, after) = rest.split_once(" | ").context("a block and a payload")?;
     let block = payload(alloc, block)?;
     let around = framed_by(alloc, before, digits, after)?;
-    cuts(alloc, name, &Some(around), block.as_slice())
+    cuts(alloc, told, name, &Some(around), block.as_slice())
 }
 
 /// A payload with one more field.
@@ -212,71 +235,100 @@ fn decoded_with(
     decoded(alloc, name, bytes.as_slice())
 }
 
+fn add_taken(told: &mut String, number: u64, kind: &str) -> Result<()> {
+    part(told, ", ")?;
+    say_number(told, "", number)?;
+    say(told, " ")?;
+    say(told, kind)
+}
+
 /// The fields that change what a payload decodes to, of all numbers up to 31 and all wire types.
-fn takes(alloc: Global, name: &str, payload: &[u8]) -> Result<String> {
+fn takes(alloc: Global, told: &mut String, name: &str, payload: &[u8]) -> Result<()> {
     let without = decoded(alloc, name, payload)?;
-    let mut told = String::new(alloc);
     for number in 1..=TRIED {
         for (wire, kind, value) in VALUES {
             let with = decoded_with(alloc, name, payload, number * 8 + wire, value)?;
             if with.as_str() != without.as_str() {
-                write!(told, "{number} {kind}, ")?;
+                add_taken(told, number, kind)?;
             }
         }
     }
-    Ok(String::from_str(alloc, told.as_str().trim_end_matches(", "))?)
+    Ok(())
 }
 
 /// Whether the message of a payload is written so; `again` where what is written is read otherwise.
-fn is_written(alloc: Global, name: &str, question: &str) -> Result<String> {
+fn is_written(alloc: Global, told: &mut String, name: &str, question: &str) -> Result<()> {
     let Some((before, after)) = question.split_once(" as ") else {
         bail!("no payload that it is written as");
     };
     let bytes = payload(alloc, before)?;
-    let expected = payload(alloc, after)?;
     let written = written(alloc, name, bytes.as_slice())?;
-    if written.as_slice() != expected.as_slice() {
-        return hex_of(alloc, written.as_slice());
-    }
-    is_read_alike(alloc, name, bytes.as_slice(), written.as_slice())
+    compare(
+        alloc,
+        told,
+        name,
+        bytes.as_slice(),
+        written.as_slice(),
+        after,
+    )
 }
 
-/// `so` where two payloads are read alike, else `again`.
-fn is_read_alike(alloc: Global, name: &str, one: &[u8], other: &[u8]) -> Result<String> {
+/// What is written, where it is not as expected.
+fn compare(
+    alloc: Global,
+    told: &mut String,
+    name: &str,
+    bytes: &[u8],
+    written: &[u8],
+    expected: &str,
+) -> Result<()> {
+    let expected = payload(alloc, expected)?;
+    if written != expected.as_slice() {
+        return say_hex(alloc, told, written);
+    }
+    let alike = are_read_alike(alloc, name, bytes, written)?;
+    say(told, if alike { "so" } else { "again" })
+}
+
+fn are_read_alike(alloc: Global, name: &str, one: &[u8], other: &[u8]) -> Result<bool> {
     let first = decoded(alloc, name, one)?;
     let second = decoded(alloc, name, other)?;
-    let answer = if first.as_str() == second.as_str() {
-        "so"
-    } else {
-        "again"
-    };
-    Ok(String::from_str(alloc, answer)?)
+    Ok(first.as_str() == second.as_str())
 }
 
-fn answer_to(alloc: Global, question: &str) -> Result<String> {
+fn answer_to(alloc: Global, told: &mut String, question: &str) -> Result<()> {
     let Some((verb, rest)) = question.split_once(' ') else {
         bail!("no question");
     };
     let (name, text) = rest.split_once(' ').unwrap_or((rest, ""));
-    if verb == "write" {
-        return is_written(alloc, name, text);
-    }
-    if verb == "cuts-inside" {
-        return cuts_inside(alloc, name, text);
+    match verb {
+        "write" => return is_written(alloc, told, name, text),
+        "cuts-inside" => return cuts_inside(alloc, told, name, text),
+        _ => {}
     }
     let bytes = payload(alloc, text)?;
-    asked(alloc, verb, name, bytes.as_slice())
+    answer_about(alloc, told, verb, name, bytes.as_slice())
+}
+
+fn say_decoded(alloc: Global, told: &mut String, name: &str, payload: &[u8]) -> Result<()> {
+    let text = decoded(alloc, name, payload)?;
+    say(told, text.as_str())
 }
 
 /// The answer about a payload.
-fn asked(alloc: Global, verb: &str, name: &str, payload: &[u8]) -> Result<String> {
+fn answer_about(
+    alloc: Global,
+    told: &mut String,
+    verb: &str,
+    name: &str,
+    payload: &[u8],
+) -> Result<()> {
     match verb {
-        "decode" => return decoded(alloc, name, payload),
-        "cuts" => return cuts(alloc, name, &None, payload),
-        "takes" => return takes(alloc, name, payload),
-        _ => {}
+        "decode" => say_decoded(alloc, told, name, payload),
+        "cuts" => cuts(alloc, told, name, &None, payload),
+        "takes" => takes(alloc, told, name, payload),
+        _ => bail!("no such question: {verb}"),
     }
-    bail!("no such question: {verb}")
 }
 
 pub struct Messages;
@@ -285,6 +337,8 @@ impl Table for Messages {
     const NAME: &'static str = "messages";
 
     fn answer(alloc: Global, question: &str) -> Result<String> {
-        answer_to(alloc, question)
+        let mut told = String::new(alloc);
+        answer_to(alloc, &mut told, question)?;
+        Ok(told)
     }
 }

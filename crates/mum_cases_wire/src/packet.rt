@@ -1,6 +1,6 @@
 //! The table `packet`.
 
-use crate::words::shown_bytes;
+use crate::words::{say, say_bytes, say_number, small_number};
 use anyhow::{Result, bail};
 use mum_base::SessionId;
 use mum_cases::{Table, bytes_of, number};
@@ -20,45 +20,65 @@ fn kind_name(kind: u8) -> &'static str {
     }
 }
 
-fn shown_fault(alloc: Global, fault: BadVoice) -> Result<String> {
-    Ok(format!(in alloc; "{} {fault}", fault.code)?)
+fn say_fault(told: &mut String, fault: BadVoice) -> Result<()> {
+    write!(told, "{} {fault}", fault.code)?;
+    Ok(())
 }
 
-fn shown_packet(alloc: Global, packet: &Packet<'_>) -> Result<String> {
-    let kind = kind_name(packet.kind);
-    let sequence = shown_bytes(alloc, packet.sequence)?;
-    let audio = shown_bytes(alloc, packet.audio)?;
-    let position = shown_bytes(alloc, packet.position)?;
-    Ok(format!(in alloc;
-        "{kind} to {}, {sequence}, {audio}, {position}",
-        packet.target
-    )?)
+/// Bytes behind what parts them from those before.
+fn add_bytes(alloc: Global, told: &mut String, bytes: &[u8]) -> Result<()> {
+    say(told, ", ")?;
+    say_bytes(alloc, told, bytes)
 }
 
-fn parsed(alloc: Global, bytes: &[u8]) -> Result<String> {
-    match Packet::parse(bytes) {
-        Ok(packet) => shown_packet(alloc, &packet),
-        Err(fault) => shown_fault(alloc, fault),
+fn say_packet(alloc: Global, told: &mut String, packet: &Packet<'_>) -> Result<()> {
+    say(told, kind_name(packet.kind))?;
+    say_number(told, " to ", u64::from(packet.target))?;
+    add_bytes(alloc, told, packet.sequence)?;
+    add_bytes(alloc, told, packet.audio)?;
+    add_bytes(alloc, told, packet.position)
+}
+
+fn parsed(alloc: Global, told: &mut String, word: &str) -> Result<()> {
+    let bytes = bytes_of(alloc, word)?;
+    match Packet::parse(&bytes) {
+        Ok(packet) => say_packet(alloc, told, &packet),
+        Err(fault) => say_fault(told, fault),
     }
 }
 
 /// The copy of a packet from a session, in a context, with its position or without.
-fn copied(alloc: Global, rest: &str, with_position: bool) -> Result<String> {
+fn copied(alloc: Global, told: &mut String, rest: &str, with_position: bool) -> Result<()> {
     let Some((session, rest)) = rest.split_once(' ') else {
         bail!("no session: {rest}");
     };
     let Some((context, word)) = rest.split_once(' ') else {
         bail!("no context: {rest}");
     };
-    let session = SessionId(u32::try_from(number(session)?)?);
+    let session = SessionId(small_number(session)?);
     let context = u8::try_from(number(context)?)?;
     if context > 3 {
         bail!("no context: {context}");
     }
     let bytes = bytes_of(alloc, word)?;
     match Packet::parse(&bytes) {
-        Ok(packet) => shown_bytes(alloc, &packet.copy_for(session, context, with_position)),
-        Err(fault) => shown_fault(alloc, fault),
+        Ok(packet) => {
+            let copy = packet.copy_for(session, context, with_position);
+            say_bytes(alloc, told, &copy)
+        }
+        Err(fault) => say_fault(told, fault),
+    }
+}
+
+fn answer_to(alloc: Global, told: &mut String, question: &str) -> Result<()> {
+    let Some((verb, rest)) = question.split_once(' ') else {
+        bail!("no question: {question}");
+    };
+    match verb {
+        "parse" => parsed(alloc, told, rest),
+        "near" => copied(alloc, told, rest, true),
+        "far" => copied(alloc, told, rest, false),
+        _ => bail!("no question: {verb}"),
     }
 }
 
@@ -66,14 +86,8 @@ impl Table for Packets {
     const NAME: &'static str = "packet";
 
     fn answer(alloc: Global, question: &str) -> Result<String> {
-        let Some((verb, rest)) = question.split_once(' ') else {
-            bail!("no question: {question}");
-        };
-        match verb {
-            "parse" => parsed(alloc, &bytes_of(alloc, rest)?),
-            "near" => copied(alloc, rest, true),
-            "far" => copied(alloc, rest, false),
-            _ => bail!("no question: {verb}"),
-        }
+        let mut told = String::new(alloc);
+        answer_to(alloc, &mut told, question)?;
+        Ok(told)
     }
 }

@@ -1,6 +1,7 @@
 //! Payloads as a person writes them: a word for each field.
 
-use anyhow::{Context, Result, bail, ensure};
+use crate::words::bytes_or_text;
+use anyhow::{Result, bail, ensure};
 use mum_cases::{bytes_of, number};
 use std::alloc::Global;
 
@@ -43,11 +44,10 @@ pub fn push_block(bytes: &mut Vec<u8>, number: u64, block: &[u8]) -> Result<()> 
 
 /// A number, or the two's complement of a negative one.
 fn varint_of(word: &str) -> Result<u64> {
-    if word.starts_with('-') {
-        let number = word.parse::<i64>().context("a number")?;
-        return Ok(number.cast_unsigned());
+    match word.strip_prefix('-') {
+        Some(digits) => Ok(number(digits)?.wrapping_neg()),
+        None => number(word),
     }
-    number(word)
 }
 
 fn packed(alloc: Global, list: &str) -> Result<Vec<u8>> {
@@ -58,15 +58,30 @@ fn packed(alloc: Global, list: &str) -> Result<Vec<u8>> {
     Ok(block)
 }
 
-/// What stands behind `NUMBER=`: `"TEXT"` or bytes.
-fn block_of(alloc: Global, value: &str) -> Result<Vec<u8>> {
-    let text = value
-        .strip_prefix('"')
-        .and_then(|rest| rest.strip_suffix('"'));
-    match text {
-        Some(text) => Ok(Vec::from_slice(alloc, text.as_bytes())?),
-        None => bytes_of(alloc, value),
-    }
+/// `NUMBER[N,N,..]`: packed numbers.
+fn push_packed(alloc: Global, bytes: &mut Vec<u8>, number: &str, list: &str) -> Result<()> {
+    let block = packed(alloc, list.trim_end_matches(']'))?;
+    push_block(bytes, varint_of(number)?, block.as_slice())
+}
+
+/// `NUMBER="TEXT"` or `NUMBER=BYTES`.
+fn push_bytes(alloc: Global, bytes: &mut Vec<u8>, number: &str, value: &str) -> Result<()> {
+    let block = bytes_or_text(alloc, value)?;
+    push_block(bytes, varint_of(number)?, block.as_slice())
+}
+
+/// `NUMBER.HEX`: a fixed number.
+fn push_fixed(alloc: Global, bytes: &mut Vec<u8>, number: &str, digits: &str) -> Result<()> {
+    let wire_type = if digits.len() == 8 { 5 } else { 1 };
+    push_key(bytes, varint_of(number)?, wire_type)?;
+    push_raw(alloc, bytes, digits)
+}
+
+/// Bytes as they are.
+fn push_raw(alloc: Global, bytes: &mut Vec<u8>, digits: &str) -> Result<()> {
+    let raw = bytes_of(alloc, digits)?;
+    bytes.extend_from_slice(raw.as_slice())?;
+    Ok(())
 }
 
 /// A field whose number stands before one of the marks.
@@ -76,33 +91,21 @@ fn push_field(alloc: Global, bytes: &mut Vec<u8>, word: &str) -> Result<()> {
         return push_varint(bytes, varint_of(value)?);
     }
     if let Some((number, value)) = word.split_once('=') {
-        let block = block_of(alloc, value)?;
-        return push_block(bytes, varint_of(number)?, block.as_slice());
+        return push_bytes(alloc, bytes, number, value);
     }
     if let Some((number, list)) = word.split_once('[') {
-        let block = packed(alloc, list.trim_end_matches(']'))?;
-        return push_block(bytes, varint_of(number)?, block.as_slice());
+        return push_packed(alloc, bytes, number, list);
     }
     let Some((number, digits)) = word.split_once('.') else {
         bail!("no field: {word}");
     };
-    let fixed = bytes_of(alloc, digits)?;
-    push_key(
-        bytes,
-        varint_of(number)?,
-        if fixed.len() == 4 { 5 } else { 1 },
-    )?;
-    bytes.extend_from_slice(fixed.as_slice())?;
-    Ok(())
+    push_fixed(alloc, bytes, number, digits)
 }
 
 /// Bytes, or a field.
 fn push_word(alloc: Global, bytes: &mut Vec<u8>, word: &str) -> Result<()> {
     match word.strip_prefix('x') {
-        Some(digits) => {
-            bytes.extend_from_slice(bytes_of(alloc, digits)?.as_slice())?;
-            Ok(())
-        }
+        Some(digits) => push_raw(alloc, bytes, digits),
         None => push_field(alloc, bytes, word),
     }
 }

@@ -1,5 +1,6 @@
 //! The table `perm`.
 
+use crate::words::say;
 use anyhow::{Result, bail};
 use mum_base::Perm;
 use mum_cases::Table;
@@ -42,30 +43,37 @@ fn late_set_of(word: &str) -> Result<Perm> {
     })
 }
 
-fn shown(alloc: Global, set: Perm) -> Result<String> {
-    Ok(format!(in alloc; "{:#x}", set.0)?)
+fn say_set(told: &mut String, set: Perm) -> Result<()> {
+    write!(told, "{:#x}", set.0)?;
+    Ok(())
 }
 
 /// The sets that words name, all together.
-fn joined(alloc: Global, words: &str) -> Result<String> {
+fn joined(words: &str) -> Result<Perm> {
     let mut all = Perm::NONE;
     for word in words.split(' ') {
         all = all.with(set_of(word)?);
     }
-    shown(alloc, all)
+    Ok(all)
+}
+
+fn answer_to(told: &mut String, question: &str) -> Result<()> {
+    if let Some((held, wanted)) = question.split_once(" has ") {
+        let has = set_of(held)?.has(set_of(wanted)?);
+        return say(told, if has { "yes" } else { "no" });
+    }
+    if let Some((held, taken)) = question.split_once(" without ") {
+        return say_set(told, set_of(held)?.without(set_of(taken)?));
+    }
+    say_set(told, joined(question)?)
 }
 
 impl Table for Perms {
     const NAME: &'static str = "perm";
 
     fn answer(alloc: Global, question: &str) -> Result<String> {
-        if let Some((held, wanted)) = question.split_once(" has ") {
-            let has = set_of(held)?.has(set_of(wanted)?);
-            return Ok(String::from_str(alloc, if has { "yes" } else { "no" })?);
-        }
-        if let Some((held, taken)) = question.split_once(" without ") {
-            return shown(alloc, set_of(held)?.without(set_of(taken)?));
-        }
-        joined(alloc, question)
+        let mut told = String::new(alloc);
+        answer_to(&mut told, question)?;
+        Ok(told)
     }
 }

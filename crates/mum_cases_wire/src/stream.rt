@@ -2,7 +2,7 @@
 
 ghost use Rattle.std.specs.Prelude.{None};
 
-use crate::words::add;
+use crate::words::{part, say, say_number, small_number};
 use anyhow::{Result, bail};
 use mum_base::Octets;
 use mum_cases::{Table, number};
@@ -45,14 +45,18 @@ impl Sink for Narrow {
     }
 }
 
-/// The numbers of a list, as `1,3`; none for `-`.
-fn numbers(alloc: Global, word: &str) -> Result<Vec<u64>> {
-    let mut numbers = Vec::new(alloc);
-    if word == "-" {
-        return Ok(numbers);
+fn add_numbers(numbers: &mut Vec<u64>, words: &str) -> Result<()> {
+    for word in words.split(',') {
+        numbers.push(number(word)?)?;
     }
-    for part in word.split(',') {
-        numbers.push(number(part)?)?;
+    Ok(())
+}
+
+/// The numbers of a list, as `1,3`; none for `-`.
+fn numbers(alloc: Global, words: &str) -> Result<Vec<u64>> {
+    let mut numbers = Vec::new(alloc);
+    if words != "-" {
+        add_numbers(&mut numbers, words)?;
     }
     Ok(numbers)
 }
@@ -67,101 +71,146 @@ fn sink_of(alloc: Global, failing: &str) -> Result<MemSink> {
 }
 
 /// What a read into a slice of this length gives, at most eight bytes.
-fn one_read(alloc: Global, source: &mut MemSource, size: u64) -> Result<String> {
+fn say_read(told: &mut String, source: &mut MemSource, size: u64) -> Result<()> {
     let mut buf = [0u8; 8];
     let room = (size.min(8) as usize).max(1);
     match source.read(&mut buf[..room]) {
-        ReadEnd::Got(count) => Ok(String::from_str(alloc, str::from_utf8(&buf[..count])?)?),
-        ReadEnd::End => Ok(String::from_str(alloc, "end")?),
-        ReadEnd::Failed => Ok(String::from_str(alloc, "failed")?),
+        ReadEnd::Got(count) => say(told, str::from_utf8(&buf[..count])?),
+        ReadEnd::End => say(told, "end"),
+        ReadEnd::Failed => say(told, "failed"),
     }
 }
 
-fn reads(alloc: Global, text: &str, sizes: &str, failing: &str) -> Result<String> {
-    let mut source = source_of(alloc, text, failing)?;
-    let mut answer = String::new(alloc);
-    for size in numbers(alloc, sizes)? {
-        let part = one_read(alloc, &mut source, size)?;
-        add(&mut answer, ", ", part.as_str())?;
+fn say_reads(told: &mut String, source: &mut MemSource, sizes: &str) -> Result<()> {
+    for size in sizes.split(',') {
+        part(told, ", ")?;
+        say_read(told, source, number(size)?)?;
     }
-    Ok(answer)
+    Ok(())
 }
 
-fn one_write(alloc: Global, sink: &mut MemSink, piece: &str) -> Result<String> {
+fn reads(alloc: Global, told: &mut String, words: &Words<'_>) -> Result<()> {
+    let mut source = source_of(alloc, words.text, words.failing)?;
+    say_reads(told, &mut source, words.detail)
+}
+
+fn say_write(told: &mut String, sink: &mut MemSink, piece: &str) -> Result<()> {
     if piece.is_empty() {
         bail!("no piece");
     }
     match sink.write(piece.as_bytes()) {
-        WriteEnd::Took(count) => Ok(format!(in alloc; "took {count}")?),
-        WriteEnd::Failed => Ok(String::from_str(alloc, "failed")?),
+        WriteEnd::Took(count) => say_number(told, "took ", count as u64),
+        WriteEnd::Failed => say(told, "failed"),
     }
+}
+
+fn say_writes(told: &mut String, sink: &mut MemSink, pieces: &str) -> Result<()> {
+    for piece in pieces.split(',') {
+        part(told, ", ")?;
+        say_write(told, sink, piece)?;
+    }
+    say_written(told, sink)
 }
 
 /// What a sink holds, and how many writes to it met want of memory.
-fn written(alloc: Global, sink: &MemSink) -> Result<String> {
-    let text = str::from_utf8(sink.bytes())?;
-    Ok(format!(in alloc; "written {text}, starved {}", sink.starved())?)
+fn say_written(told: &mut String, sink: &MemSink) -> Result<()> {
+    say(told, ", written ")?;
+    say(told, str::from_utf8(sink.bytes())?)?;
+    say_number(told, ", starved ", sink.starved())
 }
 
-fn writes(alloc: Global, pieces: &str, failing: &str) -> Result<String> {
-    let mut sink = sink_of(alloc, failing)?;
-    let mut answer = String::new(alloc);
-    for piece in pieces.split(',') {
-        let part = one_write(alloc, &mut sink, piece)?;
-        add(&mut answer, ", ", part.as_str())?;
-    }
-    let end = written(alloc, &sink)?;
-    add(&mut answer, ", ", end.as_str())?;
-    Ok(answer)
-}
-
-fn done_or_failed<E>(outcome: &Result<(), E>) -> &'static str {
-    if outcome.is_ok() { "done" } else { "failed" }
+fn writes(alloc: Global, told: &mut String, words: &Words<'_>) -> Result<()> {
+    let mut sink = sink_of(alloc, words.detail)?;
+    say_writes(told, &mut sink, words.text)
 }
 
 /// Writes each piece whole, one after the other.
-fn writes_all(alloc: Global, pieces: &str, failing: &str) -> Result<String> {
-    let mut sink = sink_of(alloc, failing)?;
-    let mut answer = String::new(alloc);
+fn say_whole<S: Sink>(told: &mut String, sink: &mut S, pieces: &str) -> Result<()> {
     for piece in pieces.split(',') {
-        let outcome = write_all(&mut sink, piece.as_bytes());
-        add(&mut answer, ", ", done_or_failed(&outcome))?;
+        part(told, ", ")?;
+        match write_all(sink, piece.as_bytes()) {
+            Ok(()) => say(told, "done")?,
+            Err(_) => say(told, "failed")?,
+        }
     }
-    let end = written(alloc, &sink)?;
-    add(&mut answer, ", ", end.as_str())?;
-    Ok(answer)
+    Ok(())
 }
 
-fn writes_all_narrow(alloc: Global, text: &str, failing: &str) -> Result<String> {
+fn say_all(told: &mut String, sink: &mut MemSink, pieces: &str) -> Result<()> {
+    say_whole(told, sink, pieces)?;
+    say_written(told, sink)
+}
+
+fn writes_all(alloc: Global, told: &mut String, words: &Words<'_>) -> Result<()> {
+    let mut sink = sink_of(alloc, words.detail)?;
+    say_all(told, &mut sink, words.text)
+}
+
+fn say_all_narrow(told: &mut String, narrow: &mut Narrow, pieces: &str) -> Result<()> {
+    say_whole(told, narrow, pieces)?;
+    say_written(told, &narrow.wide)
+}
+
+fn writes_all_narrow(alloc: Global, told: &mut String, words: &Words<'_>) -> Result<()> {
     let mut narrow = Narrow {
-        wide: sink_of(alloc, failing)?,
+        wide: sink_of(alloc, words.detail)?,
     };
-    let outcome = write_all(&mut narrow, text.as_bytes());
-    let end = written(alloc, &narrow.wide)?;
-    Ok(format!(in alloc; "{}, {end}", done_or_failed(&outcome))?)
+    say_all_narrow(told, &mut narrow, words.text)
 }
 
-fn shown(alloc: Global, outcome: &Result<Vec<u8>, ReadFault>) -> Result<String> {
+fn say_outcome(told: &mut String, outcome: &Result<Vec<u8>, ReadFault>) -> Result<()> {
     match outcome {
-        Ok(bytes) => Ok(format!(in alloc; "read {}", str::from_utf8(bytes)?)?),
-        Err(fault) => Ok(format!(in alloc; "{fault}")?),
+        Ok(bytes) => {
+            say(told, "read ")?;
+            say(told, str::from_utf8(bytes)?)
+        }
+        Err(fault) => say_fault(told, fault),
     }
 }
 
-/// Reads a whole source up to a limit: one that gives as much as it can, or one byte at a time.
-fn reads_up_to(
-    alloc: Global,
-    text: &str,
-    limit: &str,
-    failing: &str,
-    in_bytes: bool,
-) -> Result<String> {
-    let mut whole = source_of(alloc, text, failing)?;
-    let limit = usize::try_from(number(limit)?)?;
-    if in_bytes {
-        shown(alloc, &read_up_to(alloc, &mut Trickle { whole }, limit))
-    } else {
-        shown(alloc, &read_up_to(alloc, &mut whole, limit))
+fn say_fault(told: &mut String, fault: &ReadFault) -> Result<()> {
+    write!(told, "{fault}")?;
+    Ok(())
+}
+
+/// Reads a whole source up to a limit, which gives as much as it can.
+fn reads_up_to(alloc: Global, told: &mut String, words: &Words<'_>) -> Result<()> {
+    let limit = small_number(words.detail)? as usize;
+    let mut whole = source_of(alloc, words.text, words.failing)?;
+    say_outcome(told, &read_up_to(alloc, &mut whole, limit))
+}
+
+/// The same of a source that gives one byte at a time.
+fn reads_in_bytes(alloc: Global, told: &mut String, words: &Words<'_>) -> Result<()> {
+    let limit = small_number(words.detail)? as usize;
+    let whole = source_of(alloc, words.text, words.failing)?;
+    say_outcome(told, &read_up_to(alloc, &mut Trickle { whole }, limit))
+}
+
+/// The words of a question behind its verb.
+#[derive(Clone, Copy)]
+struct Words<'a> {
+    text: &'a str,
+    detail: &'a str,
+    failing: &'a str,
+}
+
+fn answer_to(alloc: Global, told: &mut String, question: &str) -> Result<()> {
+    let mut words = question.split(' ');
+    let verb = words.next().unwrap_or_default();
+    let words = Words {
+        text: words.next().unwrap_or_default(),
+        detail: words.next().unwrap_or("-"),
+        failing: words.next().unwrap_or("-"),
+    };
+    match verb {
+        "reads" => reads(alloc, told, &words),
+        "up-to" => reads_up_to(alloc, told, &words),
+        "up-to-in-bytes" => reads_in_bytes(alloc, told, &words),
+        "writes" => writes(alloc, told, &words),
+        "all" => writes_all(alloc, told, &words),
+        "all-in-bytes" => writes_all_narrow(alloc, told, &words),
+        _ => bail!("no call: {verb}"),
     }
 }
 
@@ -169,20 +218,8 @@ impl Table for Streams {
     const NAME: &'static str = "stream";
 
     fn answer(alloc: Global, question: &str) -> Result<String> {
-        let mut words = question.split(' ');
-        let verb = words.next().unwrap_or_default();
-        let text = words.next().unwrap_or_default();
-        let detail = words.next().unwrap_or("-");
-        let failing = words.next().unwrap_or("-");
-        match verb {
-            "reads" => return reads(alloc, text, detail, failing),
-            "up-to" => return reads_up_to(alloc, text, detail, failing, false),
-            "up-to-in-bytes" => return reads_up_to(alloc, text, detail, failing, true),
-            "writes" => return writes(alloc, text, detail),
-            "all" => return writes_all(alloc, text, detail),
-            "all-in-bytes" => return writes_all_narrow(alloc, text, detail),
-            _ => {}
-        }
-        bail!("no call: {verb}")
+        let mut told = String::new(alloc);
+        answer_to(alloc, &mut told, question)?;
+        Ok(told)
     }
 }

@@ -1,46 +1,80 @@
 //! What several tables here say alike.
 
 use anyhow::Result;
-use mum_cases::{bytes_of, hex_of};
+use mum_cases::{bytes_of, hex_of, number};
 use std::alloc::Global;
 
-/// Appends a part to an answer, behind what parts them.
-pub fn add(answer: &mut String, between: &str, part: &str) -> Result<()> {
-    if !answer.is_empty() {
-        answer.push_str(between)?;
-    }
-    answer.push_str(part)?;
+/// A number of at most 32 bits.
+pub fn small_number(word: &str) -> Result<u32> {
+    Ok(u32::try_from(number(word)?)?)
+}
+
+/// Says more.
+pub fn say(told: &mut String, words: &str) -> Result<()> {
+    told.push_str(words)?;
     Ok(())
+}
+
+/// Says what parts an answer from the one before it, where there is one.
+pub fn part(told: &mut String, between: &str) -> Result<()> {
+    if !told.is_empty() {
+        told.push_str(between)?;
+    }
+    Ok(())
+}
+
+/// Says words and a number.
+pub fn say_number(told: &mut String, words: &str, number: u64) -> Result<()> {
+    write!(told, "{words}{number}")?;
+    Ok(())
+}
+
+/// Says bytes in hexadecimal digits.
+pub fn say_hex(alloc: Global, told: &mut String, bytes: &[u8]) -> Result<()> {
+    let digits = hex_of(alloc, bytes)?;
+    say(told, digits.as_str())
+}
+
+/// What stands in the quotes that a word begins and ends with.
+fn quoted(word: &str) -> Option<&str> {
+    word.strip_prefix('"')?.strip_suffix('"')
 }
 
 /// The bytes of a text in quotes, or those that hexadecimal digits spell.
 pub fn bytes_or_text(alloc: Global, word: &str) -> Result<Vec<u8>> {
-    if let Some(rest) = word.strip_prefix('"')
-        && let Some(text) = rest.strip_suffix('"')
-    {
-        return Ok(Vec::from_slice(alloc, text.as_bytes())?);
+    match quoted(word) {
+        Some(text) => Ok(Vec::from_slice(alloc, text.as_bytes())?),
+        None => bytes_of(alloc, word),
     }
-    bytes_of(alloc, word)
 }
 
-/// Bytes in hexadecimal digits; more than 64 times the last of them as `N*HH`.
-pub fn shown_bytes(alloc: Global, bytes: &[u8]) -> Result<String> {
+/// How many of the last bytes are this one.
+fn run_of(bytes: &[u8], last: u8) -> usize {
+    let mut run = 0usize;
+    for byte in bytes {
+        run = if *byte == last {
+            run.saturating_add(1)
+        } else {
+            0
+        };
+    }
+    run
+}
+
+/// Says bytes in hexadecimal digits; more than 64 times the last of them as `N*HH`.
+pub fn say_bytes(alloc: Global, told: &mut String, bytes: &[u8]) -> Result<()> {
     let Some(last) = bytes.last() else {
-        return hex_of(alloc, bytes);
+        return say_hex(alloc, told, bytes);
     };
-    let run = bytes
-        .iter()
-        .rev()
-        .take_while(|byte| **byte == *last)
-        .count();
+    let run = run_of(bytes, *last);
     if run <= 64 {
-        return hex_of(alloc, bytes);
+        return say_hex(alloc, told, bytes);
     }
-    let unit = hex_of(alloc, &[*last])?;
     let front = &bytes[..bytes.len().saturating_sub(run)];
-    if front.is_empty() {
-        return Ok(format!(in alloc; "{run}*{unit}")?);
+    if !front.is_empty() {
+        say_hex(alloc, told, front)?;
+        say(told, "+")?;
     }
-    let front = hex_of(alloc, front)?;
-    Ok(format!(in alloc; "{front}+{run}*{unit}")?)
+    write!(told, "{run}*")?;
+    say_hex(alloc, told, &[*last])
 }

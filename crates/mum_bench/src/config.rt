@@ -5,18 +5,24 @@ use mum_config::read_config;
 use serde_json::Value;
 use std::alloc::Global;
 
-/// A document of so many channels beside the root, of about 70 bytes each.
-fn document(alloc: Global, channels: usize) -> Result<String> {
-    let mut text = String::from_str(alloc, "{\"channels\":[{\"id\":0}")?;
+/// One channel more of a document.
+fn push_channel(alloc: Global, text: &mut String, number: u32) -> Result<()> {
+    let id = number.saturating_add(1);
+    let channel = format!(in alloc;
+        ",{{\"id\":{id},\"parent\":0,\"name\":\"c{number}\",\"acls\":[{{\"group\":\"all\",\"deny\":8}}]}}"
+    )?;
+    text.push_str(channel.as_str())?;
+    Ok(())
+}
+
+/// So many channels beside the root, of about 70 bytes each.
+fn push_channels(alloc: Global, text: &mut String, channels: u32) -> Result<()> {
+    text.push_str("{\"channels\":[{\"id\":0}")?;
     for number in 0..channels {
-        text.push_str(",{\"id\":")?;
-        text.push_str(format!(in alloc; "{}", number.saturating_add(1))?.as_str())?;
-        text.push_str(",\"parent\":0,\"name\":\"c")?;
-        text.push_str(format!(in alloc; "{number}")?.as_str())?;
-        text.push_str("\",\"acls\":[{\"group\":\"all\",\"deny\":8}]}")?;
+        push_channel(alloc, text, number)?;
     }
     text.push_str("]}")?;
-    Ok(text)
+    Ok(())
 }
 
 /// The edits of the document.
@@ -41,12 +47,17 @@ fn read(alloc: Global, kind: &str, text: &[u8]) -> Result<u64> {
     }
 }
 
-/// Reads a document of so many channels, so many times.
-pub fn work(alloc: Global, kind: &str, channels: usize, count: usize) -> Result<u64> {
-    let text = document(alloc, channels)?;
+fn reads(alloc: Global, kind: &str, text: &[u8], count: u32) -> Result<u64> {
     let mut sum = 0u64;
     for _ in 0..count {
-        sum = sum.wrapping_add(read(alloc, kind, text.as_bytes())?);
+        sum = sum.wrapping_add(read(alloc, kind, text)?);
     }
     Ok(sum)
+}
+
+/// Reads a document of so many channels, so many times.
+pub fn work(alloc: Global, kind: &str, channels: u32, count: u32) -> Result<u64> {
+    let mut text = String::new(alloc);
+    push_channels(alloc, &mut text, channels)?;
+    reads(alloc, kind, text.as_bytes(), count)
 }

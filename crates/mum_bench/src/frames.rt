@@ -10,16 +10,22 @@ const VOICE_LENGTH: usize = 67;
 /// The type of a frame that carries a raw voice packet.
 const VOICE: u16 = 1;
 
-/// At least so many bytes of whole small frames.
-fn stream_of(alloc: Global, size: usize) -> Result<Vec<u8>> {
-    let frame = put_frame(alloc, VOICE, &[0x5A; VOICE_LENGTH])?;
-    let mut stream = Vec::new(alloc);
+/// Adds whole small frames, until there are at least so many bytes.
+fn push_frames(stream: &mut Vec<u8>, frame: &[u8], size: usize) -> Result<()> {
     for _ in 0..size {
         if stream.len() >= size {
             break;
         }
-        stream.extend_from_slice(frame.as_slice())?;
+        stream.extend_from_slice(frame)?;
     }
+    Ok(())
+}
+
+/// At least so many bytes of whole small frames.
+fn stream_of(alloc: Global, size: usize) -> Result<Vec<u8>> {
+    let frame = put_frame(alloc, VOICE, &[0x5A; VOICE_LENGTH])?;
+    let mut stream = Vec::new(alloc);
+    push_frames(&mut stream, frame.as_slice(), size)?;
     Ok(stream)
 }
 
@@ -35,13 +41,22 @@ fn take_frames(framer: &mut Framer, mut sum: u64) -> Result<u64> {
     Ok(sum)
 }
 
-fn fed(alloc: Global, stream: &[u8], piece: usize) -> Result<u64> {
+/// Feeds a stream in pieces.
+fn feed(framer: &mut Framer, stream: &[u8], piece: usize, mut sum: u64) -> Result<u64> {
     ensure!(piece > 0, "a piece has bytes");
-    let mut framer = Framer::new(alloc);
-    let mut sum = 0;
     for bytes in stream.chunks(piece) {
         framer.feed(bytes)?;
-        sum = take_frames(&mut framer, sum)?;
+        sum = take_frames(framer, sum)?;
+    }
+    Ok(sum)
+}
+
+/// Feeds a stream in pieces, so many times.
+fn fed(alloc: Global, stream: &[u8], piece: usize, count: usize) -> Result<u64> {
+    let mut framer = Framer::new(alloc);
+    let mut sum = 0;
+    for _ in 0..count {
+        sum = feed(&mut framer, stream, piece, sum)?;
     }
     Ok(sum)
 }
@@ -49,20 +64,26 @@ fn fed(alloc: Global, stream: &[u8], piece: usize) -> Result<u64> {
 /// Small voice frames of about so many bytes, fed in pieces.
 pub fn small(alloc: Global, piece: usize, size: usize) -> Result<u64> {
     let stream = stream_of(alloc, size)?;
-    fed(alloc, &stream, piece)
+    fed(alloc, stream.as_slice(), piece, 1)
 }
 
 /// So many frames of the greatest length.
 pub fn large(alloc: Global, count: usize) -> Result<u64> {
-    let mut payload = Vec::new(alloc);
-    payload.resize(PAYLOAD_LIMIT, 0x5A)?;
-    let frame = put_frame(alloc, VOICE, &payload)?;
-    let mut framer = Framer::new(alloc);
-    let mut sum = 0;
-    for _ in 0..count {
-        for bytes in frame.as_slice().chunks(65_536) {
-            framer.feed(bytes)?;
-            sum = take_frames(&mut framer, sum)?;
+    let payload = vec![in alloc; 0x5A; PAYLOAD_LIMIT]?;
+    let frame = put_frame(alloc, VOICE, payload.as_slice())?;
+    fed(alloc, frame.as_slice(), 65_536, count)
+}
+
+/// The bytes copied in pieces into one buffer.
+fn copied_in(copy: &mut Vec<u8>, stream: &[u8], piece: usize) -> Result<u64> {
+    ensure!(piece > 0, "a piece has bytes");
+    for bytes in stream.chunks(piece) {
+        copy.extend_from_slice(bytes)?;
+    }
+    let mut sum: u64 = 0;
+    for page in copy.chunks(4096) {
+        if let [first, ..] = page {
+            sum = sum.wrapping_add(u64::from(*first));
         }
     }
     Ok(sum)
@@ -70,15 +91,7 @@ pub fn large(alloc: Global, count: usize) -> Result<u64> {
 
 /// The same bytes as `small` has, copied in pieces into one buffer.
 pub fn copied(alloc: Global, piece: usize, size: usize) -> Result<u64> {
-    ensure!(piece > 0, "a piece has bytes");
     let stream = stream_of(alloc, size)?;
     let mut copy = Vec::with_capacity(alloc, stream.len())?;
-    for bytes in stream.chunks(piece) {
-        copy.extend_from_slice(bytes)?;
-    }
-    let mut sum: u64 = 0;
-    for page in copy.chunks(4096) {
-        sum = sum.wrapping_add(page.first().copied().map_or(0, u64::from));
-    }
-    Ok(sum)
+    copied_in(&mut copy, stream.as_slice(), piece)
 }

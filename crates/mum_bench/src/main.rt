@@ -5,6 +5,7 @@
 mod acl;
 mod config;
 mod decide;
+mod edits;
 mod frames;
 mod messages;
 mod notices;
@@ -17,53 +18,54 @@ mod tree;
 mod voice;
 
 use anyhow::{Context, Result, bail};
+use mum_state::State;
 use std::alloc::Global;
 use std::env;
 use std::sync::Wait;
 use std::thread::Threads;
 
-fn number(word: &str) -> Result<usize> {
-    word.parse::<usize>().context("a size is a number")
+fn number(word: &str) -> Result<u32> {
+    word.parse::<u32>().context("a size is a number")
 }
 
-/// A workload of a kind: so much of it, so many times.
-fn of_kind(alloc: Global, word: &str, kind: &str, length: usize, count: usize) -> Result<u64> {
+/// A workload on a state, which is empty before.
+fn on_state(
+    alloc: Global,
+    state: &mut State,
+    word: &str,
+    kind: &str,
+    length: u32,
+    count: u32,
+) -> Result<u64> {
     match word {
-        "acl" => acl::walks(alloc, kind, length, count),
-        "config" => config::work(alloc, kind, length, count),
-        "decide" => decide::work(alloc, kind, length, count),
-        "notices" => notices::work(alloc, kind, length, count),
-        "roster" => roster::work(alloc, kind, length, count),
-        "route" => routes::work(alloc, kind, length, count),
-        "state" => state::work(alloc, kind, length, count),
-        "tree" => tree::work(alloc, kind, length, count),
+        "acl" => acl::work(alloc, state, kind, length, count),
+        "decide" => decide::work(alloc, state, kind, length, count),
+        "notices" => notices::work(alloc, state, kind, length, count),
+        "route" => routes::work(alloc, state, kind, length, count),
+        "state" => state::work(alloc, state, kind, length, count),
         _ => bail!("no such workload"),
     }
 }
 
-/// A workload of a kind: so much of it.
-fn of_one_kind<R: Wait + Threads + Copy + Send + 'static>(
-    rt: R,
-    alloc: Global,
-    word: &str,
-    kind: &str,
-    size: usize,
-) -> Result<u64> {
+/// A workload of a kind: so much of it, so many times.
+fn of_kind(alloc: Global, word: &str, kind: &str, length: u32, count: u32) -> Result<u64> {
     match word {
-        "messages" => messages::work(alloc, kind, size),
-        "outbox" => outbox::work(rt, alloc, kind, size),
-        "copy-messages" => messages::copied(alloc, kind, size),
-        _ => in_pieces(alloc, word, number(kind)?, size),
+        "config" => return config::work(alloc, kind, length, count),
+        "roster" => return roster::work(alloc, kind, length, count),
+        "tree" => return tree::work(alloc, kind, length, count),
+        _ => {}
     }
+    let mut state = State::empty(alloc)?;
+    on_state(alloc, &mut state, word, kind, length, count)
 }
 
 /// A workload of so many pieces, or of pieces of so many bytes.
-fn in_pieces(alloc: Global, word: &str, piece: usize, size: usize) -> Result<u64> {
+fn in_pieces(alloc: Global, word: &str, piece: u32, size: u32) -> Result<u64> {
     match word {
-        "frames" => frames::small(alloc, piece, size),
-        "copy" => frames::copied(alloc, piece, size),
-        "copy-roster" => roster::copied(alloc, piece, size),
-        "copy-tree" => tree::copied(alloc, piece, size),
+        "frames" => frames::small(alloc, piece as usize, size as usize),
+        "copy" => frames::copied(alloc, piece as usize, size as usize),
+        "copy-roster" => roster::work(alloc, "copy", piece, size),
+        "copy-tree" => tree::work(alloc, "copy", piece, size),
         _ => bail!("no such workload"),
     }
 }
@@ -74,7 +76,7 @@ fn of_size(alloc: Global, word: &str, size: usize) -> Result<u64> {
         "large" => frames::large(alloc, size),
         "voice" => voice::copies(false, size),
         "voice-position" => voice::copies(true, size),
-        "copy-packets" => voice::copied_packets(size),
+        "copy-packets" => Ok(voice::copied_packets(size)),
         "hostile" => messages::hostile(alloc, size),
         "copy-blocks" => messages::copied_blocks(alloc, size),
         _ => bail!("no such workload"),
@@ -91,33 +93,40 @@ fn checksum<R: Wait + Threads + Copy + Send + 'static>(
             let (length, count) = (number(length)?, number(count)?);
             of_kind(alloc, word.as_str(), kind.as_str(), length, count)
         }
-        [word, kind, size] => {
-            of_one_kind(rt, alloc, word.as_str(), kind.as_str(), number(size)?)
-        }
-        [word, size] => of_size(alloc, word.as_str(), number(size)?),
+        [word, kind, size] => match word.as_str() {
+            "messages" => messages::work(alloc, kind.as_str(), number(size)? as usize),
+            "copy-messages" => messages::copied(alloc, kind.as_str(), number(size)? as usize),
+            "outbox" => outbox::work(rt, alloc, kind.as_str(), number(size)?),
+            word => in_pieces(alloc, word, number(kind)?, number(size)?),
+        },
+        [word, size] => of_size(alloc, word.as_str(), number(size)? as usize),
         _ => bail!("mum_bench WORKLOAD [KIND] [PIECE] SIZE"),
     }
 }
 
-/// The seed and the number of rounds of the exercise whose recording is asked for.
-fn exercise_in(words: &[String]) -> Option<(&str, &str)> {
+/// What a run prints: the recording of the exercise of a seed, of so many rounds, or a checksum.
+fn answer<R: Wait + Threads + Copy + Send + 'static>(
+    rt: R,
+    alloc: Global,
+    words: &[String],
+    text: &mut String,
+) -> Result<()> {
     match words {
-        [word, seed, rounds] if word.as_str() == "recording" => Some((
-            seed.as_str(),
-            rounds.as_str(),
-        )),
-        _ => None,
+        [word, seed, rounds] if word.as_str() == "recording" => {
+            recording::push(alloc, text, seed.as_str(), rounds.as_str())
+        }
+        _ => {
+            let sum = checksum(rt, alloc, words)?;
+            text.push_str(format!(in alloc; "{sum}\n")?.as_str())?;
+            Ok(())
+        }
     }
 }
 
 fn main(rt: HostRuntime) -> Result<()> {
     let words: Vec<String> = env::args(&rt)?.skip(1).collect(rt.alloc())?;
-    if let Some((seed, rounds)) = exercise_in(&words) {
-        let text = recording::text(rt.alloc(), seed, rounds)?;
-        print!(rt; "{text}")?;
-        return Ok(());
-    }
-    let sum = checksum(rt, rt.alloc(), &words)?;
-    println!(rt; "{sum}")?;
+    let mut text = String::new(rt.alloc());
+    answer(rt, rt.alloc(), words.as_slice(), &mut text)?;
+    print!(rt; "{text}")?;
     Ok(())
 }

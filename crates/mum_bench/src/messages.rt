@@ -1,104 +1,78 @@
 //! Messages, decoded and encoded.
 
 use anyhow::{Result, bail};
-use mum_base::{Items, Octets, Text};
+use mum_base::{Octets, OutOfMemory};
 use mum_fields::Message;
-use mum_msg_rule::{Acl, AclGroup, AclLine};
+use mum_msg_rule::Acl;
 use mum_msg_state::{ChannelState, UserState};
 use std::alloc::Global;
 
+/// Channel 7 under 2: its name, links to 8 to 11, description, position -1, and at most 100 users.
+const CHANNEL: &[u8] = b"\x08\x07\x10\x02\x1a\x05Lobby\x20\x08\x20\x09\x20\x0a\x20\x0b\
+    \x2a\x18Where everybody comes in\x48\xff\xff\xff\xff\xff\xff\xff\xff\xff\x01\x58\x64";
+
+/// Session 3 of account 17 in channel 7: its name, muted by itself and not deaf, with a comment, listening
+/// to channel 9.
+const USER: &[u8] = b"\x08\x03\x10\x03\x1a\x05carol\x20\x11\x28\x07\x48\x01\x50\x00\
+    \x72\x0dBack at eight\xa8\x01\x09";
+
+/// The head of a group of the list: a block of 135 bytes, with the group's name.
+const GROUP: &[u8] = b"\x1a\x87\x01\x0a\x05admin";
+
 /// The groups of the list, and the accounts of each.
-const GROUPS: u32 = 64;
+const GROUPS: u8 = 64;
 
 /// The entries of the list.
-const ENTRIES: u32 = 128;
+const ENTRIES: u8 = 128;
 
 /// A block without bytes under the number of the groups of an ACL message.
 const EMPTY_GROUP: [u8; 2] = [0x1a, 0];
 
-fn text(alloc: Global, text: &str) -> Result<Option<Text>> {
-    Ok(Some(Text::of(alloc, text)?))
-}
-
-/// The numbers from one up to another, which is left out.
-fn numbers(alloc: Global, first: u32, end: u32) -> Result<Items<u32>> {
-    let mut numbers = Items::new(alloc);
-    for number in first..end {
-        numbers.push(number)?;
+fn push_group(list: &mut Vec<u8>) -> Result<(), OutOfMemory> {
+    list.extend_from_slice(GROUP)?;
+    for account in 0..GROUPS {
+        list.extend_from_slice(&[0x28, account])?;
     }
-    Ok(numbers)
+    Ok(())
 }
 
-fn channel(alloc: Global) -> Result<ChannelState> {
-    let name = text(alloc, "Lobby")?;
-    let description = text(alloc, "Where everybody comes in")?;
-    let links = numbers(alloc, 8, 12)?;
-    let mut channel = ChannelState::new(alloc);
-    channel.channel_id = Some(7);
-    channel.parent = Some(2);
-    channel.name = name;
-    channel.links = links;
-    channel.description = description;
-    channel.position = Some(-1);
-    channel.max_users = Some(100);
-    Ok(channel)
-}
-
-fn user(alloc: Global) -> Result<UserState> {
-    let name = text(alloc, "carol")?;
-    let comment = text(alloc, "Back at eight")?;
-    let listened = numbers(alloc, 9, 10)?;
-    let mut user = UserState::new(alloc);
-    user.session = Some(3);
-    user.actor = Some(3);
-    user.name = name;
-    user.user_id = Some(17);
-    user.channel_id = Some(7);
-    user.self_mute = Some(true);
-    user.self_deaf = Some(false);
-    user.comment = comment;
-    user.listening_channel_add = listened;
-    Ok(user)
-}
-
-fn group(alloc: Global) -> Result<AclGroup> {
-    let name = text(alloc, "admin")?;
-    let accounts = numbers(alloc, 0, GROUPS)?;
-    let mut group = AclGroup::new(alloc);
-    group.name = name;
-    group.add = accounts;
-    Ok(group)
-}
-
-fn entry(alloc: Global, account: u32) -> AclLine {
-    let mut entry = AclLine::new(alloc);
-    entry.user_id = Some(account);
-    entry.grant = Some(0x20E);
-    entry
-}
-
-fn list(alloc: Global) -> Result<Acl> {
-    let mut list = Acl::new(alloc);
-    list.channel_id = Some(7);
+/// The groups of channel 7, and an entry for each account that grants 0x20E.
+fn push_list(list: &mut Vec<u8>) -> Result<(), OutOfMemory> {
+    list.extend_from_slice(&[0x08, 7])?;
     for _ in 0..GROUPS {
-        list.groups.push(group(alloc)?)?;
+        push_group(list)?;
     }
     for account in 0..ENTRIES {
-        list.acls.push(entry(alloc, account))?;
+        list.extend_from_slice(&[0x22, 5, 0x20, account, 0x30, 0x8e, 4])?;
     }
-    Ok(list)
+    Ok(())
 }
 
-fn decoded<M: Message>(alloc: Global, payload: &Octets, count: usize) -> Result<u64> {
+fn list(alloc: Global) -> Result<Octets, OutOfMemory> {
+    let mut list = Vec::new(alloc);
+    push_list(&mut list)?;
+    Ok(Octets::from_vec(list))
+}
+
+/// The payload of a message.
+fn payload_of(alloc: Global, kind: &str) -> Result<Octets, OutOfMemory> {
+    match kind {
+        "decode-channel" | "encode-channel" => Octets::of(alloc, CHANNEL),
+        "decode-user" | "encode-user" => Octets::of(alloc, USER),
+        _ => list(alloc),
+    }
+}
+
+fn decoded<M: Message>(alloc: Global, payload: &[u8], count: usize) -> Result<u64> {
     let mut sum: u64 = 0;
     for _ in 0..count {
-        let _message = M::decode(alloc, payload.as_slice())?;
+        let _message = M::decode(alloc, payload)?;
         sum = sum.wrapping_add(1);
     }
     Ok(sum)
 }
 
-fn encoded<M: Message>(alloc: Global, message: &M, count: usize) -> Result<u64> {
+fn encoded_all<M: Message>(alloc: Global, message: &M, count: usize) -> Result<u64> {
     let mut sum: u64 = 0;
     for _ in 0..count {
         let payload = message.encode(alloc)?;
@@ -107,7 +81,31 @@ fn encoded<M: Message>(alloc: Global, message: &M, count: usize) -> Result<u64> 
     Ok(sum)
 }
 
-fn copied_payload(alloc: Global, payload: &Octets, count: usize) -> Result<u64> {
+fn encoded<M: Message>(alloc: Global, payload: &[u8], count: usize) -> Result<u64> {
+    let message = M::decode(alloc, payload)?;
+    encoded_all(alloc, &message, count)
+}
+
+fn work_on(alloc: Global, kind: &str, payload: &[u8], count: usize) -> Result<u64> {
+    match kind {
+        "decode-channel" => return decoded::<ChannelState>(alloc, payload, count),
+        "decode-user" => return decoded::<UserState>(alloc, payload, count),
+        "decode-acl" => return decoded::<Acl>(alloc, payload, count),
+        "encode-channel" => return encoded::<ChannelState>(alloc, payload, count),
+        "encode-user" => return encoded::<UserState>(alloc, payload, count),
+        "encode-acl" => return encoded::<Acl>(alloc, payload, count),
+        _ => {}
+    }
+    bail!("no such message: {kind}")
+}
+
+/// Decodes or encodes a message so many times.
+pub fn work(alloc: Global, kind: &str, count: usize) -> Result<u64> {
+    let payload = payload_of(alloc, kind)?;
+    work_on(alloc, kind, payload.as_slice(), count)
+}
+
+fn copies(payload: &Octets, count: usize) -> Result<u64> {
     let mut sum: u64 = 0;
     for _ in 0..count {
         let copy = payload.share()?;
@@ -116,49 +114,10 @@ fn copied_payload(alloc: Global, payload: &Octets, count: usize) -> Result<u64> 
     Ok(sum)
 }
 
-/// The payload of a message, where there was memory for it.
-fn payload_of<M: Message>(alloc: Global, message: Result<M>) -> Result<Octets> {
-    let message = message?;
-    Ok(message.encode(alloc)?)
-}
-
-fn decode<M: Message>(alloc: Global, message: Result<M>, count: usize) -> Result<u64> {
-    let payload = payload_of(alloc, message)?;
-    decoded::<M>(alloc, &payload, count)
-}
-
-fn encode<M: Message>(alloc: Global, message: Result<M>, count: usize) -> Result<u64> {
-    let message = message?;
-    encoded(alloc, &message, count)
-}
-
-/// Decodes or encodes a message so many times.
-pub fn work(alloc: Global, kind: &str, count: usize) -> Result<u64> {
-    match kind {
-        "decode-channel" => return decode(alloc, channel(alloc), count),
-        "decode-user" => return decode(alloc, user(alloc), count),
-        "decode-acl" => return decode(alloc, list(alloc), count),
-        "encode-channel" => return encode(alloc, channel(alloc), count),
-        "encode-user" => return encode(alloc, user(alloc), count),
-        "encode-acl" => return encode(alloc, list(alloc), count),
-        _ => {}
-    }
-    bail!("no such message: {kind}")
-}
-
-fn copy<M: Message>(alloc: Global, message: Result<M>, count: usize) -> Result<u64> {
-    let payload = payload_of(alloc, message)?;
-    copied_payload(alloc, &payload, count)
-}
-
 /// Copies the bytes of the same payload so many times.
 pub fn copied(alloc: Global, kind: &str, count: usize) -> Result<u64> {
-    match kind {
-        "decode-channel" | "encode-channel" => return copy(alloc, channel(alloc), count),
-        "decode-user" | "encode-user" => return copy(alloc, user(alloc), count),
-        _ => {}
-    }
-    copy(alloc, list(alloc), count)
+    let payload = payload_of(alloc, kind)?;
+    copies(&payload, count)
 }
 
 fn empty_blocks(alloc: Global, size: usize) -> Result<Octets> {
@@ -180,5 +139,6 @@ pub fn hostile(alloc: Global, size: usize) -> Result<u64> {
 
 /// Copies so many bytes of groups without a name.
 pub fn copied_blocks(alloc: Global, size: usize) -> Result<u64> {
-    copied_payload(alloc, &empty_blocks(alloc, size)?, 1)
+    let payload = empty_blocks(alloc, size)?;
+    copies(&payload, 1)
 }

@@ -1,27 +1,24 @@
 //! What sessions are told: of an edit, and first of all where one joins; among so many channels and 128
 //! sessions.
 
-use crate::state::{Change, add_channel, add_session, apply, set_user};
+use crate::edits::{Rule, add_channels, add_sessions, apply, set_user};
 use anyhow::{Result, bail, ensure};
-use mum_base::{ChannelId, SessionId};
+use mum_base::{Items, Perm, SessionId};
 use mum_notify::{Notice, fits_frame, notices, sync_block};
 use mum_state::{Edit, State};
 use mum_users::user::SESSIONS;
 use std::alloc::Global;
 
-/// The session that joined last.
+/// The session that joins last.
 const LAST: SessionId = SessionId(SESSIONS as u32);
 
-/// So many channels, and all sessions that there may be.
-fn fill(alloc: Global, state: &mut State, channels: usize) -> Result<()> {
-    for _ in 1..channels {
-        add_channel(alloc, state, ChannelId::ROOT)?;
-    }
-    for _ in 0..SESSIONS {
-        add_session(alloc, state)?;
-    }
-    Ok(())
-}
+/// The channels have no entries.
+const NONE: Rule<'static> = Rule {
+    whom: "all",
+    entries: 0,
+    grant: Perm::NONE,
+    deny: Perm::NONE,
+};
 
 fn bytes_of(told: &[Notice]) -> u64 {
     let mut sum = 0u64;
@@ -43,7 +40,7 @@ fn make_and_tell(
     before: &State,
     edit: &Edit,
     after: &mut State,
-    count: usize,
+    count: u32,
 ) -> Result<u64> {
     apply(after, edit)?;
     let mut sum = 0u64;
@@ -54,48 +51,39 @@ fn make_and_tell(
 }
 
 /// Mutes the last session, and tells of it so many times.
-fn mute_and_tell(alloc: Global, before: &State, after: &mut State, count: usize) -> Result<u64> {
-    let change = Change {
-        mute: Some(true),
-        ..Change::none(LAST)
-    };
-    let edit = set_user(alloc, change)?;
+fn mute_and_tell(alloc: Global, before: &State, after: &mut State, count: u32) -> Result<u64> {
+    let edit = set_user(LAST, None, Some(true), Items::new(alloc), Items::new(alloc));
     make_and_tell(alloc, before, &edit, after, count)
 }
 
 /// A mute, told so many times.
-fn mutes(alloc: Global, state: &State, count: usize) -> Result<u64> {
+fn mutes(alloc: Global, state: &State, count: u32) -> Result<u64> {
     let mut after = state.copy(alloc)?;
     mute_and_tell(alloc, state, &mut after, count)
 }
 
 /// Tells the last session so many times what it is told first.
-fn greetings(alloc: Global, state: &State, count: usize) -> Result<u64> {
+fn greetings(alloc: Global, state: &State, count: u32) -> Result<u64> {
     let mut sum = 0u64;
     for _ in 0..count {
-        let told = sync_block(alloc, state, LAST)?;
-        sum = sum.wrapping_add(bytes_of(told.as_slice()));
+        sum = sum.wrapping_add(bytes_of(sync_block(alloc, state, LAST)?.as_slice()));
     }
     Ok(sum)
 }
 
-fn fill_and_tell(
+/// A mute or all that a session is told first, `count` times, among so many channels.
+pub fn work(
     alloc: Global,
     state: &mut State,
     kind: &str,
-    channels: usize,
-    count: usize,
+    channels: u32,
+    count: u32,
 ) -> Result<u64> {
-    fill(alloc, state, channels)?;
+    add_channels(alloc, state, channels, u32::MAX, NONE)?;
+    add_sessions(alloc, state, SESSIONS as u32)?;
     match kind {
         "mute" => mutes(alloc, state, count),
         "sync" => greetings(alloc, state, count),
         _ => bail!("no such notices"),
     }
-}
-
-/// A mute or all that a session is told first, `count` times, among so many channels.
-pub fn work(alloc: Global, kind: &str, channels: usize, count: usize) -> Result<u64> {
-    let mut state = State::empty(alloc)?;
-    fill_and_tell(alloc, &mut state, kind, channels, count)
 }

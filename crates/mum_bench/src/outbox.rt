@@ -2,7 +2,7 @@
 
 ghost use Rattle.std.specs.Prelude.{◌≡◌};
 
-use anyhow::{Context, Result};
+use anyhow::Result;
 use arrayvec::ArrayVec;
 use crossbeam_queue::ArrayQueue;
 use mum_base::SessionId;
@@ -13,7 +13,10 @@ use std::thread;
 use std::thread::Threads;
 
 /// What a thread holds of a queue of voice parcels.
-trait Line {
+trait Line: Sized {
+    /// Two of one queue, which is new.
+    fn pair(alloc: Global) -> Result<(Self, Self)>;
+
     /// Whether the parcel was sent.
     fn offer<R: Wait>(&mut self, rt: &R, parcel: VoiceParcel) -> bool;
 
@@ -29,6 +32,12 @@ struct Outbox {
 }
 
 impl Line for Outbox {
+    fn pair(alloc: Global) -> Result<(Outbox, Outbox)> {
+        let mut outbox = VoiceBox::new(alloc)?;
+        let share = outbox.share()?;
+        Ok((outbox_of(outbox), outbox_of(share)))
+    }
+
     fn offer<R: Wait>(&mut self, rt: &R, parcel: VoiceParcel) -> bool {
         matches!(
             self.outbox.offer_as(rt, &mut self.pass, parcel),
@@ -45,6 +54,13 @@ impl Line for Outbox {
 type Plain = Arc<ArrayQueue<VoiceParcel>>;
 
 impl Line for Plain {
+    fn pair(alloc: Global) -> Result<(Plain, Plain)> {
+        let queue = ArrayQueue::new(alloc, VOICE_CAPACITY)?;
+        let one = Arc::new(alloc, queue)?;
+        let other = Arc::try_clone(&one)?;
+        Ok((one, other))
+    }
+
     fn offer<R: Wait>(&mut self, rt: &R, parcel: VoiceParcel) -> bool {
         self.push(rt, parcel).is_ok()
     }
@@ -70,12 +86,13 @@ fn outbox_of(mut outbox: VoiceBox) -> Outbox {
 }
 
 /// One thread offers and takes in turn.
-fn in_turn<L: Line + Drop, R: Wait>(rt: &R, mut line: L, count: u32) -> u64 {
+fn in_turn<L: Line, R: Wait>(rt: &R, offers: &mut L, takes: &mut L, count: u32) -> u64 {
     let mut sum: u64 = 0;
     for number in 0..count {
-        line.offer(rt, parcel(number));
-        let taken = line.take(rt);
-        sum = sum.wrapping_add(taken.map_or(0, |parcel| u64::from(parcel.to.0)));
+        offers.offer(rt, parcel(number));
+        if let Some(taken) = takes.take(rt) {
+            sum = sum.wrapping_add(u64::from(taken.to.0));
+        }
     }
     sum
 }
@@ -127,37 +144,17 @@ fn beside<L: Line + Drop + Send + 'static, R: Wait + Threads + Copy + Send + 'st
     Ok(sum)
 }
 
-fn outbox_by_one<R: Wait>(rt: &R, alloc: Global, count: u32) -> Result<u64> {
-    let outbox = VoiceBox::new(alloc)?;
-    Ok(in_turn(rt, outbox_of(outbox), count))
+fn by_one<L: Line + Drop, R: Wait>(rt: &R, alloc: Global, count: u32) -> Result<u64> {
+    let (mut offers, mut takes) = L::pair(alloc)?;
+    Ok(in_turn(rt, &mut offers, &mut takes, count))
 }
 
-fn outbox_by_two<R: Wait + Threads + Copy + Send + 'static>(
+fn by_two<L: Line + Drop + Send + 'static, R: Wait + Threads + Copy + Send + 'static>(
     rt: R,
     alloc: Global,
     count: u32,
 ) -> Result<u64> {
-    let mut outbox = VoiceBox::new(alloc)?;
-    let share = outbox.share()?;
-    beside(rt, outbox_of(outbox), outbox_of(share), count)
-}
-
-fn plain(alloc: Global) -> Result<Plain> {
-    let queue = ArrayQueue::new(alloc, VOICE_CAPACITY)?;
-    Ok(Arc::new(alloc, queue)?)
-}
-
-fn plain_by_one<R: Wait>(rt: &R, alloc: Global, count: u32) -> Result<u64> {
-    Ok(in_turn(rt, plain(alloc)?, count))
-}
-
-fn plain_by_two<R: Wait + Threads + Copy + Send + 'static>(
-    rt: R,
-    alloc: Global,
-    count: u32,
-) -> Result<u64> {
-    let offers = plain(alloc)?;
-    let takes = Arc::try_clone(&offers)?;
+    let (offers, takes) = L::pair(alloc)?;
     beside(rt, offers, takes, count)
 }
 
@@ -166,13 +163,12 @@ pub fn work<R: Wait + Threads + Copy + Send + 'static>(
     rt: R,
     alloc: Global,
     kind: &str,
-    count: usize,
+    count: u32,
 ) -> Result<u64> {
-    let count = u32::try_from(count).context("each parcel has a number of 32 bits")?;
     match kind {
-        "one" => outbox_by_one(&rt, alloc, count),
-        "plain-one" => plain_by_one(&rt, alloc, count),
-        "two" => outbox_by_two(rt, alloc, count),
-        _ => plain_by_two(rt, alloc, count),
+        "one" => by_one::<Outbox, R>(&rt, alloc, count),
+        "plain-one" => by_one::<Plain, R>(&rt, alloc, count),
+        "two" => by_two::<Outbox, R>(rt, alloc, count),
+        _ => by_two::<Plain, R>(rt, alloc, count),
     }
 }

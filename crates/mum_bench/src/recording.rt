@@ -10,11 +10,11 @@ use mum_server::{DOCUMENT, WORKERS, generate};
 use std::alloc::Global;
 
 /// The three lines of its head.
-fn head(alloc: Global) -> Result<String> {
-    let mut text = format!(in alloc; "recording 1\nworkers {WORKERS}\n")?;
-    push_config_line(alloc, &mut text, DOCUMENT.as_bytes())?;
+fn push_head(alloc: Global, text: &mut String) -> Result<()> {
+    text.push_str(format!(in alloc; "recording 1\nworkers {WORKERS}\n")?.as_str())?;
+    push_config_line(alloc, text, DOCUMENT.as_bytes())?;
     text.push_str("\n")?;
-    Ok(text)
+    Ok(())
 }
 
 /// Whether a step is one of an exercise, so that it has a line: its frames are whole, and it closes
@@ -29,17 +29,27 @@ fn has_line(step: &Step) -> bool
     }
 }
 
+/// One line more.
+fn push_step(alloc: Global, text: &mut String, step: &Step) -> Result<()> {
+    ensure!(has_line(step), "a step of an exercise has a line");
+    let line = write_step(alloc, step)?;
+    text.push_str(str::from_utf8(line.as_slice())?)?;
+    text.push_str("\n")?;
+    Ok(())
+}
+
+fn push_steps(alloc: Global, text: &mut String, steps: &[Step]) -> Result<()> {
+    for step in steps {
+        push_step(alloc, text, step)?;
+    }
+    Ok(())
+}
+
 /// The recording of the exercise of a seed, of so many rounds.
-pub fn text(alloc: Global, seed: &str, rounds: &str) -> Result<String> {
+pub fn push(alloc: Global, text: &mut String, seed: &str, rounds: &str) -> Result<()> {
     let seed = seed.parse::<u64>().context("a seed is a number")?;
     let rounds = rounds.parse::<u32>().context("rounds are a number")?;
-    let mut text = head(alloc)?;
+    push_head(alloc, text)?;
     let steps = generate(alloc, seed, rounds)?;
-    for step in steps.iter() {
-        ensure!(has_line(step), "a step of an exercise has a line");
-        let line = write_step(alloc, step)?;
-        text.push_str(str::from_utf8(line.as_slice())?)?;
-        text.push_str("\n")?;
-    }
-    Ok(text)
+    push_steps(alloc, text, steps.as_slice())
 }

@@ -1,8 +1,8 @@
 //! The tree of channels: what is marked, read, built and copied of it.
 
-ghost use Rattle.std.specs.Prelude.{◌<◌, ◌≤◌, IfOk};
+ghost use Rattle.std.specs.Prelude.{◌<◌};
 
-use anyhow::{Result, bail, ensure};
+use anyhow::{Context, Result, bail, ensure};
 use mum_base::ChannelId;
 use mum_tree::{CHANNEL_LIMIT, ChannelChange, Scratch, Tree};
 use std::alloc::Global;
@@ -13,183 +13,195 @@ const REACH: u32 = 32;
 
 /// From one channel that is read to the next. It is odd, so its steps meet each channel where their count
 /// is a power of two.
-const STRIDE: usize = 37;
-
-/// What a round marks from the root.
-#[derive(Clone, Copy)]
-enum Walk {
-    Subtree,
-    Linked,
-}
-
-fn channel_count(channels: usize) -> Result<u32>
-    ensures some { IfOk result (λ count. 0 < count) }
-    ensures few { IfOk result (λ count. count ≤ 1024) }
-{
-    ensure!(channels > 0, "a tree has the root");
-    ensure!(
-        channels <= CHANNEL_LIMIT,
-        "a tree has at most 1,024 channels"
-    );
-    Ok(channels as u32)
-}
+const STRIDE: u32 = 37;
 
 /// Puts the next channel under another. Its number is its name.
-fn add_next(alloc: Global, tree: &mut Tree, parent: ChannelId) -> Result<()> {
-    let Some(id) = tree.next_id() else {
-        bail!("no number is left");
-    };
+fn add_next(alloc: Global, tree: &mut Tree, parent: u32) -> Result<()> {
+    let id = tree.next_id().context("a number is left")?;
     let name = format!(in alloc; "{}", id.0)?;
-    tree.add(id, parent, name.as_str(), false)?;
+    tree.add(id, ChannelId(parent), name.as_str(), false)?;
     Ok(())
 }
 
-/// A tree of so many channels, each with two below it.
-fn unlinked(alloc: Global, channels: u32) -> Result<Tree> {
-    let mut tree = Tree::new(alloc)?;
+/// Channels until there are so many, each with two below it.
+fn fill(alloc: Global, tree: &mut Tree, channels: u32) -> Result<()> {
     for number in 1..channels {
-        add_next(alloc, &mut tree, ChannelId((number - 1) / 2))?;
+        add_next(alloc, tree, (number - 1) / 2)?;
     }
-    Ok(tree)
+    Ok(())
 }
 
 fn link_to_next(tree: &mut Tree, number: u32, channels: u32) -> Result<()>
-    requires some { 0 < channels }
-    requires few { number < 1024 }
+    requires { 0 < channels }
 {
     for further in 1..REACH + 1 {
-        let other = (number + further) % channels;
+        let other = number.wrapping_add(further) % channels;
         tree.link(ChannelId(number), ChannelId(other))?;
     }
     Ok(())
 }
 
 /// The same with links.
-fn linked(alloc: Global, channels: u32) -> Result<Tree>
-    requires { channels ≤ 1024 }
-{
-    let mut tree = unlinked(alloc, channels)?;
+fn fill_linked(alloc: Global, tree: &mut Tree, channels: u32) -> Result<()> {
+    fill(alloc, tree, channels)?;
     for number in 0..channels {
-        link_to_next(&mut tree, number, channels)?;
+        link_to_next(tree, number, channels)?;
     }
-    Ok(tree)
+    Ok(())
 }
 
 fn with_channel(sum: u64, id: Option<ChannelId>) -> u64 {
-    sum.wrapping_mul(31)
-        .wrapping_add(id.map_or(0, |id| u64::from(id.0)))
+    let number = match id {
+        Some(id) => u64::from(id.0),
+        None => 0,
+    };
+    sum.wrapping_mul(31).wrapping_add(number)
 }
 
-/// Marks channels from the root so many times.
-fn marks(alloc: Global, walk: Walk, channels: u32, count: usize) -> Result<u64>
-    requires some { 0 < channels }
-    requires few { channels ≤ 1024 }
+/// Marks so many times what is below the root, or what links lead to from it.
+fn marks(alloc: Global, tree: &Tree, over_links: bool, channels: u32, count: u32) -> Result<u64>
+    requires { 0 < channels }
 {
-    let tree = linked(alloc, channels)?;
     let mut scratch = Scratch::new(alloc)?;
     let mut sum: u64 = 0;
-    ensure!(tree.place(ChannelId::ROOT).is_some(), "the root is there");
+    ensure!(tree.is_there(ChannelId::ROOT), "the root is there");
     for round in 0..count {
-        match walk {
-            Walk::Subtree => tree.subtree(ChannelId::ROOT, &mut scratch),
-            Walk::Linked => tree.linked(ChannelId::ROOT, &mut scratch),
+        if over_links {
+            tree.linked(ChannelId::ROOT, &mut scratch);
+        } else {
+            tree.subtree(ChannelId::ROOT, &mut scratch);
         }
-        let asked = ChannelId((round % channels as usize) as u32);
-        let marked = u64::from(scratch.marked(asked));
+        let marked = u64::from(scratch.marked(ChannelId(round % channels)));
         sum = sum.wrapping_mul(31).wrapping_add(marked);
     }
     Ok(sum)
 }
 
 /// Asks for the path of a channel so many times.
-fn paths(tree: &Tree, id: ChannelId, count: usize) -> Result<u64> {
+fn paths(tree: &Tree, id: u32, count: u32) -> Result<u64> {
     let mut sum: u64 = 0;
     for _ in 0..count {
-        let Some(path) = tree.path(id) else {
-            bail!("the channel is there");
-        };
+        let path = tree.path(ChannelId(id)).context("the channel is there")?;
         sum = sum.wrapping_add(path.as_slice().len() as u64);
     }
     Ok(sum)
 }
 
 /// Asks so many times which channel so many precede, and for its place.
-fn places(tree: &Tree, channels: u32, count: usize) -> Result<u64>
+fn places(tree: &Tree, channels: u32, count: u32) -> Result<u64>
     requires { 0 < channels }
 {
     let mut sum: u64 = 0;
     for round in 0..count {
-        let before = round.wrapping_mul(STRIDE) % channels as usize;
-        let Some(id) = tree.nth(before) else {
-            bail!("so many channels precede it");
-        };
-        sum = sum.wrapping_add(tree.place(id).map_or(0, u64::from));
+        let before = round.wrapping_mul(STRIDE) % channels;
+        let id = tree.nth(before as usize).context("so many precede it")?;
+        if let Some(place) = tree.place(id) {
+            sum = sum.wrapping_add(u64::from(place));
+        }
     }
     Ok(sum)
 }
 
-/// Builds the tree with its links so many times.
-fn builds(alloc: Global, channels: u32, count: usize) -> Result<u64>
-    requires { channels ≤ 1024 }
+/// Builds the tree with its links; one of those of the root.
+fn built(alloc: Global, channels: u32, round: u32) -> Result<Option<ChannelId>> {
+    let mut tree = Tree::new(alloc)?;
+    fill_linked(alloc, &mut tree, channels)?;
+    Ok(tree.link_at(ChannelId::ROOT, (round % 64) as usize))
+}
+
+/// The same so many times.
+fn builds(alloc: Global, channels: u32, count: u32) -> Result<u64> {
+    let mut sum = 0;
+    for round in 0..count {
+        sum = with_channel(sum, built(alloc, channels, round)?);
+    }
+    Ok(sum)
+}
+
+/// Gives a channel another position, and a link to another that goes again by the same change.
+fn edit_once(tree: &mut Tree, id: u32, far: u32, round: u32) -> Result<()> {
+    let far = [ChannelId(far)];
+    let change = ChannelChange {
+        name: None,
+        parent: None,
+        description: None,
+        position: Some((round % 1000) as i32),
+        max_users: None,
+        links_add: &far,
+        links_remove: &far,
+    };
+    tree.edit(ChannelId(id), &change)?;
+    Ok(())
+}
+
+/// Changes channels all over the tree so many times, each with the channel half round.
+fn edits(tree: &mut Tree, channels: u32, count: u32) -> Result<u64>
+    requires { 0 < channels }
 {
     let mut sum = 0;
     for round in 0..count {
-        let tree = linked(alloc, channels)?;
-        sum = with_channel(sum, tree.link_at(ChannelId::ROOT, round % 64));
+        let id = round.wrapping_mul(STRIDE) % channels;
+        edit_once(tree, id, id.wrapping_add(channels / 2) % channels, round)?;
+        sum = with_channel(sum, tree.link_at(ChannelId(id), (round % 64) as usize));
     }
     Ok(sum)
 }
 
-/// Changes channels all over the tree so many times: each gets another position, and a link to the channel
-/// half round that goes again by the same change.
-fn edits(alloc: Global, channels: u32, count: usize) -> Result<u64>
-    requires some { 0 < channels }
-    requires few { channels ≤ 1024 }
+fn copies(alloc: Global, tree: &Tree, channels: u32, count: u32) -> Result<u64>
+    requires { 0 < channels }
 {
-    let mut tree = linked(alloc, channels)?;
     let mut sum = 0;
     for round in 0..count {
-        let number = (round.wrapping_mul(STRIDE) % channels as usize) as u32;
-        let far = [ChannelId((number + channels / 2) % channels)];
-        let change = ChannelChange {
-            name: None,
-            parent: None,
-            description: None,
-            position: Some((round % 1000) as i32),
-            max_users: None,
-            links_add: &far,
-            links_remove: &far,
-        };
-        tree.edit(ChannelId(number), &change)?;
-        sum = with_channel(sum, tree.link_at(ChannelId(number), round % 64));
+        let copy = tree.copy(alloc)?;
+        sum = with_channel(sum, copy.nth((round % channels) as usize));
     }
     Ok(sum)
 }
 
-/// So many times what the word says, of a tree of so many channels: `subtree` and `linked` of the root,
-/// each channel with 64 partners where there are enough, `path` of the last channel, `place` and `nth`
-/// of channels all over the tree, to `edit` channels all over it, or to `build` it with its links.
-pub fn work(alloc: Global, kind: &str, channels: usize, count: usize) -> Result<u64> {
-    let channels = channel_count(channels)?;
+/// Work on a tree without links.
+fn work_unlinked(tree: &Tree, kind: &str, channels: u32, count: u32) -> Result<u64>
+    requires { 0 < channels }
+{
     match kind {
-        "subtree" => marks(alloc, Walk::Subtree, channels, count),
-        "linked" => marks(alloc, Walk::Linked, channels, count),
-        "path" => paths(&unlinked(alloc, channels)?, ChannelId(channels - 1), count),
-        "place" => places(&unlinked(alloc, channels)?, channels, count),
-        "edit" => edits(alloc, channels, count),
-        "build" => builds(alloc, channels, count),
+        "path" => paths(tree, channels - 1, count),
+        _ => places(tree, channels, count),
+    }
+}
+
+/// Work on a tree with its links.
+fn work_linked(alloc: Global, tree: &mut Tree, kind: &str, channels: u32, count: u32) -> Result<u64>
+    requires { 0 < channels }
+{
+    match kind {
+        "subtree" => marks(alloc, tree, false, channels, count),
+        "linked" => marks(alloc, tree, true, channels, count),
+        "edit" => edits(tree, channels, count),
+        "copy" => copies(alloc, tree, channels, count),
         _ => bail!("no such work on a tree"),
     }
 }
 
-/// Copies the same tree with its links so many times.
-pub fn copied(alloc: Global, channels: usize, count: usize) -> Result<u64> {
-    let channels = channel_count(channels)?;
-    let tree = linked(alloc, channels)?;
-    let mut sum = 0;
-    for round in 0..count {
-        let copy = tree.copy(alloc)?;
-        sum = with_channel(sum, copy.nth(round % channels as usize));
+/// Work on a tree of so many channels, which has the root alone before.
+fn work_on(alloc: Global, tree: &mut Tree, kind: &str, channels: u32, count: u32) -> Result<u64>
+    requires { 0 < channels }
+{
+    if kind == "path" || kind == "place" {
+        fill(alloc, tree, channels)?;
+        return work_unlinked(tree, kind, channels, count);
     }
-    Ok(sum)
+    fill_linked(alloc, tree, channels)?;
+    work_linked(alloc, tree, kind, channels, count)
+}
+
+/// So many times what the word says, of a tree of so many channels: `subtree` and `linked` of the root,
+/// each channel with 64 partners where there are enough, `path` of the last channel, `place` and `nth`
+/// of channels all over the tree, to `edit` channels all over it, to `build` it with its links, or to
+/// `copy` it.
+pub fn work(alloc: Global, kind: &str, channels: u32, count: u32) -> Result<u64> {
+    ensure!(channels > 0, "a tree has the root");
+    if kind == "build" {
+        return builds(alloc, channels, count);
+    }
+    let mut tree = Tree::new(alloc)?;
+    work_on(alloc, &mut tree, kind, channels, count)
 }

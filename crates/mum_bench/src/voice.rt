@@ -18,8 +18,10 @@ fn packet() -> [u8; 76] {
 fn copy_length(bytes: &[u8], with_position: bool) -> Result<u64, BadVoice> {
     let packet = Packet::parse(bytes)?;
     let copy = packet.copy_for(SessionId(12), 0, with_position);
-    let last = copy.as_slice().last().copied().map_or(0, u64::from);
-    Ok(last.wrapping_add(copy.len() as u64))
+    match copy.as_slice() {
+        [.., last] => Ok(u64::from(*last).wrapping_add(copy.len() as u64)),
+        [] => Ok(0),
+    }
 }
 
 /// Parses a usual packet and copies it for a recipient, so many times.
@@ -33,15 +35,16 @@ pub fn copies(with_position: bool, count: usize) -> Result<u64> {
 }
 
 /// Copies the greatest packet, of 1,025 bytes, so many times, and reads one byte of each copy.
-pub fn copied_packets(count: usize) -> Result<u64> {
+pub fn copied_packets(count: usize) -> u64 {
     let mut bytes = [0x5A; 1025];
     let mut sum: u64 = 0;
     for round in 0..count {
         bytes[round % 1025] ^= 1;
         let mut copy = ArrayVec::<u8, 1025>::new();
         let _ = copy.try_extend_from_slice(&bytes);
-        let byte = copy.as_slice().get(round % 1025).copied();
-        sum = sum.wrapping_add(byte.map_or(0, u64::from));
+        if let Some(byte) = copy.as_slice().get(round % 1025) {
+            sum = sum.wrapping_add(u64::from(*byte));
+        }
     }
-    Ok(sum)
+    sum
 }

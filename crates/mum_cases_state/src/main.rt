@@ -1,16 +1,22 @@
-//! The cases of the crates that the state stands on: the tree of channels, groups and access control
-//! lists, and the roster. Its tables lie in the folder `data`.
+//! The cases of the state and of what it stands on: the tree of channels, groups and access control
+//! lists, the roster; what each edit sets, what follows from it, which edits fit, what is read; and who
+//! hears whom there. Its tables lie in the folder `data`; the words of edits stand at the head of the
+//! table `edits`, those of routes at the head of `talk`.
 #![tactic(auto)]
 
 mod changes;
+mod edits;
 mod member;
 mod members;
 mod path;
 mod permissions;
 mod policy;
+mod questions;
 mod readers;
 mod roster;
+mod routes;
 mod said;
+mod scene;
 mod tree;
 
 use anyhow::Result;
@@ -24,5 +30,11 @@ fn main(rt: HostRuntime) -> Result<()> {
     tally.compare::<members::Definitions, HostRuntime>(&rt)?;
     tally.compare::<policy::Sizes, HostRuntime>(&rt)?;
     tally.compare::<roster::Calls, HostRuntime>(&rt)?;
+    tally.compare::<edits::Edits, HostRuntime>(&rt)?;
+    tally.compare::<edits::Effects, HostRuntime>(&rt)?;
+    tally.compare::<edits::Fitting, HostRuntime>(&rt)?;
+    tally.compare::<edits::Readers, HostRuntime>(&rt)?;
+    tally.compare::<routes::Talk, HostRuntime>(&rt)?;
+    tally.compare::<routes::Whispers, HostRuntime>(&rt)?;
     tally.finish(&rt)
 }

@@ -1,10 +1,12 @@
-//! A line of calls: edits that lead to a state, and packets that are routed there.
+//! The tables of routes, `talk` and `whispers`: who hears talk, whispers to a voice target, and loopback,
+//! and in which context. A line has edits that lead to a state, and packets that are routed there.
 
 ghost use Rattle.std.specs.Prelude.{◌≡◌, ◌<◌, ◌≤◌};
 ghost use Rattle.mum_route.specs.declared.routes.TheConstants.{LOOPBACK};
 
 use anyhow::{Result, ensure};
 use mum_base::{SessionId, Steps};
+use mum_cases::Table;
 use mum_cases_words::calls::edit;
 use mum_cases_words::calls_of;
 use mum_cases_words::words::{session, small, word_of};
@@ -14,6 +16,12 @@ use mum_tree::Scratch;
 use std::alloc::Global;
 use std::marker::Brand;
 use std::sync::ledger::{Blank, Ledger};
+
+/// Talk over links, those who listen, loopback, and everybody who is not heard or does not hear.
+pub struct Talk;
+
+/// Voice targets: channels, links, children, groups, sessions, those who listen.
+pub struct Whispers;
 
 /// Who hears a session, over a counter of the caller's choice.
 fn counted<L: Ledger>(
@@ -121,8 +129,24 @@ fn say(alloc: Global, said: &mut String, line: &str) -> Result<()> {
 }
 
 /// What the calls of a line say.
-pub fn answer(alloc: Global, line: &str) -> Result<String> {
+fn answer(alloc: Global, line: &str) -> Result<String> {
     let mut said = String::new(alloc);
     say(alloc, &mut said, line)?;
     Ok(said)
+}
+
+impl Table for Talk {
+    const NAME: &'static str = "talk";
+
+    fn answer(alloc: Global, question: &str) -> Result<String> {
+        answer(alloc, question)
+    }
+}
+
+impl Table for Whispers {
+    const NAME: &'static str = "whispers";
+
+    fn answer(alloc: Global, question: &str) -> Result<String> {
+        answer(alloc, question)
+    }
 }

@@ -10,7 +10,8 @@ use Rattle.mum_core.specs.declared.{outbox.Parcel.Parcel, slot.TheConstants.SLOT
 use Rattle.mum_core.specs.Worker.{WorkerState}
 
 -- each worker has a view of the history, and each slot an outbox and posts
-pub record IsKept (history : HistoryValue) (views : List ViewValue) (workers : List WorkerState) (outboxes : List (List Parcel)) (posts : List (List Notice)) : Type 0 where
+pub record IsKept (history : HistoryValue) (views : List ViewValue) (workers : List WorkerState)
+    (outboxes : List (List Parcel)) (posts : List (List Notice)) : Type 0 where
   pub views_of : All (IsViewOf history.opening history.accepted) views
   pub a_view_each : length views ≡ length workers
   -- the number of a worker is a byte

@@ -226,7 +226,9 @@ impl Course {
 
     /// Offers a copy of a worker for each of these sessions, and lets each drain one.
     fn deliver_to(&mut self, worker: u32, audience: &[SessionId]) -> Result<(), OutOfMemory>
-        ensures { OnOk result (self.new ≡ all_taken (all_taken self.old (replicate (length audience.now) (Offer worker))) (flat_map (λ session. Drain session.0 ∷ []) audience.now)) }
+        ensures { OnOk result (self.new ≡ all_taken
+            (all_taken self.old (replicate (length audience.now) (Offer worker)))
+            (flat_map (λ session. Drain session.0 ∷ []) audience.now)) }
     {
         self.offer_each(worker, audience)?;
         self.drain_each(audience)

@@ -140,7 +140,8 @@ pub fn murmur<I: Source, O: Sink, E: Sink>(
         ⊎ (AppendsFront (O.written output.old) (O.written output.new) (exercise_outcome seed rounds).text
         × IsCutShort result ⊥ (Rose (O.faults output.old) (O.faults output.new)))) }
     ensures exercise_says { (seed rounds : ℕ) → IsExercise (map string_bytes words.now) seed rounds →
-        Tells (said result (exercise_outcome seed rounds).ending) (E.written errors.old) (E.written errors.new) (Rose (E.faults errors.old) (E.faults errors.new)) }
+        Tells (said result (exercise_outcome seed rounds).ending)
+        (E.written errors.old) (E.written errors.new) (Rose (E.faults errors.old) (E.faults errors.new)) }
     // Whatever the input tells of its bytes, the two faults have their cause.
     ensures read_fault { result ≡ 3 → Rose (I.faults input.old) (I.faults input.new) }
     ensures write_fault { result ≡ 4 → Rose (O.faults output.old) (O.faults output.new) }

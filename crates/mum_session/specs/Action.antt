@@ -51,7 +51,8 @@ after_login (Some session) action = action
 
 -- a command waits to be decided
 abbrev pub command_action : Machine → Heard Asked → Action
-command_action machine (heard.Message what) = Ask (record { connection = machine.connection; worker = machine.worker; session = session_of machine.stage; what = what })
+command_action machine (heard.Message what) =
+    Ask (record { connection = machine.connection; worker = machine.worker; session = session_of machine.stage; what = what })
 command_action machine heard.Malformed = ignore Malformed
 command_action machine heard.TooLong = ignore (Because reasons.TooLong)
 

@@ -2,8 +2,6 @@
 use Rattle.std.specs.Prelude.{ℕ, List, ◌∷◌, [], ◌++◌, map, codes, decimal}
 use Rattle.std.specs.List.{flat_map, join_with_byte}
 use Rattle.hex.specs.Hex.{encode_lower}
-use Rattle.mum_base.specs.declared.reply.Mark.{Mark}
-use Rattle.mum_base.specs.declared.reply.Mark.TheVariants.{Accepted, Lacks, Refused, Rejected, Answer, Ignored}
 use Rattle.mum_record.specs.Words.{line_of_words}
 
 -- the text of lines, parted by line feeds
@@ -14,16 +12,7 @@ joined lines = join_with_byte 10 (map line_of_words lines)
 abbrev pub text_of : List (List (List ℕ)) → List ℕ
 text_of lines = flat_map (λ words. line_of_words words ++ 10 ∷ []) lines
 
--- a verdict in words, as journals have it
-abbrev pub mark_words : Mark → List (List ℕ)
-mark_words (Accepted revision) = codes "accepted" ∷ decimal revision ∷ []
-mark_words (Lacks perm channel) = codes "lacks" ∷ decimal perm.0 ∷ decimal channel.0 ∷ []
-mark_words (Refused kind) = codes "refused" ∷ decimal kind ∷ []
-mark_words (Rejected kind) = codes "rejected" ∷ decimal kind ∷ []
-mark_words Answer = codes "answer" ∷ []
-mark_words (Ignored why) = codes "ignored" ∷ decimal why ∷ []
-
--- the same of a connection, whose number stands behind the first word
+-- words of a connection, whose number stands behind the first of them
 abbrev pub said_of : ℕ → List (List ℕ) → List (List ℕ)
 said_of c [] = []
 said_of c (word ∷ words) = word ∷ decimal c ∷ words

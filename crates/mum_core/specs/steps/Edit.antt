@@ -8,11 +8,12 @@ use Rattle.mum_state.specs.Applied.{applied}
 use Rattle.mum_state.specs.State.{StateValue}
 use Rattle.mum_notify.specs.Notices.{notices}
 use Rattle.mum_notify.specs.declared.notice.Notice.{Notice}
+use Rattle.mum_record.specs.Journal.{verdict_words}
 use Rattle.mum_core.specs.declared.connection.Reply.{Reply}
 use Rattle.mum_core.specs.Case.{Case, not_opened}
 use Rattle.mum_core.specs.Connection.{answered, next_command, next_of_frame, session_of}
 use Rattle.mum_core.specs.Core.{CoreState, connection_at, current, at_connection}
-use Rattle.mum_core.specs.Line.{said_of, mark_words}
+use Rattle.mum_core.specs.Line.{said_of}
 use Rattle.mum_core.specs.Reply.{edits_of, mark, reply, verdict}
 
 abbrev pub forbids : CoreState → ℕ → List Case
@@ -49,7 +50,7 @@ abbrev pub does : CoreState → ℕ → CoreState
 does core c = option_map_or (decides core c) (decision core c) core
 
 abbrev pub line : CoreState → ℕ → Option Verdict → List (List ℕ)
-line core c verdict = option_map_or (λ verdict. said_of c (mark_words (mark (next_revision core) verdict))) verdict []
+line core c verdict = option_map_or (λ verdict. said_of c (verdict_words (mark (next_revision core) verdict))) verdict []
 
 abbrev pub lines : CoreState → ℕ → List (List (List ℕ))
 lines core c = line core c (decision core c) ∷ []

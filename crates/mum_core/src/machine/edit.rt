@@ -11,11 +11,12 @@ ghost use Rattle.mum_rules_tree.specs.Decision.{FitsWhereAccepted};
 ghost use Rattle.mum_core.specs.Case.{first_that_stands, named_cause};
 ghost use Rattle.mum_core.specs.Connection.{next_command};
 ghost use Rattle.mum_core.specs.Core.{connection_at, current as core_current, is_opened};
-ghost use Rattle.mum_core.specs.Line.{joined, mark_words, said_of};
+ghost use Rattle.mum_core.specs.Line.{joined, said_of};
 ghost use Rattle.mum_core.specs.Reply.{edits_of, mark, reply, seat_of};
 ghost use Rattle.mum_core.specs.declared.slot.TheConstants.{SLOTS as slots};
 ghost use Rattle.mum_core.specs.steps.Edit.{forbids, does, lines, next_revision, noticed, with_reply};
 ghost use Rattle.mum_notify.specs.Notices.{FitsFrame, notices as edit_notices};
+ghost use Rattle.mum_record.specs.Journal.{verdict_words};
 
 use super::{Core, StepFault, illegal};
 use crate::connection::{Connection, Reply, answer_at};
@@ -51,7 +52,7 @@ fn push_mark(
     mark: &Mark,
 ) -> Result<(), OutOfMemory>
     ensures { IfOk result (λ _. string_bytes text.new ≡ string_bytes text.old
-        ++ joined (said_of connection (mark_words mark.now) ∷ [])) }
+        ++ joined (said_of connection (verdict_words mark.now) ∷ [])) }
 {
     match *mark {
         Mark::Accepted { revision } => push_number(alloc, text, "accepted", connection, revision),
@@ -87,7 +88,7 @@ fn tell_verdict(
     requires { IfSome (seat_of verdict.now) (λ seat. seat.slot.0 < slots) }
     ensures reply { IfOk result (λ answered. answered ≡ reply revision session verdict.now) }
     ensures told { IfOk result (λ _. string_bytes text.new ≡ string_bytes text.old
-        ++ joined (said_of connection (mark_words (mark revision verdict.now)) ∷ [])) }
+        ++ joined (said_of connection (verdict_words (mark revision verdict.now)) ∷ [])) }
 {
     push_mark(alloc, text, connection, &mark_of(revision, verdict))?;
     reply(alloc, revision, session, verdict)

@@ -9,6 +9,7 @@ ghost use Rattle.mum_core.specs.Machine.{machine_of, stage_of};
 use crate::slot::ValidSlot;
 use mum_base::{Mark, Octets, SessionId};
 use mum_session::{Asked, Session, Stage};
+use std::mem::drop;
 
 /// A session and the slot that it holds.
 #[derive(Clone, Copy)]
@@ -227,7 +228,7 @@ impl Connection {
     fn ask(&mut self, what: Asked)
         ensures { self.new ≡ asking what self.old }
     {
-        self.waiting = Some(what);
+        drop(self.waiting.replace(what));
         self.leave = self.leave.followed();
     }
 
@@ -236,8 +237,8 @@ impl Connection {
         ensures { self.new ≡ answered (next_of_frame self.old) reply self.old }
     {
         if self.frame_is_next() {
-            self.waiting = None;
-            self.decided = Some(reply);
+            drop(self.waiting.take());
+            drop(self.decided.replace(reply));
         } else {
             self.leave = Leave::Decided;
         }
@@ -285,8 +286,9 @@ pub fn lag_at_session(connections: &mut Vec<Connection>, session: SessionId)
 pub fn ask_at(connections: &mut Vec<Connection>, place: usize, what: Asked)
     ensures { connections.new.items ≡ changed_at place (asking what) connections.old.items }
 {
-    if let Some(connection) = connections.get_mut(place) {
-        connection.ask(what);
+    match connections.get_mut(place) {
+        Some(connection) => connection.ask(what),
+        None => drop(what),
     }
 }
 

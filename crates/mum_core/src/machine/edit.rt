@@ -1,10 +1,11 @@
 //! The step `edit`: the control owner decides the command of a connection that waits.
 
-ghost use Rattle.std.specs.Prelude.{◌≡◌, ◌++◌, ◌<◌, ◌∷◌, [], IfOk, IfSome, MatchResult, None, OnErr, OnOk, decimal, is_some, length, string_bytes, true};
+ghost use Rattle.std.specs.Prelude.{◌≡◌, ◌++◌, ◌-◌, ◌<◌, ◌∷◌, [], IfOk, IfSome, MatchResult, None, OnErr, OnOk, decimal, is_some, length, string_bytes, take, true};
 ghost use Rattle.mum_base.specs.Refusal.{Settles};
 ghost use Rattle.std.specs.List.{AllByRecursion};
 ghost use Rattle.std.specs.Prelude.{IsTrue};
 ghost use Rattle.mum_history.specs.History.{current, with_edit};
+ghost use Rattle.mum_state.specs.Applied.{applied};
 ghost use Rattle.mum_state.specs.Fits.{fits};
 ghost use Rattle.mum_state.specs.declared.verdict.Verdict.TheVariants.{Accepted};
 ghost use Rattle.mum_rules_tree.specs.Decision.{FitsWhereAccepted};
@@ -28,6 +29,7 @@ use mum_notify::notices;
 use mum_record::{Word, push_line};
 use mum_state::{Edit, State, Verdict};
 use std::alloc::Global;
+use std::mem::drop;
 
 /// Appends a line of a word, the connection and one more number.
 fn push_number(
@@ -112,6 +114,57 @@ fn put_notices(
     Ok(told.as_slice().len())
 }
 
+/// The state to which an edit leads, once the notices that tell of it stand behind those that are
+/// pending, and how many these are.
+fn tell_of_edit(
+    alloc: Global,
+    history: &mut History,
+    pending: &mut NoticeQueue,
+    edit: &Edit,
+) -> Result<(State, usize), OutOfMemory>
+    requires fits { IsTrue (fits (current history.old) edit.now) }
+    requires frame { FitsFrame edit.now }
+    ensures next { IfOk result (λ told. told.0 ≡ applied (current history.old) edit.now) }
+    ensures count { IfOk result (λ told. told.1 ≡ length (noticed (current history.old) (Accepted edit.now))) }
+    ensures same { history.new ≡ history.old }
+    ensures told { OnOk result (pending.new ≡ pending.old ++ noticed (current history.old) (Accepted edit.now)) }
+    ensures err { OnErr result (pending.new ≡ pending.old) }
+{
+    let next = history.next_state(edit)?;
+    match put_notices(alloc, pending, history.current(), edit, &next) {
+        Ok(count) => Ok((next, count)),
+        Err(error) => {
+            drop(next);
+            Err(error)
+        }
+    }
+}
+
+/// Appends an edit that leads to this state; as many of the pending notices tell of it, and go where
+/// memory runs out.
+fn append_edit(
+    history: &mut History,
+    pending: &mut NoticeQueue,
+    edit: Edit,
+    next: State,
+    count: usize,
+) -> Result<(), OutOfMemory>
+    requires fits { IsTrue (fits (current history.old) edit) }
+    requires next { next ≡ applied (current history.old) edit }
+    ensures ok { OnOk result (history.new ≡ with_edit history.old edit) }
+    ensures told { OnOk result (pending.new ≡ pending.old) }
+    ensures err { OnErr result (history.new ≡ history.old) }
+    ensures none_told { OnErr result (pending.new ≡ take (length pending.old - count) pending.old) }
+{
+    match history.append(edit, next) {
+        Ok(()) => Ok(()),
+        Err(error) => {
+            pending.take_back(count);
+            Err(error)
+        }
+    }
+}
+
 /// Appends an edit, and the notices that tell of it to those that are pending.
 fn accept_edit(
     alloc: Global,
@@ -126,13 +179,11 @@ fn accept_edit(
     ensures err { OnErr result (history.new ≡ history.old) }
     ensures none_told { OnErr result (pending.new ≡ pending.old) }
 {
-    let next = history.next_state(&edit)?;
-    let count = put_notices(alloc, pending, history.current(), &edit, &next)?;
-    match history.append(edit, next) {
-        Ok(()) => Ok(()),
-        Err(e) => {
-            pending.take_back(count);
-            Err(e)
+    match tell_of_edit(alloc, history, pending, &edit) {
+        Ok((next, count)) => append_edit(history, pending, edit, next, count),
+        Err(error) => {
+            drop(edit);
+            Err(error)
         }
     }
 }
@@ -205,8 +256,12 @@ impl Core {
         let session = asker.session();
         let verdict = decide_next(self.alloc, self.history.current(), asker)?;
         let revision = self.next_revision();
-        let reply = tell_verdict(self.alloc, text, connection, revision, session, &verdict)?;
-        self.settle(connection, verdict, reply)?;
-        Ok(())
+        match tell_verdict(self.alloc, text, connection, revision, session, &verdict) {
+            Ok(reply) => Ok(self.settle(connection, verdict, reply)?),
+            Err(error) => {
+                drop(verdict);
+                Err(StepFault::from(error))
+            }
+        }
     }
 }

@@ -23,6 +23,7 @@ use mum_record::{Word, push_line};
 use mum_session::{Action, Command};
 use mum_voice::Packet;
 use std::alloc::Global;
+use std::mem::drop;
 
 /// The frame that bytes are, with a payload of its own.
 fn frame_of(alloc: Global, bytes: &[u8]) -> Result<Frame, OutOfMemory>
@@ -113,7 +114,10 @@ impl Core {
         ensures told { OnOk result (string_bytes text.new ≡ string_bytes text.old ++ joined (lines connection (Ask command))) }
     {
         let number = Word::Number(u64::from(connection));
-        push_line(self.alloc, text, "asked", &[number])?;
+        if let Err(error) = push_line(self.alloc, text, "asked", &[number]) {
+            drop(command);
+            return Err(StepFault::from(error));
+        }
         ask_at(&mut self.connections, connection as usize - 1, command.what);
         Ok(())
     }

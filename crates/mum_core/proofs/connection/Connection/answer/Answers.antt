@@ -5,4 +5,4 @@ use Rattle.mum_core.proofs.connection.Connection.answer.Goals as goal
 
 pub returns-then-frame_is_next : goal.returns-then-frame_is_next
 returns-then-frame_is_next c =
-    frame_answered (next_of_frame c.args.self.now) c.args.reply c.args.self.now (sym c.frame_is_next.ensures ∙ c.if-frame_is_next.true)
+    rw (c.take.ensures.after, c.replace.ensures.after) (frame_answered (next_of_frame c.args.self.now) c.args.reply c.args.self.now (sym c.frame_is_next.ensures ∙ c.if-frame_is_next.true))

@@ -21,6 +21,11 @@ abbrev pub Reads : {X : Type 0} → Option Fault → X → Result X BadConfig �
 Reads fault value (Ok read) = (fault ≡ None) × (read ≡ value)
 Reads fault value (Err error) = Names error fault
 
+-- the same of a reader that lends a text
+abbrev pub Lends : Option Fault → List ℕ → Result (Bor (List ℕ)) BadConfig → Type 0
+Lends fault text (Ok read) = (fault ≡ None) × (read.now ≡ text)
+Lends fault text (Err error) = Names error fault
+
 -- the same of a reader that takes no memory and knows no way
 abbrev pub Judges : {X : Type 0} → Option Fault → X → Result X ConfigFault → Type 0
 Judges fault value (Ok read) = (fault ≡ None) × (read ≡ value)

@@ -3,6 +3,7 @@
 ghost use Rattle.std.specs.Prelude.{◌≡◌, ◌++◌, [], ◌∷◌, OnOk, map};
 ghost use Rattle.serde_json.specs.View.{view};
 ghost use Rattle.mum_config.specs.Account.{AccountsMet, account_edit, account_fault, account_name, account_number, no_accounts, with_account_met};
+ghost use Rattle.mum_state.specs.declared.edit.Edit.TheVariants.{AddAccount};
 ghost use Rattle.mum_config.specs.Object.{elements_fault};
 ghost use Rattle.mum_config.specs.Reading.{Reads};
 
@@ -10,12 +11,32 @@ use crate::fault::{BadConfig, ConfigFault, at_place};
 use crate::name::new_name;
 use crate::object::Object;
 use indexmap::IndexSet;
-use mum_base::AccountId;
+use mum_base::{AccountId, OutOfMemory, Text};
 use mum_state::Edit;
 use serde_json::Value;
 use std::alloc::Global;
 
 const KEYS: [&str; 3] = ["id", "name", "password_sha256"];
+
+/// Adds the edit that adds an account.
+fn push_account(
+    alloc: Global,
+    number: u32,
+    name: &str,
+    digest: [u8; 32],
+    edits: &mut Vec<Edit>,
+) -> Result<(), OutOfMemory>
+    ensures { OnOk result (edits.new.items
+        ≡ edits.old.items ++ AddAccount (record { 0 = number }) name.now digest ∷ []) }
+{
+    let name = Text::of(alloc, name)?;
+    edits.push(Edit::AddAccount {
+        account: AccountId(number),
+        name,
+        digest,
+    })?;
+    Ok(())
+}
 
 /// Adds the edit that adds an account, whose number and name none of those before it has.
 fn read_account<'a>(
@@ -47,15 +68,36 @@ fn read_account<'a>(
     object.refuse_if(!new_number, "id", ConfigFault::Twice)?;
     let name = new_name(&object, names)?;
     let digest = object.needed_digest("password_sha256")?;
-    edits.push(Edit::AddAccount {
-        account: AccountId(number),
-        name,
-        digest,
-    })?;
+    push_account(alloc, number, name, digest, edits)?;
     Ok(())
 }
 
-/// The edits that add accounts, at the end of others.
+/// Adds the edits that add accounts, whose numbers and names none of those before them has.
+fn add_accounts<'a>(
+    alloc: Global,
+    values: &'a [Value],
+    numbers: &mut IndexSet<u32>,
+    names: &mut IndexSet<&'a str>,
+    edits: &mut Vec<Edit>,
+) -> Result<(), BadConfig>
+    ensures reads { Reads (elements_fault account_fault with_account_met (record {
+      numbers = numbers.old.keys;
+      names = map (λ n. n.now) names.old.keys;
+    }) 0 (map view values.now)) tt result }
+    ensures edits { OnOk result
+        (edits.new.items ≡ edits.old.items ++ map account_edit (map view values.now)) }
+{
+    for (place, value) in values.iter().enumerate() {
+        at_place(
+            alloc,
+            place,
+            read_account(alloc, value, numbers, names, edits),
+        )?;
+    }
+    Ok(())
+}
+
+/// Adds the edits that add accounts, at the end of others.
 pub(crate) fn read_accounts(
     alloc: Global,
     values: &[Value],
@@ -68,12 +110,5 @@ pub(crate) fn read_accounts(
 {
     let mut numbers = IndexSet::new(alloc);
     let mut names = IndexSet::new(alloc);
-    for (place, value) in values.iter().enumerate() {
-        at_place(
-            alloc,
-            place,
-            read_account(alloc, value, &mut numbers, &mut names, edits),
-        )?;
-    }
-    Ok(())
+    add_accounts(alloc, values, &mut numbers, &mut names, edits)
 }

@@ -1,11 +1,12 @@
 //! Channels.
 
-ghost use Rattle.std.specs.Prelude.{◌≡◌, ◌<◌, ◌++◌, [], ◌∷◌, IfOk, OnOk, false, fold, map, true};
+ghost use Rattle.std.specs.Prelude.{◌≡◌, ◌<◌, ◌++◌, [], ◌∷◌, IfOk, None, OnOk, false, fold, map, true};
+ghost use Rattle.mum_state.specs.declared.edit.Edit.TheVariants.{MakeChannel};
 ghost use Rattle.std.specs.List.{flat_map, list_any};
 ghost use Rattle.serde_json.specs.View.{view};
-ghost use Rattle.mum_config.specs.Channel.{are_too_many, channel_edits, channel_fault, channel_name, channel_number, depth_above, depth_of, is_root_entry, made_fault, met_of, name_rows, number_rows, parent_number, parent_rows, rises, root_fault, root_met, seats_of, with_channel_met};
+ghost use Rattle.mum_config.specs.Channel.{are_too_many, channel_edits, channel_fault, channel_name, channel_number, depth_above, depth_of, info_of, is_root_entry, made_fault, met_of, name_rows, number_rows, parent_number, parent_rows, rises, root_fault, root_met, seats_of, with_channel_met};
 ghost use Rattle.mum_config.specs.Object.{elements_fault, rows_fault};
-ghost use Rattle.mum_config.specs.Reading.{Reads};
+ghost use Rattle.mum_config.specs.Reading.{Lends, Reads};
 ghost use Rattle.mum_config.specs.Channel.{ReadsDepths};
 
 use crate::fault::{BadConfig, ConfigFault, at_place};
@@ -17,6 +18,7 @@ use mum_state::Edit;
 use mum_tree::{CHANNEL_LIMIT, PATH_LIMIT};
 use serde_json::Value;
 use std::alloc::Global;
+use std::mem::drop;
 
 const ROOT_KEYS: [&str; 7] = [
     "id",
@@ -63,6 +65,12 @@ impl<'a> Met<'a> {
             depths,
             seats: IndexSet::new(alloc),
         })
+    }
+
+    fn into_depths(self) -> IndexMap<u32, usize>
+        ensures { result ≡ self.entry.depths }
+    {
+        self.depths
     }
 }
 
@@ -131,17 +139,17 @@ fn name_in<'a>(
     object: &Object<'a>,
     parent: u32,
     seats: &mut IndexSet<(u32, &'a str)>,
-) -> Result<Text, BadConfig>
+) -> Result<&'a str, BadConfig>
     requires { parent ≡ parent_number (view object.now.value.now) }
     ensures reads { let value = view object.now.value.now in
-        Reads (rows_fault object.now.dot.now (name_rows (seats_of seats.old.keys) value))
+        Lends (rows_fault object.now.dot.now (name_rows (seats_of seats.old.keys) value))
         (channel_name value) result }
     ensures seats { let value = view object.now.value.now in OnOk result
         (seats_of seats.new.keys
         ≡ seats_of seats.old.keys ++ (parent_number value, channel_name value) ∷ []) }
 {
     let name = object.needed_name("name")?;
-    let new_seat = seats.insert((parent, object.text_at("name")))?;
+    let new_seat = seats.insert((parent, name))?;
     object.refuse_if(!new_seat, "name", ConfigFault::Twice)?;
     Ok(name)
 }
@@ -173,6 +181,38 @@ fn read_root<'a>(
     Ok(())
 }
 
+/// Adds the edit that makes a channel.
+fn push_made(
+    alloc: Global,
+    number: u32,
+    parent: u32,
+    name: &str,
+    info: GivenInfo,
+    edits: &mut Vec<Edit>,
+) -> Result<(), OutOfMemory>
+    ensures { OnOk result (edits.new.items
+        ≡ edits.old.items ++ MakeChannel (record { 0 = number }) (record { 0 = parent }) name.now false (info_of info) None ∷ []) }
+{
+    let info = info.into_info(alloc);
+    match Text::of(alloc, name) {
+        Ok(name) => {
+            edits.push(Edit::MakeChannel {
+                id: ChannelId(number),
+                parent: ChannelId(parent),
+                name,
+                temporary: false,
+                info,
+                maker: None,
+            })?;
+            Ok(())
+        }
+        Err(error) => {
+            drop(info);
+            Err(error)
+        }
+    }
+}
+
 /// Adds the edits of a channel that is made.
 fn read_made<'a>(
     alloc: Global,
@@ -198,14 +238,7 @@ fn read_made<'a>(
     met.depths.insert(number, parent.depth + 1)?;
     let name = name_in(&object, parent.number, &mut met.seats)?;
     let info = GivenInfo::read(&object)?;
-    edits.push(Edit::MakeChannel {
-        id: ChannelId(number),
-        parent: ChannelId(parent.number),
-        name,
-        temporary: false,
-        info: info.into_info(alloc),
-        maker: None,
-    })?;
+    push_made(alloc, number, parent.number, name, info, edits)?;
     add_policy(&object, ChannelId(number), edits)?;
     Ok(())
 }
@@ -279,6 +312,11 @@ pub(crate) fn read_channels(
         (edits.new.items ≡ edits.old.items ++ flat_map channel_edits (map view values.now)) }
 {
     let mut met = Met::new(alloc)?;
-    add_channels(alloc, values, &mut met, edits)?;
-    Ok(met.depths)
+    match add_channels(alloc, values, &mut met, edits) {
+        Ok(()) => Ok(met.into_depths()),
+        Err(error) => {
+            drop(met);
+            Err(error)
+        }
+    }
 }

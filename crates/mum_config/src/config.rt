@@ -17,6 +17,7 @@ use crate::channel::{are_too_many, read_channels};
 use crate::fault::{BadConfig, ConfigFault, fault_at};
 use crate::link::read_links;
 use crate::object::Object;
+use crate::value::or_empty;
 use indexmap::IndexMap;
 use mum_base::name::TEXT_LIMIT;
 use mum_base::{Items, Text};
@@ -91,9 +92,7 @@ impl Settings {
         ensures { result ≡ server_edit self }
     {
         Edit::SetServer {
-            welcome: self
-                .welcome
-                .unwrap_or(Text::from_string(String::new(alloc))),
+            welcome: or_empty(alloc, self.welcome),
             bandwidth: self.bandwidth.unwrap_or(DEFAULT_BANDWIDTH),
             password: self.password,
         }

@@ -11,6 +11,7 @@ ghost use Rattle.mum_config.specs.Value.{number_fault, wanted};
 
 use crate::fault::{BadConfig, ConfigFault, at_place};
 use crate::object::Object;
+use crate::value::or_empty;
 use mum_base::name::NAME_LIMIT;
 use mum_base::{AccountId, Items, Perm, Text};
 use mum_policy::{AclEntry, Whom};
@@ -36,7 +37,7 @@ fn whom_in(object: &Object<'_>) -> Result<Whom, BadConfig>
     let group = object.text("group", NAME_LIMIT)?;
     match account {
         Some(account) => Ok(Whom::Account(AccountId(account))),
-        None => Ok(Whom::Group(group.unwrap_or(Text::from_string(String::new(object.alloc))))),
+        None => Ok(Whom::Group(or_empty(object.alloc, group))),
     }
 }
 

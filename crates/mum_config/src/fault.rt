@@ -4,7 +4,6 @@ ghost use Rattle.std.specs.Prelude.{◌≡◌, ◌++◌, IfOk, Ok, Option, Some}
 ghost use Rattle.mum_config.specs.Fault.{Fault, fault_code, place_text, within};
 ghost use Rattle.mum_config.specs.Reading.{Names, Reads};
 
-use itoa::Buffer;
 use mum_base::{OutOfMemory, Text};
 use std::alloc::{AllocFailed, Global};
 use thiserror::Error;
@@ -128,10 +127,7 @@ pub(crate) fn seen_from(alloc: Global, way: &str, error: BadConfig) -> BadConfig
 fn place_way(alloc: Global, place: usize) -> Result<Text, OutOfMemory>
     ensures { IfOk result (λ way. way ≡ place_text place) }
 {
-    let mut way = String::from_str(alloc, "[")?;
-    way.push_str(Buffer::new().format(place as u64))?;
-    way.push_str("]")?;
-    Ok(Text::from_string(way))
+    Ok(Text::from_string(format!(in alloc; "[{place}]")?))
 }
 
 /// The same error, seen from the list that has what it is about at this place.

@@ -11,6 +11,7 @@ use crate::entry::read_entries;
 use crate::fault::BadConfig;
 use crate::group::read_groups;
 use crate::object::Object;
+use crate::value::or_empty;
 use mum_base::name::TEXT_LIMIT;
 use mum_base::{ChannelId, Items, OutOfMemory, Text};
 use mum_policy::policy::{ENTRIES, GROUPS};
@@ -57,9 +58,7 @@ impl GivenInfo {
         ensures { result ≡ info_of self }
     {
         ChannelInfo {
-            description: self
-                .description
-                .unwrap_or(Text::from_string(String::new(alloc))),
+            description: or_empty(alloc, self.description),
             position: self.position.unwrap_or(0),
             max_users: self.max_users.unwrap_or(0),
         }

@@ -13,7 +13,7 @@ use crate::name::new_name;
 use crate::object::Object;
 use crate::value::read_number;
 use indexmap::IndexSet;
-use mum_base::{AccountId, Items};
+use mum_base::{AccountId, Items, Text};
 use mum_policy::Group;
 use mum_policy::policy::GROUP_ACCOUNTS;
 use serde_json::Value;
@@ -78,6 +78,7 @@ fn read_group<'a>(
     let inheritable = object.flag("inheritable")?;
     let add = accounts_in(&object, "add")?;
     let remove = accounts_in(&object, "remove")?;
+    let name = Text::of(alloc, name)?;
     groups.push(Group {
         name,
         inherit: inherit.unwrap_or(true),

@@ -155,6 +155,26 @@ fn read_link(
     Ok(())
 }
 
+/// Adds the edits of links to those that were met before.
+fn add_links(
+    alloc: Global,
+    values: &[Value],
+    depths: &IndexMap<u32, usize>,
+    met: &mut Met,
+    edits: &mut Vec<Edit>,
+) -> Result<(), BadConfig>
+    requires { AreCounted met.old.counts.entries met.old.ends.keys }
+    ensures reads { Reads (elements_fault (link_fault depths.now.entries) with_link_met met.old.ends.keys 0
+        (map view values.now)) tt result }
+    ensures edits { OnOk result
+        (edits.new.items ≡ edits.old.items ++ map link_edit (map view values.now)) }
+{
+    for (place, value) in values.iter().enumerate() {
+        at_place(alloc, place, read_link(alloc, value, depths, met, edits))?;
+    }
+    Ok(())
+}
+
 /// Adds the edits of links between channels of which these are the depths.
 pub(crate) fn read_links(
     alloc: Global,
@@ -171,12 +191,5 @@ pub(crate) fn read_links(
         ends: IndexSet::new(alloc),
         counts: IndexMap::new(alloc),
     };
-    for (place, value) in values.iter().enumerate() {
-        at_place(
-            alloc,
-            place,
-            read_link(alloc, value, depths, &mut met, edits),
-        )?;
-    }
-    Ok(())
+    add_links(alloc, values, depths, &mut met, edits)
 }

@@ -4,20 +4,19 @@ ghost use Rattle.std.specs.Prelude.{◌≡◌, ◌++◌, [], ◌∷◌, OnOk, co
 ghost use Rattle.serde_json.specs.View.{view};
 ghost use Rattle.mum_config.specs.Object.{rows_fault, text_at};
 ghost use Rattle.mum_config.specs.Policy.{group_name_rows};
-ghost use Rattle.mum_config.specs.Reading.{Reads};
+ghost use Rattle.mum_config.specs.Reading.{Lends};
 
 use crate::fault::{BadConfig, ConfigFault};
 use crate::object::Object;
 use indexmap::IndexSet;
-use mum_base::Text;
 
 /// The name at the key `name`, which none of those before it is.
 pub(crate) fn new_name<'a>(
     object: &Object<'a>,
     names: &mut IndexSet<&'a str>,
-) -> Result<Text, BadConfig>
+) -> Result<&'a str, BadConfig>
     ensures reads { let value = view object.now.value.now in
-        Reads (rows_fault object.now.dot.now
+        Lends (rows_fault object.now.dot.now
         (group_name_rows (map (λ n. n.now) names.old.keys) value))
         (text_at (codes "name") value) result }
     ensures names { let value = view object.now.value.now in OnOk result
@@ -25,7 +24,7 @@ pub(crate) fn new_name<'a>(
         ≡ map (λ n. n.now) names.old.keys ++ text_at (codes "name") value ∷ []) }
 {
     let name = object.needed_name("name")?;
-    let is_new = names.insert(object.text_at("name"))?;
+    let is_new = names.insert(name)?;
     object.refuse_if(!is_new, "name", ConfigFault::Twice)?;
     Ok(name)
 }

@@ -8,7 +8,7 @@ ghost use Rattle.serde_json.specs.Find.{as_object, get};
 ghost use Rattle.serde_json.specs.View.{view};
 ghost use Rattle.mum_config.specs.Fault.{Fault, against, within};
 ghost use Rattle.mum_config.specs.Object.{elements_at, has, number_at, opening_fault, text_at, unknown_fault};
-ghost use Rattle.mum_config.specs.Reading.{Names, Reads, ReadsElements, ReadsValues};
+ghost use Rattle.mum_config.specs.Reading.{Lends, Names, Reads, ReadsElements, ReadsValues};
 ghost use Rattle.mum_config.specs.Value.{digest_fault, digest_of, elements_of, flag_fault, flag_of, list_fault, name_fault, needed, number_fault, number_of, signed_fault, signed_of, text_fault, text_of, wanted};
 
 use crate::fault::{BadConfig, ConfigFault, fault_at, seen_from};
@@ -109,16 +109,6 @@ impl<'a> Object<'a> {
         self.value.get(name).is_some()
     }
 
-    /// The text at a key; none where there is no text.
-    pub fn text_at(&self, name: &str) -> &'a str
-        ensures { result.now ≡ text_at name.now (view self.now.value.now) }
-    {
-        match self.value.get(name).and_then(Value::as_str) {
-            Some(text) => text,
-            None => "",
-        }
-    }
-
     /// A number from `low` to `high`.
     pub fn number(&self, name: &str, low: u32, high: u32) -> Result<Option<u32>, BadConfig>
         ensures { let found = get name.now (view self.now.value.now) in
@@ -192,14 +182,14 @@ impl<'a> Object<'a> {
     }
 
     /// A name that must be there.
-    pub fn needed_name(&self, name: &str) -> Result<Text, BadConfig>
+    pub fn needed_name(&self, name: &str) -> Result<&'a str, BadConfig>
         ensures { let object = view self.now.value.now in
-            Reads (within (self.now.dot.now ++ name.now)
+            Lends (within (self.now.dot.now ++ name.now)
             (needed name_fault (get name.now object))) (text_at name.now object) result }
     {
         match self.value.get(name) {
             Some(value) => match read_name(value) {
-                Ok(text) => Ok(Text::of(self.alloc, text)?),
+                Ok(text) => Ok(text),
                 Err(cause) => Err(self.fault(name, cause)),
             },
             None => Err(self.fault(name, ConfigFault::WrongKind)),

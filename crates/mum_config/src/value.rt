@@ -1,14 +1,15 @@
 //! Values of a document by their kinds. These calls take no memory.
 
-ghost use Rattle.std.specs.Prelude.{◌≡◌, map};
+ghost use Rattle.std.specs.Prelude.{◌≡◌, [], map, unwrap_or};
 ghost use Rattle.serde_json.specs.View.{view};
 ghost use Rattle.mum_config.specs.Reading.{Judges, JudgesList, JudgesText};
 ghost use Rattle.mum_config.specs.Value.{digest_fault, digest_of, flag_fault, flag_of, name_fault, number_fault, number_of, signed_fault, signed_of, text_fault, text_of};
 
 use crate::fault::ConfigFault;
 use hex::FromHex;
-use mum_base::check_name;
+use mum_base::{Text, check_name};
 use serde_json::Value;
+use std::alloc::Global;
 
 /// A number from `low` to `high`.
 pub(crate) fn read_number(value: &Value, low: u32, high: u32) -> Result<u32, ConfigFault>
@@ -27,7 +28,10 @@ pub(crate) fn read_signed(value: &Value) -> Result<i32, ConfigFault>
     ensures { Judges (signed_fault (view value.now)) (signed_of (view value.now)) result }
 {
     match value.as_i64() {
-        Some(number) => i32::try_from(number).map_err(|_| ConfigFault::OutOfRange),
+        Some(number) => match i32::try_from(number) {
+            Ok(number) => Ok(number),
+            Err(_) => Err(ConfigFault::OutOfRange),
+        },
         None if value.is_u64() => Err(ConfigFault::OutOfRange),
         None => Err(ConfigFault::WrongKind),
     }
@@ -82,5 +86,15 @@ pub(crate) fn read_list(value: &Value, limit: usize) -> Result<&[Value], ConfigF
         Some(values) if values.len() <= limit => Ok(values.as_slice()),
         Some(_) => Err(ConfigFault::Limit),
         None => Err(ConfigFault::WrongKind),
+    }
+}
+
+/// The text, or one without a byte where none is given.
+pub(crate) fn or_empty(alloc: Global, given: Option<Text>) -> Text
+    ensures { result ≡ unwrap_or given [] }
+{
+    match given {
+        Some(text) => text,
+        None => Text::empty(alloc),
     }
 }

@@ -60,15 +60,15 @@ returns-clause-reads c =
       refl,
     )
 
-pub returns-in_err-push-clause-reads : goal.returns-in_err-push-clause-reads
+pub returns-in_err-push_account-clause-reads : goal.returns-in_err-push_account-clause-reads
 unfolding account_fault
-returns-in_err-push-clause-reads c =
-    let p = err_from_is_err_and c.from_residual-in_err-push.result c.from_residual-in_err-push.ensures.1 in
+returns-in_err-push_account-clause-reads c =
+    let p = err_from_is_err_and c.from_residual-in_err-push_account.result c.from_residual-in_err-push_account.ensures.1 in
     rw p.1 (out_of_memory _ _ p.2)
 
 pub returns-clause-edits : goal.returns-clause-edits
 unfolding account_edit
-returns-clause-edits c = rw (c.in_ok-push.ensures.items, c.in_ok-number.ensures.1, c.in_ok-name.ensures.reads.1, c.in_ok-digest.ensures.1) refl
+returns-clause-edits c = rw (c.in_ok-push_account.ensures, c.in_ok-number.ensures.1, c.in_ok-name.ensures.reads.1, c.in_ok-digest.ensures.1) refl
 
 pub returns-clause-numbers : goal.returns-clause-numbers
 returns-clause-numbers c =

@@ -8,13 +8,11 @@ returns-in_err-met-clause-reads c =
     let p = err_from_is_err_and c.from_residual.result c.from_residual.ensures.1 in
     rw p.1 (out_of_memory _ _ p.2)
 
-pub returns-in_err-add_channels-clause-reads : goal.returns-in_err-add_channels-clause-reads
-returns-in_err-add_channels-clause-reads c =
-    let p = err_from_is_err_and c.from_residual-in_err-add_channels.result c.from_residual-in_err-add_channels.ensures.1 in
-    rw (p.1, p.2) (rw c.in_ok-met.ensures at c.in_err-add_channels.ensures.reads)
+pub returns-in-Err-clause-reads : goal.returns-in-Err-clause-reads
+returns-in-Err-clause-reads c = rw c.in_ok-met.ensures at c.in-Err.ensures.reads
 
-pub returns-clause-reads : goal.returns-clause-reads
-returns-clause-reads c = (
-  rw c.in_ok-met.ensures at c.in_ok-add_channels.ensures.reads.0,
-  ap (λ met. met.depths) (rw c.in_ok-met.ensures at c.in_ok-add_channels.ensures.met),
+pub returns-in-Ok-clause-reads : goal.returns-in-Ok-clause-reads
+returns-in-Ok-clause-reads c = (
+  rw c.in_ok-met.ensures at c.in-Ok.ensures.reads.0,
+  rw c.into_depths.ensures (ap (λ met. met.depths) (rw c.in_ok-met.ensures at c.in-Ok.ensures.met)),
 )

@@ -48,10 +48,10 @@ returns-in_err-insert-clause-reads c =
     let p = err_from_is_err_and c.from_residual-in_err-insert.result c.from_residual-in_err-insert.ensures.1 in
     rw p.1 (out_of_memory _ _ p.2)
 
-pub returns-in_err-push-clause-reads : goal.returns-in_err-push-clause-reads
+pub returns-in_err-push_made-clause-reads : goal.returns-in_err-push_made-clause-reads
 unfolding made_fault
-returns-in_err-push-clause-reads c =
-    let p = err_from_is_err_and c.from_residual-in_err-push.result c.from_residual-in_err-push.ensures.1 in
+returns-in_err-push_made-clause-reads c =
+    let p = err_from_is_err_and c.from_residual-in_err-push_made.result c.from_residual-in_err-push_made.ensures.1 in
     rw p.1 (out_of_memory _ _ p.2)
 
 pub returns-clause-reads : goal.returns-clause-reads
@@ -69,7 +69,7 @@ returns-clause-met c =
 pub returns-clause-edits : goal.returns-clause-edits
 unfolding channel_edits
 returns-clause-edits c =
-    rw (c.in_ok-add_policy.ensures.edits, c.in_ok-push.ensures.items, c.requires, c.into_info.ensures, c.in_ok-info.ensures.1, c.in_ok-name.ensures.reads.1, c.in_ok-number.ensures.1, ap (λ p. p.number) c.in_ok-parent.ensures.reads.1)
+    rw (c.in_ok-add_policy.ensures.edits, c.in_ok-push_made.ensures, c.requires, c.in_ok-info.ensures.1, c.in_ok-name.ensures.reads.1, c.in_ok-number.ensures.1, ap (λ p. p.number) c.in_ok-parent.ensures.reads.1)
     (simp append_assoc)
 
 pub name_in-requires : goal.name_in-requires

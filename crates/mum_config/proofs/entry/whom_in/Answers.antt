@@ -29,5 +29,5 @@ returns-in-Some c = (
 pub returns-in-None : goal.returns-in-None
 returns-in-None c = (
   none_said _ _ c.in_ok-account.ensures.0 (none_said _ _ (rw c.lacks_whom.ensures at c.in_ok-refuse_if.ensures.0) (none_said _ _ c.in_ok-group.ensures.0 refl)),
-  group_whom (view c.args.object.now.value.now) c.unwrap_or.result (sym c.in-None.is ∙ c.in_ok-account.ensures.1) (rw (c.unwrap_or.ensures, c.in_ok-group.ensures.1, c.from_string.ensures, c.new.ensures.bytes) refl),
+  group_whom (view c.args.object.now.value.now) c.or_empty.result (sym c.in-None.is ∙ c.in_ok-account.ensures.1) (rw (c.or_empty.ensures, c.in_ok-group.ensures.1) refl),
 )

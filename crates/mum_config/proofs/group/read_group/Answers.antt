@@ -66,10 +66,15 @@ returns-in_err-push-clause-reads c =
     let p = err_from_is_err_and c.from_residual-in_err-push.result c.from_residual-in_err-push.ensures.1 in
     rw p.1 (out_of_memory _ _ p.2)
 
+pub returns-in_err-name-2-clause-reads : goal.returns-in_err-name-2-clause-reads
+returns-in_err-name-2-clause-reads c =
+    let p = err_from_is_err_and c.from_residual-in_err-name-2.result c.from_residual-in_err-name-2.ensures.1 in
+    rw p.1 (out_of_memory _ _ p.2)
+
 pub returns-clause-groups : goal.returns-clause-groups
 unfolding group_of
 returns-clause-groups c =
-    rw (c.in_ok-push.ensures.items, c.in_ok-name.ensures.reads.1, c.unwrap_or.ensures, c.in_ok-inherit.ensures.1, c.unwrap_or-2.ensures, c.in_ok-inheritable.ensures.1, c.in_ok-add.ensures.1, c.in_ok-remove.ensures.1) refl
+    rw (c.in_ok-push.ensures.items, c.in_ok-name-2.ensures, c.in_ok-name.ensures.reads.1, c.unwrap_or.ensures, c.in_ok-inherit.ensures.1, c.unwrap_or-2.ensures, c.in_ok-inheritable.ensures.1, c.in_ok-add.ensures.1, c.in_ok-remove.ensures.1) refl
 
 pub returns-clause-names : goal.returns-clause-names
 returns-clause-names c = c.in_ok-name.ensures.names

@@ -25,7 +25,7 @@ returns-in_err-refuse_if-clause-reads c =
     let p = err_from_is_err_and c.from_residual-in_err-refuse_if.result c.from_residual-in_err-refuse_if.ensures.1 in
     let twice =
     not_new _ _ c.in_ok-is_new.ensures.added
-    ∙ ap (λ text. list_any (λ k. bytes_eq text k.now) c.args.names.now.keys) c.text_at.ensures
+    ∙ ap (λ text. list_any (λ k. bytes_eq text k.now) c.args.names.now.keys) c.in_ok-name.ensures.1
     ∙ sym (list_any-now (bytes_eq (text_at (codes "name") (view c.args.object.now.value.now))) c.args.names.now.keys) in
     rw (p.1, p.2) (later _ _ _ c.in_ok-name.ensures.0 (first _ _ _ (rw twice at c.in_err-refuse_if.ensures)))
 
@@ -33,10 +33,10 @@ pub returns-clause-reads : goal.returns-clause-reads
 returns-clause-reads c =
     let twice =
     not_new _ _ c.in_ok-is_new.ensures.added
-    ∙ ap (λ text. list_any (λ k. bytes_eq text k.now) c.args.names.now.keys) c.text_at.ensures
+    ∙ ap (λ text. list_any (λ k. bytes_eq text k.now) c.args.names.now.keys) c.in_ok-name.ensures.1
     ∙ sym (list_any-now (bytes_eq (text_at (codes "name") (view c.args.object.now.value.now))) c.args.names.now.keys) in
     (none_said _ _ c.in_ok-name.ensures.0 (none_said _ _ (rw twice at c.in_ok-refuse_if.ensures.0) refl), c.in_ok-name.ensures.1)
 
 pub returns-clause-names : goal.returns-clause-names
 returns-clause-names c =
-    inserted_names c.args.names.now.keys _ c.text_at.result _ (inserted (λ x y. bytes_eq x.now y.now) _ _ _ _ c.in_ok-is_new.ensures.added c.in_ok-is_new.ensures.keys (none_against _ _ _ c.in_ok-refuse_if.ensures.0)) c.text_at.ensures
+    inserted_names c.args.names.now.keys _ c.in_ok-name.name _ (inserted (λ x y. bytes_eq x.now y.now) _ _ _ _ c.in_ok-is_new.ensures.added c.in_ok-is_new.ensures.keys (none_against _ _ _ c.in_ok-refuse_if.ensures.0)) c.in_ok-name.ensures.1

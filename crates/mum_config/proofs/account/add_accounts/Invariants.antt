@@ -1,12 +1,12 @@
 use Rattle.std.proofs.Common.{◌≡◌, ◌++◌, drop, map, take}
 use Rattle.serde_json.specs.View.{view}
-use Rattle.mum_config.specs.Account.{account_edit, account_fault, no_accounts, with_account_met}
+use Rattle.mum_config.specs.Account.{account_edit, account_fault, with_account_met}
 use Rattle.mum_config.specs.Object.{elements_fault}
-use Rattle.mum_config.proofs.account.read_accounts.Given as goal
+use Rattle.mum_config.proofs.account.add_accounts.Given as goal
 
 -- the first fault is not passed yet, and the edits so far are there
 abbrev pub invariant-loop-place : goal.invariant-loop-place
 invariant-loop-place l =
     (elements_fault account_fault with_account_met (record { numbers = l.numbers.keys; names = map (λ n. n.now) l.names.keys }) l.place (map view (drop l.place l.values))
-    ≡ elements_fault account_fault with_account_met no_accounts 0 (map view l.values))
+    ≡ elements_fault account_fault with_account_met (record { numbers = l.fn.numbers.keys; names = map (λ n. n.now) l.fn.names.keys }) 0 (map view l.values))
     × (l.edits.items ≡ l.fn.edits.items ++ map account_edit (map view (take l.place l.values)))

@@ -55,6 +55,15 @@ pub dropped_more : {X Y : Type 0} (p : X → Bool) (f : X → Y) (old : List Y) 
 dropped_more {X} {Y} p f old xs i x before within is off done =
     done ∙ ap (λ (ys : List X). old ++ map f ys) (sym (left_out p xs i x within is off))
 
+-- the same, of elements that are read at their places
+pub passed_at : {X Y : Type 0} (p : X → Bool) (f : X → Y) (xs : List X) (i : ℕ) (d : X) (before now : List Y) → i < length xs → p (get_or xs i d) ≡ true → before ≡ map f (filter p (take i xs)) → now ≡ before ++ f (get_or xs i d) ∷ [] → now ≡ map f (filter p (take (i + 1) xs))
+passed_at p f xs i d before now within on done added =
+    kept_more p f [] xs i (get_or xs i d) before now within (get_or_default xs i d (get_or xs i d) within) on done added
+
+pub skipped_at : {X Y : Type 0} (p : X → Bool) (f : X → Y) (xs : List X) (i : ℕ) (d : X) (before : List Y) → i < length xs → p (get_or xs i d) ≡ false → before ≡ map f (filter p (take i xs)) → before ≡ map f (filter p (take (i + 1) xs))
+skipped_at p f xs i d before within off done =
+    dropped_more p f [] xs i (get_or xs i d) before within (get_or_default xs i d (get_or xs i d) within) off done
+
 pub kept_at : {X : Type 0} (p : X → Bool) (xs : List X) (i : ℕ) (d : X) (before now : List X) → i < length xs → p (get_or xs i d) ≡ true → before ≡ filter p (take i xs) → now ≡ before ++ get_or xs i d ∷ [] → now ≡ filter p (take (i + 1) xs)
 kept_at {X} p xs i d before now within on done added =
     added ∙ ap (λ (ys : List X). ys ++ get_or xs i d ∷ []) done ∙ sym (passed p xs i (get_or xs i d) within (get_or_default xs i d (get_or xs i d) within) on)

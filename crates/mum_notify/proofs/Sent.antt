@@ -49,13 +49,18 @@ pub sent_fits : (edit : Edit) (actor : SessionId) (sessions s : List SessionId) 
 sent_fits edit actor sessions s channels c trees t message told fits is one two three made =
     text_fits edit actor sessions channels trees message told fits is (text_read actor sessions s channels c trees t message told one two three made)
 
-pub text_sent : (after : StateValue) (edit : Edit) (actor : SessionId) (sessions s : List SessionId) (channels c trees t : List ChannelId) (message : List ℕ) (told : TextMessage) (roster : RosterState) (users : List User) (frame : List ℕ) (old now : List Notice)
-    → edit ≡ Text actor sessions channels trees message → s ≡ sessions → c ≡ channels → t ≡ trees → told ≡ text_told actor s c t message → frame ≡ text_frame told → roster ≡ after.roster → users ≡ roster.sessions
-    → now ≡ old ++ to_each (filter (is_for after actor s c t) users) frame → now ≡ old ++ text_parcels after edit
-text_sent after edit actor sessions s channels c trees t message told roster users frame old now is one two three made framed whole all added =
+pub text_spread : (state : StateValue) (passes : User → Bool) (told : TextMessage) (frame : List ℕ) (roster : RosterState) (users : List User) (old now : List Notice) → frame ≡ text_frame told → roster ≡ state.roster → users ≡ roster.sessions
+    → now ≡ old ++ to_each (filter passes users) frame → now ≡ old ++ to_each (filter passes state.roster.sessions) (text_frame told)
+text_spread state passes told frame roster users old now framed whole all added =
+    added ∙ ap (λ (us : List User). old ++ to_each (filter passes us) frame) (all ∙ ap (λ (r : RosterState). r.sessions) whole)
+    ∙ ap (λ (bytes : List ℕ). old ++ to_each (filter passes state.roster.sessions) bytes) framed
+
+pub text_sent : (after : StateValue) (edit : Edit) (actor : SessionId) (sessions s : List SessionId) (channels c trees t : List ChannelId) (message : List ℕ) (told : TextMessage) (old now : List Notice)
+    → edit ≡ Text actor sessions channels trees message → s ≡ sessions → c ≡ channels → t ≡ trees → told ≡ text_told actor s c t message
+    → now ≡ old ++ to_each (filter (is_for after actor s c t) after.roster.sessions) (text_frame told) → now ≡ old ++ text_parcels after edit
+text_sent after edit actor sessions s channels c trees t message told old now is one two three made added =
     added ∙ ap (λ (list : List Notice). old ++ list)
-    (ap (λ (us : List User). to_each (filter (is_for after actor s c t) us) frame) (all ∙ ap (λ (r : RosterState). r.sessions) whole)
-    ∙ ap (λ (bytes : List ℕ). to_each (filter (is_for after actor s c t) after.roster.sessions) bytes) (framed ∙ ap text_frame (text_read actor sessions s channels c trees t message told one two three made))
+    (ap (λ (one : TextMessage). to_each (filter (is_for after actor s c t) after.roster.sessions) (text_frame one)) (text_read actor sessions s channels c trees t message told one two three made)
     ∙ ap (λ (xs : List SessionId). to_each (filter (is_for after actor xs c t) after.roster.sessions) (text_frame (text_told actor sessions channels trees message))) one
     ∙ ap (λ (xs : List ChannelId). to_each (filter (is_for after actor sessions xs t) after.roster.sessions) (text_frame (text_told actor sessions channels trees message))) two
     ∙ ap (λ (xs : List ChannelId). to_each (filter (is_for after actor sessions channels xs) after.roster.sessions) (text_frame (text_told actor sessions channels trees message))) three

@@ -1,6 +1,6 @@
 //! What is told of channels that are new or changed.
 
-ghost use Rattle.std.specs.Prelude.{◌≡◌, ◌++◌, ◌==◌, ◌≤◌, IfOk, OnOk, filter, fold, length, map, nat_lt, not, position};
+ghost use Rattle.std.specs.Prelude.{◌≡◌, ◌++◌, ◌==◌, ◌≤◌, IfOk, OnOk, filter, fold, length, map, nat_lt, not, pos, position};
 ghost use Rattle.std.specs.Ordering.{int_eq};
 ghost use Rattle.mum_state.specs.Kinds.{is_empty};
 ghost use Rattle.mum_tree.specs.Rows.{is_root};
@@ -9,8 +9,8 @@ ghost use Rattle.std.specs.Option.{option_copied};
 ghost use Rattle.std.specs.Str.{bytes_eq};
 ghost use Rattle.mum_base.specs.Channels.{is_among};
 ghost use Rattle.mum_tree.specs.State.{partners};
-ghost use Rattle.mum_notify.specs.Channels.{channel_change_told, channel_changes_told, channel_difference, channel_told, edited_channels, new_channel, new_channels_told, numbers, place_for, said_unless, stands_at, tells_of_channel, with_channel};
-ghost use Rattle.mum_notify.specs.Parcels.{channel_frame};
+ghost use Rattle.mum_notify.specs.Channels.{channel_change_told, channel_changes_told, channel_difference, channel_told, edited_channels, if_it_tells, new_channel, new_channels_told, numbers, partners_only_in, place_for, said_unless, stands_at, tells_of_channel, with_channel};
+ghost use Rattle.mum_notify.specs.Parcels.{IsWithinFrame, channel_frame, channel_payload};
 
 use crate::frames::channel_frame;
 use crate::users::said_if_set;
@@ -69,6 +69,18 @@ fn position_unless(unsaid: i32, position: i32) -> Option<i32>
     }
 }
 
+fn number_unless_zero(number: u32) -> Option<u32>
+    ensures { result ≡ said_unless (number == 0) number }
+{
+    if number == 0 { None } else { Some(number) }
+}
+
+fn position_unless_zero(position: i32) -> Option<i32>
+    ensures { result ≡ said_unless (int_eq position (pos 0)) position }
+{
+    if position == 0 { None } else { Some(position) }
+}
+
 // The parent of a channel, which the root has not.
 fn parent_told(channel: &Channel) -> Option<u32>
     ensures { result ≡ said_unless (is_root channel.now.id) channel.now.parent.0 }
@@ -85,17 +97,26 @@ pub(crate) fn channel_told(alloc: Global, channel: &Channel) -> Result<ChannelSt
     ensures { IfOk result (λ told. told ≡ channel_told channel.now) }
 {
     Ok(ChannelState {
+        name: Some(channel.name.share()?),
+        description: text_unless_empty(&channel.info.description)?,
         channel_id: Some(channel.id.0),
         parent: parent_told(channel),
-        name: Some(channel.name.share()?),
         links: Items::new(alloc),
-        description: text_unless_empty(&channel.info.description)?,
         links_add: Items::new(alloc),
         links_remove: Items::new(alloc),
         temporary: said_if_set(channel.temporary),
-        position: position_unless(0, channel.info.position),
-        max_users: number_unless(0, channel.info.max_users),
+        position: position_unless_zero(channel.info.position),
+        max_users: number_unless_zero(channel.info.max_users),
     })
+}
+
+/// The frame that tells all of a channel.
+pub(crate) fn frame_of_channel(alloc: Global, channel: &Channel) -> Result<Octets, OutOfMemory>
+    requires { IsWithinFrame (channel_payload (channel_told channel.now)) }
+    ensures { IfOk result (λ frame. frame ≡ channel_frame (channel_told channel.now)) }
+{
+    let told = channel_told(alloc, channel)?;
+    channel_frame(alloc, &told)
 }
 
 // The channel that the edit makes.
@@ -122,8 +143,7 @@ pub(crate) fn new_channel_frames(
     let Some(channel) = new_channel(tree, edit) else {
         return Ok(frames);
     };
-    let told = channel_told(alloc, channel)?;
-    frames.push(channel_frame(alloc, &told)?)?;
+    frames.push(frame_of_channel(alloc, channel)?)?;
     Ok(frames)
 }
 
@@ -160,6 +180,21 @@ fn only_in(
     Ok(Items::from_vec(listed))
 }
 
+// The channels linked to one in one tree and not in the other.
+fn partners_only_in(
+    alloc: Global,
+    tree: &Tree,
+    other: &Tree,
+    id: ChannelId,
+) -> Result<Items<u32>, OutOfMemory>
+    ensures { IfOk result (λ listed. listed
+        ≡ numbers (partners_only_in tree.now other.now id)) }
+{
+    let here = partners(alloc, tree, id)?;
+    let there = partners(alloc, other, id)?;
+    only_in(alloc, &here, &there)
+}
+
 // What of a channel is another.
 fn channel_change_told(
     alloc: Global,
@@ -171,16 +206,14 @@ fn channel_change_told(
     ensures { IfOk result (λ told. told
         ≡ channel_change_told before.now after.now was.now now.now) }
 {
-    let partners_before = partners(alloc, before, now.id)?;
-    let partners_after = partners(alloc, after, now.id)?;
     Ok(ChannelState {
+        name: text_unless_same(&was.name, &now.name)?,
+        description: text_unless_same(&was.info.description, &now.info.description)?,
+        links_add: partners_only_in(alloc, after, before, now.id)?,
+        links_remove: partners_only_in(alloc, before, after, now.id)?,
         channel_id: Some(now.id.0),
         parent: number_unless(was.parent.0, now.parent.0),
-        name: text_unless_same(&was.name, &now.name)?,
         links: Items::new(alloc),
-        description: text_unless_same(&was.info.description, &now.info.description)?,
-        links_add: only_in(alloc, &partners_after, &partners_before)?,
-        links_remove: only_in(alloc, &partners_before, &partners_after)?,
         temporary: None,
         position: position_unless(was.info.position, now.info.position),
         max_users: number_unless(was.info.max_users, now.info.max_users),
@@ -198,6 +231,23 @@ fn tells_of_channel(message: &ChannelState) -> bool
         || message.max_users.is_some()
         || !message.links_add.as_slice().is_empty()
         || !message.links_remove.as_slice().is_empty()
+}
+
+// One frame more, where the message tells something.
+fn push_difference(
+    alloc: Global,
+    frames: &mut Vec<Octets>,
+    told: &ChannelState,
+) -> Result<(), OutOfMemory>
+    requires { IsWithinFrame (channel_payload told.now) }
+    ensures { OnOk result (frames.new.items ≡ frames.old.items
+        ++ map channel_frame (if_it_tells tells_of_channel told.now)) }
+{
+    if !tells_of_channel(told) {
+        return Ok(());
+    }
+    frames.push(channel_frame(alloc, told)?)?;
+    Ok(())
 }
 
 // One frame more, where something of the channel is another.
@@ -220,11 +270,7 @@ fn add_difference(
         return Ok(());
     };
     let told = channel_change_told(alloc, old, new, was, now)?;
-    if !tells_of_channel(&told) {
-        return Ok(());
-    }
-    frames.push(channel_frame(alloc, &told)?)?;
-    Ok(())
+    push_difference(alloc, frames, &told)
 }
 
 fn is_lower(one: ChannelId, id: ChannelId) -> bool

@@ -5,19 +5,19 @@ ghost use Rattle.std.specs.List.{flat_map, list_all};
 ghost use Rattle.mum_base.specs.declared.number.TheConstants.ChannelId.{ROOT};
 ghost use Rattle.mum_state.specs.Named.{given};
 ghost use Rattle.mum_tree.specs.Rows.{is_there};
-ghost use Rattle.mum_state.specs.Proper.{is_sound_user};
+ghost use Rattle.mum_state.specs.Proper.{IsProper, is_sound_user};
 ghost use Rattle.mum_notify.specs.Channels.{channel_of, channel_told, has_links, if_it_tells, links_told};
-ghost use Rattle.mum_notify.specs.Parcels.{channel_frame, parcel, user_frame};
+ghost use Rattle.mum_notify.specs.Parcels.{IsWithinFrame, channel_frame, channel_payload, parcel, sync_frame, user_frame, version_frame};
 ghost use Rattle.mum_notify.specs.Sync.{all_links_told, server_codecs, server_version, sync_block, sync_frames, sync_parcels, tree_told, welcome_told};
 ghost use Rattle.mum_notify.specs.Users.{user_told};
 
-use crate::channels::{channel_told, numbers, partners, text_unless_empty};
-use crate::frames::{channel_frame, codecs_frame, sync_frame, user_frame, version_frame};
+use crate::channels::{frame_of_channel, numbers, partners, text_unless_empty};
+use crate::frames::{channel_frame, codecs_frame, sync_frame, version_frame};
 use crate::notice::{Notice, Notices};
 use crate::parcels::tell_one;
 use crate::seats::{channel_ids, tree_order};
 use crate::texts::held_in;
-use crate::users::user_told;
+use crate::users::frame_of_user;
 use mum_base::{ChannelId, Items, Octets, OutOfMemory, SessionId, Text};
 use mum_msg_state::{ChannelState, CodecVersion, ServerSync, Version};
 use mum_state::State;
@@ -38,6 +38,13 @@ fn server_version(alloc: Global) -> Result<Version, OutOfMemory>
         os: None,
         os_version: None,
     })
+}
+
+fn frame_of_version(alloc: Global) -> Result<Octets, OutOfMemory>
+    ensures { IfOk result (λ frame. frame ≡ version_frame server_version) }
+{
+    let told = server_version(alloc)?;
+    version_frame(alloc, &told)
 }
 
 fn server_codecs() -> CodecVersion
@@ -65,8 +72,7 @@ fn tell_channel(
     let Some(channel) = tree.channel(id) else {
         return Ok(());
     };
-    let told = channel_told(alloc, channel)?;
-    frames.push(channel_frame(alloc, &told)?)?;
+    frames.push(frame_of_channel(alloc, channel)?)?;
     Ok(())
 }
 
@@ -104,6 +110,23 @@ fn links_told(alloc: Global, tree: &Tree, id: ChannelId) -> Result<ChannelState,
     })
 }
 
+// One frame more, where the message names links.
+fn push_links(
+    alloc: Global,
+    frames: &mut Vec<Octets>,
+    told: &ChannelState,
+) -> Result<(), OutOfMemory>
+    requires { IsWithinFrame (channel_payload told.now) }
+    ensures { OnOk result (frames.new.items ≡ frames.old.items
+        ++ map channel_frame (if_it_tells has_links told.now)) }
+{
+    if told.links.as_slice().is_empty() {
+        return Ok(());
+    }
+    frames.push(channel_frame(alloc, told)?)?;
+    Ok(())
+}
+
 // The frame of the links of a channel, where it has some.
 fn tell_links_of(
     alloc: Global,
@@ -116,11 +139,7 @@ fn tell_links_of(
 {
     let tree = state.tree();
     let told = links_told(alloc, tree, id)?;
-    if told.links.as_slice().is_empty() {
-        return Ok(());
-    }
-    frames.push(channel_frame(alloc, &told)?)?;
-    Ok(())
+    push_links(alloc, frames, &told)
 }
 
 // The frames of the links of these channels.
@@ -164,8 +183,7 @@ fn tell_user(
         ++ user_frame (user_told state.now.roster user.now) ∷ []) }
 {
     let roster = state.roster();
-    let told = user_told(alloc, roster, user)?;
-    frames.push(user_frame(alloc, &told)?)?;
+    frames.push(frame_of_user(alloc, roster, user)?)?;
     Ok(())
 }
 
@@ -198,17 +216,25 @@ fn welcome_told(state: &State, user: &User) -> Result<ServerSync, OutOfMemory>
     })
 }
 
+fn frame_of_welcome(alloc: Global, state: &State, user: &User) -> Result<Octets, OutOfMemory>
+    requires { IsProper state.now }
+    ensures { IfOk result (λ frame. frame ≡ sync_frame (welcome_told state.now user.now)) }
+{
+    let told = welcome_told(state, user)?;
+    sync_frame(alloc, &told)
+}
+
 // All frames for a session, in their order.
 fn sync_frames(alloc: Global, state: &State, user: &User) -> Result<Vec<Octets>, OutOfMemory>
     ensures { IfOk result (λ frames. frames.items ≡ sync_frames state.now user.now) }
 {
     let mut frames = Vec::new(alloc);
-    frames.push(version_frame(alloc, &server_version(alloc)?)?)?;
+    frames.push(frame_of_version(alloc)?)?;
     frames.push(codecs_frame(alloc, &server_codecs())?)?;
     tell_tree(alloc, &mut frames, state)?;
     let roster = state.roster();
     tell_users(alloc, &mut frames, state, roster.users())?;
-    frames.push(sync_frame(alloc, &welcome_told(state, user)?)?)?;
+    frames.push(frame_of_welcome(alloc, state, user)?)?;
     Ok(frames)
 }
 

@@ -10,13 +10,12 @@ ghost use Rattle.mum_notify.specs.Parcels.{all_to_each, channel_frame, channel_g
 ghost use Rattle.mum_notify.specs.Users.{user_changes_told};
 
 use crate::channels::{channel_change_frames, new_channel_frames};
-use crate::frames::user_frame;
 use crate::gone::{channel_gone_frames, channels_gone, tell_of_departure};
 use crate::notice::{Notice, Notices};
 use crate::parcels::{tell_all, tell_one};
 use crate::sync::tell_state;
 use crate::texts::{tell_of_policy, tell_of_text};
-use crate::users::{user_change_frames, user_told};
+use crate::users::{frame_of_user, user_change_frames};
 use mum_base::{ChannelId, Items, Octets, OutOfMemory, SessionId};
 use mum_state::{Edit, State};
 use mum_users::User;
@@ -63,8 +62,7 @@ fn tell_of_arrival(
         return Ok(());
     };
     tell_state(alloc, list, after, user)?;
-    let told = user_told(alloc, roster, user)?;
-    let frame = user_frame(alloc, &told)?;
+    let frame = frame_of_user(alloc, roster, user)?;
     tell_others(list, roster.users(), session, &frame)
 }
 

@@ -6,7 +6,7 @@ ghost use Rattle.mum_state.specs.Permissions.{asker, granted_to};
 ghost use Rattle.mum_tree.specs.Rows.{is_there, path};
 ghost use Rattle.mum_policy.specs.Member.{asker_of};
 ghost use Rattle.mum_notify.specs.Notices.{FitsFrame};
-ghost use Rattle.mum_notify.specs.Parcels.{text_frame, to_each};
+ghost use Rattle.mum_notify.specs.Parcels.{IsWithinFrame, text_frame, text_payload, to_each};
 ghost use Rattle.mum_notify.specs.Channels.{numbers};
 ghost use Rattle.mum_notify.specs.Sorted.{lists};
 ghost use Rattle.mum_notify.specs.Texts.{NamesThese, is_for, is_reached, may_text, permission_parcel, permission_parcels, permissions_told, session_numbers, text_parcels, text_told};
@@ -167,6 +167,28 @@ fn tell_text(
     Ok(())
 }
 
+// Tells a text, of which this is the message, to those whom it is for.
+fn send_text(
+    alloc: Global,
+    list: &mut Vec<Notice>,
+    state: &State,
+    text: &TextSent<'_>,
+    told: &TextMessage,
+) -> Result<(), OutOfMemory>
+    requires within { IsWithinFrame (text_payload told.now) }
+    requires sessions { told.now.session ≡ session_numbers text.now.sessions.now }
+    requires channels { told.now.channel_id ≡ numbers text.now.channels.now }
+    requires trees { told.now.tree_id ≡ numbers text.now.trees.now }
+    ensures { OnOk result (list.new.items ≡ list.old.items
+        ++ to_each (filter (is_for state.now text.now.actor text.now.sessions.now
+        text.now.channels.now text.now.trees.now) state.now.roster.sessions) (text_frame told.now)) }
+{
+    let frame = text_frame(alloc, told)?;
+    let named = Named::of(alloc, told)?;
+    let roster = state.roster();
+    tell_text(list, state, text, &named, roster.users(), &frame)
+}
+
 /// Tells a text to those whom it is for.
 pub(crate) fn tell_of_text(
     alloc: Global,
@@ -197,10 +219,7 @@ pub(crate) fn tell_of_text(
         trees,
     };
     let told = text_told(alloc, &text, message)?;
-    let frame = text_frame(alloc, &told)?;
-    let named = Named::of(alloc, &told)?;
-    let roster = after.roster();
-    tell_text(list, after, &text, &named, roster.users(), &frame)
+    send_text(alloc, list, after, &text, &told)
 }
 
 // What a session may do in a channel that is there.

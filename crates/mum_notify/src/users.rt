@@ -6,8 +6,8 @@ ghost use Rattle.std.specs.Option.{option_map};
 ghost use Rattle.std.specs.Str.{bytes_eq};
 ghost use Rattle.mum_state.specs.Proper.{is_sound_user};
 ghost use Rattle.mum_users.specs.Listeners.{listens};
-ghost use Rattle.mum_notify.specs.Channels.{said_unless};
-ghost use Rattle.mum_notify.specs.Parcels.{user_frame};
+ghost use Rattle.mum_notify.specs.Channels.{if_it_tells, said_unless};
+ghost use Rattle.mum_notify.specs.Parcels.{IsWithinFrame, user_frame, user_payload};
 ghost use Rattle.mum_notify.specs.declared.watch.Watch.TheVariants.{One};
 ghost use Rattle.mum_notify.specs.Users.{actor_of, flag_told, gives_comment, listened_only_in, said_if_set, tells_of_user, user_change_told, user_changes_told, user_difference, user_told, watched};
 
@@ -47,18 +47,16 @@ fn channels_of(alloc: Global, pairs: &[ListenerPair]) -> Result<Items<u32>, OutO
     Ok(Items::from_vec(listed))
 }
 
-/// All of a session that is not as it is by default.
-pub(crate) fn user_told(
-    alloc: Global,
-    roster: &Roster,
-    user: &User,
-) -> Result<UserState, OutOfMemory>
+// All of a session that is not as it is by default.
+fn user_told(alloc: Global, roster: &Roster, user: &User) -> Result<UserState, OutOfMemory>
     ensures { IfOk result (λ told. told ≡ user_told roster.now user.now) }
 {
     Ok(UserState {
+        name: Some(user.name.share()?),
+        comment: text_unless_empty(&user.comment)?,
+        listening_channel_add: channels_of(alloc, roster.pairs_of(user.session))?,
         session: Some(user.session.0),
         actor: None,
-        name: Some(user.name.share()?),
         user_id: account_told(user.account),
         channel_id: Some(user.channel.0),
         mute: said_if_set(user.mute),
@@ -68,13 +66,24 @@ pub(crate) fn user_told(
         self_deaf: said_if_set(user.self_deaf),
         plugin_context: None,
         plugin_identity: None,
-        comment: text_unless_empty(&user.comment)?,
         priority_speaker: said_if_set(user.priority),
         recording: said_if_set(user.recording),
         temporary_access_tokens: Items::new(alloc),
-        listening_channel_add: channels_of(alloc, roster.pairs_of(user.session))?,
         listening_channel_remove: Items::new(alloc),
     })
+}
+
+/// The frame that tells all of a session.
+pub(crate) fn frame_of_user(
+    alloc: Global,
+    roster: &Roster,
+    user: &User,
+) -> Result<Octets, OutOfMemory>
+    requires { IsWithinFrame (user_payload (user_told roster.now user.now)) }
+    ensures { IfOk result (λ frame. frame ≡ user_frame (user_told roster.now user.now)) }
+{
+    let told = user_told(alloc, roster, user)?;
+    user_frame(alloc, &told)
 }
 
 fn number_of(session: Option<SessionId>) -> Option<u32>
@@ -173,9 +182,10 @@ fn user_change_told(
     ensures { IfOk result (λ told. told
         ≡ user_change_told before.now edit.now after.now was.now now.now) }
 {
-    let added = listened_only_in(alloc, after, before, now.session)?;
-    let removed = listened_only_in(alloc, before, after, now.session)?;
     Ok(UserState {
+        comment: comment_told(edit, &was.comment, &now.comment)?,
+        listening_channel_add: listened_only_in(alloc, after, before, now.session)?,
+        listening_channel_remove: listened_only_in(alloc, before, after, now.session)?,
         session: Some(now.session.0),
         actor: number_of(actor_of(edit)),
         name: None,
@@ -188,12 +198,9 @@ fn user_change_told(
         self_deaf: flag_told(was.self_deaf, now.self_deaf),
         plugin_context: None,
         plugin_identity: None,
-        comment: comment_told(edit, &was.comment, &now.comment)?,
         priority_speaker: flag_told(was.priority, now.priority),
         recording: flag_told(was.recording, now.recording),
         temporary_access_tokens: Items::new(alloc),
-        listening_channel_add: added,
-        listening_channel_remove: removed,
     })
 }
 
@@ -212,6 +219,23 @@ fn tells_of_user(message: &UserState) -> bool
         || message.recording.is_some()
         || !message.listening_channel_add.as_slice().is_empty()
         || !message.listening_channel_remove.as_slice().is_empty()
+}
+
+// One frame more, where the message tells something.
+fn push_difference(
+    alloc: Global,
+    frames: &mut Vec<Octets>,
+    told: &UserState,
+) -> Result<(), OutOfMemory>
+    requires { IsWithinFrame (user_payload told.now) }
+    ensures { OnOk result (frames.new.items ≡ frames.old.items
+        ++ map user_frame (if_it_tells tells_of_user told.now)) }
+{
+    if !tells_of_user(told) {
+        return Ok(());
+    }
+    frames.push(user_frame(alloc, told)?)?;
+    Ok(())
 }
 
 // One frame more, where something of the session is another.
@@ -233,11 +257,7 @@ fn add_difference(
         return Ok(());
     };
     let told = user_change_told(alloc, old, edit, new, was, now)?;
-    if !tells_of_user(&told) {
-        return Ok(());
-    }
-    frames.push(user_frame(alloc, &told)?)?;
-    Ok(())
+    push_difference(alloc, frames, &told)
 }
 
 // The frames of all sessions that are others.

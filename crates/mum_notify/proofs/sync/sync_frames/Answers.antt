@@ -5,21 +5,12 @@ use Rattle.mum_users.specs.declared.user.User.{User}
 use Rattle.mum_notify.specs.Parcels.{channel_frame, codecs_frame, sync_frame, user_frame, version_frame}
 use Rattle.mum_notify.specs.Sync.{all_links_told, server_codecs, server_version, tree_told, welcome_told}
 use Rattle.mum_notify.specs.Users.{user_told}
-use Rattle.mum_notify.proofs.Sent.{all_synced, root_there}
-use Rattle.mum_notify.proofs.Within.{all_sound, version_fits, welcome_fits}
+use Rattle.mum_notify.proofs.Sent.{all_synced}
+use Rattle.mum_notify.proofs.Within.{all_sound}
 use Rattle.mum_notify.proofs.sync.sync_frames.Goals as goal
-
-pub version_frame-requires : goal.version_frame-requires
-version_frame-requires c = version_fits _ c.in_ok-server_version.ensures
 
 pub tell_users-requires : goal.tell_users-requires
 tell_users-requires c = all_sound c.args.state.now _ _ c.roster-roster.ensures.proper c.roster-roster.ensures.roster c.users.ensures
-
-pub welcome_told-requires : goal.welcome_told-requires
-welcome_told-requires c = root_there c.args.state.now c.roster-roster.ensures.proper
-
-pub sync_frame-requires : goal.sync_frame-requires
-sync_frame-requires c = welcome_fits c.args.state.now c.args.user.now _ c.roster-roster.ensures.proper c.in_ok-welcome_told.ensures
 
 pub returns : goal.returns
 returns c =
@@ -28,8 +19,8 @@ returns c =
     (map channel_frame (tree_told state.tree)) (map channel_frame (all_links_told state.tree)) (map (λ other. user_frame (user_told state.roster other)) state.roster.sessions)
     c.new-frames.result.items c.push.new.self.items c.push-2.new.self.items c.tell_tree.new.frames.items c.tell_users.new.frames.items c.push-3.new.self.items
     c.new-frames.ensures.items
-    (c.in_ok-push.ensures.items ∙ ap (λ (frame : List ℕ). c.new-frames.result.items ++ frame ∷ []) (c.in_ok-version_frame.ensures ∙ ap version_frame c.in_ok-server_version.ensures))
+    (c.in_ok-push.ensures.items ∙ ap (λ (frame : List ℕ). c.new-frames.result.items ++ frame ∷ []) c.in_ok-frame_of_version.ensures)
     (c.in_ok-push-2.ensures.items ∙ ap (λ (frame : List ℕ). c.push.new.self.items ++ frame ∷ []) (c.in_ok-codecs_frame.ensures ∙ ap codecs_frame c.server_codecs.ensures))
     c.in_ok-tell_tree.ensures
     (c.in_ok-tell_users.ensures ∙ ap (λ (users : List User). c.tell_tree.new.frames.items ++ map (λ other. user_frame (user_told state.roster other)) users) (c.users.ensures ∙ ap (λ (roster : RosterState). roster.sessions) c.roster-roster.ensures.roster))
-    (c.in_ok-push-3.ensures.items ∙ ap (λ (frame : List ℕ). c.tell_users.new.frames.items ++ frame ∷ []) (c.in_ok-sync_frame.ensures ∙ ap sync_frame c.in_ok-welcome_told.ensures))
+    (c.in_ok-push-3.ensures.items ∙ ap (λ (frame : List ℕ). c.tell_users.new.frames.items ++ frame ∷ []) c.in_ok-frame_of_welcome.ensures)

@@ -1,0 +1,14 @@
+use Rattle.std.proofs.Common.{◌∙◌, Bool, not, ap, sym}
+use Rattle.mum_users.specs.Listeners.{listens}
+use Rattle.mum_users.specs.declared.listening.ListenerPair.{ListenerPair}
+use Rattle.mum_notify.proofs.Pieces.{passed_at, skipped_at}
+use Rattle.mum_notify.proofs.users.channels_not_in.Goals as goal
+use Rattle.mum_notify.proofs.users.channels_not_in.Goals.{then-not-listens+in_ok-push, else-not-listens}
+
+pub loop-pair-preserved : goal.loop-pair-preserved
+loop-pair-preserved c =
+    let passes : ListenerPair → Bool = λ pair. not (listens c.args.other.now c.args.session pair.channel) in
+    elim c.if-not-listens.branch [
+      | then-not-listens+in_ok-push w ↦ rw w.listed-is (passed_at passes (λ pair. pair.channel.0) c.args.pairs.now c.loop-pair.pair-index _ c.loop-pair.listed.items _ c.loop-pair-test.true (ap not (sym c.listens.ensures ∙ w.if-not-listens.true)) c.loop-pair.invariant w.in_ok-push.ensures.items)
+      | else-not-listens w ↦ rw w.listed-is (skipped_at passes (λ pair. pair.channel.0) c.args.pairs.now c.loop-pair.pair-index _ c.loop-pair.listed.items c.loop-pair-test.true (ap not (sym c.listens.ensures ∙ w.if-not-listens.false)) c.loop-pair.invariant)
+    ]

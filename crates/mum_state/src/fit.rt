@@ -239,8 +239,10 @@ impl Parts {
     // Nothing stands against the name and the tokens, and the number and the slot are those that are
     // next.
     fn may_join(&self, session: SessionId, slot: Slot, name: &Text, tokens: &Items<Text>) -> bool
-        ensures { result ≡ (((session.0 == (next_number self.now.roster).0) && (slot.0 == (next_slot self.now.roster).0))
-            && (is_none (join_fault SESSIONS self.now.roster name.now) && is_short name.now && are_tokens tokens.now)) }
+        ensures { result ≡ (((session.0 == (next_number self.now.roster).0)
+            && (slot.0 == (next_slot self.now.roster).0))
+            && (is_none (join_fault SESSIONS self.now.roster name.now)
+            && is_short name.now && are_tokens tokens.now)) }
     {
         self.roster.cause_against_joining(name.as_str()).is_none()
             && is_short(name)

@@ -73,25 +73,15 @@ impl Parts {
         })
     }
 
-    // An equal server with equal accounts.
-    fn copy_of_settings(&self, alloc: Global) -> Result<(Server, Accounts), OutOfMemory>
-        ensures server { IfOk result (λ copies. copies.0 ≡ self.now.server) }
-        ensures accounts { IfOk result (λ copies. copies.1 ≡ self.now.accounts) }
-    {
-        let server = self.server.copy(alloc)?;
-        Ok((server, self.accounts.copy(alloc)?))
-    }
-
     /// Equal parts.
     pub(crate) fn copy(&self, alloc: Global) -> Result<Parts, OutOfMemory>
         ensures { IfOk result (λ parts. parts ≡ self.now) }
     {
-        let (server, accounts) = self.copy_of_settings(alloc)?;
         Ok(Parts {
             alloc,
-            server,
-            accounts,
             slot_counts: Vec::from_slice(alloc, self.slot_counts.as_slice())?,
+            server: self.server.copy(alloc)?,
+            accounts: self.accounts.copy(alloc)?,
             channels: self.channels.copy(alloc)?,
             roster: self.roster.copy(alloc)?,
             revision: self.revision,

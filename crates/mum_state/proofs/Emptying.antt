@@ -1,7 +1,7 @@
 -- Where one temporary channel is emptied, and no other, the removal of that one is what goes.
 use Rattle.std.proofs.Common.{◌≡◌, ℕ, zero, suc, ◌&&◌, ◌||◌, not, Bool, true, false, cond, eqb, List, [], ◌∷◌, map, refl, sym, ap, subst, ◌∙◌, Some, is_some, ⊎_elim, Contains}
 use Rattle.std.specs.List.{filter, list_all, list_any}
-use Rattle.std.proofs.lemmas.Bool.{and_parts, both_ways, cases_Bool, eq-eqb, eqb-true, not-true, or_left, or_right}
+use Rattle.std.proofs.lemmas.Bool.{and_parts, both_ways, cases_Bool, eq-eqb, eqb-true, or_left, or_right}
 use Rattle.mum_base.specs.declared.number.ChannelId.{ChannelId}
 use Rattle.mum_tree.specs.declared.channel.Row.{Row}
 use Rattle.mum_tree.specs.Proper.{IsProper as IsProperTree, IsUnderLasting}
@@ -132,14 +132,3 @@ others_map f (user ∷ users) id channel all other on =
         let same : (f user).channel.0 ≡ user.channel.0 = eqb-true (f user).channel.0 user.channel.0 (or_off (is_in id user) (eqb (f user).channel.0 user.channel.0) (apart user id channel other is) stay) in
         or_left (is_in channel (f user)) (has_member (map f users) channel) (ap (λ n. eqb n channel.0) same ∙ is)
     step false is stay some rest = or_right (is_in channel (f user)) (has_member (map f users) channel) (rest some)
-
--- a channel that keeps a member is not left
-pub not_left : (before after : List User) (rows : List Row) (channel : ChannelId) → (has_member before channel ≡ true → has_member after channel ≡ true) → is_left before after rows channel ≡ false
-not_left before after rows channel keeps = step (is_left before after rows channel) refl
-  where
-    step : (b : Bool) → is_left before after rows channel ≡ b → b ≡ false
-    step true is =
-        let (front, gone) = and_parts (is_temporary rows channel && has_member before channel) (not (has_member after channel)) is in
-        let (kind, was) = and_parts (is_temporary rows channel) (has_member before channel) front in
-        absurd (both_ways (has_member after channel) (not-true (has_member after channel) gone) (keeps was))
-    step false is = refl

@@ -1,19 +1,24 @@
 -- Marks and counts of slots, one after the other; and sessions that are heard again.
 use Rattle.std.proofs.Common.{◌≡◌, ℕ, zero, suc, ◌+◌, ◌<◌, ◌≤◌, ◌==◌, ◌&&◌, ◌||◌, ◌++◌, not, Bool, true, false, cond, List, [], ◌∷◌, length, length-set, get_or, set, take, drop, map, replicate, refl, sym, ap, ◌∙◌, arith, add-one, Option, Some, None, is_none, ℤ, ◌⊎◌, inl, inr}
 use Rattle.std.specs.List.{All, list_all, list_any}
-use Rattle.std.proofs.lemmas.Bool.{and_parts, cases_eq, eq-eqb, false≢true, ne_eqb}
+use Rattle.std.proofs.lemmas.Bool.{and_parts, cases_eq, eq-eqb, false≢true, ltb-true, ne_eqb, not-true}
 use Rattle.std.proofs.lemmas.List.{get_or-set_other, get_or-set_same}
 use Rattle.std.proofs.lemmas.List.Folds.{list_any_more}
+use Rattle.std.specs.Prelude.{nat_lt}
+use Rattle.mum_base.specs.declared.number.AccountId.{AccountId}
 use Rattle.mum_base.specs.declared.number.ChannelId.{ChannelId}
 use Rattle.mum_base.specs.declared.number.SessionId.{SessionId}
+use Rattle.mum_tree.specs.declared.channel.ChannelInfo.{ChannelInfo}
 use Rattle.mum_tree.specs.Change.{Change, fault_of_edit}
+use Rattle.mum_tree.specs.Refusals.{fault_of_add, fault_of_remove}
 use Rattle.mum_tree.specs.Rows.{is_there}
 use Rattle.mum_users.specs.declared.seating.Seat.{Seat}
 use Rattle.mum_users.specs.declared.user.User.{User}
 use Rattle.mum_users.specs.Edit.{UserEdit, edit_fault}
 use Rattle.mum_users.specs.Proper.{SlotsRise}
 use Rattle.mum_users.specs.Seats.{seated, seated_anew}
-use Rattle.mum_state.specs.declared.edit.Edit.TheVariants.{EditChannel, SetUser}
+use Rattle.mum_state.specs.declared.account.TheConstants.{ACCOUNT_LIMIT}
+use Rattle.mum_state.specs.declared.edit.Edit.TheVariants.{AddAccount, EditChannel, MakeChannel, RemoveChannel, SetUser}
 use Rattle.mum_state.specs.declared.renewed.Renewed.{Renewed}
 use Rattle.mum_state.specs.declared.renewed.Renewed.TheVariants.{Nobody, One, Those}
 use Rattle.mum_state.specs.Channels.{channels_of, speaks_where_in}
@@ -21,10 +26,10 @@ use Rattle.mum_state.specs.Counts.{raised_slots, raised_where}
 use Rattle.mum_state.specs.Fits.{fits, holds_of_given}
 use Rattle.mum_state.specs.Parts.{channel_parts, user_parts}
 use Rattle.mum_state.specs.Permissions.{may_speak}
-use Rattle.mum_state.specs.Proper.{is_name, is_text}
+use Rattle.mum_state.specs.Proper.{is_name, is_short, is_text}
 use Rattle.mum_users.specs.State.{is_context}
 use Rattle.mum_state.specs.Renewed.{heard_again, is_nobody, is_renewed_slot}
-use Rattle.mum_state.specs.State.{StateValue}
+use Rattle.mum_state.specs.State.{StateValue, channel_limit, has_account, is_named, is_numbered}
 use Rattle.mum_state.specs.Suppression.{heard_anew}
 use Rattle.mum_state.proofs.Fitting.{fit_parts}
 use Rattle.mum_state.proofs.Givens.{none_is}
@@ -161,3 +166,25 @@ channel_fits state id actor name parent description position max_users links_add
     let none = and_parts (is_none (fault_of_edit state.tree id parts)) (holds_of_given is_name name) front.0 in
     let same : change ≡ parts = cc in
     ap (fault_of_edit state.tree id) same ∙ none_is (fault_of_edit state.tree id parts) none.0
+
+-- what fits, of an account that is added, of a channel that is made, and of one that is removed
+pub account_fits : (state : StateValue) (account : AccountId) (name digest : List ℕ) → fits state (AddAccount account name digest) ≡ true
+    → (list_any (is_named name) state.accounts ≡ false) × (list_any (is_numbered account) state.accounts ≡ false)
+account_fits state account name digest fit =
+    let numbered = has_account state account in
+    let named = list_any (is_named name) state.accounts in
+    let short = and_parts (not numbered && not named && is_short name) (nat_lt (length state.accounts) ACCOUNT_LIMIT) (fit_parts state (AddAccount account name digest) fit).sets in
+    let new = and_parts (not numbered) (not named) (and_parts (not numbered && not named) (is_short name) short.0).0 in
+    (not-true named new.1, not-true numbered new.0)
+
+pub making_fits : (state : StateValue) (id parent : ChannelId) (name : List ℕ) (temporary : Bool) (info : ChannelInfo) (maker : Option SessionId)
+    → fits state (MakeChannel id parent name temporary info maker) ≡ true
+    → (state.tree.greatest < id.0) × (fault_of_add (channel_limit state) state.tree id parent name ≡ None)
+making_fits state id parent name temporary info maker fit =
+    let parts = fit_parts state (MakeChannel id parent name temporary info maker) fit in
+    let fault = fault_of_add (channel_limit state) state.tree id parent name in
+    let front = and_parts (is_none fault && is_name name) (is_text info.description) parts.sets in
+    (ltb-true state.tree.greatest id.0 parts.numbers, none_is fault (and_parts (is_none fault) (is_name name) front.0).0)
+
+pub removal_fits : (state : StateValue) (id : ChannelId) (actor : SessionId) → fits state (RemoveChannel id actor) ≡ true → fault_of_remove state.tree id ≡ None
+removal_fits state id actor fit = none_is (fault_of_remove state.tree id) (fit_parts state (RemoveChannel id actor) fit).sets

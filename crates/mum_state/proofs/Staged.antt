@@ -41,13 +41,6 @@ sessions_named state edit fit =
     let b : Bool = list_all (is_there state.tree.channels) (named_channels edit) in
     (and_parts a b (and_parts (a && b) (option_map_or (has_account state) (named_account edit) true) (fit_parts state edit fit).named).0).0
 
--- and the channels are there
-pub channels_named : (state : StateValue) (edit : Edit) → fits state edit ≡ true → list_all (is_there state.tree.channels) (named_channels edit) ≡ true
-channels_named state edit fit =
-    let a : Bool = list_all (λ session. list_any (has_number session) state.roster.sessions) (named_sessions edit) in
-    let b : Bool = list_all (is_there state.tree.channels) (named_channels edit) in
-    (and_parts a b (and_parts (a && b) (option_map_or (has_account state) (named_account edit) true) (fit_parts state edit fit).named).0).1
-
 first_of : {X : Type 0} (p : X → Bool) (x : X) (xs : List X) → list_all p (x ∷ xs) ≡ true → p x ≡ true
 first_of p x xs all = (and_parts (p x) (list_all p xs) all).0
 

@@ -228,8 +228,10 @@ impl Channels {
         ensures { option_map (λ perm. perm.0) result
             ≡ granted_where_in self.now (asker_of who.now) channel }
     {
-        let path = self.tree.path(channel)?;
-        Some(permitted(self, path.as_slice(), who))
+        match self.tree.path(channel) {
+            Some(path) => Some(permitted(self, path.as_slice(), who)),
+            None => None,
+        }
     }
 
     /// The same, with a step counted for each entry that is read.
@@ -244,8 +246,10 @@ impl Channels {
         ensures steps { steps.new
             ≡ steps.old + visits_in self.now (asker_of who.now) channel }
     {
-        let path = self.tree.path(channel)?;
-        Some(permissions(self, path.as_slice(), who, steps))
+        match self.tree.path(channel) {
+            Some(path) => Some(permissions(self, path.as_slice(), who, steps)),
+            None => None,
+        }
     }
 
     /// Whether a session may speak in the channel in which it is, if that is there.

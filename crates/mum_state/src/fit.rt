@@ -1,10 +1,10 @@
 //! Whether an edit fits.
 
-ghost use Rattle.std.specs.Prelude.{◌≡◌, ◌==◌, ◌&&◌, ◌+◌, ◌^◌, ◌<◌, not, nat_lt, is_none, length, true, false};
+ghost use Rattle.std.specs.Prelude.{◌≡◌, ◌==◌, ◌&&◌, ◌||◌, ◌+◌, ◌++◌, ◌^◌, ◌<◌, not, nat_lt, is_none, length, true, false};
 ghost use Rattle.std.specs.List.{list_all, list_any};
 ghost use Rattle.std.specs.Option.{option_map_or};
 ghost use Rattle.mum_tree.specs.Change.{change_of, fault_of_edit};
-ghost use Rattle.mum_tree.specs.Refusals.{fault_of_add};
+ghost use Rattle.mum_tree.specs.Refusals.{fault_of_add, fault_of_remove};
 ghost use Rattle.mum_tree.specs.Rows.{is_there};
 ghost use Rattle.mum_tree.specs.declared.channel.TheConstants.{CHANNEL_LIMIT};
 ghost use Rattle.mum_users.specs.Edit.{edit_fault, user_edit_of};
@@ -26,7 +26,7 @@ use crate::edit::Edit;
 use crate::kind::{changes_paths, changes_routes, is_of_configuration};
 use crate::parts::Parts;
 use mum_base::name::{NAME_LIMIT, check_name, check_text};
-use mum_base::{AccountId, ChannelId, Octets, Perm, SessionId, Slot, Text};
+use mum_base::{AccountId, ChannelId, Items, Octets, Perm, SessionId, Slot, Text};
 use mum_policy::{AclEntry, ChannelPolicy, Group};
 use mum_tree::ChannelInfo;
 use mum_users::Target;
@@ -111,6 +111,13 @@ fn is_sound_policy(policy: &ChannelPolicy) -> bool
         && are_sound_entries(policy.acls.as_slice())
 }
 
+// The number is one that a target may have, and the target is not too large.
+fn may_be_target(id: u8, target: &Target) -> bool
+    ensures { result ≡ (not ((id == 0) || nat_lt LAST_TARGET id) && not (is_oversize target.now)) }
+{
+    !(id == 0 || id > LAST_TARGET) && !target.is_oversize()
+}
+
 // Whether the count may rise over the revision, if the edit raises it.
 fn has_room_for(raises: bool, revision: u64, count: u64) -> bool
     requires { revision < 2 ^ 63 }
@@ -166,6 +173,20 @@ impl Parts {
         channels.iter().all(|id| tree.is_there(*id))
     }
 
+    fn are_all_there(
+        &self,
+        channel: Option<ChannelId>,
+        some: &Items<ChannelId>,
+        others: &Items<ChannelId>,
+    ) -> bool
+        ensures { result ≡ list_all (is_there self.now.tree.channels)
+            (given channel ++ some.now ++ others.now) }
+    {
+        self.is_there_if_given(channel)
+            && self.are_there(some.as_slice())
+            && self.are_there(others.as_slice())
+    }
+
     // The channels that an edit names are there.
     fn channels_there(&self, edit: &Edit) -> bool
         ensures { result ≡ list_all (is_there self.now.tree.channels) (named_channels edit.now) }
@@ -179,23 +200,14 @@ impl Parts {
                 ref links_add,
                 ref links_remove,
                 ..
-            } => {
-                tree.is_there(id)
-                    && self.is_there_if_given(parent)
-                    && self.are_there(links_add.as_slice())
-                    && self.are_there(links_remove.as_slice())
-            }
+            } => { tree.is_there(id) && self.are_all_there(parent, links_add, links_remove) }
             Edit::RemoveChannel { id, .. } => tree.is_there(id),
             Edit::SetUser {
                 channel,
                 ref listen,
                 ref unlisten,
                 ..
-            } => {
-                self.is_there_if_given(channel)
-                    && self.are_there(listen.as_slice())
-                    && self.are_there(unlisten.as_slice())
-            }
+            } => self.are_all_there(channel, listen, unlisten),
             Edit::SetAcl { channel, .. } => tree.is_there(channel),
             _ => true,
         }
@@ -226,13 +238,15 @@ impl Parts {
 
     // Nothing stands against the name and the tokens, and the number and the slot are those that are
     // next.
-    fn may_join(&self, session: SessionId, slot: Slot, name: &Text, tokens: &[Text]) -> bool
-        ensures { result ≡ (((session.0 == (next_number self.now.roster).0) && (slot.0 == (next_slot self.now.roster).0))
-            && (is_none (join_fault SESSIONS self.now.roster name.now) && is_short name.now && are_tokens tokens.now)) }
+    fn may_join(&self, session: SessionId, slot: Slot, name: &Text, tokens: &Items<Text>) -> bool
+        ensures { result ≡ (((session.0 == (next_number self.now.roster).0)
+            && (slot.0 == (next_slot self.now.roster).0))
+            && (is_none (join_fault SESSIONS self.now.roster name.now)
+            && is_short name.now && are_tokens tokens.now)) }
     {
         self.roster.cause_against_joining(name.as_str()).is_none()
             && is_short(name)
-            && are_tokens(tokens)
+            && are_tokens(tokens.as_slice())
             && self.takes_next(session, slot)
     }
 
@@ -270,6 +284,12 @@ impl Parts {
                 .is_none()
             && is_name(name)
             && is_text(&info.description)
+    }
+
+    fn may_remove(&self, id: ChannelId) -> bool
+        ensures { result ≡ is_none (fault_of_remove self.now.tree id) }
+    {
+        self.channels.tree().cause_against_removing(id).is_none()
     }
 
     // Nothing stands against the change of a channel.
@@ -350,7 +370,7 @@ impl Parts {
                 ref name,
                 ref tokens,
                 ..
-            } => self.may_join(session, slot, name, tokens.as_slice()),
+            } => self.may_join(session, slot, name, tokens),
             Edit::MakeChannel {
                 id,
                 parent,
@@ -364,9 +384,7 @@ impl Parts {
                 ref description,
                 ..
             } => self.may_change_channel(id, edit, name, description),
-            Edit::RemoveChannel { id, .. } => {
-                self.channels.tree().cause_against_removing(id).is_none()
-            }
+            Edit::RemoveChannel { id, .. } => self.may_remove(id),
             Edit::SetUser {
                 session,
                 ref comment,
@@ -374,9 +392,7 @@ impl Parts {
                 ..
             } => self.may_change_user(session, edit, comment, context),
             Edit::SetTokens { ref tokens, .. } => are_tokens(tokens.as_slice()),
-            Edit::SetTarget { id, ref target, .. } => {
-                !(id == 0 || id > LAST_TARGET) && !target.is_oversize()
-            }
+            Edit::SetTarget { id, ref target, .. } => may_be_target(id, target),
             Edit::SetAcl { ref policy, .. } => is_sound_policy(policy),
             _ => true,
         }

@@ -139,11 +139,13 @@ impl Parts {
     fn temporary_around(&self, session: SessionId) -> Option<ChannelId>
         ensures { result ≡ temporary_around self.now session }
     {
-        let around = self.roster.session(session)?.channel;
-        if self.channels.tree().channel(around)?.temporary {
-            Some(around)
-        } else {
-            None
+        let around = match self.roster.session(session) {
+            Some(user) => user.channel,
+            None => return None,
+        };
+        match self.channels.tree().channel(around) {
+            Some(channel) if channel.temporary => Some(around),
+            _ => None,
         }
     }
 

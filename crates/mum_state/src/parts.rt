@@ -100,8 +100,9 @@ impl Parts {
         ensures value { option_map (λ perm. perm.0) result ≡ perm_of self.now session channel }
         ensures steps { steps.new ≡ steps.old + visits_of self.now session channel }
     {
-        let user = self.roster.session(session)?;
-        let who = who_is(user);
-        self.channels.counted_to(&who, channel, steps)
+        match self.roster.session(session) {
+            Some(user) => self.channels.counted_to(&who_is(user), channel, steps),
+            None => None,
+        }
     }
 }

@@ -25,13 +25,33 @@ use crate::kind::changes_channels;
 use crate::moved::{Gone, MovedUp, parent_of};
 use crate::parts::Parts;
 use crate::server::Server;
-use mum_base::{AccountId, ChannelId, OutOfMemory, SessionId, Text};
+use mum_base::{AccountId, ChannelId, Items, OutOfMemory, SessionId, Text};
 use mum_policy::ChannelPolicy;
 use mum_tree::{ChannelChange, ChannelInfo};
 use mum_users::{Target, UserChange};
 use std::alloc::AllocError;
 
 impl Parts {
+    fn set_server(
+        &mut self,
+        welcome: &Text,
+        bandwidth: u32,
+        password: Option<[u8; 32]>,
+    ) -> Result<(), OutOfMemory>
+        ensures ok { OnOk result (self.new ≡ record self.old {
+          server = record { welcome = welcome.now; bandwidth = bandwidth; password = password };
+        }) }
+        ensures err { OnErr result (self.new ≡ self.old) }
+    {
+        let welcome = welcome.share()?;
+        self.server = Server {
+            welcome,
+            bandwidth,
+            password,
+        };
+        Ok(())
+    }
+
     fn add_account(
         &mut self,
         account: AccountId,
@@ -41,7 +61,8 @@ impl Parts {
         requires name { list_any (is_named name.now) self.old.accounts ≡ false }
         requires number { list_any (is_numbered account) self.old.accounts ≡ false }
         ensures ok { OnOk result (self.new ≡ record self.old {
-          accounts = with_account (record { account = account; name = name.now; digest = digest }) self.old.accounts;
+          accounts = with_account
+              (record { account = account; name = name.now; digest = digest }) self.old.accounts;
         }) }
         ensures err { OnErr result (self.new ≡ self.old) }
     {
@@ -57,14 +78,14 @@ impl Parts {
         &mut self,
         name: &Text,
         account: Option<AccountId>,
-        tokens: &[Text],
+        tokens: &Items<Text>,
     ) -> Result<(), OutOfMemory>
         requires { join_fault SESSIONS self.old.roster name.now ≡ None }
         ensures ok { OnOk result (self.new
             ≡ record self.old { roster = joined self.old.roster name.now account tokens.now }) }
         ensures err { OnErr result (self.new ≡ self.old) }
     {
-        match self.roster.join(name.as_str(), account, tokens) {
+        match self.roster.join(name.as_str(), account, tokens.as_slice()) {
             Ok(_) => Ok(()),
             Err(_) => Err(AllocError),
         }
@@ -82,7 +103,8 @@ impl Parts {
 
     // The maker of a temporary channel enters it.
     fn enter_made(&mut self, id: ChannelId, temporary: bool, maker: Option<SessionId>)
-        requires { IsTrue (list_all (λ maker. list_any (has_number maker) self.old.roster.sessions) (given maker)) }
+        requires { IsTrue (list_all (λ maker. list_any (has_number maker)
+            self.old.roster.sessions) (given maker)) }
         ensures { self.new ≡ with_maker_in self.old id temporary maker }
     {
         let Some(maker) = maker else {
@@ -104,15 +126,20 @@ impl Parts {
         name: &Text,
         temporary: bool,
         info: &ChannelInfo,
+        maker: Option<SessionId>,
     ) -> Result<(), OutOfMemory>
         requires above { self.old.tree.greatest < id.0 }
         requires allowed { fault_of_add CHANNEL_LIMIT self.old.tree id parent name.now ≡ None }
-        ensures ok { OnOk result (self.new
-            ≡ with_made self.old (with_info (with_new self.old.tree id parent name.now temporary) id info.now) id) }
+        requires maker { IsTrue (list_all (λ maker. list_any (has_number maker)
+            self.old.roster.sessions) (given maker)) }
+        ensures ok { OnOk result (self.new ≡ with_maker_in (with_made self.old (with_info (with_new
+            self.old.tree id parent name.now temporary) id info.now) id) id temporary maker) }
         ensures err { OnErr result (self.new ≡ self.old) }
     {
         self.channels
-            .make(id, parent, name.as_str(), temporary, info)
+            .make(id, parent, name.as_str(), temporary, info)?;
+        self.enter_made(id, temporary, maker);
+        Ok(())
     }
 
     fn edit_channel(&mut self, id: ChannelId, change: &ChannelChange<'_>) -> Result<(), OutOfMemory>
@@ -161,13 +188,13 @@ impl Parts {
         }
     }
 
-    fn set_tokens(&mut self, session: SessionId, tokens: &[Text]) -> Result<(), OutOfMemory>
+    fn set_tokens(&mut self, session: SessionId, tokens: &Items<Text>) -> Result<(), OutOfMemory>
         requires { IsTrue (list_any (has_number session) self.old.roster.sessions) }
         ensures ok { OnOk result (self.new
             ≡ record self.old { roster = with_tokens self.old.roster session tokens.now }) }
         ensures err { OnErr result (self.new ≡ self.old) }
     {
-        match self.roster.set_tokens(session, tokens) {
+        match self.roster.set_tokens(session, tokens.as_slice()) {
             Ok(()) => Ok(()),
             Err(_) => Err(AllocError),
         }
@@ -208,15 +235,7 @@ impl Parts {
                 ref welcome,
                 bandwidth,
                 password,
-            } => {
-                let welcome = welcome.share()?;
-                self.server = Server {
-                    welcome,
-                    bandwidth,
-                    password,
-                };
-                Ok(())
-            }
+            } => self.set_server(welcome, bandwidth, password),
             Edit::AddAccount {
                 account,
                 ref name,
@@ -227,7 +246,7 @@ impl Parts {
                 account,
                 ref tokens,
                 ..
-            } => self.join(name, account, tokens.as_slice()),
+            } => self.join(name, account, tokens),
             Edit::Leave { session } | Edit::Kick { session, .. } => {
                 self.leave(session);
                 Ok(())
@@ -239,7 +258,7 @@ impl Parts {
             Edit::SetTokens {
                 session,
                 ref tokens,
-            } => self.set_tokens(session, tokens.as_slice()),
+            } => self.set_tokens(session, tokens),
             Edit::SetTarget {
                 session,
                 id,
@@ -265,11 +284,7 @@ impl Parts {
                 temporary,
                 ref info,
                 maker,
-            } => {
-                self.make_channel(id, parent, name, temporary, info)?;
-                self.enter_made(id, temporary, maker);
-                Ok(())
-            }
+            } => self.make_channel(id, parent, name, temporary, info, maker),
             Edit::EditChannel { id, .. } => match channel_change(edit) {
                 Some(change) => self.edit_channel(id, &change),
                 None => unreachable!(),

@@ -11,6 +11,13 @@ describe-requires c =
     subst (λ (t : TreeState). fault_of_set_info t c.args.id ≡ None) (sym c.in_ok-grow.ensures.ok)
     (new_there c.self.inside.tree c.args.id c.args.parent c.args.name.now c.args.temporary)
 
+pub invariant_of-self : goal.invariant_of-self
+invariant_of-self c = record {
+  proper = c.in_err-grow.ensures.proper;
+  whole = c.self.invariant.whole;
+  free = subst (λ (tree : TreeState). IsOpenWhereFree c.self.inside.policies.items tree.channels) (sym c.in_err-grow.ensures.err) c.self.invariant.free;
+}
+
 pub invariant_of-self-2 : goal.invariant_of-self-2
 invariant_of-self-2 c =
     let tree_is : c.describe.new.tree ≡ with_info (with_new c.self.inside.tree c.args.id c.args.parent c.args.name.now c.args.temporary) c.args.id c.args.info.now =

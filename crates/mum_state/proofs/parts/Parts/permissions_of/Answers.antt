@@ -6,8 +6,8 @@ use Rattle.mum_state.specs.State.{StateValue}
 use Rattle.mum_state.proofs.Asked.{asked_of}
 use Rattle.mum_state.proofs.parts.Parts.permissions_of.Goals as goal
 
-pub returns-clause-value : goal.returns-clause-value
-returns-clause-value g c =
+pub returns-in-Some-clause-value : goal.returns-in-Some-clause-value
+returns-in-Some-clause-value g c =
     let parts = c.self.inside in
     let before : StateValue = record {
       server = parts.server;
@@ -18,6 +18,6 @@ returns-clause-value g c =
       counts = record { revision = parts.revision; policy = parts.stamps.policy; routing = parts.stamps.routing; slots = parts.slot_counts.items };
     } in
     c.counted_to.ensures.value
-    ∙ ap (λ (who : Asker). granted_where_in (channels_of before) who c.args.channel) c.who_is-who.ensures
-    ∙ asked_of before c.args.session c.args.channel c.in_ok-user.user.now (sym c.in_ok-user.ensures.row)
+    ∙ ap (λ (who : Asker). granted_where_in (channels_of before) who c.args.channel) c.who_is.ensures
+    ∙ asked_of before c.args.session c.args.channel c.in-Some.user.now (sym c.in-Some.ensures.row)
     ∙ ap (λ (s : StateValue). perm_of s c.args.session c.args.channel) c.self.view_is

@@ -1,0 +1,11 @@
+use Rattle.std.proofs.Common.{◌∙◌, ◌++◌, List, [], ◌∷◌, ap, sym, take}
+use Rattle.std.proofs.lemmas.List.{take_more}
+use Rattle.mum_policy.specs.declared.policy.ChannelPolicy.{ChannelPolicy}
+use Rattle.mum_state.proofs.channels.copy_of_policies.Goals as goal
+
+pub loop-policy-preserved : goal.loop-policy-preserved
+loop-policy-preserved c =
+    c.in_ok-push.ensures.items
+    ∙ ap (λ (front : List ChannelPolicy). front ++ c.in_ok-copy.field-0 ∷ []) c.loop-policy.invariant
+    ∙ ap (λ (next : ChannelPolicy). take c.loop-policy.policy-index c.args.policies.now ++ next ∷ []) (c.in_ok-copy.ensures ∙ c.policy-item.is)
+    ∙ sym (take_more c.args.policies.now c.loop-policy.policy-index c.policy-item.result c.loop-policy-test.true)

@@ -1,0 +1,45 @@
+use Rattle.std.proofs.Common.{refl, sym, subst, rules, arith}
+use Rattle.std.proofs.lemmas.List.Elements.{All-replicate}
+use Rattle.mum_tree.specs.Proper.{IsProper as IsProperTree}
+use Rattle.mum_tree.specs.State.{root_alone}
+use Rattle.mum_users.specs.Proper.{IsProper as IsProperRoster}
+use Rattle.mum_users.specs.State.{empty_roster}
+use Rattle.mum_state.specs.Channels.{ChannelsState}
+use Rattle.mum_state.specs.Proper.{IsNear, IsProper}
+use Rattle.mum_state.specs.State.{empty_state}
+use Rattle.mum_state.proofs.parts.Parts.empty.Goals as goal
+
+empty_proper : IsProperTree 1024 root_alone → IsProperRoster 128 empty_roster → IsProper empty_state
+empty_proper tree roster = record {
+  welcome = refl;
+  names = tt;
+  accounts = search rules;
+  few_accounts = omega arith;
+  short_names = refl;
+  tree = tree;
+  channels = refl;
+  policies = refl;
+  sound_policies = refl;
+  roster = roster;
+  users = refl;
+  inside = refl;
+  listening = refl;
+  counts = record {
+    revision = omega arith;
+    policy = omega arith;
+    routing = omega arith;
+    each = All-replicate (IsNear 0) 128 0 (omega arith);
+    one_each = refl;
+  };
+}
+
+pub returns-clause-empty : goal.returns-clause-empty
+returns-clause-empty c =
+    rw (c.empty.ensures, c.new-3.ensures, c.in_ok-new.ensures.root, c.in_ok-new-2.ensures.empty, c.in_ok-vec.ensures.items_if_clones_equal (λ count same. same)) refl
+
+pub returns-clause-proper : goal.returns-clause-proper
+returns-clause-proper c =
+    subst IsProper (sym (returns-clause-empty c))
+    (empty_proper
+    (subst (λ (channels : ChannelsState). IsProperTree 1024 channels.tree) c.in_ok-new.ensures.root c.in_ok-new.ensures.proper)
+    (subst (IsProperRoster 128) c.in_ok-new-2.ensures.empty c.in_ok-new-2.ensures.proper))

@@ -19,7 +19,8 @@ channel_parts name parent description position max_users links_add links_remove 
 }
 
 -- these parts of a session become others; whether it may speak where it is, is none of them
-abbrev pub user_parts : Option ChannelId → Option Bool → Option Bool → Option Bool → Option Bool → Option Bool → Option Bool → Option (List ℕ) → Option (List ℕ) → List ChannelId → List ChannelId → UserEdit
+abbrev pub user_parts : Option ChannelId → Option Bool → Option Bool → Option Bool → Option Bool → Option Bool → Option Bool
+    → Option (List ℕ) → Option (List ℕ) → List ChannelId → List ChannelId → UserEdit
 user_parts channel mute deaf priority self_mute self_deaf recording comment context listen unlisten = record {
   channel = channel;
   flags = record {

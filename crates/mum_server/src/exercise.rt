@@ -24,6 +24,7 @@ use mum_core::{Core, StepFault, Totals};
 use mum_record::{Step, Word, push_line};
 use std::alloc::{AllocError, Global};
 use std::marker::Model;
+use std::mem::drop;
 
 /// The workers of an exercise.
 pub const WORKERS: u8 = 4;
@@ -104,20 +105,30 @@ impl Course {
         })
     }
 
+    /// The line that tells what came of an exercise of a seed, of so many rounds.
+    fn account(&self, alloc: Global, seed: u64, rounds: u32) -> Result<String, OutOfMemory>
+        ensures { IfOk result (λ line. string_bytes line
+            ≡ line_of_words (numbers_words seed rounds self.now.tally self.now.core.totals) ++ 10 ∷ []) }
+    {
+        account_of(alloc, seed, rounds, self.tally, self.core.totals())
+    }
+
     /// Takes a step where it is allowed. What an error leaves behind is of no use.
     fn take(&mut self, step: Step) -> Result<(), OutOfMemory>
         requires { IsRecordable step }
         ensures { OnOk result (self.new ≡ taken self.old step) }
     {
-        self.steps.reserve(1)?;
         self.text.clear();
         match self.core.take(&step, &mut self.text) {
-            Ok(()) => {
-                self.steps.push_reserved(step);
+            Ok(()) => self.steps.push(step).map_err(AllocError::from),
+            Err(StepFault::Illegal { .. }) => {
+                drop(step);
                 Ok(())
             }
-            Err(StepFault::Illegal { .. }) => Ok(()),
-            Err(StepFault::OutOfMemory) => Err(AllocError),
+            Err(StepFault::OutOfMemory) => {
+                drop(step);
+                Err(AllocError)
+            }
         }
     }
 
@@ -418,5 +429,7 @@ pub fn account(alloc: Global, seed: u64, rounds: u32) -> Result<String, OutOfMem
     ensures { IfOk result (λ line. string_bytes line ≡ account seed rounds) }
 {
     let course = counted(alloc, seed, rounds)?;
-    account_of(alloc, seed, rounds, course.tally, course.core.totals())
+    let line = course.account(alloc, seed, rounds);
+    drop(course);
+    line
 }

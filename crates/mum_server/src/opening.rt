@@ -8,7 +8,7 @@ ghost use Rattle.mum_server.specs.Runs.{Begins, Describes, Names, Opens};
 
 use crate::end::{End, LineFault};
 use mum_base::{Items, Octets};
-use mum_config::{BadConfig, read_config};
+use mum_config::{BadConfig, Config, read_config};
 use mum_core::Core;
 use mum_record::read_config_line;
 use mum_state::Edit;
@@ -34,7 +34,7 @@ fn edits_of(alloc: Global, n: u64, document: &[u8]) -> Result<Items<Edit>, End>
         return Ok(Items::new(alloc));
     }
     match read_config(alloc, document) {
-        Ok(config) => Ok(config.edits),
+        Ok(Config { edits, .. }) => Ok(edits),
         Err(BadConfig::Fault { cause, key }) => {
             Err(End::faulty(n, LineFault::BadConfig { cause, key }))
         }

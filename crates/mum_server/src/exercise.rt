@@ -24,7 +24,7 @@ use mum_core::{Core, StepFault, Totals};
 use mum_record::{Step, Word, push_line};
 use std::alloc::{AllocError, Global};
 use std::marker::Model;
-use std::mem::drop;
+use std::mem::{drop, replace};
 
 /// The workers of an exercise.
 pub const WORKERS: u8 = 4;
@@ -365,8 +365,13 @@ fn exercised(alloc: Global, seed: u64, rounds: u32) -> Result<Course, OutOfMemor
     ensures { IfOk result (λ course. course ≡ exercised seed rounds) }
 {
     let mut course = Course::open(alloc)?;
-    course.run(alloc, seed, rounds)?;
-    Ok(course)
+    match course.run(alloc, seed, rounds) {
+        Ok(()) => Ok(course),
+        Err(error) => {
+            drop(course);
+            Err(error)
+        }
+    }
 }
 
 /// What comes of the exercise of a seed, of so many rounds. Its steps are not kept.
@@ -374,15 +379,22 @@ fn counted(alloc: Global, seed: u64, rounds: u32) -> Result<Course, OutOfMemory>
     ensures { IfOk result (λ course. IsAlike course (exercised seed rounds)) }
 {
     let mut course = Course::open(alloc)?;
-    course.count(alloc, seed, rounds)?;
-    Ok(course)
+    match course.count(alloc, seed, rounds) {
+        Ok(()) => Ok(course),
+        Err(error) => {
+            drop(course);
+            Err(error)
+        }
+    }
 }
 
 /// The steps of the exercise of a seed, of so many rounds, as they stand in its recording.
 pub fn generate(alloc: Global, seed: u64, rounds: u32) -> Result<Vec<Step>, OutOfMemory>
     ensures { IfOk result (λ steps. steps.items ≡ (exercised seed rounds).steps) }
 {
-    let Course { steps, .. } = exercised(alloc, seed, rounds)?;
+    let mut course = exercised(alloc, seed, rounds)?;
+    let steps = replace(&mut course.steps, Vec::new(alloc));
+    drop(course);
     Ok(steps)
 }
 

@@ -15,6 +15,7 @@ use mum_core::{Core, StepFault};
 use mum_io::{Sink, write_all};
 use mum_record::{Step, is_recording, read_step, read_workers};
 use std::alloc::Global;
+use std::mem::{drop, replace};
 
 /// The most bytes of a line, its line feed not counted.
 pub const LINE_LIMIT: usize = 131_200;
@@ -84,7 +85,7 @@ impl Phase {
     fn turn(&mut self, next: Phase)
         ensures { self.new ≡ next }
     {
-        *self = next;
+        drop(replace(self, next));
     }
 
     /// Takes line `n`, which is not too long, and appends what it tells to the transcript, which has
@@ -240,5 +241,7 @@ pub fn replay<O: Sink>(alloc: Global, bytes: &[u8], output: &mut O) -> End
     ensures no_read { result ≡ End.ReadFault → ⊥ }
 {
     let mut run = Run::new(alloc);
-    replay_lines(alloc, &mut run, bytes, output)
+    let end = replay_lines(alloc, &mut run, bytes, output);
+    drop(run);
+    end
 }

@@ -10,7 +10,7 @@ use mum_base::OutOfMemory;
 use mum_state::{Edit, State};
 use std::alloc::Global;
 use std::marker::Model;
-use std::mem;
+use std::mem::{drop, replace};
 
 /// The edits that were accepted from an opening state on, and how many of them are published.
 #[derive(Drop)]
@@ -41,7 +41,13 @@ fn two_copies(alloc: Global, state: &State) -> Result<(State, State), OutOfMemor
     ensures other { IfOk result (λ copies. copies.1 ≡ state.now) }
 {
     let one = state.copy(alloc)?;
-    Ok((one, state.copy(alloc)?))
+    match state.copy(alloc) {
+        Ok(other) => Ok((one, other)),
+        Err(error) => {
+            drop(one);
+            Err(error)
+        }
+    }
 }
 
 /// Puts the next state in place of the current one, which becomes the spare one.
@@ -49,7 +55,21 @@ fn renew(current: &mut State, spare: &mut Option<State>, next: State)
     ensures next { current.new ≡ next }
     ensures behind { spare.new ≡ Some current.old }
 {
-    *spare = Some(mem::replace(current, next));
+    drop(replace(spare, Some(replace(current, next))));
+}
+
+/// The state to which an edit leads that fits.
+fn after_edit(mut state: State, edit: &Edit) -> Result<State, OutOfMemory>
+    requires { IsTrue (fits state edit.now) }
+    ensures { IfOk result (λ next. next ≡ applied state edit.now) }
+{
+    match state.apply(edit) {
+        Ok(()) => Ok(state),
+        Err(error) => {
+            drop(state);
+            Err(error)
+        }
+    }
 }
 
 impl History {
@@ -57,15 +77,20 @@ impl History {
     pub fn open(alloc: Global, opening: State) -> Result<History, OutOfMemory>
         ensures { IfOk result (λ history. history ≡ begun opening) }
     {
-        let (current, spare) = two_copies(alloc, &opening)?;
-        Ok(History {
-            alloc,
-            opening,
-            current,
-            spare: Some(spare),
-            accepted: Vec::new(alloc),
-            published: 0,
-        })
+        match two_copies(alloc, &opening) {
+            Ok((current, spare)) => Ok(History {
+                alloc,
+                opening,
+                current,
+                spare: Some(spare),
+                accepted: Vec::new(alloc),
+                published: 0,
+            }),
+            Err(error) => {
+                drop(opening);
+                Err(error)
+            }
+        }
     }
 
     /// The state before all accepted edits.
@@ -114,15 +139,14 @@ impl History {
 
     /// Brings a state that is one edit behind up to the current one.
     #[tactic(auto, using(crate::proofs::Fronts::last_fits, crate::proofs::Fronts::last_leads))]
-    fn bring_up(&self, mut state: State) -> Result<State, OutOfMemory>
+    fn bring_up(&self, state: State) -> Result<State, OutOfMemory>
         requires { state ≡ at self.now.opening self.now.accepted (length self.now.accepted - 1) }
         ensures { IfOk result (λ state. state ≡ current self.now) }
     {
         let Some(last) = self.accepted.last() else {
             return Ok(state);
         };
-        state.apply(last)?;
-        Ok(state)
+        after_edit(state, last)
     }
 
     /// A state that is equal to the current one: the one that was an edit behind, or else a copy.
@@ -143,9 +167,8 @@ impl History {
         ensures next { IfOk result (λ next. next ≡ applied (current self.old) edit.now) }
         ensures same { self.new ≡ self.old }
     {
-        let mut state = self.take_spare()?;
-        state.apply(edit)?;
-        Ok(state)
+        let state = self.take_spare()?;
+        after_edit(state, edit)
     }
 
     /// Appends an edit that leads to this state.
@@ -155,10 +178,18 @@ impl History {
         ensures ok { OnOk result (self.new ≡ with_edit self.old edit) }
         ensures err { OnErr result (self.new ≡ self.old) }
     {
-        self.accepted.reserve(1)?;
-        self.accepted.push_reserved(edit);
-        renew(&mut self.current, &mut self.spare, next);
-        Ok(())
+        match self.accepted.reserve(1) {
+            Ok(()) => {
+                self.accepted.push_reserved(edit);
+                renew(&mut self.current, &mut self.spare, next);
+                Ok(())
+            }
+            Err(error) => {
+                drop(edit);
+                drop(next);
+                Err(error)
+            }
+        }
     }
 
     /// Accepts an edit that fits the current state. After want of memory all is as it was.
@@ -167,7 +198,12 @@ impl History {
         ensures ok { OnOk result (self.new ≡ with_edit self.old edit) }
         ensures err { OnErr result (self.new ≡ self.old) }
     {
-        let next = self.next_state(&edit)?;
-        self.append(edit, next)
+        match self.next_state(&edit) {
+            Ok(next) => self.append(edit, next),
+            Err(error) => {
+                drop(edit);
+                Err(error)
+            }
+        }
     }
 }

@@ -7,6 +7,7 @@ ghost use Rattle.mum_state.specs.State.{empty_state};
 use mum_base::OutOfMemory;
 use mum_state::{Edit, State};
 use std::alloc::Global;
+use std::mem::drop;
 
 /// The state after edits of which each fits where it stands, from the empty state on.
 #[tactic(auto, using(crate::proofs::Fronts::read_fits, crate::proofs::Fronts::read_leads))]
@@ -16,7 +17,10 @@ pub fn state_after(alloc: Global, edits: &[Edit]) -> Result<State, OutOfMemory>
 {
     let mut state = State::empty(alloc)?;
     for edit in edits {
-        state.apply(edit)?;
+        if let Err(error) = state.apply(edit) {
+            drop(state);
+            return Err(error);
+        }
     }
     Ok(state)
 }

@@ -10,6 +10,7 @@ use mum_base::OutOfMemory;
 use mum_state::State;
 use std::alloc::Global;
 use std::marker::Model;
+use std::mem::{drop, replace};
 
 /// A state that reads behind a history, at a revision: the number of edits that it has.
 #[derive(Drop)]
@@ -74,7 +75,8 @@ impl View {
         if self.revision <= revision {
             return Ok(());
         }
-        self.state = history.opening().copy(alloc)?;
+        let opening = history.opening().copy(alloc)?;
+        drop(replace(&mut self.state, opening));
         self.revision = 0;
         Ok(())
     }
@@ -123,6 +125,18 @@ pub fn readers(
     ensures each { IfOk result (λ readers. All (IsViewOf opening []) readers.1.items) }
     ensures count { IfOk result (λ readers. length readers.1.items ≡ count) }
 {
-    let views = opening_views(alloc, count, &opening)?;
-    Ok((History::open(alloc, opening)?, views))
+    let views = match opening_views(alloc, count, &opening) {
+        Ok(views) => views,
+        Err(error) => {
+            drop(opening);
+            return Err(error);
+        }
+    };
+    match History::open(alloc, opening) {
+        Ok(history) => Ok((history, views)),
+        Err(error) => {
+            drop(views);
+            Err(error)
+        }
+    }
 }

@@ -21,6 +21,7 @@ use anyhow::{Context, Result, bail};
 use mum_state::State;
 use std::alloc::Global;
 use std::env;
+use std::mem::drop;
 use std::sync::Wait;
 use std::thread::Threads;
 
@@ -56,7 +57,9 @@ fn of_kind(alloc: Global, word: &str, kind: &str, length: u32, count: u32) -> Re
         _ => {}
     }
     let mut state = State::empty(alloc)?;
-    on_state(alloc, &mut state, word, kind, length, count)
+    let sum = on_state(alloc, &mut state, word, kind, length, count);
+    drop(state);
+    sum
 }
 
 /// A workload of so many pieces, or of pieces of so many bytes.

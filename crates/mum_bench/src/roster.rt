@@ -5,6 +5,7 @@ use mum_base::{ChannelId, Items, OutOfMemory, SessionId, Text};
 use mum_users::user::SESSIONS;
 use mum_users::{Roster, Target, TargetItem};
 use std::alloc::Global;
+use std::mem::drop;
 
 /// To how many channels each session listens.
 const LISTENED: u32 = 32;
@@ -126,7 +127,9 @@ fn leaves(alloc: Global, roster: &mut Roster, sessions: u32, count: u32) -> Resu
 
 fn made(alloc: Global, sessions: u32) -> Result<u64> {
     let mut roster = Roster::new(alloc)?;
-    fill(alloc, &mut roster, sessions)
+    let sum = fill(alloc, &mut roster, sessions);
+    drop(roster);
+    sum
 }
 
 /// Makes the roster so many times.
@@ -173,5 +176,7 @@ pub fn work(alloc: Global, kind: &str, sessions: u32, count: u32) -> Result<u64>
         return joins(alloc, sessions, count);
     }
     let mut roster = Roster::new(alloc)?;
-    work_on(alloc, &mut roster, kind, sessions, count)
+    let sum = work_on(alloc, &mut roster, kind, sessions, count);
+    drop(roster);
+    sum
 }

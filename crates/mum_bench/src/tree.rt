@@ -6,6 +6,7 @@ use anyhow::{Context, Result, bail, ensure};
 use mum_base::ChannelId;
 use mum_tree::{CHANNEL_LIMIT, ChannelChange, Scratch, Tree};
 use std::alloc::Global;
+use std::mem::drop;
 
 /// How many of those that come next by number, and round to the root, a channel is linked to. With those
 /// before it, it has 64 partners where there are enough channels.
@@ -102,11 +103,23 @@ fn places(tree: &Tree, channels: u32, count: u32) -> Result<u64>
     Ok(sum)
 }
 
+/// Fills the tree with channels and their links; one of those of the root.
+fn link_of_filled(
+    alloc: Global,
+    tree: &mut Tree,
+    channels: u32,
+    round: u32,
+) -> Result<Option<ChannelId>> {
+    fill_linked(alloc, tree, channels)?;
+    Ok(tree.link_at(ChannelId::ROOT, (round % 64) as usize))
+}
+
 /// Builds the tree with its links; one of those of the root.
 fn built(alloc: Global, channels: u32, round: u32) -> Result<Option<ChannelId>> {
     let mut tree = Tree::new(alloc)?;
-    fill_linked(alloc, &mut tree, channels)?;
-    Ok(tree.link_at(ChannelId::ROOT, (round % 64) as usize))
+    let link = link_of_filled(alloc, &mut tree, channels, round);
+    drop(tree);
+    link
 }
 
 /// The same so many times.
@@ -203,5 +216,7 @@ pub fn work(alloc: Global, kind: &str, channels: u32, count: u32) -> Result<u64>
         return builds(alloc, channels, count);
     }
     let mut tree = Tree::new(alloc)?;
-    work_on(alloc, &mut tree, kind, channels, count)
+    let sum = work_on(alloc, &mut tree, kind, channels, count);
+    drop(tree);
+    sum
 }

@@ -9,6 +9,7 @@ use mum_core::Core;
 use mum_history::History;
 use mum_state::{Edit, State};
 use std::alloc::Global;
+use std::mem::drop;
 
 /// Adds an edit, which has to fit.
 fn add(history: &mut History, edit: Edit, call: &str) -> Result<()>
@@ -52,5 +53,7 @@ fn core_after(alloc: Global, history: &mut History, line: &str) -> Result<Core>
 /// A core of one worker that opens with the edits that a line spells.
 pub fn core_at(alloc: Global, line: &str) -> Result<Core> {
     let mut history = History::open(alloc, State::empty(alloc)?)?;
-    core_after(alloc, &mut history, line)
+    let core = core_after(alloc, &mut history, line);
+    drop(history);
+    core
 }

@@ -11,6 +11,7 @@ use mum_cases_words::words::{session, word_of};
 use mum_notify::{Notice, fits_frame, notices, sync_block};
 use mum_state::{Edit, State};
 use std::alloc::Global;
+use std::mem::drop;
 
 /// Whether a parcel is for the slot of its session, which may be gone.
 fn has_its_slot(before: &State, after: &State, notice: &Notice) -> bool {
@@ -174,7 +175,9 @@ fn calls_from(shown: &mut Shown, state: &mut State, calls: &[String]) -> Result<
 /// What these calls say from the empty state on.
 fn all_calls(shown: &mut Shown, calls: &[String]) -> Result<()> {
     let mut state = State::empty(shown.alloc)?;
-    calls_from(shown, &mut state, calls)
+    let said = calls_from(shown, &mut state, calls);
+    drop(state);
+    said
 }
 
 /// What the calls of a line say.

@@ -8,7 +8,7 @@ use mum_cases::Table;
 use mum_cases_words::words::word_of;
 use mum_users::Roster;
 use std::alloc::Global;
-use std::mem;
+use std::mem::{drop, swap};
 
 pub struct Calls;
 
@@ -34,7 +34,7 @@ impl Two {
             return say(told, "ok");
         }
         if word == "swap" {
-            mem::swap(&mut self.now, &mut self.aside);
+            swap(&mut self.now, &mut self.aside);
             return say(told, "ok");
         }
         if is_reader(word) {
@@ -85,7 +85,9 @@ fn answer_to(alloc: Global, told: &mut String, question: &str) -> Result<()> {
         now: Roster::new(alloc)?,
         aside: Roster::new(alloc)?,
     };
-    two.line(alloc, told, question)
+    let said = two.line(alloc, told, question);
+    drop(two);
+    said
 }
 
 impl Table for Calls {

@@ -15,6 +15,7 @@ use mum_state::State;
 use mum_tree::Scratch;
 use std::alloc::Global;
 use std::marker::Brand;
+use std::mem::drop;
 use std::sync::ledger::{Blank, Ledger};
 
 /// Talk over links, those who listen, loopback, and everybody who is not heard or does not hear.
@@ -125,7 +126,9 @@ fn say(alloc: Global, said: &mut String, line: &str) -> Result<()> {
         state,
         scratch,
     };
-    scene.calls(said, line)
+    let told = scene.calls(said, line);
+    drop(scene);
+    told
 }
 
 /// What the calls of a line say.

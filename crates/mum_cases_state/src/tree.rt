@@ -11,7 +11,7 @@ use mum_cases_words::words::{
 };
 use mum_tree::{Channel, ChannelChange, ChannelInfo, Scratch, Tree, TreeFault};
 use std::alloc::Global;
-use std::mem::{replace, swap};
+use std::mem::{drop, replace, swap};
 
 pub struct Trees;
 
@@ -365,6 +365,8 @@ impl Table for Trees {
 
     fn answer(alloc: Global, question: &str) -> Result<String> {
         let mut bench = Bench::new(alloc)?;
-        bench.answer(question)
+        let answer = bench.answer(question);
+        drop(bench);
+        answer
     }
 }

@@ -5,6 +5,7 @@ use crate::words::number_of;
 use anyhow::{Result, bail};
 use mum_state::{Edit, State};
 use std::alloc::Global;
+use std::mem::drop;
 
 /// Adds calls that are joined by ` and `, with the number of the time for each `%`.
 fn add_once(alloc: Global, calls: &mut Vec<String>, time: &str, each: &str) -> Result<()> {
@@ -71,6 +72,11 @@ fn make_all(alloc: Global, state: &mut State, calls: &[String]) -> Result<()> {
 pub fn made(alloc: Global, line: &str) -> Result<State> {
     let calls = calls_of(alloc, line)?;
     let mut state = State::empty(alloc)?;
-    make_all(alloc, &mut state, calls.as_slice())?;
-    Ok(state)
+    match make_all(alloc, &mut state, calls.as_slice()) {
+        Ok(()) => Ok(state),
+        Err(error) => {
+            drop(state);
+            Err(error)
+        }
+    }
 }

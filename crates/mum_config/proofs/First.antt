@@ -138,3 +138,12 @@ rows_none dot rows more none rest = rw (rows_fault-append dot rows more) (none_s
 pub on_ok_through : {X : Type 0} (P : Type 0) (r read : Result X BadConfig) → IfOk r (λ value. read ≡ Ok value) → OnOk read P → OnOk r P
 on_ok_through P (Ok value) read same held = rw same at held
 on_ok_through P (Err e) read same held = tt
+
+pub on_ok_as : {X : Type 0} {P Q : Type 0} (r : Result X BadConfig) → OnOk r P → (P → Q) → OnOk r Q
+on_ok_as (Ok value) held then_so = then_so held
+on_ok_as (Err e) held then_so = tt
+
+-- a reader of rows behind others of which nothing is said
+pub rows_reads : {X : Type 0} (value : X) (dot : List ℕ) (rows more : List Row) (r : Result X BadConfig) → rows_fault dot rows ≡ None → Reads (rows_fault dot more) value r
+    → Reads (rows_fault dot (rows ++ more)) value r
+rows_reads value dot rows more r none reads = rw (rows_fault-append dot rows more) (reads_later _ _ value r none reads)

@@ -15,6 +15,7 @@ use Rattle.mum_policy.specs.declared.policy.Group.{Group as GroupRow}
 use Rattle.mum_policy.specs.declared.policy.TheConstants.{GROUP_ACCOUNTS}
 use Rattle.mum_policy.specs.declared.policy.Whom.{Whom}
 use Rattle.mum_policy.specs.declared.policy.Whom.TheVariants.{Account, Group}
+use Rattle.mum_config.specs.declared.entry.Rights.{Rights}
 use Rattle.mum_config.specs.declared.given.GivenPolicy.{GivenPolicy}
 use Rattle.mum_config.specs.declared.fault.ConfigFault.TheVariants.{Twice, WrongKind}
 use Rattle.mum_config.specs.Account.{greatest}
@@ -109,6 +110,15 @@ whom_of value = option_map_or (λ account. Account (account_of account)) (get (c
 -- those of the permissions named that there are
 abbrev pub permissions_at : List ℕ → Data → Perm
 permissions_at name value = record { 0 = bit_and (number_at name 0 value) ALL.0 }
+
+-- where an entry holds, and what it grants and denies
+abbrev pub rights_of : Data → Rights
+rights_of value = record {
+  here = flag_at (codes "here") true value;
+  subs = flag_at (codes "subs") true value;
+  grant = permissions_at (codes "grant") value;
+  deny = permissions_at (codes "deny") value;
+}
 
 unfoldable pub entry_of : Data → AclEntry
 entry_of value = record {

@@ -105,7 +105,7 @@ fn number_in(object: &Object<'_>, last: Option<u32>) -> Result<u32, BadConfig>
 }
 
 /// A channel's parent, and how many channels lead to it from the root, with both.
-#[derive(Drop)]
+#[derive(Clone, Copy)]
 struct Parent {
     number: u32,
     depth: usize,

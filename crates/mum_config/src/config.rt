@@ -24,6 +24,7 @@ use mum_base::{Items, Text};
 use mum_state::{ACCOUNT_LIMIT, DEFAULT_BANDWIDTH, Edit};
 use serde_json::Value;
 use std::alloc::Global;
+use std::mem::drop;
 
 /// The most bytes of a document.
 pub const DOCUMENT_LIMIT: usize = 65_536;
@@ -154,8 +155,9 @@ fn lists_in(object: &Object<'_>, edits: &mut Vec<Edit>) -> Result<(), BadConfig>
 {
     accounts_in(object, edits)?;
     let depths = channels_in(object, edits)?;
-    links_in(object, &depths, edits)?;
-    Ok(())
+    let read = links_in(object, &depths, edits);
+    drop(depths);
+    read
 }
 
 /// The configuration that a document describes.
@@ -175,11 +177,16 @@ fn read_document(alloc: Global, document: &Value) -> Result<Config, BadConfig>
     let workers = settings.workers.unwrap_or(DEFAULT_WORKERS);
     let mut edits = Vec::new(alloc);
     edits.push(settings.into_edit(alloc))?;
-    lists_in(&object, &mut edits)?;
-    Ok(Config {
-        workers: workers as u8,
-        edits: Items::from_vec(edits),
-    })
+    match lists_in(&object, &mut edits) {
+        Ok(()) => Ok(Config {
+            workers: workers as u8,
+            edits: Items::from_vec(edits),
+        }),
+        Err(error) => {
+            drop(edits);
+            Err(error)
+        }
+    }
 }
 
 /// The value that a text is.

@@ -5,7 +5,7 @@ ghost use Rattle.serde_json.specs.Find.{get};
 ghost use Rattle.serde_json.specs.View.{view};
 ghost use Rattle.mum_config.specs.Fault.{within};
 ghost use Rattle.mum_config.specs.Object.{each_fault, rows_fault};
-ghost use Rattle.mum_config.specs.Policy.{entry_fault, entry_of, lacks_whom, permissions_at, whom_of, whom_rows};
+ghost use Rattle.mum_config.specs.Policy.{entry_fault, entry_of, lacks_whom, permissions_at, right_rows, rights_of, whom_of, whom_rows};
 ghost use Rattle.mum_config.specs.Reading.{Reads};
 ghost use Rattle.mum_config.specs.Value.{number_fault, wanted};
 
@@ -13,10 +13,11 @@ use crate::fault::{BadConfig, ConfigFault, at_place};
 use crate::object::Object;
 use crate::value::or_empty;
 use mum_base::name::NAME_LIMIT;
-use mum_base::{AccountId, Items, Perm, Text};
+use mum_base::{AccountId, Items, OutOfMemory, Perm, Text};
 use mum_policy::{AclEntry, Whom};
 use serde_json::Value;
 use std::alloc::Global;
+use std::mem::drop;
 
 const KEYS: [&str; 6] = ["account", "group", "here", "subs", "grant", "deny"];
 
@@ -52,6 +53,50 @@ fn permissions_in(object: &Object<'_>, name: &str) -> Result<Perm, BadConfig>
     Ok(Perm(bits.unwrap_or(0) & Perm::ALL.0))
 }
 
+/// Where an entry holds, and what it grants and denies.
+#[derive(Clone, Copy)]
+pub(crate) struct Rights {
+    pub here: bool,
+    pub subs: bool,
+    pub grant: Perm,
+    pub deny: Perm,
+}
+
+fn rights_in(object: &Object<'_>) -> Result<Rights, BadConfig>
+    ensures { Reads (rows_fault object.now.dot.now (right_rows (view object.now.value.now)))
+        (rights_of (view object.now.value.now)) result }
+{
+    let here = object.flag("here")?;
+    let subs = object.flag("subs")?;
+    let grant = permissions_in(object, "grant")?;
+    let deny = permissions_in(object, "deny")?;
+    Ok(Rights {
+        here: here.unwrap_or(true),
+        subs: subs.unwrap_or(true),
+        grant,
+        deny,
+    })
+}
+
+fn push_entry(whom: Whom, rights: Rights, entries: &mut Vec<AclEntry>) -> Result<(), OutOfMemory>
+    ensures { OnOk result (entries.new.items ≡ entries.old.items ++ record {
+      whom = whom;
+      here = rights.here;
+      subs = rights.subs;
+      grant = rights.grant;
+      deny = rights.deny;
+    } ∷ []) }
+{
+    entries.push(AclEntry {
+        whom,
+        here: rights.here,
+        subs: rights.subs,
+        grant: rights.grant,
+        deny: rights.deny,
+    })?;
+    Ok(())
+}
+
 /// Adds an entry.
 fn read_entry(alloc: Global, value: &Value, entries: &mut Vec<AclEntry>) -> Result<(), BadConfig>
     ensures reads { Reads (entry_fault (view value.now)) tt result }
@@ -65,18 +110,13 @@ fn read_entry(alloc: Global, value: &Value, entries: &mut Vec<AclEntry>) -> Resu
     };
     object.open(&KEYS)?;
     let whom = whom_in(&object)?;
-    let here = object.flag("here")?;
-    let subs = object.flag("subs")?;
-    let grant = permissions_in(&object, "grant")?;
-    let deny = permissions_in(&object, "deny")?;
-    entries.push(AclEntry {
-        whom,
-        here: here.unwrap_or(true),
-        subs: subs.unwrap_or(true),
-        grant,
-        deny,
-    })?;
-    Ok(())
+    match rights_in(&object) {
+        Ok(rights) => Ok(push_entry(whom, rights, entries)?),
+        Err(error) => {
+            drop(whom);
+            Err(error)
+        }
+    }
 }
 
 /// The entries of a channel, in order.

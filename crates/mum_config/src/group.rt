@@ -13,11 +13,12 @@ use crate::name::new_name;
 use crate::object::Object;
 use crate::value::read_number;
 use indexmap::IndexSet;
-use mum_base::{AccountId, Items, Text};
+use mum_base::{AccountId, Items, OutOfMemory, Text};
 use mum_policy::Group;
 use mum_policy::policy::GROUP_ACCOUNTS;
 use serde_json::Value;
 use std::alloc::Global;
+use std::mem::drop;
 
 const KEYS: [&str; 5] = ["name", "inherit", "inheritable", "add", "remove"];
 
@@ -54,6 +55,43 @@ fn accounts_in(object: &Object<'_>, name: &str) -> Result<Items<AccountId>, BadC
     }
 }
 
+/// Adds a group of this name, with these accounts.
+fn push_group(
+    alloc: Global,
+    name: &str,
+    inherit: bool,
+    inheritable: bool,
+    add: Items<AccountId>,
+    remove: Items<AccountId>,
+    groups: &mut Vec<Group>,
+) -> Result<(), OutOfMemory>
+    ensures { OnOk result (groups.new.items ≡ groups.old.items ++ record {
+      name = name.now;
+      inherit = inherit;
+      inheritable = inheritable;
+      add = add;
+      remove = remove;
+    } ∷ []) }
+{
+    match Text::of(alloc, name) {
+        Ok(name) => {
+            groups.push(Group {
+                name,
+                inherit,
+                inheritable,
+                add,
+                remove,
+            })?;
+            Ok(())
+        }
+        Err(error) => {
+            drop(add);
+            drop(remove);
+            Err(error)
+        }
+    }
+}
+
 /// Adds a group, whose name none of those before it has.
 fn read_group<'a>(
     alloc: Global,
@@ -77,15 +115,35 @@ fn read_group<'a>(
     let inherit = object.flag("inherit")?;
     let inheritable = object.flag("inheritable")?;
     let add = accounts_in(&object, "add")?;
-    let remove = accounts_in(&object, "remove")?;
-    let name = Text::of(alloc, name)?;
-    groups.push(Group {
-        name,
-        inherit: inherit.unwrap_or(true),
-        inheritable: inheritable.unwrap_or(true),
-        add,
-        remove,
-    })?;
+    match accounts_in(&object, "remove") {
+        Ok(remove) => {
+            let inherit = inherit.unwrap_or(true);
+            let inheritable = inheritable.unwrap_or(true);
+            push_group(alloc, name, inherit, inheritable, add, remove, groups)?;
+            Ok(())
+        }
+        Err(error) => {
+            drop(add);
+            Err(error)
+        }
+    }
+}
+
+/// Adds groups to others, of which no two have one name.
+fn add_groups<'a>(
+    alloc: Global,
+    values: &'a [Value],
+    names: &mut IndexSet<&'a str>,
+    groups: &mut Vec<Group>,
+) -> Result<(), BadConfig>
+    ensures reads { Reads (elements_fault group_fault with_group_met (map (λ n. n.now) names.old.keys) 0
+        (map view values.now)) tt result }
+    ensures groups { OnOk result
+        (groups.new.items ≡ groups.old.items ++ map group_of (map view values.now)) }
+{
+    for (place, value) in values.iter().enumerate() {
+        at_place(alloc, place, read_group(alloc, value, names, groups))?;
+    }
     Ok(())
 }
 
@@ -96,12 +154,13 @@ pub(crate) fn read_groups(alloc: Global, values: &[Value]) -> Result<Items<Group
 {
     let mut groups = Vec::with_capacity(alloc, values.len())?;
     let mut names = IndexSet::new(alloc);
-    for (place, value) in values.iter().enumerate() {
-        at_place(
-            alloc,
-            place,
-            read_group(alloc, value, &mut names, &mut groups),
-        )?;
+    let added = add_groups(alloc, values, &mut names, &mut groups);
+    drop(names);
+    match added {
+        Ok(()) => Ok(Items::from_vec(groups)),
+        Err(error) => {
+            drop(groups);
+            Err(error)
+        }
     }
-    Ok(Items::from_vec(groups))
 }

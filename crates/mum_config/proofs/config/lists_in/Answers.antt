@@ -1,7 +1,7 @@
 use Rattle.std.proofs.Common.{◌++◌, append_assoc, refl}
 use Rattle.std.proofs.lemmas.Result.{err_from_is_err_and}
 use Rattle.serde_json.specs.View.{view}
-use Rattle.mum_config.proofs.First.{rows_first, rows_later, rows_none}
+use Rattle.mum_config.proofs.First.{on_ok_as, rows_first, rows_later, rows_reads}
 use Rattle.mum_config.specs.Document.{account_list_rows, channel_list_rows, channels_met, link_list_rows}
 use Rattle.mum_config.proofs.config.lists_in.Goals as goal
 
@@ -15,16 +15,14 @@ returns-in_err-depths-clause-reads c =
     let p = err_from_is_err_and c.from_residual-in_err-depths.result c.from_residual-in_err-depths.ensures.1 in
     rw (p.1, p.2) (rows_later c.args.object.now.dot.now (account_list_rows (view c.args.object.now.value.now)) ((channel_list_rows (view c.args.object.now.value.now)) ++ (link_list_rows (channels_met (view c.args.object.now.value.now)).depths (view c.args.object.now.value.now))) _ c.in_ok-accounts_in.ensures.reads.0 (rows_first c.args.object.now.dot.now (channel_list_rows (view c.args.object.now.value.now)) (link_list_rows (channels_met (view c.args.object.now.value.now)).depths (view c.args.object.now.value.now)) _ c.in_err-depths.ensures.reads))
 
-pub returns-in_err-links_in-clause-reads : goal.returns-in_err-links_in-clause-reads
-returns-in_err-links_in-clause-reads c =
-    let p = err_from_is_err_and c.from_residual-in_err-links_in.result c.from_residual-in_err-links_in.ensures.1 in
-    let links = rw c.in_ok-depths.ensures.reads.1 at c.in_err-links_in.ensures.reads in
-    rw (p.1, p.2) (rows_later c.args.object.now.dot.now (account_list_rows (view c.args.object.now.value.now)) ((channel_list_rows (view c.args.object.now.value.now)) ++ (link_list_rows (channels_met (view c.args.object.now.value.now)).depths (view c.args.object.now.value.now))) _ c.in_ok-accounts_in.ensures.reads.0 (rows_later c.args.object.now.dot.now (channel_list_rows (view c.args.object.now.value.now)) (link_list_rows (channels_met (view c.args.object.now.value.now)).depths (view c.args.object.now.value.now)) _ c.in_ok-depths.ensures.reads.0 links))
-
 pub returns-clause-reads : goal.returns-clause-reads
 returns-clause-reads c =
-    let links = rw c.in_ok-depths.ensures.reads.1 at c.in_ok-links_in.ensures.reads.0 in
-    (rows_none c.args.object.now.dot.now (account_list_rows (view c.args.object.now.value.now)) ((channel_list_rows (view c.args.object.now.value.now)) ++ (link_list_rows (channels_met (view c.args.object.now.value.now)).depths (view c.args.object.now.value.now))) c.in_ok-accounts_in.ensures.reads.0 (rows_none c.args.object.now.dot.now (channel_list_rows (view c.args.object.now.value.now)) (link_list_rows (channels_met (view c.args.object.now.value.now)).depths (view c.args.object.now.value.now)) c.in_ok-depths.ensures.reads.0 links), refl)
+    let value = view c.args.object.now.value.now in
+    let dot = c.args.object.now.dot.now in
+    let links = rw c.in_ok-depths.ensures.reads.1 at c.links_in-read.ensures.reads in
+    rows_reads tt dot (account_list_rows value) (channel_list_rows value ++ link_list_rows (channels_met value).depths value) c.links_in-read.result c.in_ok-accounts_in.ensures.reads.0
+    (rows_reads tt dot (channel_list_rows value) (link_list_rows (channels_met value).depths value) c.links_in-read.result c.in_ok-depths.ensures.reads.0 links)
 
 pub returns-clause-edits : goal.returns-clause-edits
-returns-clause-edits c = rw (c.in_ok-links_in.ensures.edits, c.in_ok-depths.ensures.edits, c.in_ok-accounts_in.ensures.edits) (simp append_assoc)
+returns-clause-edits c =
+    on_ok_as c.links_in-read.result c.links_in-read.ensures.edits (λ links. rw (links, c.in_ok-depths.ensures.edits, c.in_ok-accounts_in.ensures.edits) (simp append_assoc))

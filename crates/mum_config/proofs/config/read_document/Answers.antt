@@ -24,21 +24,20 @@ returns-in_err-push c =
     let p = err_from_is_err_and c.from_residual-in_err-push.result c.from_residual-in_err-push.ensures.1 in
     rw p.1 (out_of_memory _ _ p.2)
 
-pub returns-in_err-lists_in : goal.returns-in_err-lists_in
+pub returns-in-Err : goal.returns-in-Err
 unfolding object_fault_of config_of edits_of
-returns-in_err-lists_in c =
-    let p = err_from_is_err_and c.from_residual-in_err-lists_in.result c.from_residual-in_err-lists_in.ensures.1 in
-    rw (p.1, p.2) (later _ _ _ (document_none _ (sym c.is_object.ensures ∙ c.if-not-is_object.false)) (later _ _ _ (c.in_ok-refuse_others.ensures.0) (rows_later [] (settings_rows (view c.args.document.now)) (account_list_rows (view c.args.document.now) ++ channel_list_rows (view c.args.document.now) ++ link_list_rows (channels_met (view c.args.document.now)).depths (view c.args.document.now)) _ c.in_ok-settings.ensures.reads.0 c.in_err-lists_in.ensures.reads)))
+returns-in-Err c =
+    later _ _ _ (document_none _ (sym c.is_object.ensures ∙ c.if-not-is_object.false)) (later _ _ _ (c.in_ok-refuse_others.ensures.0) (rows_later [] (settings_rows (view c.args.document.now)) (account_list_rows (view c.args.document.now) ++ channel_list_rows (view c.args.document.now) ++ link_list_rows (channels_met (view c.args.document.now)).depths (view c.args.document.now)) _ c.in_ok-settings.ensures.reads.0 c.in-Err.ensures.reads))
 
-pub returns : goal.returns
+pub returns-in-Ok : goal.returns-in-Ok
 unfolding object_fault_of config_of edits_of
-returns c = (
-  none_said _ _ (document_none _ (sym c.is_object.ensures ∙ c.if-not-is_object.false)) (none_said _ _ (c.in_ok-refuse_others.ensures.0) (rows_none [] (settings_rows (view c.args.document.now)) (account_list_rows (view c.args.document.now) ++ channel_list_rows (view c.args.document.now) ++ link_list_rows (channels_met (view c.args.document.now)).depths (view c.args.document.now)) c.in_ok-settings.ensures.reads.0 c.in_ok-lists_in.ensures.reads.0)),
+returns-in-Ok c = (
+  none_said _ _ (document_none _ (sym c.is_object.ensures ∙ c.if-not-is_object.false)) (none_said _ _ (c.in_ok-refuse_others.ensures.0) (rows_none [] (settings_rows (view c.args.document.now)) (account_list_rows (view c.args.document.now) ++ channel_list_rows (view c.args.document.now) ++ link_list_rows (channels_met (view c.args.document.now)).depths (view c.args.document.now)) c.in_ok-settings.ensures.reads.0 c.in-Ok.ensures.reads.0)),
   rw (
     c.unwrap_or-workers.ensures,
     ap (λ s. s.workers) c.in_ok-settings.ensures.reads.1,
     c.from_vec.ensures,
-    c.in_ok-lists_in.ensures.edits,
+    c.in-Ok.ensures.edits,
     c.in_ok-push.ensures.items,
     c.new-edits.ensures.items,
     c.into_edit.ensures,

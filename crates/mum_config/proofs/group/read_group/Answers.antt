@@ -44,37 +44,31 @@ returns-in_err-add-clause-reads c =
     let p = err_from_is_err_and c.from_residual-in_err-add.result c.from_residual-in_err-add.ensures.1 in
     rw (p.1, p.2) (later _ _ _ (c.in_ok-open.ensures.0) (rows_later (codes ".") names rest _ c.in_ok-name.ensures.reads.0 (later _ _ _ (c.in_ok-inherit.ensures.0) (later _ _ _ (c.in_ok-inheritable.ensures.0) (rows_first (codes ".") (id_rows (codes "add") (view c.args.value.now)) (id_rows (codes "remove") (view c.args.value.now)) _ (c.in_err-add.ensures))))))
 
-pub returns-in_err-remove-clause-reads : goal.returns-in_err-remove-clause-reads
+pub returns-in-Err-clause-reads : goal.returns-in-Err-clause-reads
 unfolding group_fault
-returns-in_err-remove-clause-reads c =
+returns-in-Err-clause-reads c =
     let names = group_name_rows (map (λ n. n.now) c.args.names.now.keys) (view c.args.value.now) in
     let rest = inheriting_rows (view c.args.value.now) ++ id_rows (codes "add") (view c.args.value.now) ++ id_rows (codes "remove") (view c.args.value.now) in
-    let p = err_from_is_err_and c.from_residual-in_err-remove.result c.from_residual-in_err-remove.ensures.1 in
-    rw (p.1, p.2) (later _ _ _ (c.in_ok-open.ensures.0) (rows_later (codes ".") names rest _ c.in_ok-name.ensures.reads.0 (later _ _ _ (c.in_ok-inherit.ensures.0) (later _ _ _ (c.in_ok-inheritable.ensures.0) (rows_later (codes ".") (id_rows (codes "add") (view c.args.value.now)) (id_rows (codes "remove") (view c.args.value.now)) _ (c.in_ok-add.ensures.0) (c.in_err-remove.ensures))))))
+    (later _ _ _ (c.in_ok-open.ensures.0) (rows_later (codes ".") names rest _ c.in_ok-name.ensures.reads.0 (later _ _ _ (c.in_ok-inherit.ensures.0) (later _ _ _ (c.in_ok-inheritable.ensures.0) (rows_later (codes ".") (id_rows (codes "add") (view c.args.value.now)) (id_rows (codes "remove") (view c.args.value.now)) _ (c.in_ok-add.ensures.0) (c.in-Err.ensures))))))
 
-pub returns-clause-reads : goal.returns-clause-reads
+pub returns-in_ok-push_group-in-Ok-clause-reads : goal.returns-in_ok-push_group-in-Ok-clause-reads
 unfolding group_fault
-returns-clause-reads c =
+returns-in_ok-push_group-in-Ok-clause-reads c =
     let names = group_name_rows (map (λ n. n.now) c.args.names.now.keys) (view c.args.value.now) in
     let rest = inheriting_rows (view c.args.value.now) ++ id_rows (codes "add") (view c.args.value.now) ++ id_rows (codes "remove") (view c.args.value.now) in (
-      none_said _ _ (c.in_ok-open.ensures.0) (rows_none (codes ".") names rest c.in_ok-name.ensures.reads.0 (none_said _ _ (c.in_ok-inherit.ensures.0) (none_said _ _ (c.in_ok-inheritable.ensures.0) (rows_none (codes ".") (id_rows (codes "add") (view c.args.value.now)) (id_rows (codes "remove") (view c.args.value.now)) (c.in_ok-add.ensures.0) (c.in_ok-remove.ensures.0))))),
+      none_said _ _ (c.in_ok-open.ensures.0) (rows_none (codes ".") names rest c.in_ok-name.ensures.reads.0 (none_said _ _ (c.in_ok-inherit.ensures.0) (none_said _ _ (c.in_ok-inheritable.ensures.0) (rows_none (codes ".") (id_rows (codes "add") (view c.args.value.now)) (id_rows (codes "remove") (view c.args.value.now)) (c.in_ok-add.ensures.0) (c.in-Ok.ensures.0))))),
       refl,
     )
 
-pub returns-in_err-push-clause-reads : goal.returns-in_err-push-clause-reads
-returns-in_err-push-clause-reads c =
-    let p = err_from_is_err_and c.from_residual-in_err-push.result c.from_residual-in_err-push.ensures.1 in
+pub returns-in_err-push_group-in-Ok-clause-reads : goal.returns-in_err-push_group-in-Ok-clause-reads
+returns-in_err-push_group-in-Ok-clause-reads c =
+    let p = err_from_is_err_and c.from_residual-in_err-push_group-in-Ok.result c.from_residual-in_err-push_group-in-Ok.ensures.1 in
     rw p.1 (out_of_memory _ _ p.2)
 
-pub returns-in_err-name-2-clause-reads : goal.returns-in_err-name-2-clause-reads
-returns-in_err-name-2-clause-reads c =
-    let p = err_from_is_err_and c.from_residual-in_err-name-2.result c.from_residual-in_err-name-2.ensures.1 in
-    rw p.1 (out_of_memory _ _ p.2)
-
-pub returns-clause-groups : goal.returns-clause-groups
+pub returns-in_ok-push_group-in-Ok-clause-groups : goal.returns-in_ok-push_group-in-Ok-clause-groups
 unfolding group_of
-returns-clause-groups c =
-    rw (c.in_ok-push.ensures.items, c.in_ok-name-2.ensures, c.in_ok-name.ensures.reads.1, c.unwrap_or.ensures, c.in_ok-inherit.ensures.1, c.unwrap_or-2.ensures, c.in_ok-inheritable.ensures.1, c.in_ok-add.ensures.1, c.in_ok-remove.ensures.1) refl
+returns-in_ok-push_group-in-Ok-clause-groups c =
+    rw (c.in_ok-push_group-in-Ok.ensures, c.in_ok-name.ensures.reads.1, c.unwrap_or-inherit.ensures, c.in_ok-inherit.ensures.1, c.unwrap_or-inheritable.ensures, c.in_ok-inheritable.ensures.1, c.in_ok-add.ensures.1, c.in-Ok.ensures.1) refl
 
-pub returns-clause-names : goal.returns-clause-names
-returns-clause-names c = c.in_ok-name.ensures.names
+pub returns-in_ok-push_group-in-Ok-clause-names : goal.returns-in_ok-push_group-in-Ok-clause-names
+returns-in_ok-push_group-in-Ok-clause-names c = c.in_ok-name.ensures.names

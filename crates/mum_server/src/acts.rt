@@ -13,6 +13,7 @@ use mum_msg_rule::{TargetBlock, VoiceTarget};
 use mum_msg_state::{Authenticate, ChannelState, Message, UserState};
 use mum_voice::write_varint;
 use std::alloc::Global;
+use std::mem::drop;
 
 /// The header of a voice packet of Opus to target 0.
 const OPUS: u8 = 0x80;
@@ -74,12 +75,14 @@ fn blank_channel(alloc: Global) -> ChannelState
 }
 
 /// The frame of a message.
-fn frame_of<M: Message>(alloc: Global, kind: u16, message: &M) -> Result<Octets, OutOfMemory>
-    requires { length (spelled M.rows message.now) ≤ PAYLOAD_LIMIT }
-    ensures frame { IfOk result (λ bytes. bytes ≡ spelling_of kind (spelled M.rows message.now)) }
+fn frame_of<M: Message + Drop>(alloc: Global, kind: u16, message: M) -> Result<Octets, OutOfMemory>
+    requires { length (spelled M.rows message) ≤ PAYLOAD_LIMIT }
+    ensures frame { IfOk result (λ bytes. bytes ≡ spelling_of kind (spelled M.rows message)) }
     ensures one { IfOk result IsOneFrame }
 {
-    let payload = message.encode(alloc)?;
+    let encoded = message.encode(alloc);
+    drop(message);
+    let payload = encoded?;
     put_frame(alloc, kind, payload.as_slice())
 }
 
@@ -103,7 +106,7 @@ pub(crate) fn login_frame(alloc: Global, number: u32) -> Result<Octets, OutOfMem
         celt_versions: Items::new(alloc),
         opus: None,
     };
-    frame_of(alloc, AUTHENTICATE, &message)
+    frame_of(alloc, AUTHENTICATE, message)
 }
 
 /// To enter a channel.
@@ -113,7 +116,7 @@ pub(crate) fn enter_frame(alloc: Global, channel: ChannelId) -> Result<Octets, O
 {
     let mut message = blank_user(alloc);
     message.channel_id = Some(channel.0);
-    frame_of(alloc, USER_STATE, &message)
+    frame_of(alloc, USER_STATE, message)
 }
 
 /// To mute oneself, or no longer.
@@ -123,7 +126,7 @@ pub(crate) fn self_mute_frame(alloc: Global, muted: bool) -> Result<Octets, OutO
 {
     let mut message = blank_user(alloc);
     message.self_mute = Some(muted);
-    frame_of(alloc, USER_STATE, &message)
+    frame_of(alloc, USER_STATE, message)
 }
 
 /// To listen to a channel from now on.
@@ -131,9 +134,10 @@ pub(crate) fn listen_frame(alloc: Global, channel: ChannelId) -> Result<Octets, 
     ensures frame { IfOk result (λ bytes. bytes ≡ user_frame (listening channel.0)) }
     ensures one { IfOk result IsOneFrame }
 {
+    let listened = one(alloc, channel.0)?;
     let mut message = blank_user(alloc);
-    message.listening_channel_add = one(alloc, channel.0)?;
-    frame_of(alloc, USER_STATE, &message)
+    message.listening_channel_add = listened;
+    frame_of(alloc, USER_STATE, message)
 }
 
 /// To link a channel with the root.
@@ -141,10 +145,11 @@ pub(crate) fn link_frame(alloc: Global, channel: ChannelId) -> Result<Octets, Ou
     ensures frame { IfOk result (λ bytes. bytes ≡ channel_frame (linking channel.0)) }
     ensures one { IfOk result IsOneFrame }
 {
+    let linked = one(alloc, 0)?;
     let mut message = blank_channel(alloc);
     message.channel_id = Some(channel.0);
-    message.links_add = one(alloc, 0)?;
-    frame_of(alloc, CHANNEL_STATE, &message)
+    message.links_add = linked;
+    frame_of(alloc, CHANNEL_STATE, message)
 }
 
 /// To aim the first voice target at a channel and those below it.
@@ -163,7 +168,7 @@ pub(crate) fn aim_frame(alloc: Global, channel: ChannelId) -> Result<Octets, Out
         id: Some(1),
         targets: one(alloc, block)?,
     };
-    frame_of(alloc, VOICE_TARGET, &message)
+    frame_of(alloc, VOICE_TARGET, message)
 }
 
 /// The voice packet of a number, to target 0 or 1.

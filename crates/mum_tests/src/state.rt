@@ -5,6 +5,7 @@ use mum_cases_words::lines::changes;
 use mum_cases_words::{edit_of, made, told};
 use mum_state::{Edit, State};
 use std::alloc::Global;
+use std::mem::drop;
 use std::process::Abort;
 use std::test::Fail;
 
@@ -43,24 +44,58 @@ fn apply(rt: &impl Abort, state: &mut State, edit: &Edit) -> bool {
     state.apply(edit).is_ok()
 }
 
+/// Adds each of the edits with a copy of the state for it, and gives what the state says.
+fn add_cases(
+    alloc: Global,
+    state: &State,
+    cases: &mut Vec<(Edit, State)>,
+) -> Result<Vec<String>, Fail> {
+    let before = told(alloc, state)?;
+    for call in EDITS {
+        let edit = edit_of(alloc, state, call)?;
+        match state.copy(alloc) {
+            Ok(copy) => cases.push((edit, copy))?,
+            Err(error) => {
+                drop(edit);
+                return Err(Fail::from(error));
+            }
+        }
+    }
+    Ok(before)
+}
+
+/// Makes an edit in a copy of the state, which says what the state said where memory did not suffice.
+fn make_once(
+    rt: &impl Abort,
+    alloc: Global,
+    before: &[String],
+    edit: &Edit,
+    changed: &mut State,
+) -> Result<(), Fail> {
+    if apply(rt, changed, edit) {
+        return Ok(());
+    }
+    let after = told(alloc, changed)?;
+    let differences = changes(alloc, before, after.as_slice())?;
+    assert_eq!(rt; differences.as_str(), "");
+    assert!(rt; changed.account_named("zoe").is_none());
+    Ok(())
+}
+
 // The edits are read and the states copied first, so that the last allocations are those of the edits.
 #[test]
 fn each_edit_is_whole_or_nothing(rt: HostRuntime) -> Result<(), Fail> {
     let alloc: Global = rt.alloc();
     let state = made(alloc, BEFORE)?;
-    let before = told(alloc, &state)?;
     let mut cases = Vec::new(alloc);
-    for call in EDITS {
-        cases.push((edit_of(alloc, &state, call)?, state.copy(alloc)?))?;
-    }
+    let before = add_cases(alloc, &state, &mut cases);
+    drop(state);
+    let before = before?;
     for (edit, mut changed) in cases {
-        if apply(&rt, &mut changed, &edit) {
-            continue;
-        }
-        let after = told(alloc, &changed)?;
-        let differences = changes(alloc, before.as_slice(), after.as_slice())?;
-        assert_eq!(rt; differences.as_str(), "");
-        assert!(rt; changed.account_named("zoe").is_none());
+        let done = make_once(&rt, alloc, before.as_slice(), &edit, &mut changed);
+        drop(edit);
+        drop(changed);
+        done?;
     }
     Ok(())
 }

@@ -2,4 +2,4 @@ use Rattle.mum_server.proofs.Asking.{listen_fits}
 use Rattle.mum_server.proofs.acts.listen_frame.Goals as goal
 
 pub frame_of-requires : goal.frame_of-requires
-frame_of-requires c = listen_fits c.blank_user-message.result c.in_ok-message.field-0 c.args.channel.0 c.blank_user-message.ensures c.in_ok-message.ensures
+frame_of-requires c = listen_fits c.blank_user-message.result c.in_ok-listened.listened c.args.channel.0 c.blank_user-message.ensures c.in_ok-listened.ensures

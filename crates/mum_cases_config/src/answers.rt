@@ -6,6 +6,7 @@ use anyhow::{Result, bail};
 use mum_cases::{FileTable, Table, number};
 use mum_config::{BadConfig, Config, read_config};
 use std::alloc::Global;
+use std::mem::drop;
 
 /// What a table shows of a configuration.
 #[derive(Clone, Copy)]
@@ -42,8 +43,16 @@ fn add_asked(text: &mut String, config: &Config, asked: Asked) -> Result<()> {
 /// Adds what is asked of the configuration that a document is read as, or the document's first fault.
 fn add_answer(alloc: Global, text: &mut String, document: &[u8], asked: Asked) -> Result<()> {
     match read_config(alloc, document) {
-        Ok(config) => add_asked(text, &config, asked),
-        Err(error) => add_fault(text, &error),
+        Ok(config) => {
+            let added = add_asked(text, &config, asked);
+            drop(config);
+            added
+        }
+        Err(error) => {
+            let added = add_fault(text, &error);
+            drop(error);
+            added
+        }
     }
 }
 

@@ -2,16 +2,25 @@
 
 ghost use Rattle.std.specs.Prelude.{◌<◌};
 
+use crate::frames::{add_frame, check_pieces};
 use crate::words::{say, say_number, small_number};
 use anyhow::{Result, bail};
-use mum_base::{Octets, SessionId};
+use mum_base::SessionId;
 use mum_cases::{FileTable, bytes_of};
-use mum_frame::kind::UDP_TUNNEL;
-use mum_frame::{Frame, Framer};
 use mum_voice::{OPUS, Packet, read_varint};
 use std::alloc::Global;
 
+/// The type of a frame that carries a voice packet, as a conversation spells it.
+const VOICE: &str = "0001";
+
 pub struct Clients;
+
+/// The type and the payload of a line of the client, as `client 0003 0805  # Ping`.
+fn sent(line: &str) -> Option<(&str, &str)> {
+    let (kind, rest) = line.strip_prefix("client ")?.split_once(' ')?;
+    let (payload, _) = rest.split_once(' ').unwrap_or((rest, ""));
+    Some((kind, payload))
+}
 
 /// The type of a frame, as `0003`.
 fn kind_of(alloc: Global, word: &str) -> Result<u16> {
@@ -22,117 +31,48 @@ fn kind_of(alloc: Global, word: &str) -> Result<u16> {
     Ok(u16::from_be_bytes([high, low]))
 }
 
-/// The frame of a line behind its side, as `0003 0805  # Ping`.
-fn frame_of(alloc: Global, line: &str) -> Result<Frame> {
-    let mut words = line.split(' ');
-    let kind = kind_of(alloc, words.next().unwrap_or_default())?;
-    let payload = bytes_of(alloc, words.next().unwrap_or_default())?;
-    Ok(Frame {
-        kind,
-        payload: Octets::from_vec(payload),
-    })
+/// The frames of a client: their stream, the same in words, and how many there are.
+#[derive(Drop)]
+struct Frames {
+    stream: Vec<u8>,
+    told: String,
+    number: u64,
 }
 
-/// The frames that the client sent in a conversation.
-fn sent(alloc: Global, text: &str) -> Result<Vec<Frame>> {
-    let mut frames = Vec::new(alloc);
-    for line in text.lines() {
-        if let Some(rest) = line.strip_prefix("client ") {
-            frames.push(frame_of(alloc, rest)?)?;
+impl Frames {
+    /// Adds a frame: its type, the length of its payload, and the payload.
+    fn push(&mut self, alloc: Global, kind: u16, payload: &[u8]) -> Result<()> {
+        let length = u32::try_from(payload.len())?;
+        self.stream.extend_from_slice(&kind.to_be_bytes())?;
+        self.stream.extend_from_slice(&length.to_be_bytes())?;
+        self.stream.extend_from_slice(payload)?;
+        self.number = self.number.saturating_add(1);
+        add_frame(alloc, &mut self.told, kind, payload)
+    }
+
+    /// Adds the frames that the client sent in a conversation.
+    fn push_all(&mut self, alloc: Global, text: &str) -> Result<()> {
+        for line in text.lines() {
+            if let Some((kind, digits)) = sent(line) {
+                let kind = kind_of(alloc, kind)?;
+                self.push(alloc, kind, &bytes_of(alloc, digits)?)?;
+            }
         }
+        Ok(())
     }
-    Ok(frames)
 }
 
-/// Adds a frame to a stream: its type, the length of its payload, and the payload.
-fn add_frame(stream: &mut Vec<u8>, frame: &Frame) -> Result<()> {
-    let payload = frame.payload.as_slice();
-    let length = u32::try_from(payload.len())?;
-    stream.extend_from_slice(&frame.kind.to_be_bytes())?;
-    stream.extend_from_slice(&length.to_be_bytes())?;
-    stream.extend_from_slice(payload)?;
+/// That the frames of a conversation come out as they were sent, in pieces of this many bytes.
+fn in_pieces(alloc: Global, told: &mut String, text: &str, size: usize) -> Result<()> {
+    let mut frames = Frames {
+        stream: Vec::new(alloc),
+        told: String::new(alloc),
+        number: 0,
+    };
+    frames.push_all(alloc, text)?;
+    check_pieces(alloc, &frames.stream, size, frames.told.as_str())?;
+    write!(told, "{} frames as they were sent", frames.number)?;
     Ok(())
-}
-
-/// The stream of frames.
-fn stream_of(alloc: Global, frames: &[Frame]) -> Result<Vec<u8>> {
-    let mut stream = Vec::new(alloc);
-    for frame in frames {
-        add_frame(&mut stream, frame)?;
-    }
-    Ok(stream)
-}
-
-/// Adds the frames that a framer has whole, at most so many.
-fn take_all(framer: &mut Framer, frames: &mut Vec<Frame>, most: usize) -> Result<()> {
-    for _ in 0..most {
-        let Some(frame) = framer.next()? else {
-            break;
-        };
-        frames.push(frame)?;
-    }
-    Ok(())
-}
-
-/// Feeds a framer with a stream in pieces of this many bytes, and adds all that it gives.
-fn feed_all(
-    framer: &mut Framer,
-    frames: &mut Vec<Frame>,
-    stream: &[u8],
-    size: usize,
-) -> Result<()> {
-    for piece in stream.chunks(size.max(1)) {
-        framer.feed(piece)?;
-        take_all(framer, frames, stream.len())?;
-    }
-    Ok(())
-}
-
-/// All that a framer gives of a stream that comes in pieces of this many bytes.
-fn given(alloc: Global, stream: &[u8], size: usize) -> Result<Vec<Frame>> {
-    let mut framer = Framer::new(alloc);
-    let mut frames = Vec::new(alloc);
-    feed_all(&mut framer, &mut frames, stream, size)?;
-    Ok(frames)
-}
-
-/// All that a framer gives of frames that come in pieces of this many bytes.
-fn given_again(alloc: Global, frames: &[Frame], size: usize) -> Result<Vec<Frame>> {
-    let stream = stream_of(alloc, frames)?;
-    given(alloc, &stream, size.min(stream.len()))
-}
-
-fn is_same(one: &Frame, other: &Frame) -> bool {
-    one.kind == other.kind && one.payload.as_slice() == other.payload.as_slice()
-}
-
-/// How many frames there are, where each was given as it was sent.
-fn same_frames(sent: &[Frame], given: &[Frame]) -> Result<u64> {
-    if given.len() != sent.len() {
-        bail!("{} frames of {}", given.len(), sent.len());
-    }
-    let mut number = 0u64;
-    for (one, other) in sent.iter().zip(given) {
-        number = number.saturating_add(1);
-        if !is_same(one, other) {
-            bail!("frame {number} differs");
-        }
-    }
-    Ok(number)
-}
-
-/// That frames come out as they were sent, in pieces of this many bytes.
-fn say_pieces(alloc: Global, told: &mut String, sent: &[Frame], size: usize) -> Result<()> {
-    let given = given_again(alloc, sent, size)?;
-    let number = same_frames(sent, &given)?;
-    say_number(told, "", number)?;
-    say(told, " frames as they were sent")
-}
-
-/// The same of the frames of a conversation.
-fn frames_in_pieces(alloc: Global, told: &mut String, text: &str, size: usize) -> Result<()> {
-    let sent = sent(alloc, text)?;
-    say_pieces(alloc, told, &sent, size)
 }
 
 /// Whether the copy of a packet is its kind and the context, the session, and the rest as it came.
@@ -175,41 +115,28 @@ fn check_copies(packet: &[u8], session: SessionId, spelling: &[u8]) -> Result<()
     Ok(())
 }
 
-/// How many voice packets there are, where each is copied so for a session, in each context.
-fn copied(frames: &[Frame], session: SessionId, spelling: &[u8]) -> Result<u64> {
+/// How many voice packets a conversation has, where each is copied so for a session.
+fn copied(alloc: Global, text: &str, session: SessionId, spelling: &[u8]) -> Result<u64> {
     let mut packets = 0u64;
-    for frame in frames {
-        if frame.kind != UDP_TUNNEL {
-            continue;
+    for line in text.lines() {
+        if let Some((VOICE, digits)) = sent(line) {
+            check_copies(&bytes_of(alloc, digits)?, session, spelling)?;
+            packets = packets.saturating_add(1);
         }
-        packets = packets.saturating_add(1);
-        check_copies(frame.payload.as_slice(), session, spelling)?;
     }
     Ok(packets)
 }
 
-/// That each voice packet is copied so for a session.
-fn say_copies(
-    alloc: Global,
-    told: &mut String,
-    frames: &[Frame],
-    session: SessionId,
-    spelling: &str,
-) -> Result<()> {
-    let spelling = bytes_of(alloc, spelling)?;
-    let packets = copied(frames, session, &spelling)?;
-    say_number(told, "", packets)?;
-    say(told, " packets with the session put in")
-}
-
-/// The same of those of a conversation: `SESSION spelled BYTES`.
+/// That each voice packet is copied so: `SESSION spelled BYTES`.
 fn copies(alloc: Global, told: &mut String, text: &str, rest: &str) -> Result<()> {
     let Some((session, spelling)) = rest.split_once(" spelled ") else {
         bail!("no session: {rest}");
     };
     let session = SessionId(small_number(session)?);
-    let frames = sent(alloc, text)?;
-    say_copies(alloc, told, &frames, session, spelling)
+    let spelling = bytes_of(alloc, spelling)?;
+    let packets = copied(alloc, text, session, &spelling)?;
+    write!(told, "{packets} packets with the session put in")?;
+    Ok(())
 }
 
 /// Counts of voice packets: all, those to a target, and those that end a transmission.
@@ -244,43 +171,38 @@ impl VoiceCounts {
     }
 }
 
-/// What the voice packets among frames are.
-fn counted(frames: &[Frame]) -> Result<VoiceCounts> {
-    let mut spoken = VoiceCounts {
+/// What the voice packets of a conversation are.
+fn counted(alloc: Global, text: &str) -> Result<VoiceCounts> {
+    let mut counts = VoiceCounts {
         packets: 0,
         targeted: 0,
         last: 0,
     };
-    for frame in frames {
-        if frame.kind == UDP_TUNNEL {
-            spoken.count(frame.payload.as_slice())?;
+    for line in text.lines() {
+        if let Some((VOICE, digits)) = sent(line) {
+            counts.count(&bytes_of(alloc, digits)?)?;
         }
     }
-    Ok(spoken)
+    Ok(counts)
 }
 
-fn say_counts(told: &mut String, counts: VoiceCounts) -> Result<()> {
+fn spoken(alloc: Global, told: &mut String, text: &str) -> Result<()> {
+    let counts = counted(alloc, text)?;
     say_number(told, "", counts.packets)?;
     say_number(told, " packets of Opus, ", counts.targeted)?;
     say_number(told, " to a target, ", counts.last)?;
     say(told, " end a transmission")
 }
 
-/// What the voice packets of a conversation are.
-fn spoken(alloc: Global, told: &mut String, text: &str) -> Result<()> {
-    let frames = sent(alloc, text)?;
-    say_counts(told, counted(&frames)?)
-}
-
 fn answer_to(alloc: Global, told: &mut String, text: &str, question: &str) -> Result<()> {
     if let Some(size) = question.strip_prefix("in pieces of ") {
-        return frames_in_pieces(alloc, told, text, small_number(size)? as usize);
+        return in_pieces(alloc, told, text, small_number(size)? as usize);
     }
     if let Some(rest) = question.strip_prefix("copied from ") {
         return copies(alloc, told, text, rest);
     }
     match question {
-        "in one piece" => frames_in_pieces(alloc, told, text, usize::MAX),
+        "in one piece" => in_pieces(alloc, told, text, usize::MAX),
         "spoken" => spoken(alloc, told, text),
         _ => bail!("no question: {question}"),
     }

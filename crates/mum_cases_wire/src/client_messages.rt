@@ -1,7 +1,7 @@
 //! The table `client-messages`: what the stock client and server wrote, decoded and written again.
 
 use crate::messages::{decoded, written};
-use crate::words::{say, say_number};
+use crate::words::{add_number, say};
 use anyhow::{Result, bail};
 use mum_cases::{Table, bytes_of};
 use mum_fields::Reader;
@@ -23,32 +23,31 @@ fn has_field(payload: &[u8], number: u32) -> Result<bool> {
 }
 
 /// The fields of a payload that are not written again.
-fn add_missing(told: &mut String, payload: &[u8], again: &[u8]) -> Result<()> {
-    let mut before = ", passes over ";
+fn add_missing(missing: &mut String, payload: &[u8], again: &[u8]) -> Result<()> {
     let mut reader = Reader::new(payload);
     for _ in 0..payload.len() {
         let Some(field) = reader.next_field()? else {
             break;
         };
         if !has_field(again, field.number)? {
-            say_number(told, before, u64::from(field.number))?;
-            before = " ";
+            add_number(missing, u64::from(field.number))?;
         }
     }
     Ok(())
 }
 
 /// The fields that are passed over, or that what is written differs otherwise.
-fn add_difference(told: &mut String, payload: &[u8], again: &[u8]) -> Result<()> {
+fn add_difference(alloc: Global, told: &mut String, payload: &[u8], again: &[u8]) -> Result<()> {
     if payload == again {
         return Ok(());
     }
-    let length = told.len();
-    add_missing(told, payload, again)?;
-    if told.len() == length {
-        say(told, ", is written otherwise")?;
+    let mut missing = String::new(alloc);
+    add_missing(&mut missing, payload, again)?;
+    if missing.is_empty() {
+        return say(told, ", is written otherwise");
     }
-    Ok(())
+    say(told, ", passes over ")?;
+    say(told, missing.as_str())
 }
 
 impl Table for ClientMessages {
@@ -61,7 +60,7 @@ impl Table for ClientMessages {
         let payload = bytes_of(alloc, digits)?;
         let again = written(alloc, name, &payload)?;
         let mut told = decoded(alloc, name, &payload)?;
-        add_difference(&mut told, &payload, again.as_slice())?;
+        add_difference(alloc, &mut told, &payload, again.as_slice())?;
         Ok(told)
     }
 }

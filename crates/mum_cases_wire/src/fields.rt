@@ -2,9 +2,9 @@
 
 use crate::faults;
 use crate::payload::payload;
-use crate::words::{part, say, say_hex, say_number, small_number};
+use crate::words::{Answers, add_number, part, say, say_hex, say_number, small_number};
 use anyhow::{Context, Result, bail};
-use mum_cases::{Table, bytes_of, number};
+use mum_cases::{bytes_of, number};
 use mum_fields::{
     FaultKind, Field, FieldFault, MessageFault, Packed, Reader, Value, VarintType, Writer,
     read_text,
@@ -27,12 +27,6 @@ fn add_field(alloc: Global, told: &mut String, between: &str, field: &Field<'_>)
         Value::Block(block) => say_digits(alloc, told, "=", block),
         Value::Fixed4(value) => say_digits(alloc, told, ".", &value.to_be_bytes()),
     }
-}
-
-/// The same of a number of a packed block.
-fn add_number(told: &mut String, number: u64) -> Result<()> {
-    part(told, " ")?;
-    say_number(told, "", number)
 }
 
 /// The same of a fault.
@@ -211,30 +205,24 @@ fn block(alloc: Global, told: &mut String, verb: &str, rest: &str) -> Result<()>
     answer_at(alloc, told, verb, place, block.as_slice())
 }
 
-fn answer_to(alloc: Global, told: &mut String, question: &str) -> Result<()> {
-    let (verb, rest) = question.split_once(' ').unwrap_or((question, ""));
-    match verb {
-        "fields" => return all_fields(alloc, told, rest),
-        "write" => return written(alloc, told, rest),
-        "code" => return code(told, rest),
-        _ => {}
-    }
-    let (kind, word) = rest.split_once(' ').unwrap_or((rest, ""));
-    match verb {
-        "value" => value(told, kind, word),
-        "varint" => say_number(told, "", varint(kind, word)?),
-        _ => block(alloc, told, verb, rest),
-    }
-}
-
 pub struct Fields;
 
-impl Table for Fields {
+impl Answers for Fields {
     const NAME: &'static str = "fields";
 
-    fn answer(alloc: Global, question: &str) -> Result<String> {
-        let mut told = String::new(alloc);
-        answer_to(alloc, &mut told, question)?;
-        Ok(told)
+    fn tell(alloc: Global, told: &mut String, question: &str) -> Result<()> {
+        let (verb, rest) = question.split_once(' ').unwrap_or((question, ""));
+        match verb {
+            "fields" => return all_fields(alloc, told, rest),
+            "write" => return written(alloc, told, rest),
+            "code" => return code(told, rest),
+            _ => {}
+        }
+        let (kind, word) = rest.split_once(' ').unwrap_or((rest, ""));
+        match verb {
+            "value" => value(told, kind, word),
+            "varint" => say_number(told, "", varint(kind, word)?),
+            _ => block(alloc, told, verb, rest),
+        }
     }
 }

@@ -1,17 +1,23 @@
 //! The table `frames`.
 
-use crate::words::{bytes_or_text, part, say, say_bytes, say_number};
+use crate::words::{Answers, bytes_or_text, part, say, say_bytes, say_number};
 use anyhow::{Result, bail};
-use mum_cases::{Table, number};
-use mum_frame::{Frame, FrameFault, Framer, PAYLOAD_LIMIT, ROOM_LIMIT, put_frame, whole_frame};
+use mum_cases::number;
+use mum_frame::{FrameFault, Framer, PAYLOAD_LIMIT, ROOM_LIMIT, put_frame, whole_frame};
 use std::alloc::Global;
 
 pub struct Frames;
 
-fn say_frame(alloc: Global, told: &mut String, frame: &Frame) -> Result<()> {
-    say_number(told, "type ", u64::from(frame.kind))?;
+fn say_frame(alloc: Global, told: &mut String, kind: u16, payload: &[u8]) -> Result<()> {
+    say_number(told, "type ", u64::from(kind))?;
     say(told, " ")?;
-    say_bytes(alloc, told, frame.payload.as_slice())
+    say_bytes(alloc, told, payload)
+}
+
+/// A frame behind what parts it from the one before.
+pub fn add_frame(alloc: Global, told: &mut String, kind: u16, payload: &[u8]) -> Result<()> {
+    part(told, "; ")?;
+    say_frame(alloc, told, kind, payload)
 }
 
 fn say_fault(told: &mut String, fault: FrameFault) -> Result<()> {
@@ -24,7 +30,7 @@ fn say_fault(told: &mut String, fault: FrameFault) -> Result<()> {
 
 fn say_next(alloc: Global, told: &mut String, framer: &mut Framer) -> Result<()> {
     match framer.next() {
-        Ok(Some(frame)) => say_frame(alloc, told, &frame),
+        Ok(Some(frame)) => say_frame(alloc, told, frame.kind, frame.payload.as_slice()),
         Ok(None) => say(told, "none"),
         Err(fault) => say_fault(told, fault),
     }
@@ -65,43 +71,29 @@ fn calls(alloc: Global, told: &mut String, calls: &str) -> Result<()> {
     Ok(())
 }
 
-fn add_frame(alloc: Global, told: &mut String, frame: &Frame) -> Result<()> {
-    part(told, "; ")?;
-    say_frame(alloc, told, frame)
-}
-
 /// The frames that a framer has whole, at most so many.
 fn add_all(alloc: Global, told: &mut String, framer: &mut Framer, most: usize) -> Result<()> {
     for _ in 0..most {
         let Some(frame) = framer.next()? else {
             break;
         };
-        add_frame(alloc, told, &frame)?;
+        add_frame(alloc, told, frame.kind, frame.payload.as_slice())?;
     }
     Ok(())
-}
-
-fn add_piece(
-    alloc: Global,
-    told: &mut String,
-    framer: &mut Framer,
-    piece: &[u8],
-    most: usize,
-) -> Result<()> {
-    framer.feed(piece)?;
-    add_all(alloc, told, framer, most)
 }
 
 /// The frames of a stream that comes in pieces of this many bytes.
 fn in_pieces(alloc: Global, told: &mut String, stream: &[u8], size: usize) -> Result<()> {
     let mut framer = Framer::new(alloc);
     for piece in stream.chunks(size.max(1)) {
-        add_piece(alloc, told, &mut framer, piece, stream.len())?;
+        framer.feed(piece)?;
+        add_all(alloc, told, &mut framer, stream.len())?;
     }
     Ok(())
 }
 
-fn check_pieces(alloc: Global, stream: &[u8], size: usize, whole: &str) -> Result<()> {
+/// That a stream in pieces of this many bytes gives these frames.
+pub fn check_pieces(alloc: Global, stream: &[u8], size: usize, whole: &str) -> Result<()> {
     let mut cut = String::new(alloc);
     in_pieces(alloc, &mut cut, stream, size)?;
     if cut.as_str() != whole {
@@ -157,7 +149,7 @@ fn alone(alloc: Global, told: &mut String, wire: &[u8]) -> Result<()> {
         return say(told, "no frame");
     };
     let frame = view.to_frame(alloc)?;
-    say_frame(alloc, told, &frame)
+    say_frame(alloc, told, frame.kind, frame.payload.as_slice())
 }
 
 /// A type and a payload as they are written.
@@ -188,26 +180,20 @@ fn answer_about(alloc: Global, told: &mut String, verb: &str, bytes: &[u8]) -> R
     }
 }
 
-fn answer_to(alloc: Global, told: &mut String, question: &str) -> Result<()> {
-    let Some((verb, rest)) = question.split_once(' ') else {
-        bail!("no question: {question}");
-    };
-    match verb {
-        "framer" => return calls(alloc, told, rest),
-        "put" => return put(alloc, told, rest),
-        "fault" => return say_fault(told, FrameFault::OutOfMemory),
-        _ => {}
-    }
-    let bytes = bytes_or_text(alloc, rest)?;
-    answer_about(alloc, told, verb, bytes.as_slice())
-}
-
-impl Table for Frames {
+impl Answers for Frames {
     const NAME: &'static str = "frames";
 
-    fn answer(alloc: Global, question: &str) -> Result<String> {
-        let mut told = String::new(alloc);
-        answer_to(alloc, &mut told, question)?;
-        Ok(told)
+    fn tell(alloc: Global, told: &mut String, question: &str) -> Result<()> {
+        let Some((verb, rest)) = question.split_once(' ') else {
+            bail!("no question: {question}");
+        };
+        match verb {
+            "framer" => return calls(alloc, told, rest),
+            "put" => return put(alloc, told, rest),
+            "fault" => return say_fault(told, FrameFault::OutOfMemory),
+            _ => {}
+        }
+        let bytes = bytes_or_text(alloc, rest)?;
+        answer_about(alloc, told, verb, bytes.as_slice())
     }
 }

@@ -1,9 +1,9 @@
 //! The table `journal`.
 
-use crate::words::{say, say_hex, say_number};
+use crate::payload::push_raw;
+use crate::words::{Answers, say, say_hex, say_number};
 use anyhow::{Result, bail};
 use mum_base::{Cause, Mark};
-use mum_cases::{Table, bytes_of};
 use mum_record::{
     ControlEntry, Journal, JournalFault, Marked, WorkerEntry, read_config_line, read_journal,
     write_journal,
@@ -138,25 +138,30 @@ fn say_journal(alloc: Global, told: &mut String, journal: &Journal) -> Result<()
 
 /// Appends a line as the table spells it: as it stands, or behind a `=` the digits of its bytes.
 fn push_spelled(alloc: Global, text: &mut Vec<u8>, line: &str) -> Result<()> {
-    match line.strip_prefix("=") {
-        Some(digits) => {
-            let bytes = bytes_of(alloc, digits)?;
-            text.extend_from_slice(&bytes)?;
-        }
-        None => text.extend_from_slice(line.as_bytes())?,
+    if let Some(digits) = line.strip_prefix("=") {
+        return push_raw(alloc, text, digits);
     }
+    text.extend_from_slice(line.as_bytes())?;
     Ok(())
 }
 
-/// The text of lines that are parted by `;`. What stands behind the last `;` is ended by no line feed.
-fn text_of(alloc: Global, lines: &str) -> Result<Vec<u8>> {
-    let mut text = Vec::new(alloc);
+/// Appends lines that are parted by `;`. What stands behind the last `;` is ended by no line feed.
+fn push_lines(alloc: Global, text: &mut Vec<u8>, lines: &str) -> Result<()> {
     for (place, line) in lines.split(';').enumerate() {
         if place > 0 {
             text.push(b'\n')?;
         }
-        push_spelled(alloc, &mut text, line)?;
+        push_spelled(alloc, text, line)?;
     }
+    Ok(())
+}
+
+/// The text that a question spells.
+fn text_of(alloc: Global, verb: &str, spelled: &str) -> Result<Vec<u8>> {
+    let (before, behind) = lines_around(verb)?;
+    let mut text = Vec::from_slice(alloc, before.as_bytes())?;
+    push_lines(alloc, &mut text, spelled)?;
+    text.extend_from_slice(behind.as_bytes())?;
     Ok(text)
 }
 
@@ -186,31 +191,23 @@ fn config(alloc: Global, told: &mut String, line: &str) -> Result<()> {
 fn lines_around(verb: &str) -> Result<(&'static str, &'static str)> {
     match verb {
         "journal" => Ok(("", "")),
-        "control" => Ok(("journal 1;workers 1;config -;", ";worker 0;end;")),
-        "worker" => Ok(("journal 1;workers 1;config -;worker 0;", ";end;")),
+        "control" => Ok(("journal 1\nworkers 1\nconfig -\n", "\nworker 0\nend\n")),
+        "worker" => Ok(("journal 1\nworkers 1\nconfig -\nworker 0\n", "\nend\n")),
         _ => bail!("no call: {verb}"),
     }
 }
 
-fn answer_to(alloc: Global, told: &mut String, question: &str) -> Result<()> {
-    let Some((verb, spelled)) = question.split_once(' ') else {
-        bail!("no call and text: {question}");
-    };
-    if verb == "config" {
-        return config(alloc, told, spelled);
-    }
-    let (before, behind) = lines_around(verb)?;
-    let lines = format!(in alloc; "{before}{spelled}{behind}")?;
-    let text = text_of(alloc, lines.as_str())?;
-    read(alloc, told, &text)
-}
-
-impl Table for Journals {
+impl Answers for Journals {
     const NAME: &'static str = "journal";
 
-    fn answer(alloc: Global, question: &str) -> Result<String> {
-        let mut told = String::new(alloc);
-        answer_to(alloc, &mut told, question)?;
-        Ok(told)
+    fn tell(alloc: Global, told: &mut String, question: &str) -> Result<()> {
+        let Some((verb, spelled)) = question.split_once(' ') else {
+            bail!("no call and text: {question}");
+        };
+        if verb == "config" {
+            return config(alloc, told, spelled);
+        }
+        let text = text_of(alloc, verb, spelled)?;
+        read(alloc, told, &text)
     }
 }

@@ -1,9 +1,9 @@
 //! The table `list`.
 
-use crate::words::{bytes_or_text, part, say, say_hex, say_number};
+use crate::words::{Answers, add_number, bytes_or_text, say, say_hex};
 use anyhow::{Result, bail};
 use mum_base::{Items, Octets, Text};
-use mum_cases::{Table, number};
+use mum_cases::number;
 use std::alloc::Global;
 
 pub struct Lists;
@@ -77,8 +77,7 @@ fn add_items(items: &mut Items<u64>, words: &str) -> Result<()> {
 
 fn say_items(told: &mut String, items: &[u64]) -> Result<()> {
     for item in items {
-        part(told, " ")?;
-        say_number(told, "", *item)?;
+        add_number(told, *item)?;
     }
     Ok(())
 }
@@ -93,27 +92,21 @@ fn items(alloc: Global, told: &mut String, way: &str, words: &str) -> Result<()>
     say_items(told, items.as_slice())
 }
 
-fn answer_to(alloc: Global, told: &mut String, question: &str) -> Result<()> {
-    let Some((list, rest)) = question.split_once(' ') else {
-        bail!("no list: {question}");
-    };
-    let Some((way, words)) = rest.split_once(' ') else {
-        bail!("no way to make a list: {question}");
-    };
-    match list {
-        "octets" => octets(alloc, told, way, words),
-        "text" => text(alloc, told, way, words),
-        "items" => items(alloc, told, way, words),
-        _ => bail!("no list: {list}"),
-    }
-}
-
-impl Table for Lists {
+impl Answers for Lists {
     const NAME: &'static str = "list";
 
-    fn answer(alloc: Global, question: &str) -> Result<String> {
-        let mut told = String::new(alloc);
-        answer_to(alloc, &mut told, question)?;
-        Ok(told)
+    fn tell(alloc: Global, told: &mut String, question: &str) -> Result<()> {
+        let Some((list, rest)) = question.split_once(' ') else {
+            bail!("no list: {question}");
+        };
+        let Some((way, words)) = rest.split_once(' ') else {
+            bail!("no way to make a list: {question}");
+        };
+        match list {
+            "octets" => octets(alloc, told, way, words),
+            "text" => text(alloc, told, way, words),
+            "items" => items(alloc, told, way, words),
+            _ => bail!("no list: {list}"),
+        }
     }
 }

@@ -23,19 +23,20 @@ mod words;
 
 use anyhow::Result;
 use mum_cases::Tally;
+use words::Answered;
 
 fn main(rt: HostRuntime) -> Result<()> {
     let mut tally = Tally::new();
-    tally.compare::<name::Names, HostRuntime>(&rt)?;
-    tally.compare::<perm::Perms, HostRuntime>(&rt)?;
-    tally.compare::<list::Lists, HostRuntime>(&rt)?;
-    tally.compare::<stream::Streams, HostRuntime>(&rt)?;
-    tally.compare::<frames::Frames, HostRuntime>(&rt)?;
-    tally.compare::<fields::Fields, HostRuntime>(&rt)?;
-    tally.compare::<messages::Messages, HostRuntime>(&rt)?;
-    tally.compare::<varint::Varints, HostRuntime>(&rt)?;
-    tally.compare::<packet::Packets, HostRuntime>(&rt)?;
-    tally.compare::<journal::Journals, HostRuntime>(&rt)?;
+    tally.compare::<Answered<name::Names>, HostRuntime>(&rt)?;
+    tally.compare::<Answered<perm::Perms>, HostRuntime>(&rt)?;
+    tally.compare::<Answered<list::Lists>, HostRuntime>(&rt)?;
+    tally.compare::<Answered<stream::Streams>, HostRuntime>(&rt)?;
+    tally.compare::<Answered<frames::Frames>, HostRuntime>(&rt)?;
+    tally.compare::<Answered<fields::Fields>, HostRuntime>(&rt)?;
+    tally.compare::<Answered<messages::Messages>, HostRuntime>(&rt)?;
+    tally.compare::<Answered<varint::Varints>, HostRuntime>(&rt)?;
+    tally.compare::<Answered<packet::Packets>, HostRuntime>(&rt)?;
+    tally.compare::<Answered<journal::Journals>, HostRuntime>(&rt)?;
     tally.compare_files::<client::Clients, HostRuntime>(&rt)?;
     tally.compare::<client_messages::ClientMessages, HostRuntime>(&rt)?;
     tally.finish(&rt)

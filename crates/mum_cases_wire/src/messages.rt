@@ -2,10 +2,10 @@
 
 use crate::payload::{payload, push_block, push_varint};
 use crate::shown::{Shown, Told};
-use crate::words::{part, say, say_hex, say_number};
+use crate::words::{Answers, part, say, say_hex, say_number};
 use anyhow::{Context, Result, bail};
 use mum_base::Octets;
-use mum_cases::{Table, number};
+use mum_cases::number;
 use mum_msg_rule::{
     Acl, AclGroup, AclLine, PermissionDenied, PermissionQuery, TargetBlock, TextMessage,
     VoiceTarget,
@@ -215,14 +215,6 @@ fn cuts_inside(alloc: Global, told: &mut String, name: &str, question: &str) -> 
     cuts(alloc, told, name, &Some(around), block.as_slice())
 }
 
-/// A payload with one more field.
-fn with_field(alloc: Global, payload: &[u8], key: u64, value: &[u8]) -> Result<Vec<u8>> {
-    let mut bytes = Vec::from_slice(alloc, payload)?;
-    push_varint(&mut bytes, key)?;
-    bytes.extend_from_slice(value)?;
-    Ok(bytes)
-}
-
 /// What a payload decodes to with one more field.
 fn decoded_with(
     alloc: Global,
@@ -231,15 +223,16 @@ fn decoded_with(
     key: u64,
     value: &[u8],
 ) -> Result<String> {
-    let bytes = with_field(alloc, payload, key, value)?;
+    let mut bytes = Vec::from_slice(alloc, payload)?;
+    push_varint(&mut bytes, key)?;
+    bytes.extend_from_slice(value)?;
     decoded(alloc, name, bytes.as_slice())
 }
 
 fn add_taken(told: &mut String, number: u64, kind: &str) -> Result<()> {
     part(told, ", ")?;
-    say_number(told, "", number)?;
-    say(told, " ")?;
-    say(told, kind)
+    write!(told, "{number} {kind}")?;
+    Ok(())
 }
 
 /// The fields that change what a payload decodes to, of all numbers up to 31 and all wire types.
@@ -296,20 +289,6 @@ fn are_read_alike(alloc: Global, name: &str, one: &[u8], other: &[u8]) -> Result
     Ok(first.as_str() == second.as_str())
 }
 
-fn answer_to(alloc: Global, told: &mut String, question: &str) -> Result<()> {
-    let Some((verb, rest)) = question.split_once(' ') else {
-        bail!("no question");
-    };
-    let (name, text) = rest.split_once(' ').unwrap_or((rest, ""));
-    match verb {
-        "write" => return is_written(alloc, told, name, text),
-        "cuts-inside" => return cuts_inside(alloc, told, name, text),
-        _ => {}
-    }
-    let bytes = payload(alloc, text)?;
-    answer_about(alloc, told, verb, name, bytes.as_slice())
-}
-
 fn say_decoded(alloc: Global, told: &mut String, name: &str, payload: &[u8]) -> Result<()> {
     let text = decoded(alloc, name, payload)?;
     say(told, text.as_str())
@@ -333,12 +312,20 @@ fn answer_about(
 
 pub struct Messages;
 
-impl Table for Messages {
+impl Answers for Messages {
     const NAME: &'static str = "messages";
 
-    fn answer(alloc: Global, question: &str) -> Result<String> {
-        let mut told = String::new(alloc);
-        answer_to(alloc, &mut told, question)?;
-        Ok(told)
+    fn tell(alloc: Global, told: &mut String, question: &str) -> Result<()> {
+        let Some((verb, rest)) = question.split_once(' ') else {
+            bail!("no question");
+        };
+        let (name, text) = rest.split_once(' ').unwrap_or((rest, ""));
+        match verb {
+            "write" => return is_written(alloc, told, name, text),
+            "cuts-inside" => return cuts_inside(alloc, told, name, text),
+            _ => {}
+        }
+        let bytes = payload(alloc, text)?;
+        answer_about(alloc, told, verb, name, bytes.as_slice())
     }
 }

@@ -1,9 +1,8 @@
 //! The table `name`.
 
-use crate::words::{bytes_or_text, say};
+use crate::words::{Answers, bytes_or_text, say};
 use anyhow::{Result, bail};
 use mum_base::{NameFault, check_name, check_text};
-use mum_cases::Table;
 use std::alloc::Global;
 
 pub struct Names;
@@ -11,13 +10,11 @@ pub struct Names;
 fn say_outcome(told: &mut String, outcome: Result<(), NameFault>) -> Result<()> {
     match outcome {
         Ok(()) => say(told, "fine"),
-        Err(fault) => say_fault(told, fault),
+        Err(fault) => {
+            write!(told, "{} {fault}", fault.code())?;
+            Ok(())
+        }
     }
-}
-
-fn say_fault(told: &mut String, fault: NameFault) -> Result<()> {
-    write!(told, "{} {fault}", fault.code())?;
-    Ok(())
 }
 
 fn check(told: &mut String, rule: &str, text: &str) -> Result<()> {
@@ -28,20 +25,14 @@ fn check(told: &mut String, rule: &str, text: &str) -> Result<()> {
     }
 }
 
-fn answer_to(alloc: Global, told: &mut String, question: &str) -> Result<()> {
-    let Some((rule, word)) = question.split_once(' ') else {
-        bail!("no rule and text: {question}");
-    };
-    let bytes = bytes_or_text(alloc, word)?;
-    check(told, rule, str::from_utf8(&bytes)?)
-}
-
-impl Table for Names {
+impl Answers for Names {
     const NAME: &'static str = "name";
 
-    fn answer(alloc: Global, question: &str) -> Result<String> {
-        let mut told = String::new(alloc);
-        answer_to(alloc, &mut told, question)?;
-        Ok(told)
+    fn tell(alloc: Global, told: &mut String, question: &str) -> Result<()> {
+        let Some((rule, word)) = question.split_once(' ') else {
+            bail!("no rule and text: {question}");
+        };
+        let bytes = bytes_or_text(alloc, word)?;
+        check(told, rule, str::from_utf8(&bytes)?)
     }
 }

@@ -1,9 +1,9 @@
 //! The table `packet`.
 
-use crate::words::{say, say_bytes, say_number, small_number};
+use crate::words::{Answers, say, say_bytes, say_number, small_number};
 use anyhow::{Result, bail};
 use mum_base::SessionId;
-use mum_cases::{Table, bytes_of, number};
+use mum_cases::{bytes_of, number};
 use mum_voice::{BadVoice, CELT_ALPHA, CELT_BETA, OPUS, Packet, SPEEX};
 use std::alloc::Global;
 
@@ -70,24 +70,18 @@ fn copied(alloc: Global, told: &mut String, rest: &str, with_position: bool) -> 
     }
 }
 
-fn answer_to(alloc: Global, told: &mut String, question: &str) -> Result<()> {
-    let Some((verb, rest)) = question.split_once(' ') else {
-        bail!("no question: {question}");
-    };
-    match verb {
-        "parse" => parsed(alloc, told, rest),
-        "near" => copied(alloc, told, rest, true),
-        "far" => copied(alloc, told, rest, false),
-        _ => bail!("no question: {verb}"),
-    }
-}
-
-impl Table for Packets {
+impl Answers for Packets {
     const NAME: &'static str = "packet";
 
-    fn answer(alloc: Global, question: &str) -> Result<String> {
-        let mut told = String::new(alloc);
-        answer_to(alloc, &mut told, question)?;
-        Ok(told)
+    fn tell(alloc: Global, told: &mut String, question: &str) -> Result<()> {
+        let Some((verb, rest)) = question.split_once(' ') else {
+            bail!("no question: {question}");
+        };
+        match verb {
+            "parse" => parsed(alloc, told, rest),
+            "near" => copied(alloc, told, rest, true),
+            "far" => copied(alloc, told, rest, false),
+            _ => bail!("no question: {verb}"),
+        }
     }
 }

@@ -77,8 +77,8 @@ fn push_fixed(alloc: Global, bytes: &mut Vec<u8>, number: &str, digits: &str) ->
     push_raw(alloc, bytes, digits)
 }
 
-/// Bytes as they are.
-fn push_raw(alloc: Global, bytes: &mut Vec<u8>, digits: &str) -> Result<()> {
+/// Adds the bytes that hexadecimal digits spell.
+pub fn push_raw(alloc: Global, bytes: &mut Vec<u8>, digits: &str) -> Result<()> {
     let raw = bytes_of(alloc, digits)?;
     bytes.extend_from_slice(raw.as_slice())?;
     Ok(())

@@ -1,9 +1,8 @@
 //! The table `perm`.
 
-use crate::words::say;
+use crate::words::{Answers, say};
 use anyhow::{Result, bail};
 use mum_base::Perm;
-use mum_cases::Table;
 use std::alloc::Global;
 
 pub struct Perms;
@@ -57,23 +56,17 @@ fn joined(words: &str) -> Result<Perm> {
     Ok(all)
 }
 
-fn answer_to(told: &mut String, question: &str) -> Result<()> {
-    if let Some((held, wanted)) = question.split_once(" has ") {
-        let has = set_of(held)?.has(set_of(wanted)?);
-        return say(told, if has { "yes" } else { "no" });
-    }
-    if let Some((held, taken)) = question.split_once(" without ") {
-        return say_set(told, set_of(held)?.without(set_of(taken)?));
-    }
-    say_set(told, joined(question)?)
-}
-
-impl Table for Perms {
+impl Answers for Perms {
     const NAME: &'static str = "perm";
 
-    fn answer(alloc: Global, question: &str) -> Result<String> {
-        let mut told = String::new(alloc);
-        answer_to(&mut told, question)?;
-        Ok(told)
+    fn tell(_alloc: Global, told: &mut String, question: &str) -> Result<()> {
+        if let Some((held, wanted)) = question.split_once(" has ") {
+            let has = set_of(held)?.has(set_of(wanted)?);
+            return say(told, if has { "yes" } else { "no" });
+        }
+        if let Some((held, taken)) = question.split_once(" without ") {
+            return say_set(told, set_of(held)?.without(set_of(taken)?));
+        }
+        say_set(told, joined(question)?)
     }
 }

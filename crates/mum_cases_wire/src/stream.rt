@@ -2,10 +2,10 @@
 
 ghost use Rattle.std.specs.Prelude.{None};
 
-use crate::words::{part, say, say_number, small_number};
+use crate::words::{Answers, part, say, say_number, small_number};
 use anyhow::{Result, bail};
 use mum_base::Octets;
-use mum_cases::{Table, number};
+use mum_cases::number;
 use mum_io::{
     MemSink, MemSource, ReadEnd, ReadFault, Sink, Source, WriteEnd, read_up_to, write_all,
 };
@@ -45,18 +45,13 @@ impl Sink for Narrow {
     }
 }
 
-fn add_numbers(numbers: &mut Vec<u64>, words: &str) -> Result<()> {
-    for word in words.split(',') {
-        numbers.push(number(word)?)?;
-    }
-    Ok(())
-}
-
 /// The numbers of a list, as `1,3`; none for `-`.
 fn numbers(alloc: Global, words: &str) -> Result<Vec<u64>> {
     let mut numbers = Vec::new(alloc);
-    if words != "-" {
-        add_numbers(&mut numbers, words)?;
+    for word in words.split(',') {
+        if word != "-" {
+            numbers.push(number(word)?)?;
+        }
     }
     Ok(numbers)
 }
@@ -128,34 +123,24 @@ fn writes(alloc: Global, told: &mut String, words: &Words<'_>) -> Result<()> {
 fn say_whole<S: Sink>(told: &mut String, sink: &mut S, pieces: &str) -> Result<()> {
     for piece in pieces.split(',') {
         part(told, ", ")?;
-        match write_all(sink, piece.as_bytes()) {
-            Ok(()) => say(told, "done")?,
-            Err(_) => say(told, "failed")?,
-        }
+        let is_done = write_all(sink, piece.as_bytes()).is_ok();
+        say(told, if is_done { "done" } else { "failed" })?;
     }
     Ok(())
 }
 
-fn say_all(told: &mut String, sink: &mut MemSink, pieces: &str) -> Result<()> {
-    say_whole(told, sink, pieces)?;
-    say_written(told, sink)
-}
-
 fn writes_all(alloc: Global, told: &mut String, words: &Words<'_>) -> Result<()> {
     let mut sink = sink_of(alloc, words.detail)?;
-    say_all(told, &mut sink, words.text)
-}
-
-fn say_all_narrow(told: &mut String, narrow: &mut Narrow, pieces: &str) -> Result<()> {
-    say_whole(told, narrow, pieces)?;
-    say_written(told, &narrow.wide)
+    say_whole(told, &mut sink, words.text)?;
+    say_written(told, &sink)
 }
 
 fn writes_all_narrow(alloc: Global, told: &mut String, words: &Words<'_>) -> Result<()> {
     let mut narrow = Narrow {
         wide: sink_of(alloc, words.detail)?,
     };
-    say_all_narrow(told, &mut narrow, words.text)
+    say_whole(told, &mut narrow, words.text)?;
+    say_written(told, &narrow.wide)
 }
 
 fn say_outcome(told: &mut String, outcome: &Result<Vec<u8>, ReadFault>) -> Result<()> {
@@ -195,31 +180,31 @@ struct Words<'a> {
     failing: &'a str,
 }
 
-fn answer_to(alloc: Global, told: &mut String, question: &str) -> Result<()> {
-    let mut words = question.split(' ');
-    let verb = words.next().unwrap_or_default();
-    let words = Words {
-        text: words.next().unwrap_or_default(),
-        detail: words.next().unwrap_or("-"),
-        failing: words.next().unwrap_or("-"),
-    };
-    match verb {
-        "reads" => reads(alloc, told, &words),
-        "up-to" => reads_up_to(alloc, told, &words),
-        "up-to-in-bytes" => reads_in_bytes(alloc, told, &words),
-        "writes" => writes(alloc, told, &words),
-        "all" => writes_all(alloc, told, &words),
-        "all-in-bytes" => writes_all_narrow(alloc, told, &words),
-        _ => bail!("no call: {verb}"),
-    }
+/// The first word, and the rest, `-` where there is none.
+fn word_of(text: &str) -> (&str, &str) {
+    text.split_once(' ').unwrap_or((text, "-"))
 }
 
-impl Table for Streams {
+impl Answers for Streams {
     const NAME: &'static str = "stream";
 
-    fn answer(alloc: Global, question: &str) -> Result<String> {
-        let mut told = String::new(alloc);
-        answer_to(alloc, &mut told, question)?;
-        Ok(told)
+    fn tell(alloc: Global, told: &mut String, question: &str) -> Result<()> {
+        let (verb, rest) = word_of(question);
+        let (text, rest) = word_of(rest);
+        let (detail, failing) = word_of(rest);
+        let words = Words {
+            text,
+            detail,
+            failing,
+        };
+        match verb {
+            "reads" => reads(alloc, told, &words),
+            "up-to" => reads_up_to(alloc, told, &words),
+            "up-to-in-bytes" => reads_in_bytes(alloc, told, &words),
+            "writes" => writes(alloc, told, &words),
+            "all" => writes_all(alloc, told, &words),
+            "all-in-bytes" => writes_all_narrow(alloc, told, &words),
+            _ => bail!("no call: {verb}"),
+        }
     }
 }

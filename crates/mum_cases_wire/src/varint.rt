@@ -1,8 +1,8 @@
 //! The table `varint`.
 
-use crate::words::{say, say_hex, say_number};
+use crate::words::{Answers, say, say_hex, say_number};
 use anyhow::{Result, bail};
-use mum_cases::{Table, bytes_of, number};
+use mum_cases::{bytes_of, number};
 use mum_voice::{read_varint, write_varint};
 use std::alloc::Global;
 
@@ -58,23 +58,17 @@ fn written(alloc: Global, told: &mut String, word: u64) -> Result<()> {
     say_hex(alloc, told, &bytes)
 }
 
-fn answer_to(alloc: Global, told: &mut String, question: &str) -> Result<()> {
-    let Some((verb, rest)) = question.split_once(' ') else {
-        bail!("no question: {question}");
-    };
-    match verb {
-        "read" => read(alloc, told, rest),
-        "write" => written(alloc, told, word_of(rest)?),
-        _ => bail!("no question: {verb}"),
-    }
-}
-
-impl Table for Varints {
+impl Answers for Varints {
     const NAME: &'static str = "varint";
 
-    fn answer(alloc: Global, question: &str) -> Result<String> {
-        let mut told = String::new(alloc);
-        answer_to(alloc, &mut told, question)?;
-        Ok(told)
+    fn tell(alloc: Global, told: &mut String, question: &str) -> Result<()> {
+        let Some((verb, rest)) = question.split_once(' ') else {
+            bail!("no question: {question}");
+        };
+        match verb {
+            "read" => read(alloc, told, rest),
+            "write" => written(alloc, told, word_of(rest)?),
+            _ => bail!("no question: {verb}"),
+        }
     }
 }

@@ -1,8 +1,32 @@
 //! What several tables here say alike.
 
 use anyhow::Result;
-use mum_cases::{bytes_of, hex_of, number};
+use mum_cases::{Table, bytes_of, hex_of, number};
 use std::alloc::Global;
+
+/// What answers the questions of a table, in words that are added to one text.
+pub trait Answers {
+    /// The name of the table.
+    const NAME: &'static str;
+
+    /// Adds the answer to a question.
+    fn tell(alloc: Global, told: &mut String, question: &str) -> Result<()>;
+}
+
+/// The table of such answers.
+pub struct Answered<A> {
+    by: A,
+}
+
+impl<A: Answers> Table for Answered<A> {
+    const NAME: &'static str = A::NAME;
+
+    fn answer(alloc: Global, question: &str) -> Result<String> {
+        let mut told = String::new(alloc);
+        A::tell(alloc, &mut told, question)?;
+        Ok(told)
+    }
+}
 
 /// A number of at most 32 bits.
 pub fn small_number(word: &str) -> Result<u32> {
@@ -27,6 +51,12 @@ pub fn part(told: &mut String, between: &str) -> Result<()> {
 pub fn say_number(told: &mut String, words: &str, number: u64) -> Result<()> {
     write!(told, "{words}{number}")?;
     Ok(())
+}
+
+/// One more number of a list.
+pub fn add_number(told: &mut String, number: u64) -> Result<()> {
+    part(told, " ")?;
+    say_number(told, "", number)
 }
 
 /// Says bytes in hexadecimal digits.

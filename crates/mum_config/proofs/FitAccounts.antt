@@ -19,9 +19,9 @@ use Rattle.mum_state.specs.State.{StateValue, account_below, has_account, is_nam
 use Rattle.mum_state.proofs.Each.{Each}
 use Rattle.mum_state.proofs.Orderly.{length_with}
 use Rattle.mum_config.specs.Account.{AccountsMet, account_edit, account_fault, account_name, account_names, account_number, account_rows, no_accounts, with_account_met}
-use Rattle.mum_config.specs.Object.{elements_fault, opening_fault}
+use Rattle.mum_document.specs.Object.{elements_fault, opening_fault}
 use Rattle.mum_config.proofs.Bare.{IsBare, Leads, leads, less_left, one_more}
-use Rattle.mum_config.proofs.First.{first_none, later_none, none_within}
+use Rattle.mum_document.proofs.First.{first_none, later_none, none_within}
 use Rattle.mum_config.proofs.Said.{name_good, not_against, object_rows, short_name}
 
 or_move : (a b c : Bool) → (a || (b || c)) ≡ (b || (a || c))

@@ -35,15 +35,14 @@ use Rattle.mum_state.specs.Parts.{channel_parts}
 use Rattle.mum_state.specs.Proper.{is_name, is_sound_policy, is_text}
 use Rattle.mum_state.specs.State.{StateValue}
 use Rattle.mum_state.proofs.Each.{Each}
-use Rattle.mum_config.specs.declared.given.GivenInfo.{GivenInfo}
-use Rattle.mum_config.specs.declared.given.GivenPolicy.{GivenPolicy}
-use Rattle.mum_config.specs.Account.{greatest}
-use Rattle.mum_config.specs.Channel.{ChannelsMet, channel_edits, channel_fault, channel_name, channel_number, depth_above, depth_of, given_info, has_seat, info_of, info_rows, is_root_entry, made_edit, made_fault, name_rows, number_rows, parent_number, parent_rows, policy_edits, policy_rows, rises, root_edits, root_fault, shared_names, with_channel_met}
-use Rattle.mum_config.specs.Object.{elements_fault, opening_fault, rows_fault}
-use Rattle.mum_config.specs.Policy.{given_policy, gives_policy, policy_of}
-use Rattle.mum_config.specs.Value.{needed, number_fault, number_of, text_fault, text_of, wanted}
+use Rattle.mum_document.specs.declared.given.GivenInfo.{GivenInfo}
+use Rattle.mum_document.specs.declared.given.GivenPolicy.{GivenPolicy}
+use Rattle.mum_document.specs.Value.{greatest, needed, number_fault, number_of, text_fault, text_of, wanted}
+use Rattle.mum_config.specs.Channel.{ChannelsMet, channel_edits, channel_fault, channel_name, channel_number, depth_above, depth_of, gives_policy, has_seat, info_of, is_root_entry, made_edit, made_fault, name_rows, number_rows, parent_number, parent_rows, policy_edits, policy_of, rises, root_edits, root_fault, shared_names, with_channel_met}
+use Rattle.mum_document.specs.Given.{given_info, given_policy, info_rows, policy_rows}
+use Rattle.mum_document.specs.Object.{elements_fault, opening_fault, rows_fault}
 use Rattle.mum_config.proofs.Bare.{IsBare, Leads, leads, less_left, one_more}
-use Rattle.mum_config.proofs.First.{first_none, later_none, none_within}
+use Rattle.mum_document.proofs.First.{first_none, later_none, none_within}
 use Rattle.mum_config.proofs.FitPolicies.{sound_policy}
 use Rattle.mum_config.proofs.MetChannels.{AreMet, channel, depth_inserted, met_grown, met_root, not_temporary, root_with}
 use Rattle.mum_config.proofs.Said.{each_row, name_good, not_against, rows_apart, text_good}

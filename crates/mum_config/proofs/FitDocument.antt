@@ -14,15 +14,15 @@ use Rattle.mum_state.specs.Applied.{applied}
 use Rattle.mum_state.specs.State.{StateValue, empty_state}
 use Rattle.mum_state.proofs.Each.{Each}
 use Rattle.mum_config.specs.declared.config.Config.{Config}
-use Rattle.mum_config.specs.declared.fault.BadConfig.{BadConfig}
-use Rattle.mum_config.specs.declared.fault.ConfigFault.TheVariants.{Limit, NotAnObject, NotJson}
+use Rattle.mum_document.specs.declared.fault.BadConfig.{BadConfig}
+use Rattle.mum_document.specs.declared.fault.ConfigFault.TheVariants.{Limit, NotAnObject, NotJson}
 use Rattle.mum_config.specs.Account.{account_edit}
 use Rattle.mum_config.specs.Channel.{channel_edits, is_root_entry, root_met}
 use Rattle.mum_config.specs.Document.{ReadsText, account_list_rows, accounts_in, against_document, channel_list_rows, channels_in, channels_met, config_of, document_names, document_rows, edits_of, fault_of, link_list_rows, links_in, object_fault_of, server_edit, settings_of, settings_rows, value_of}
 use Rattle.mum_config.specs.Link.{link_edit}
-use Rattle.mum_config.specs.Object.{rows_fault, unknown_fault}
+use Rattle.mum_document.specs.Object.{rows_fault, unknown_fault}
 use Rattle.mum_config.proofs.Bare.{IsBare, Leads, empty_bare, leads, less_left, one_more}
-use Rattle.mum_config.proofs.First.{later_none}
+use Rattle.mum_document.proofs.First.{later_none}
 use Rattle.mum_config.proofs.FitAccounts.{first_accounts_fit}
 use Rattle.mum_config.proofs.FitChannels.{channels_fit, made_count, made_with_root}
 use Rattle.mum_config.proofs.FitLinks.{AreJoined, links_fit, none_joined}

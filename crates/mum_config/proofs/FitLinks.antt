@@ -27,16 +27,15 @@ use Rattle.mum_state.specs.Fits.{fits}
 use Rattle.mum_state.specs.Parts.{channel_parts}
 use Rattle.mum_state.specs.State.{StateValue}
 use Rattle.mum_state.proofs.Editing.{named_in_tree}
-use Rattle.mum_config.specs.Account.{greatest}
+use Rattle.mum_document.specs.Value.{greatest, number_fault, number_of}
 use Rattle.mum_config.specs.Channel.{depth_of}
-use Rattle.mum_config.specs.Fault.{against, place_text, within}
+use Rattle.mum_document.specs.Fault.{against, place_text, within}
 use Rattle.mum_config.specs.Link.{Ends, are_same, end_fault, ends_fault, ends_of, first_end, is_crowded, is_end, is_new, join_edit, link_count, link_edit, link_fault, pair_of, second_end, with_ends, with_link_met}
-use Rattle.mum_config.specs.Object.{elements_fault}
-use Rattle.mum_config.specs.Value.{number_fault, number_of}
-use Rattle.mum_config.specs.declared.fault.ConfigFault.TheVariants.{WrongKind}
+use Rattle.mum_document.specs.Object.{elements_fault}
+use Rattle.mum_document.specs.declared.fault.ConfigFault.TheVariants.{WrongKind}
 use Rattle.mum_config.proofs.Bare.{IsBare, Leads, leads, less_left, one_more}
 use Rattle.mum_config.proofs.Counts.{count_by-append, count_one, end_is}
-use Rattle.mum_config.proofs.First.{first_none, later_none, none_within}
+use Rattle.mum_document.proofs.First.{first_none, later_none, none_within}
 use Rattle.mum_config.proofs.MetChannels.{channel}
 use Rattle.mum_config.proofs.Said.{not_against}
 

@@ -17,10 +17,11 @@ use Rattle.mum_policy.specs.Limits.{is_large_group, is_long_whom}
 use Rattle.mum_policy.specs.Walk.{holds}
 use Rattle.mum_state.specs.Proper.{is_name, is_sound_entry, is_sound_policy}
 use Rattle.mum_state.proofs.Each.{Each}
-use Rattle.mum_config.specs.Channel.{policy_rows}
-use Rattle.mum_config.specs.Object.{elements_at, number_at, opening_fault, rows_fault, text_at}
-use Rattle.mum_config.specs.Policy.{account_of, accounts_at, entry_fault, entry_names, entry_of, entry_rows, given_policy, group_fault, group_names, group_of, group_rows, policy_of, with_group_met}
-use Rattle.mum_config.specs.Value.{elements_of}
+use Rattle.mum_document.specs.Given.{given_policy, policy_rows}
+use Rattle.mum_document.specs.Object.{elements_at, number_at, opening_fault, rows_fault, text_at}
+use Rattle.mum_document.specs.Policy.{account_of, accounts_at, entry_fault, entry_names, entry_of, entry_rows, group_fault, group_names, group_of, group_rows, with_group_met}
+use Rattle.mum_config.specs.Channel.{policy_of}
+use Rattle.mum_document.specs.Value.{elements_of}
 use Rattle.mum_config.proofs.Said.{each_alone, each_element, each_row, list_short, name_good, object_rows, text_short}
 
 -- ---- groups

@@ -1,10 +1,5 @@
-pub mod First
-pub mod Values
-pub mod Objects
-pub mod Sets
-pub mod Elements
-pub mod Whoms
-pub mod Lists
+pub mod Pairs
+pub mod Seats
 pub mod Counts
 pub mod Documents
 pub mod Said

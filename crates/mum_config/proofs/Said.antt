@@ -6,11 +6,11 @@ use Rattle.std.proofs.lemmas.Bool.Decides.{nat_tests}
 use Rattle.serde_json.specs.Data.{Data, array, string}
 use Rattle.mum_base.specs.Name.{name_fault as fault_of_name}
 use Rattle.mum_base.specs.declared.name.NameFault.TheVariants.{TooLong}
-use Rattle.mum_config.specs.declared.fault.ConfigFault.{ConfigFault}
-use Rattle.mum_config.specs.Fault.{Fault, against, or_else}
-use Rattle.mum_config.specs.Object.{Row, each_fault, elements_fault, rows_fault}
-use Rattle.mum_config.specs.Value.{elements_of, list_fault, name_fault, needed, text_fault, text_of, wanted}
-use Rattle.mum_config.proofs.First.{first_none, later_none, none_within, rows_fault-append}
+use Rattle.mum_document.specs.declared.fault.ConfigFault.{ConfigFault}
+use Rattle.mum_document.specs.Fault.{Fault, against, or_else}
+use Rattle.mum_document.specs.Object.{Row, each_fault, elements_fault, rows_fault}
+use Rattle.mum_document.specs.Value.{elements_of, list_fault, name_fault, needed, text_fault, text_of, wanted}
+use Rattle.mum_document.proofs.First.{first_none, later_none, none_within, rows_fault-append}
 use Rattle.mum_state.proofs.Each.{Each}
 use Rattle.mum_state.specs.Proper.{is_name, is_short, is_text}
 

@@ -1,20 +1,15 @@
 -- Accounts.
-use Rattle.std.specs.Prelude.{ℕ, ◌^◌, ◌-◌, ◌==◌, List, [], ◌∷◌, ◌++◌, Option, codes, unwrap_or}
+use Rattle.std.specs.Prelude.{ℕ, ◌==◌, List, [], ◌∷◌, ◌++◌, Option, codes, unwrap_or}
 use Rattle.std.specs.List.{list_any}
 use Rattle.std.specs.Option.{option_map}
-use Rattle.std.specs.Str.{bytes_eq}
 use Rattle.serde_json.specs.Data.{Data}
 use Rattle.serde_json.specs.Find.{get}
 use Rattle.mum_state.specs.declared.edit.Edit.{Edit}
 use Rattle.mum_state.specs.declared.edit.Edit.TheVariants.{AddAccount}
-use Rattle.mum_config.specs.declared.fault.ConfigFault.TheVariants.{Twice}
-use Rattle.mum_config.specs.Fault.{Fault, against}
-use Rattle.mum_config.specs.Object.{Row, number_at, object_fault, text_at}
-use Rattle.mum_config.specs.Value.{digest_fault, digest_of, name_fault, needed, number_fault}
-
--- the greatest number of 32 bits
-abbrev pub greatest : ℕ
-greatest = 2 ^ 32 - 1
+use Rattle.mum_document.specs.declared.fault.ConfigFault.TheVariants.{Twice}
+use Rattle.mum_document.specs.Fault.{Fault, against}
+use Rattle.mum_document.specs.Object.{Row, new_name_rows, number_at, object_fault, text_at}
+use Rattle.mum_document.specs.Value.{digest_fault, digest_of, greatest, needed, number_fault}
 
 -- the numbers and the names of the accounts so far
 pub record AccountsMet : Type 0 where
@@ -37,9 +32,8 @@ abbrev pub account_rows : AccountsMet → Data → List Row
 account_rows met value =
     (codes "id", needed (number_fault 0 greatest) (get (codes "id") value))
     ∷ (codes "id", against Twice (list_any (λ number. account_number value == number) met.numbers))
-    ∷ (codes "name", needed name_fault (get (codes "name") value))
-    ∷ (codes "name", against Twice (list_any (bytes_eq (account_name value)) met.names))
-    ∷ (codes "password_sha256", needed digest_fault (get (codes "password_sha256") value))
+    ∷ new_name_rows met.names value
+    ++ (codes "password_sha256", needed digest_fault (get (codes "password_sha256") value))
     ∷ []
 
 unfoldable pub account_fault : AccountsMet → Data → Option Fault

@@ -4,29 +4,27 @@ use Rattle.indexmap.specs.IndexMap.{IndexMap, insert_entry}
 use Rattle.std.specs.Borrow.{Bor}
 use Rattle.std.specs.List.{list_any}
 use Rattle.std.specs.Map.{lookup}
-use Rattle.std.specs.Option.{option_and_then, option_map, option_map_or}
+use Rattle.std.specs.Option.{option_and_then, option_map_or}
 use Rattle.std.specs.Str.{bytes_eq}
 use Rattle.serde_json.specs.Data.{Data}
 use Rattle.serde_json.specs.Find.{as_number, as_u64, get}
-use Rattle.mum_base.specs.declared.name.TheConstants.{TEXT_LIMIT}
 use Rattle.mum_base.specs.declared.number.ChannelId.{ChannelId}
 use Rattle.mum_base.specs.declared.number.TheConstants.ChannelId.{ROOT}
-use Rattle.mum_policy.specs.declared.policy.TheConstants.{ENTRIES, GROUPS}
+use Rattle.mum_policy.specs.declared.policy.ChannelPolicy.{ChannelPolicy}
 use Rattle.mum_state.specs.declared.edit.Edit.{Edit}
 use Rattle.mum_state.specs.declared.edit.Edit.TheVariants.{EditChannel, MakeChannel, SetAcl}
 use Rattle.mum_tree.specs.declared.channel.ChannelInfo.{ChannelInfo}
 use Rattle.mum_tree.specs.declared.channel.TheConstants.{CHANNEL_LIMIT, PATH_LIMIT}
 use Rattle.mum_config.specs.declared.channel.Met.{Met}
-use Rattle.mum_config.specs.declared.fault.BadConfig.{BadConfig}
-use Rattle.mum_config.specs.declared.given.GivenInfo.{GivenInfo}
-use Rattle.mum_config.specs.declared.given.GivenPolicy.{GivenPolicy}
-use Rattle.mum_config.specs.declared.fault.ConfigFault.TheVariants.{Limit, NoSuch, OutOfRange, Twice}
-use Rattle.mum_config.specs.Account.{greatest}
-use Rattle.mum_config.specs.Fault.{Fault, against}
-use Rattle.mum_config.specs.Object.{Row, each_fault, elements_at, elements_fault, number_at, object_fault, text_at}
-use Rattle.mum_config.specs.Policy.{entry_fault, given_policy, gives_policy, group_fault, policy_of, with_group_met}
-use Rattle.mum_config.specs.Reading.{Names}
-use Rattle.mum_config.specs.Value.{flag_fault, list_fault, name_fault, needed, number_fault, number_of, signed_fault, signed_of, text_fault, text_of, wanted}
+use Rattle.mum_document.specs.declared.fault.BadConfig.{BadConfig}
+use Rattle.mum_document.specs.declared.given.GivenInfo.{GivenInfo}
+use Rattle.mum_document.specs.declared.given.GivenPolicy.{GivenPolicy}
+use Rattle.mum_document.specs.declared.fault.ConfigFault.TheVariants.{Limit, NoSuch, OutOfRange, Twice}
+use Rattle.mum_document.specs.Value.{greatest, name_fault, needed, number_fault}
+use Rattle.mum_document.specs.Fault.{Fault, against}
+use Rattle.mum_document.specs.Object.{Row, number_at, object_fault, text_at}
+use Rattle.mum_document.specs.Given.{given_info, given_policy, info_rows, policy_rows}
+use Rattle.mum_document.specs.Reading.{Names}
 
 -- the channels so far
 pub record ChannelsMet : Type 0 where
@@ -88,29 +86,6 @@ abbrev pub shared_names : List (List ℕ)
 shared_names =
     codes "position" ∷ codes "max_users" ∷ codes "description" ∷ codes "inherit_acls" ∷ codes "groups" ∷ codes "acls" ∷ []
 
-abbrev pub info_rows : Data → List Row
-info_rows value =
-    (codes "position", wanted signed_fault (get (codes "position") value))
-    ∷ (codes "max_users", wanted (number_fault 0 greatest) (get (codes "max_users") value))
-    ∷ (codes "description", wanted (text_fault TEXT_LIMIT) (get (codes "description") value))
-    ∷ []
-
-abbrev pub group_list_rows : Data → List Row
-group_list_rows value =
-    (codes "groups", wanted (list_fault GROUPS) (get (codes "groups") value))
-    ∷ (codes "groups", elements_fault group_fault with_group_met [] 0 (elements_at (codes "groups") value))
-    ∷ []
-
-abbrev pub entry_list_rows : Data → List Row
-entry_list_rows value =
-    (codes "acls", wanted (list_fault ENTRIES) (get (codes "acls") value))
-    ∷ (codes "acls", each_fault entry_fault 0 (elements_at (codes "acls") value))
-    ∷ []
-
-abbrev pub policy_rows : Data → List Row
-policy_rows value =
-    (codes "inherit_acls", wanted flag_fault (get (codes "inherit_acls") value)) ∷ (group_list_rows value ++ entry_list_rows value)
-
 abbrev pub number_rows : Option ℕ → Data → List Row
 number_rows last value =
     (codes "id", needed (number_fault 0 greatest) (get (codes "id") value))
@@ -159,14 +134,6 @@ with_channel_met met value =
       seats = met.seats ++ (parent_number value, channel_name value) ∷ [];
     }
 
--- what is given of a channel beside its seat
-abbrev pub given_info : Data → GivenInfo
-given_info value = record {
-  position = option_map signed_of (get (codes "position") value);
-  max_users = option_map number_of (get (codes "max_users") value);
-  description = option_map text_of (get (codes "description") value);
-}
-
 abbrev pub gives_info : GivenInfo → Bool
 gives_info given = is_some given.position || is_some given.max_users || is_some given.description
 
@@ -186,6 +153,17 @@ root_edits given =
 abbrev pub made_edit : Data → Edit
 made_edit value =
     MakeChannel (record { 0 = channel_number value }) (record { 0 = parent_number value }) (channel_name value) false (info_of (given_info value)) None
+
+abbrev pub gives_policy : GivenPolicy → Bool
+gives_policy given = is_some given.inherit_acls || is_some given.groups || is_some given.acls
+
+-- what is not given is as in a policy that is open
+abbrev pub policy_of : GivenPolicy → ChannelPolicy
+policy_of given = record {
+  inherit_acls = unwrap_or given.inherit_acls true;
+  groups = unwrap_or given.groups [];
+  acls = unwrap_or given.acls [];
+}
 
 abbrev pub policy_edits : ChannelId → GivenPolicy → List Edit
 policy_edits channel given = if gives_policy given then SetAcl channel None (policy_of given) ∷ [] else []

@@ -16,16 +16,16 @@ use Rattle.serde_json.specs.declared.value.Value.{Value}
 use Rattle.mum_config.specs.declared.config.Config.{Config}
 use Rattle.mum_config.specs.declared.config.Settings.{Settings}
 use Rattle.mum_config.specs.declared.config.TheConstants.{DEFAULT_WORKERS, DOCUMENT_LIMIT, WORKERS}
-use Rattle.mum_config.specs.declared.fault.BadConfig.{BadConfig}
-use Rattle.mum_config.specs.declared.fault.ConfigFault.{ConfigFault}
-use Rattle.mum_config.specs.declared.fault.ConfigFault.TheVariants.{Limit, NotAnObject, NotJson}
-use Rattle.mum_config.specs.Account.{account_edit, account_fault, greatest, no_accounts, with_account_met}
+use Rattle.mum_document.specs.declared.fault.BadConfig.{BadConfig}
+use Rattle.mum_document.specs.declared.fault.ConfigFault.{ConfigFault}
+use Rattle.mum_document.specs.declared.fault.ConfigFault.TheVariants.{Limit, NotAnObject, NotJson}
+use Rattle.mum_config.specs.Account.{account_edit, account_fault, no_accounts, with_account_met}
+use Rattle.mum_document.specs.Value.{digest_fault, digest_of, greatest, list_fault, number_fault, number_of, text_fault, text_of, wanted}
 use Rattle.mum_config.specs.Channel.{ChannelsMet, are_too_many, channel_edits, channel_fault, root_met, with_channel_met}
-use Rattle.mum_config.specs.Fault.{Fault, against, or_else}
+use Rattle.mum_document.specs.Fault.{Fault, against, or_else}
 use Rattle.mum_config.specs.Link.{link_edit, link_fault, with_link_met}
-use Rattle.mum_config.specs.Object.{Row, elements_at, elements_fault, rows_fault, unknown_fault}
-use Rattle.mum_config.specs.Reading.{Names}
-use Rattle.mum_config.specs.Value.{digest_fault, digest_of, list_fault, number_fault, number_of, text_fault, text_of, wanted}
+use Rattle.mum_document.specs.Object.{Row, elements_at, elements_fault, rows_fault, unknown_fault}
+use Rattle.mum_document.specs.Reading.{Names}
 
 -- the value that a text is, if it is one
 abbrev pub value_of : List ℕ → Option Data

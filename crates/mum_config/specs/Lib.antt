@@ -1,9 +1,4 @@
-pub mod Fault
-pub mod Reading
-pub mod Value
-pub mod Object
 pub mod Account
-pub mod Policy
 pub mod Channel
 pub mod Link
 pub mod Document

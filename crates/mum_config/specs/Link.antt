@@ -7,11 +7,10 @@ use Rattle.serde_json.specs.Data.{Data}
 use Rattle.mum_state.specs.declared.edit.Edit.{Edit}
 use Rattle.mum_state.specs.declared.edit.Edit.TheVariants.{EditChannel}
 use Rattle.mum_tree.specs.declared.links.TheConstants.{LINK_LIMIT}
-use Rattle.mum_config.specs.declared.fault.ConfigFault.TheVariants.{Limit, NoSuch, WrongKind}
-use Rattle.mum_config.specs.Account.{greatest}
+use Rattle.mum_document.specs.declared.fault.ConfigFault.TheVariants.{Limit, NoSuch, WrongKind}
+use Rattle.mum_document.specs.Value.{elements_of, greatest, number_fault, number_of}
 use Rattle.mum_config.specs.Channel.{depth_of}
-use Rattle.mum_config.specs.Fault.{Fault, against, or_else, place_text, within}
-use Rattle.mum_config.specs.Value.{elements_of, number_fault, number_of}
+use Rattle.mum_document.specs.Fault.{Fault, against, or_else, place_text, within}
 
 -- two different channels, the lesser first
 abbrev pub Ends : Type 0

@@ -4,14 +4,12 @@ ghost use Rattle.std.specs.Prelude.{◌≡◌, ◌++◌, [], ◌∷◌, OnOk, ma
 ghost use Rattle.serde_json.specs.View.{view};
 ghost use Rattle.mum_config.specs.Account.{AccountsMet, account_edit, account_fault, account_name, account_number, no_accounts, with_account_met};
 ghost use Rattle.mum_state.specs.declared.edit.Edit.TheVariants.{AddAccount};
-ghost use Rattle.mum_config.specs.Object.{elements_fault};
-ghost use Rattle.mum_config.specs.Reading.{Reads};
+ghost use Rattle.mum_document.specs.Object.{elements_fault};
+ghost use Rattle.mum_document.specs.Reading.{Reads};
 
-use crate::fault::{BadConfig, ConfigFault, at_place};
-use crate::name::new_name;
-use crate::object::Object;
 use indexmap::IndexSet;
 use mum_base::{AccountId, OutOfMemory, Text};
+use mum_document::{BadConfig, ConfigFault, Object, at_place, new_name};
 use mum_state::Edit;
 use serde_json::Value;
 use std::alloc::Global;

@@ -4,16 +4,14 @@ ghost use Rattle.std.specs.Prelude.{◌≡◌, ◌<◌, ◌++◌, [], ◌∷◌,
 ghost use Rattle.mum_state.specs.declared.edit.Edit.TheVariants.{MakeChannel};
 ghost use Rattle.std.specs.List.{flat_map, list_any};
 ghost use Rattle.serde_json.specs.View.{view};
-ghost use Rattle.mum_config.specs.Channel.{are_too_many, channel_edits, channel_fault, channel_name, channel_number, depth_above, depth_of, info_of, is_root_entry, made_fault, met_of, name_rows, number_rows, parent_number, parent_rows, rises, root_fault, root_met, seats_of, with_channel_met};
-ghost use Rattle.mum_config.specs.Object.{elements_fault, rows_fault};
-ghost use Rattle.mum_config.specs.Reading.{Lends, Reads};
-ghost use Rattle.mum_config.specs.Channel.{ReadsDepths};
+ghost use Rattle.mum_config.specs.Channel.{ReadsDepths, are_too_many, channel_edits, channel_fault, channel_name, channel_number, depth_above, depth_of, info_of, is_root_entry, made_fault, met_of, name_rows, number_rows, parent_number, parent_rows, rises, root_fault, root_met, seats_of, with_channel_met};
+ghost use Rattle.mum_document.specs.Object.{elements_fault, rows_fault};
+ghost use Rattle.mum_document.specs.Reading.{Lends, Reads};
 
-use crate::fault::{BadConfig, ConfigFault, at_place};
-use crate::given::{GivenInfo, add_policy};
-use crate::object::Object;
+use crate::given::{add_policy, info_of, push_root_edit};
 use indexmap::{IndexMap, IndexSet};
 use mum_base::{ChannelId, OutOfMemory, Text};
+use mum_document::{BadConfig, ConfigFault, GivenInfo, Object, at_place};
 use mum_state::Edit;
 use mum_tree::{CHANNEL_LIMIT, PATH_LIMIT};
 use serde_json::Value;
@@ -176,7 +174,7 @@ fn read_root<'a>(
     let number = number_in(&object, met.last)?;
     met.last = Some(number);
     let info = GivenInfo::read(&object)?;
-    info.push_root_edit(alloc, edits)?;
+    push_root_edit(alloc, info, edits)?;
     add_policy(&object, ChannelId(number), edits)?;
     Ok(())
 }
@@ -193,7 +191,7 @@ fn push_made(
     ensures { OnOk result (edits.new.items
         ≡ edits.old.items ++ MakeChannel (record { 0 = number }) (record { 0 = parent }) name.now false (info_of info) None ∷ []) }
 {
-    let info = info.into_info(alloc);
+    let info = info_of(alloc, info);
     match Text::of(alloc, name) {
         Ok(name) => {
             edits.push(Edit::MakeChannel {

@@ -5,14 +5,8 @@
 mod account;
 mod channel;
 pub mod config;
-mod entry;
-mod fault;
 mod given;
-mod group;
 mod link;
-mod name;
-mod object;
-mod value;
 
 pub use config::{Config, read_config};
-pub use fault::{BadConfig, ConfigFault};
+pub use mum_document::{BadConfig, ConfigFault};

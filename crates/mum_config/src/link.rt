@@ -4,15 +4,14 @@ ghost use Rattle.std.specs.Prelude.{◌≡◌, ◌++◌, [], ◌∷◌, OnOk, fa
 ghost use Rattle.std.specs.Option.{option_map};
 ghost use Rattle.serde_json.specs.View.{view};
 ghost use Rattle.mum_config.specs.Link.{AreCounted, crowding_fault, end_fault, ends_of, is_crowded, is_new, join_edit, link_count, link_edit, link_fault, pair_of, with_ends, with_link_met};
-ghost use Rattle.mum_config.specs.Object.{elements_fault};
-ghost use Rattle.mum_config.specs.Reading.{Reads};
-ghost use Rattle.mum_config.specs.Value.{number_of};
+ghost use Rattle.mum_document.specs.Object.{elements_fault};
+ghost use Rattle.mum_document.specs.Reading.{Reads};
+ghost use Rattle.mum_document.specs.Value.{number_of};
 
 use crate::channel::depth_in;
-use crate::fault::{BadConfig, ConfigFault, at_place, fault_at};
-use crate::value::read_number;
 use indexmap::{IndexMap, IndexSet};
 use mum_base::{ChannelId, Items, OutOfMemory};
+use mum_document::{BadConfig, ConfigFault, at_place, fault_at, read_number};
 use mum_state::Edit;
 use mum_tree::LINK_LIMIT;
 use serde_json::Value;

@@ -2,11 +2,11 @@
 use Rattle.std.proofs.Common.{◌≡◌, ℕ, List, [], ◌∷◌, ◌++◌, Option, Some, None, Result, Ok, Err, true, false, refl, sym, ap, ◌∙◌}
 use Rattle.std.specs.Option.{option_map_or}
 use Rattle.mum_config.specs.Document.{ReadsText}
-use Rattle.mum_config.specs.Fault.{Fault}
-use Rattle.mum_config.specs.Reading.{Names as ConfigNames}
+use Rattle.mum_document.specs.Fault.{Fault}
+use Rattle.mum_document.specs.Reading.{Names as ConfigNames}
 use Rattle.mum_config.specs.declared.config.Config.{Config as Configuration}
-use Rattle.mum_config.specs.declared.fault.BadConfig.TheVariants as bad
-use Rattle.mum_config.specs.declared.fault.ConfigFault.{ConfigFault}
+use Rattle.mum_document.specs.declared.fault.BadConfig.TheVariants as bad
+use Rattle.mum_document.specs.declared.fault.ConfigFault.{ConfigFault}
 use Rattle.mum_record.specs.declared.step.Step.{Step}
 use Rattle.mum_record.specs.declared.step.Step.TheVariants as words
 use Rattle.mum_record.specs.Head.{config_of}

@@ -12,8 +12,8 @@ use Rattle.json.specs.Word.{after_number, word}
 use Rattle.mum_config.specs.Account.{account_fault}
 use Rattle.mum_config.specs.Channel.{channel_fault, made_fault, root_fault, with_channel_met}
 use Rattle.mum_config.specs.Document.{fault_of, object_fault_of}
-use Rattle.mum_config.specs.Fault.{Fault, or_else, within}
-use Rattle.mum_config.specs.Value.{needed, wanted}
+use Rattle.mum_document.specs.Fault.{Fault, or_else, within}
+use Rattle.mum_document.specs.Value.{needed, wanted}
 use Rattle.serde_json.specs.Read.{number_of}
 use Rattle.mum_core.specs.Core.{CoreState, start}
 use Rattle.mum_server.specs.Exercise.{document}

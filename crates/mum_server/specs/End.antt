@@ -1,7 +1,7 @@
 -- The status and the line of each way in which the program ends.
 use Rattle.std.specs.Prelude.{ℕ, ◌==◌, List, [], ◌∷◌, ◌++◌, codes, decimal, if◌then◌else◌}
 use Rattle.mum_record.specs.Words.{line_of_words}
-use Rattle.mum_config.specs.Fault.{fault_code}
+use Rattle.mum_document.specs.Fault.{fault_code}
 use Rattle.mum_server.specs.declared.end.End.{End}
 use Rattle.mum_server.specs.declared.end.End.TheVariants.{Finished, Faulty, ReadFault, WriteFault, OutOfMemory}
 use Rattle.mum_server.specs.declared.end.LineFault.{LineFault}

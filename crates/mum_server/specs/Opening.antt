@@ -2,7 +2,7 @@
 use Rattle.std.specs.Prelude.{ℕ, List, [], ◌∷◌, Option, None}
 use Rattle.std.specs.Option.{option_map_or}
 use Rattle.mum_config.specs.Document.{config_in, fault_of}
-use Rattle.mum_config.specs.Fault.{Fault}
+use Rattle.mum_document.specs.Fault.{Fault}
 use Rattle.mum_state.specs.declared.edit.Edit.{Edit}
 use Rattle.mum_state.specs.After.{after}
 use Rattle.mum_state.specs.State.{StateValue}

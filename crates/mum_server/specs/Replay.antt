@@ -5,7 +5,7 @@ use Rattle.mum_record.specs.declared.step.Step.{Step}
 use Rattle.mum_record.specs.declared.step.Step.TheVariants as steps
 use Rattle.mum_record.specs.Head.{is_head_line, workers_of, config_of}
 use Rattle.mum_record.specs.Reading.{step_of}
-use Rattle.mum_config.specs.Fault.{Fault}
+use Rattle.mum_document.specs.Fault.{Fault}
 use Rattle.mum_server.specs.declared.{end.End.End, end.End.TheVariants.Finished, end.End.TheVariants.Faulty, end.LineFault.LineFault, replay.Phase.Phase, replay.TheConstants.LINE_LIMIT, replay.TheConstants.INPUT_LIMIT}
 use Rattle.mum_server.specs.declared.end.LineFault.TheVariants.{TooLong, BadRecording, BadConfig, IllegalStep}
 use Rattle.mum_server.specs.declared.replay.Phase.TheVariants.{Head, Workers, Config, Running, Over}

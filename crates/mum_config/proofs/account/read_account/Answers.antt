@@ -1,14 +1,14 @@
 use Rattle.std.proofs.Common.{[], ◌∷◌, ◌++◌, map, ap, refl, ◌∙◌}
 use Rattle.std.proofs.lemmas.Result.{err_from_is_err_and}
-use Rattle.mum_config.proofs.First.{first, later, none_said, not_new, out_of_memory, rows_first, rows_later, rows_none}
+use Rattle.mum_document.proofs.First.{first, later, none_said, not_new, out_of_memory, rows_first, rows_later, rows_none}
 use Rattle.std.specs.List.{list_any}
 use Rattle.std.specs.Prelude.{codes, nat_eq}
 use Rattle.serde_json.specs.Find.{get}
 use Rattle.serde_json.specs.View.{view}
 use Rattle.mum_config.specs.Account.{account_edit, account_fault}
-use Rattle.mum_config.specs.Policy.{group_name_rows}
-use Rattle.mum_config.specs.Value.{digest_fault, needed}
-use Rattle.mum_config.proofs.Sets.{inserted, none_against}
+use Rattle.mum_document.specs.Object.{new_name_rows}
+use Rattle.mum_document.specs.Value.{digest_fault, needed}
+use Rattle.mum_document.proofs.Sets.{inserted, none_against}
 use Rattle.mum_config.proofs.account.read_account.Goals as goal
 
 pub returns-in_err-open-clause-reads : goal.returns-in_err-open-clause-reads
@@ -38,7 +38,7 @@ returns-in_err-refuse_if-clause-reads c =
 pub returns-in_err-name-clause-reads : goal.returns-in_err-name-clause-reads
 unfolding account_fault
 returns-in_err-name-clause-reads c =
-    let names = group_name_rows (map (λ n. n.now) c.args.names.now.keys) (view c.args.value.now) in
+    let names = new_name_rows (map (λ n. n.now) c.args.names.now.keys) (view c.args.value.now) in
     let rest = (codes "password_sha256", needed digest_fault (get (codes "password_sha256") (view c.args.value.now))) ∷ [] in
     let p = err_from_is_err_and c.from_residual-in_err-name.result c.from_residual-in_err-name.ensures.1 in
     rw (p.1, p.2) (later _ _ _ (c.in_ok-open.ensures.0) (later _ _ _ (c.in_ok-number.ensures.0) (later _ _ _ (rw (not_new _ _ c.in_ok-new_number.ensures.added ∙ ap (λ n. list_any (nat_eq n) c.args.numbers.now.keys) c.in_ok-number.ensures.1) at c.in_ok-refuse_if.ensures.0) (rows_first (codes ".") names rest _ c.in_err-name.ensures.reads))))
@@ -46,7 +46,7 @@ returns-in_err-name-clause-reads c =
 pub returns-in_err-digest-clause-reads : goal.returns-in_err-digest-clause-reads
 unfolding account_fault
 returns-in_err-digest-clause-reads c =
-    let names = group_name_rows (map (λ n. n.now) c.args.names.now.keys) (view c.args.value.now) in
+    let names = new_name_rows (map (λ n. n.now) c.args.names.now.keys) (view c.args.value.now) in
     let rest = (codes "password_sha256", needed digest_fault (get (codes "password_sha256") (view c.args.value.now))) ∷ [] in
     let p = err_from_is_err_and c.from_residual-in_err-digest.result c.from_residual-in_err-digest.ensures.1 in
     rw (p.1, p.2) (later _ _ _ (c.in_ok-open.ensures.0) (later _ _ _ (c.in_ok-number.ensures.0) (later _ _ _ (rw (not_new _ _ c.in_ok-new_number.ensures.added ∙ ap (λ n. list_any (nat_eq n) c.args.numbers.now.keys) c.in_ok-number.ensures.1) at c.in_ok-refuse_if.ensures.0) (rows_later (codes ".") names rest _ c.in_ok-name.ensures.reads.0 (first _ _ _ (c.in_err-digest.ensures))))))
@@ -54,7 +54,7 @@ returns-in_err-digest-clause-reads c =
 pub returns-clause-reads : goal.returns-clause-reads
 unfolding account_fault
 returns-clause-reads c =
-    let names = group_name_rows (map (λ n. n.now) c.args.names.now.keys) (view c.args.value.now) in
+    let names = new_name_rows (map (λ n. n.now) c.args.names.now.keys) (view c.args.value.now) in
     let rest = (codes "password_sha256", needed digest_fault (get (codes "password_sha256") (view c.args.value.now))) ∷ [] in (
       none_said _ _ (c.in_ok-open.ensures.0) (none_said _ _ (c.in_ok-number.ensures.0) (none_said _ _ (rw (not_new _ _ c.in_ok-new_number.ensures.added ∙ ap (λ n. list_any (nat_eq n) c.args.numbers.now.keys) c.in_ok-number.ensures.1) at c.in_ok-refuse_if.ensures.0) (rows_none (codes ".") names rest c.in_ok-name.ensures.reads.0 (none_said _ _ (c.in_ok-digest.ensures.0) refl)))),
       refl,

@@ -5,7 +5,7 @@ use Rattle.std.specs.List.{list_any}
 use Rattle.std.proofs.lemmas.List.{length-map}
 use Rattle.serde_json.specs.View.{view}
 use Rattle.mum_config.specs.Channel.{is_root_entry}
-use Rattle.mum_config.proofs.Objects.{list_any-of_map}
+use Rattle.mum_document.proofs.Objects.{list_any-of_map}
 use Rattle.mum_config.proofs.channel.are_too_many.Goals as goal
 
 over_by_one : (n : ℕ) → leb 1024 n ≡ nat_lt 1024 (n + 1)

@@ -1,14 +1,14 @@
-use Rattle.std.proofs.Common.{sym, ap, refl, ◌∙◌}
+use Rattle.std.proofs.Common.{List, ap, refl, sym, ℕ, ◌&&◌, ◌==◌, ◌∙◌}
 use Rattle.std.specs.List.{list_any}
 use Rattle.std.specs.Str.{bytes_eq}
 use Rattle.std.proofs.lemmas.Result.{err_from_is_err_and}
 use Rattle.serde_json.specs.View.{view}
-use Rattle.mum_config.proofs.First.{first, later, none_said, not_new, out_of_memory}
-use Rattle.std.proofs.Common.{ℕ, List, ◌&&◌, ◌==◌}
+use Rattle.mum_document.proofs.First.{first, later, none_said, not_new, out_of_memory}
 use Rattle.std.specs.Borrow.{Bor}
 use Rattle.mum_config.specs.Channel.{channel_name, parent_number}
-use Rattle.mum_config.proofs.Objects.{list_any-of_map}
-use Rattle.mum_config.proofs.Sets.{inserted, inserted_seats, none_against}
+use Rattle.mum_document.proofs.Objects.{list_any-of_map}
+use Rattle.mum_document.proofs.Sets.{inserted, none_against}
+use Rattle.mum_config.proofs.Seats.{inserted_seats}
 use Rattle.mum_config.proofs.channel.name_in.Goals as goal
 
 pub returns-in_err-name-clause-reads : goal.returns-in_err-name-clause-reads

@@ -5,7 +5,7 @@ use Rattle.std.proofs.lemmas.Result.{err_from_is_err_and}
 use Rattle.serde_json.specs.View.{view}
 use Rattle.mum_config.specs.Document.{fault_of}
 use Rattle.mum_config.proofs.Documents.{text_read}
-use Rattle.mum_config.proofs.First.{first, later}
+use Rattle.mum_document.proofs.First.{first, later}
 use Rattle.mum_config.proofs.FitDocument.{text_fits}
 use Rattle.mum_config.proofs.config.read_config.Goals as goal
 

@@ -1,6 +1,6 @@
 use Rattle.std.proofs.Common.{refl}
 use Rattle.std.proofs.lemmas.Result.{err_from_is_err_and}
-use Rattle.mum_config.proofs.First.{out_of_memory}
+use Rattle.mum_document.proofs.First.{out_of_memory}
 use Rattle.mum_config.proofs.given.add_policy.Goals as goal
 
 pub returns-in_err-policy-clause-reads : goal.returns-in_err-policy-clause-reads
@@ -8,10 +8,10 @@ returns-in_err-policy-clause-reads c =
     let p = err_from_is_err_and c.from_residual.result c.from_residual.ensures.1 in
     rw (p.1, p.2) c.in_err-policy.ensures
 
-pub returns-in_err-push_edit-clause-reads : goal.returns-in_err-push_edit-clause-reads
-returns-in_err-push_edit-clause-reads c =
-    let p = err_from_is_err_and c.from_residual-in_err-push_edit.result c.from_residual-in_err-push_edit.ensures.1 in
+pub returns-in_err-push_policy-clause-reads : goal.returns-in_err-push_policy-clause-reads
+returns-in_err-push_policy-clause-reads c =
+    let p = err_from_is_err_and c.from_residual-in_err-push_policy.result c.from_residual-in_err-push_policy.ensures.1 in
     rw p.1 (out_of_memory _ _ p.2)
 
 pub returns-clause-edits : goal.returns-clause-edits
-returns-clause-edits c = rw (c.in_ok-push_edit.ensures, c.in_ok-policy.ensures.1) refl
+returns-clause-edits c = rw (c.in_ok-push_policy.ensures, c.in_ok-policy.ensures.1) refl

@@ -1,5 +1,5 @@
 use Rattle.std.proofs.Common.{length, ap, ◌∙◌}
-use Rattle.mum_config.proofs.Values.{no_pair}
+use Rattle.mum_config.proofs.Pairs.{no_pair}
 use Rattle.mum_config.proofs.link.pair_in.Goals as goal
 
 pub returns-then-values-ne2 : goal.returns-then-values-ne2

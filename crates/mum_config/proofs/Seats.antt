@@ -1,0 +1,10 @@
+-- Seats of channels: what is new goes last.
+use Rattle.std.proofs.Common.{◌≡◌, ℕ, List, [], ◌∷◌, ◌++◌, refl}
+use Rattle.std.specs.Borrow.{Bor}
+use Rattle.std.proofs.lemmas.List.{map-append}
+use Rattle.mum_config.specs.Channel.{seats_of}
+
+pub inserted_seats : (keys new : List (ℕ × Bor (List ℕ))) (k : ℕ × Bor (List ℕ)) (parent : ℕ) (name : List ℕ) → new ≡ keys ++ k ∷ [] → k.0 ≡ parent → k.1.now ≡ name
+    → seats_of new ≡ seats_of keys ++ (parent, name) ∷ []
+inserted_seats keys new k parent name is under named =
+    rw (is, map-append {B = ℕ × List ℕ} (λ (seat : ℕ × Bor (List ℕ)). (seat.0, seat.1.now)) keys (k ∷ []), under, named) refl

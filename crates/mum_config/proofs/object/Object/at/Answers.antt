@@ -1,5 +1,0 @@
-use Rattle.mum_config.proofs.First.{within_none}
-use Rattle.mum_config.proofs.object.Object.at.Goals as goal
-
-pub returns-in-Ok-clause-reads : goal.returns-in-Ok-clause-reads
-returns-in-Ok-clause-reads g c = λ fault value reads. let read = rw c.in-Ok.is at reads in (within_none _ fault read.0, read.1)

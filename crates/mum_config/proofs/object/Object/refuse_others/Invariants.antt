@@ -1,9 +1,0 @@
-use Rattle.std.proofs.Common.{◌≡◌, map}
-use Rattle.serde_json.specs.View.{members_view}
-use Rattle.mum_config.specs.Object.{unknown_key}
-use Rattle.mum_config.proofs.object.Object.refuse_others.Given as goal
-
--- the least unknown key is not passed yet
-abbrev pub invariant-loop-key : goal.invariant-loop-key
-invariant-loop-key l =
-    unknown_key (map (λ n. n.now) l.names) (members_view l.key-iterator) ≡ unknown_key (map (λ n. n.now) l.names) (members_view l.initial.key-iterator)

@@ -1,6 +1,7 @@
 //! The step `close`: a connection ends.
 
-ghost use Rattle.std.specs.Prelude.{◌≡◌, ◌++◌, OnOk, false, string_bytes, true};
+ghost use Rattle.std.specs.Prelude.{◌≡◌, ◌++◌, OnOk, false, reverse, string_bytes, true};
+ghost use Rattle.std.specs.List.{list_any};
 ghost use Rattle.std.specs.Option.{option_map_or};
 ghost use Rattle.mum_base.specs.Refusal.{Settles};
 ghost use Rattle.mum_core.specs.Case.{Passes, first_that_stands, named_cause};
@@ -28,15 +29,20 @@ fn kicks(session: SessionId, edit: &Edit) -> bool
     }
 }
 
+/// Whether one of the edits puts a session out. The last is looked at first, since a connection ends
+/// soon after its session was put out.
+fn one_kicks(edits: &[Edit], session: SessionId) -> bool
+    ensures { result ≡ list_any (kicks session) (reverse edits.now) }
+{
+    edits.iter().rev().any(|edit| kicks(session, edit))
+}
+
 impl Core {
     /// Whether an accepted edit put a session out.
     fn was_kicked(&self, session: SessionId) -> bool
         ensures { result ≡ was_kicked self.now session }
     {
-        self.history
-            .accepted()
-            .iter()
-            .any(|edit| kicks(session, edit))
+        one_kicks(self.history.accepted(), session)
     }
 
     /// Whether the session of a connection was put out.

@@ -4,13 +4,19 @@ import sys
 from concurrent.futures import ThreadPoolExecutor
 from pathlib import Path
 
-from . import answers, program
+from . import answers, documents, program, script
 from .table import Case, NoCase, case_of, lines_of
 
 CASES = Path(__file__).resolve().parents[1]
 
-# who answers the questions of the tables in each folder
-ANSWERS = {"decisions": answers.answer, "notices": answers.answer, "routes": answers.answer}
+# who answers the questions of the tables in each folder, and of a table that is not like those beside it
+ANSWERS = {
+    "decisions": answers.answer, "notices": answers.answer, "routes": answers.answer,
+    "configurations/faults": documents.fault, "configurations/documents": documents.seen,
+    "recordings/replay": script.replayed, "recordings/steps": script.stepped, "recordings/frames": script.framed,
+    "recordings/connections": script.connected, "recordings/lines": script.line_told,
+    "configurations/sizes": documents.counted, "configurations/examples": documents.example,
+}
 
 
 class NoTable(Exception):
@@ -19,15 +25,22 @@ class NoTable(Exception):
 
 def tables_of(names):
     """The files of the tables that are named, or of all."""
-    if not names:
-        return sorted(path for folder in ANSWERS for path in (CASES / folder).iterdir() if not path.suffix)
-    return [path_of(name) for name in names]
+    if names:
+        return [path_of(name) for name in names]
+    folders = sorted({name.split("/")[0] for name in ANSWERS})
+    return sorted(path for folder in folders for path in (CASES / folder).iterdir() if not path.suffix)
+
+
+def answer_of(path):
+    """Who answers the questions of a table."""
+    name = f"{path.parent.name}/{path.name}"
+    return ANSWERS.get(name) or ANSWERS.get(path.parent.name)
 
 
 def path_of(name):
     """The file of a table, which is named by its folder and its name, from here or from the top."""
     path = CASES / name.removeprefix("cases/")
-    if path.parent.name not in ANSWERS or not path.is_file():
+    if not answer_of(path) or not path.is_file():
         raise NoTable(f"no table {name}")
     return path
 
@@ -40,7 +53,7 @@ def given_by(path, number, line):
     except NoCase as error:
         return Case(table, number, line[:60], "", ""), f"error: {error}"
     try:
-        return case, ANSWERS[path.parent.name](case.question)
+        return case, answer_of(path)(case.question)
     except NoCase as error:
         return case, f"error: {error}"
     except Exception as error:  # a line must never end the run: what went wrong is its answer

@@ -36,17 +36,21 @@ class Ran:
     errors: list
 
 
+def bytes_of(text):
+    """A text as bytes; bytes as they are."""
+    return text if isinstance(text, bytes) else text.encode()
+
+
 def run(words, text=""):
     """Runs the program with these words and this input, a text or bytes."""
-    given = text if isinstance(text, bytes) else text.encode("utf-8", "surrogateescape")
-    done = subprocess.run([path_of_program(), *words], input=given, capture_output=True, timeout=SECONDS, check=False)
+    done = subprocess.run([path_of_program(), *words], input=bytes_of(text), capture_output=True, timeout=SECONDS, check=False)
     return Ran(done.returncode, done.stdout.decode("utf-8", "replace").splitlines(),
                done.stderr.decode("utf-8", "replace").splitlines())
 
 
 def recording_of(document, steps, workers=1, end=True):
     """The text of a recording: its head, a configuration (None is the empty one), steps, and its end."""
-    config = "-" if document is None else document.encode("utf-8", "surrogateescape").hex()
+    config = "-" if document is None else bytes_of(document).hex()
     lines = [HEAD, f"workers {workers}", f"config {config}", *steps]
     return "\n".join(lines + (["end", ""] if end else [""]))
 

@@ -4,7 +4,7 @@ import sys
 from concurrent.futures import ThreadPoolExecutor
 from pathlib import Path
 
-from . import answers, documents, program, script
+from . import answers, conversation, documents, program, script
 from .table import Case, NoCase, case_of, lines_of
 
 CASES = Path(__file__).resolve().parents[1]
@@ -12,6 +12,7 @@ CASES = Path(__file__).resolve().parents[1]
 # who answers the questions of the tables in each folder, and of a table that is not like those beside it
 ANSWERS = {
     "decisions": answers.answer, "notices": answers.answer, "routes": answers.answer,
+    "conversations/client": conversation.answer,
     "configurations/faults": documents.fault, "configurations/documents": documents.seen,
     "recordings/replay": script.replayed, "recordings/steps": script.stepped, "recordings/frames": script.framed,
     "recordings/connections": script.connected, "recordings/lines": script.line_told,

@@ -2,7 +2,7 @@
 from . import mumble
 from .policies import acl_message
 from .table import NoCase
-from .words import (given_number, has, head_of, number, numbers, part, pieces_of_texts, repeated, said, text_of,
+from .words import (given_number, head_of, number, numbers, part, pieces_of_texts, repeated, said, text_of,
                     word_of, yes_or_no)
 
 
@@ -166,8 +166,3 @@ def message_of(words):
     if word not in MESSAGES:
         raise NoCase(f"no message: {words}")
     return MESSAGES[word](rest)
-
-
-def is_temporary(parts):
-    """Whether a channel is said to be temporary."""
-    return has(parts, "temporary")

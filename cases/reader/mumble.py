@@ -151,6 +151,9 @@ def put_voice_number(number):
 
 # ---- messages
 
+NUMBERS = ("number", "signed", "flag")
+
+
 def raw_fields(payload):
     """The fields of a payload: triples of a number, a wire type and a value, which is a number or bytes."""
     at = 0
@@ -185,13 +188,25 @@ def decode_by(table, payload):
     message = {}
     for number, wire, value in raw_fields(payload):
         known = table.get(number)
-        if known is None or wire != (0 if known.kind in ("number", "signed", "flag") else 2):
+        if known is None:
             continue
-        if known.many:
+        if known.many and known.kind in NUMBERS and wire == 2:
+            message.setdefault(known.name, []).extend(value_of(known, one) for one in unpacked(value))
+        elif wire != (0 if known.kind in NUMBERS else 2):
+            continue
+        elif known.many:
             message.setdefault(known.name, []).append(value_of(known, value))
         else:
             message[known.name] = value_of(known, value)
     return message
+
+
+def unpacked(block):
+    """The numbers of a packed list."""
+    at = 0
+    while at < len(block):
+        value, at = varint(block, at)
+        yield value
 
 
 def decode(kind, payload):
@@ -201,7 +216,7 @@ def decode(kind, payload):
 
 def put_field(number, known, value):
     """One field: its key and its value."""
-    if known.kind in ("number", "signed", "flag"):
+    if known.kind in NUMBERS:
         return put_varint(number << 3) + put_varint(int(value))
     if known.kind == "block":
         value = encode_by(known.inside, value)

@@ -13,7 +13,7 @@ from .messages import message_of
 from .policies import acl_message
 from .table import NoCase
 from .telling import renamed
-from .words import has, head_of, number, part, said, texts, word_of
+from .words import has, head_of, number, part, pieces_of_texts, texts, word_of
 
 OTHERS_PARTS = ("channel_id", "mute", "deaf", "suppress", "priority_speaker")
 
@@ -210,7 +210,7 @@ class Scene:
         self.slots[slot] = self.sessions
         self.slot_of[self.sessions] = slot
         place = len(self.users) + 1
-        self.users[place] = User(place, made.connection, self.sessions, slot, name, None, texts(tokens))
+        self.users[place] = User(place, made.connection, self.sessions, slot, name, None, pieces_of_texts(tokens))
 
     def make_temporary(self, rest, call):
         """`T, by 1, temporary`: its maker enters it."""
@@ -317,8 +317,3 @@ class Scene:
         """The steps, with the connection of a user at another worker."""
         opened = f"open {user.connection} 0"
         return [f"open {user.connection} {worker}" if step == opened else step for step in self.steps]
-
-
-def is_nobody(word):
-    """Whether a word stands for a connection without a session."""
-    return word == "nobody" or said(word) is None

@@ -24,7 +24,7 @@ pub record AreLengths : Type 0 where
   pub more_of_two_bytes : name_fault (two_byte_letters 65) ≡ Some TooLong
 
 pub lengths : AreLengths
-lengths = record { no_byte = refl; as_many_as_may_be = refl; one_more = refl; as_many_of_two_bytes = refl; more_of_two_bytes = refl }
+lengths = search
 
 pub record AreControlCharacters : Type 0 where
   pub the_first : name_fault (hex "00") ≡ Some ControlCharacter
@@ -35,14 +35,7 @@ pub record AreControlCharacters : Type 0 where
   pub u_0080_is_none : name_fault (hex "c280") ≡ None
 
 pub control_characters : AreControlCharacters
-control_characters = record {
-  the_first = refl;
-  a_line_feed = refl;
-  the_last_before_the_space = refl;
-  the_delete_character = refl;
-  between_letters = refl;
-  u_0080_is_none = refl;
-}
+control_characters = search
 
 pub record AreSpaces : Type 0 where
   pub at_the_front : name_fault (codes " ann") ≡ Some EdgeSpace
@@ -52,7 +45,7 @@ pub record AreSpaces : Type 0 where
   pub no_space : name_fault (codes "ann") ≡ None
 
 pub spaces : AreSpaces
-spaces = record { at_the_front = refl; at_the_end = refl; alone = refl; within = refl; no_space = refl }
+spaces = search
 
 -- the first cause counts
 pub record AreFirstCauses : Type 0 where
@@ -60,7 +53,7 @@ pub record AreFirstCauses : Type 0 where
   pub control_before_space : name_fault (hex "201f") ≡ Some ControlCharacter
 
 pub first_causes : AreFirstCauses
-first_causes = record { too_long_before_control = refl; control_before_space = refl }
+first_causes = search
 
 pub record AreTexts : Type 0 where
   pub no_byte : text_fault [] ≡ None
@@ -69,7 +62,7 @@ pub record AreTexts : Type 0 where
   pub spaces_and_control : text_fault (hex "200a00") ≡ None
 
 pub texts : AreTexts
-texts = record { no_byte = refl; as_many_as_may_be = refl; one_more = refl; spaces_and_control = refl }
+texts = search
 
 -- ---- permissions
 
@@ -93,7 +86,7 @@ pub record ArePermissionSets : Type 0 where
   pub by_write : without_bits (together of_a_channel) (together (SPEAK ∷ WHISPER ∷ [])) ≡ BY_WRITE.0
 
 pub permission_sets : ArePermissionSets
-permission_sets = record { of_channels = refl; of_roots = refl; all = refl; start = refl; by_write = refl }
+permission_sets = search
 
 pub record AreHeld : Type 0 where
   pub everybody_speaks : Holds START.0 SPEAK.0
@@ -120,14 +113,7 @@ pub record AreAddedAndTaken : Type 0 where
   pub all_but_all : without_bits ALL.0 ALL.0 ≡ 0
 
 pub added_and_taken : AreAddedAndTaken
-added_and_taken = record {
-  one_more = refl;
-  one_that_was_there = refl;
-  without_one = refl;
-  without_one_that_was_not_there = refl;
-  all_but_those_of_the_root = refl;
-  all_but_all = refl;
-}
+added_and_taken = search
 
 -- ---- numbers
 
@@ -137,4 +123,4 @@ pub record AreNumbers : Type 0 where
   pub super_user : SUPER_USER.0 ≡ 0
 
 pub numbers : AreNumbers
-numbers = record { root = refl; super_user = refl }
+numbers = search

@@ -1,7 +1,7 @@
 -- Worked spellings and packets, after the sections "Variable length integer encoding" and "Voice data" of the Mumble
 -- protocol documentation, so that a wrong rule in the specs does not check.
 use Prim.Native.String.{String}
-use Rattle.std.proofs.Common.{◌≡◌, ℕ, ◌+◌, ◌-◌, ◌^◌, Bool, true, false, List, [], ◌++◌, length, replicate, Some, None, Result, Ok, Err, refl}
+use Rattle.std.proofs.Common.{◌≡◌, ℕ, ◌+◌, ◌-◌, ◌^◌, Bool, true, false, List, [], ◌++◌, length, replicate, Some, None, Result, Ok, Err}
 use Rattle.mum_base.proofs.Hex.{hex}
 use Rattle.mum_voice.specs.declared.fault.BadVoice.{BadVoice}
 use Rattle.mum_voice.specs.declared.audio.TheConstants.{CELT_ALPHA, SPEEX, CELT_BETA, OPUS}
@@ -31,20 +31,7 @@ pub record AreShortest : Type 0 where
 
 pub shortest : AreShortest
 unfolding number_at word_at shortest_number shortest_word
-shortest = record {
-  zero = (refl, refl);
-  greatest_of_one_byte = (refl, refl);
-  least_of_two = (refl, refl);
-  greatest_of_two = (refl, refl);
-  least_of_three = (refl, refl);
-  greatest_of_three = (refl, refl);
-  least_of_four = (refl, refl);
-  greatest_of_four = (refl, refl);
-  least_of_five = (refl, refl);
-  greatest_of_five = (refl, refl);
-  least_of_nine = (refl, refl);
-  top_bit_alone = (refl, refl);
-}
+shortest = search
 
 -- inverses are written as such where that is shorter
 pub record AreInverses : Type 0 where
@@ -68,25 +55,7 @@ pub record AreInverses : Type 0 where
 
 pub inverses : AreInverses
 unfolding number_at word_at shortest_number shortest_word
-inverses = record {
-  minus_five = refl;
-  zero_inverted = (refl, refl);
-  one_inverted = (refl, refl);
-  two_inverted = (refl, refl);
-  three_inverted = (refl, refl);
-  four_inverted = (refl, refl);
-  five_inverted = (refl, refl);
-  greatest_of_two_bytes = (refl, refl);
-  least_of_three = (refl, refl);
-  greatest_of_three = (refl, refl);
-  least_of_four = (refl, refl);
-  greatest_of_four = (refl, refl);
-  least_of_five = (refl, refl);
-  greatest_of_five = (refl, refl);
-  least_of_six = (refl, refl);
-  greatest_of_six = (refl, refl);
-  it_would_take_ten = (refl, refl);
-}
+inverses = search
 
 -- longer spellings are read too
 pub record AreLonger : Type 0 where
@@ -105,20 +74,7 @@ pub record AreLonger : Type 0 where
 
 pub longer : AreLonger
 unfolding number_at word_at shortest_number shortest_word
-longer = record {
-  zero_in_two_bytes = refl;
-  one_in_two = refl;
-  zero_in_three = refl;
-  zero_in_four = refl;
-  zero_in_five = refl;
-  zero_in_nine = refl;
-  each_byte_at_its_place = refl;
-  all_bits = refl;
-  an_inverse_in_two = refl;
-  an_inverse_that_one_would_spell = refl;
-  an_inverse_in_ten = refl;
-  the_greatest_inverted = refl;
-}
+longer = search
 
 -- the bits x of 111100xx, 111101xx and 111110xx are ignored
 pub record AreIgnored : Type 0 where
@@ -134,17 +90,7 @@ pub record AreIgnored : Type 0 where
 
 pub ignored : AreIgnored
 unfolding number_at word_at shortest_number shortest_word
-ignored = record {
-  one_in_five_bytes = refl;
-  one_of_a_small_number = refl;
-  three_in_five = refl;
-  one_in_nine = refl;
-  three_in_nine = refl;
-  one_in_an_inverse = refl;
-  two_in_an_inverse = refl;
-  three_in_an_inverse = refl;
-  two_in_what_is_inverted = refl;
-}
+ignored = search
 
 -- what is inverted is no inverse, and no byte is missing
 pub record AreNone : Type 0 where
@@ -160,17 +106,7 @@ pub record AreNone : Type 0 where
 
 pub none : AreNone
 unfolding number_at word_at shortest_number shortest_word
-none = record {
-  no_byte = refl;
-  a_small_inverse_inverted = refl;
-  the_greatest_of_them_inverted = refl;
-  an_inverse_inverted = refl;
-  with_ignored_bits = refl;
-  three_times = refl;
-  nothing_inverted = refl;
-  one_byte_of_two = refl;
-  eight_of_nine = refl;
-}
+none = search
 
 -- bytes may follow
 pub record AreFollowed : Type 0 where
@@ -181,12 +117,7 @@ pub record AreFollowed : Type 0 where
 
 pub followed : AreFollowed
 unfolding number_at word_at shortest_number shortest_word
-followed = record {
-  behind_one_byte = refl;
-  behind_two = refl;
-  behind_an_inverse = refl;
-  behind_a_small_inverse = refl;
-}
+followed = search
 
 -- ---- packets: the kind and the target, the sequence, the audio with its headers, and the position
 
@@ -212,16 +143,7 @@ pub record AreOpus : Type 0 where
 
 pub opus : AreOpus
 unfolding number_at word_at opus_len segments_len_within segments_len audio_len packet
-opus = record {
-  no_sound = refl;
-  three_bytes = refl;
-  its_end_to_oneself = refl;
-  its_end_with_sound = refl;
-  a_longer_number = refl;
-  ignored_bits = refl;
-  inverted_number = refl;
-  with_a_position = refl;
-}
+opus = search
 
 -- a sequence stays as it came
 pub record AreSequences : Type 0 where
@@ -232,7 +154,7 @@ pub record AreSequences : Type 0 where
 
 pub sequences : AreSequences
 unfolding number_at word_at opus_len segments_len_within segments_len audio_len packet
-sequences = record { two_bytes_for_one = refl; inverted = refl; a_small_inverse = refl; nine_bytes = refl }
+sequences = search
 
 -- a segment's header is its length and, at the top, whether another follows
 pub record AreSegments : Type 0 where
@@ -245,14 +167,7 @@ pub record AreSegments : Type 0 where
 
 pub segments : AreSegments
 unfolding number_at word_at opus_len segments_len_within segments_len audio_len packet
-segments = record {
-  one_empty = refl;
-  one_and_a_position = refl;
-  two = refl;
-  four = refl;
-  five_empty = refl;
-  an_empty_one_first = refl;
-}
+segments = search
 
 -- a kind that is not known, before the sequence is looked at
 pub record AreUnknown : Type 0 where
@@ -264,7 +179,7 @@ pub record AreUnknown : Type 0 where
 
 pub unknown : AreUnknown
 unfolding number_at word_at opus_len segments_len_within segments_len audio_len packet
-unknown = record { kind_1 = refl; kind_5 = refl; kind_6 = refl; kind_7 = refl; no_sequence_either = refl }
+unknown = search
 
 -- no sequence
 pub record AreUnnumbered : Type 0 where
@@ -276,7 +191,7 @@ pub record AreUnnumbered : Type 0 where
 
 pub unnumbered : AreUnnumbered
 unfolding number_at word_at opus_len segments_len_within segments_len audio_len packet
-unnumbered = record { of_opus = refl; of_celt = refl; cut = refl; inverted_twice = refl; of_five_bytes_cut = refl }
+unnumbered = search
 
 -- audio that runs past the end
 pub record AreSilent : Type 0 where
@@ -301,26 +216,7 @@ pub record AreSilent : Type 0 where
 
 pub silent : AreSilent
 unfolding number_at word_at opus_len segments_len_within segments_len audio_len packet
-silent = record {
-  no_audio = refl;
-  a_cut_number = refl;
-  a_number_inverted_twice = refl;
-  one_byte_too_few = refl;
-  four_too_few = refl;
-  at_the_end_of_a_transmission = refl;
-  the_greatest_length = refl;
-  the_same_at_the_end = refl;
-  above_14_bits = refl;
-  of_64_bits = refl;
-  no_segment = refl;
-  a_segment_without_its_byte = refl;
-  a_segment_too_long = refl;
-  no_second_segment = refl;
-  none_behind_a_byte = refl;
-  none_behind_two = refl;
-  the_second_too_long = refl;
-  no_fourth_segment = refl;
-}
+silent = search
 
 -- ---- copies
 
@@ -342,7 +238,7 @@ pub record AreLimits : Type 0 where
 
 pub limits : AreLimits
 unfolding number_at word_at opus_len segments_len_within segments_len audio_len packet shortest_number shortest_word
-limits = record { no_byte = refl; as_many_as_may_be = refl; one_more = refl; the_longest_copy = refl }
+limits = search
 
 -- the sender's session goes in, and the context in place of the target: talk, a whisper to a channel, a direct
 -- -- whisper, and what only a listener hears
@@ -357,15 +253,7 @@ pub record AreCopies : Type 0 where
 
 pub copies : AreCopies
 unfolding number_at word_at opus_len segments_len_within segments_len audio_len packet shortest_number shortest_word
-copies = record {
-  of_session_1 = refl;
-  of_session_127 = refl;
-  of_session_128 = refl;
-  talk = refl;
-  to_a_channel = refl;
-  direct = refl;
-  to_a_listener = refl;
-}
+copies = search
 
 -- the position goes along only where it is asked for
 pub record ArePositions : Type 0 where
@@ -376,4 +264,4 @@ pub record ArePositions : Type 0 where
 
 pub positions : ArePositions
 unfolding number_at word_at opus_len segments_len_within segments_len audio_len packet shortest_number shortest_word
-positions = record { with_it = refl; without_it = refl; speex_without_it = refl; none_to_leave_out = refl }
+positions = search

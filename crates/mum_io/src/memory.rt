@@ -6,6 +6,8 @@ ghost use Rattle.mum_io.specs.Calls.{before_calls, next_fails};
 ghost use Rattle.mum_io.specs.Memory.{after_read, after_write};
 ghost use Rattle.mum_io.specs.Outside.{ReadCounts, ReadLeaves, WriteCounts, WriteLeaves};
 
+pub mod clock;
+pub mod door;
 pub mod link;
 pub mod unread;
 

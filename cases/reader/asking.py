@@ -52,6 +52,7 @@ class Attempt:
         raise NoCase(f"nothing was decided: {self.run()}")
 
     def is_accepted(self):
+        """Whether the command is accepted."""
         return self.verdict()[0] == "accepted"
 
     def wire(self):

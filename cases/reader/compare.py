@@ -4,7 +4,7 @@ import sys
 from concurrent.futures import ThreadPoolExecutor
 from pathlib import Path
 
-from . import answers, conversation, documents, program, script
+from . import answers, conversation, documents, exercise, program, script
 from .table import Case, NoCase, case_of, lines_of
 
 CASES = Path(__file__).resolve().parents[1]
@@ -15,7 +15,7 @@ ANSWERS = {
     "conversations/client": conversation.answer,
     "configurations/faults": documents.fault, "configurations/documents": documents.seen,
     "recordings/replay": script.replayed, "recordings/steps": script.stepped, "recordings/frames": script.framed,
-    "recordings/connections": script.connected, "recordings/lines": script.line_told,
+    "recordings/exercises": exercise.answer, "recordings/connections": script.connected, "recordings/lines": script.line_told,
     "configurations/sizes": documents.counted, "configurations/examples": documents.example,
 }
 

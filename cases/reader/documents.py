@@ -159,8 +159,16 @@ def counted(question):
 
 # ---- the examples
 
+def refused(path):
+    """How many of the documents in a file, a line each behind the first, are refused."""
+    documents = (program.TOP / "examples" / path).read_bytes().splitlines()[1:]
+    return f"{sum(fault_of(document) is not None for document in documents)} of {len(documents)}"
+
+
 def example(question):
-    """The answer of the table `examples`: `FILE as NAME with PASSWORD sees WHAT`."""
+    """The answer of the table `examples`: `FILE as NAME with PASSWORD sees WHAT`, or `FILE are refused`."""
+    if question.endswith(" are refused"):
+        return refused(question.removesuffix(" are refused"))
     path, _, rest = question.partition(" as ")
     name, _, rest = rest.partition(" with ")
     password, _, what = rest.partition(" sees ")

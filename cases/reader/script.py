@@ -201,6 +201,9 @@ def line_bytes(spelled_line):
 LINES = {"head": [], "workers": ["recording 1"], "config": ["recording 1", "workers 1"],
          "step": ["recording 1", "workers 1", "config -"]}
 
+# what a run says that took the line: one that is missing behind it, a step that is not allowed, a faulty document
+LATER = re.compile(r"murmur: (2 BadRecording line \d+|7 IllegalStep line 4 given \d+ against \d+|6 BadConfig .*)")
+
 
 def line_told(question):
     """The answer of the table `lines`: whether a line may stand where it does."""
@@ -212,4 +215,6 @@ def line_told(question):
     why = ran.errors[0] if ran.errors else ""
     if why == f"murmur: 2 BadRecording line {len(before) + 1}":
         return "no line"
+    if ran.status != 0 and not LATER.fullmatch(why):
+        raise NoCase(f"status {ran.status}: {why}")
     return why.split(" ")[-1] if verb == "workers" else "a line"

@@ -37,43 +37,52 @@ CHANNEL_KEYS = {"parent": "under", "name": "name", "links": "all-links", "descri
 
 
 def version_text(told):
+    """A Version."""
     return parts_text(f"version {told['version']}", told,
                       {"release": "release", "os": "os", "os_version": "os-version"})
 
 
 def codecs_text(told):
+    """A CodecVersion."""
     return parts_text(f"codecs {told['alpha']} {told['beta']}", told, {"prefer_alpha": "first", "opus": "opus"})
 
 
 def channel_text(told):
+    """A ChannelState."""
     return parts_text(f"channel {told['channel_id']}", told, CHANNEL_KEYS)
 
 
 def gone_text(told):
+    """A ChannelRemove."""
     return f"gone {told['channel_id']}"
 
 
 def user_text(told):
+    """A UserState. Nobody is told what a plugin says."""
     if "plugin_context" in told or "plugin_identity" in told:
         raise NoCase("a plugin is told of")
     return parts_text(f"user {told['session']}", told, USER_KEYS)
 
 
 def left_text(told):
+    """A UserRemove."""
     return parts_text(f"left {told['session']}", told, {"actor": "by", "reason": "reason", "ban": "ban"})
 
 
 def sync_text(told):
+    """A ServerSync."""
     head = parts_text(f"sync {told['session']}", told, {"max_bandwidth": "bandwidth", "welcome_text": "welcome"})
     return f"{head}, may {permissions_text(told['permissions'])}"
 
 
 def said_text(told):
+    """A TextMessage."""
     return parts_text(f"said by {told['actor']}", told, {"session": "sessions", "channel_id": "channels",
                                                          "tree_id": "trees", "message": "message"})
 
 
 def may_text(told):
+    """A PermissionQuery."""
     head = f"permissions {told['channel_id']}, may {permissions_text(told['permissions'])}"
     return parts_text(head, told, {"flush": "flush"})
 

@@ -20,3 +20,5 @@ pub mod Outlines
 pub mod Kept
 pub mod Passes
 pub mod Decodes
+pub mod Worked
+pub mod StandardFacts

@@ -3,3 +3,4 @@ pub mod Replies
 pub mod Streams
 pub mod CallsOver
 pub mod OneFrame
+pub mod StandardFacts

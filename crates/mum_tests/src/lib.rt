@@ -7,8 +7,6 @@ mod outbox;
 #[cfg(test)]
 mod program;
 #[cfg(test)]
-mod state;
-#[cfg(test)]
 mod tree;
 #[cfg(test)]
 mod users;

@@ -5,6 +5,8 @@
 #[cfg(test)]
 mod outbox;
 #[cfg(test)]
+mod outside;
+#[cfg(test)]
 mod program;
 #[cfg(test)]
 mod tree;

@@ -45,12 +45,12 @@ impl Model for MemDoor {
     ghost Value = { DoorState };
 
     ghost view = { λ d. record {
-        events = d.events.items;
-        opens = d.opens;
-        opened_at = d.address;
-        counts = d.tally;
-        given = d.given;
-        starved = d.starved;
+      events = d.events.items;
+      opens = d.opens;
+      opened_at = d.address;
+      counts = d.tally;
+      given = d.given;
+      starved = d.starved;
     } };
 }
 

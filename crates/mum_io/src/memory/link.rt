@@ -101,13 +101,13 @@ impl Model for MemLink {
     ghost Value = { LinkState };
 
     ghost view = { λ l. record {
-        events = with_rest l.piece l.events.items;
-        written = l.kept.bytes.items;
-        writes = l.writes;
-        counts = l.tally;
-        starved = l.starved;
-        address = l.address;
-        is_shut = l.is_shut;
+      events = with_rest l.piece l.events.items;
+      written = l.kept.bytes.items;
+      writes = l.writes;
+      counts = l.tally;
+      starved = l.starved;
+      address = l.address;
+      is_shut = l.is_shut;
     } };
 }
 
@@ -159,11 +159,7 @@ impl MemLink {
 }
 
 // Takes from the rest of a piece and the events behind it what a read finds.
-fn read_events(
-    piece: &mut Unread,
-    events: &mut VecDeque<LinkEvent>,
-    buf: &mut [u8],
-) -> PollRead
+fn read_events(piece: &mut Unread, events: &mut VecDeque<LinkEvent>, buf: &mut [u8]) -> PollRead
     requires { 0 < length buf.old }
     ensures answer { result ≡
         read_answer (length buf.old) (due (with_rest piece.old events.old.items)) }

@@ -31,8 +31,7 @@ returns-in-End-clause-bytes c =
 pub returns-clause-bytes : goal.returns-clause-bytes
 returns-clause-bytes c =
     let same : bytes_of (with_rest c.loop-events.piece c.loop-events.events.items) ≡ bytes_of (with_rest c.args.piece.now c.args.events.now.items) =
-    bytes_of-same (with_rest c.loop-events.piece c.loop-events.events.items) (with_rest c.args.piece.now c.args.events.now.items) c.loop-events.invariant in
-    (
+    bytes_of-same (with_rest c.loop-events.piece c.loop-events.events.items) (with_rest c.args.piece.now c.args.events.now.items) c.loop-events.invariant in (
       min-positive _ _ _ _ c.read.ensures.count c.requires (sym c.loop-events-test.false ∙ c.is_empty.ensures) refl,
       omega (arith, c.read.ensures.count, c.read.auto.buf),
       sym same ∙ bytes_of-taken c.loop-events.piece (take c.read.result c.read.new.buf) c.read.new.self c.loop-events.events.items c.read.ensures.taken,

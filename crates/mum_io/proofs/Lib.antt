@@ -1,3 +1,5 @@
+pub mod CountLemmas
+pub mod MemLinkLemmas
 pub mod MemoryLemmas
 pub mod OutsideLemmas
 pub mod WholeLemmas

@@ -4,3 +4,4 @@ pub mod Shortest
 pub mod AudioLength
 pub mod Parsing
 pub mod Clear
+pub mod StandardFacts

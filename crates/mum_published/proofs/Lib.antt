@@ -1,0 +1,10 @@
+pub mod Prefixes
+pub mod Adding
+pub mod Fitting
+pub mod Showing
+pub mod Openings
+pub mod Publishing
+pub mod Looking
+pub mod Meeting
+pub mod Learning
+pub mod Founding

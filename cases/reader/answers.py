@@ -123,7 +123,7 @@ def keep(scene, made):
 
 
 def note_end(scene, who, words):
-    """Who left, or was put out, is here no more."""
+    """Who left, or was kicked, is here no more."""
     word, rest = word_of(words)
     if word == "leave":
         user = scene.user(who)

@@ -1,11 +1,10 @@
 """Answers of the lines that are calls on a server: what is decided, what is told, who hears."""
 from . import mumble, program
-from .asking import Attempt, attempt, notices, settled_lines, told_text, verdict_text
+from .asking import Attempt, attempt, notices, told_text, verdict_text
 from .messages import message_of
 from .policies import policy_text, shown
 from .scene import Scene
 from .table import NoCase
-from .telling import readers_text
 from .words import calls_of, head_of, number, part, text_of, word_of
 
 VOICE = "0103aabbcc"

@@ -87,8 +87,8 @@ def entry_block(text, inherited, whole, alias):
 
 
 def acl_message(text):
-    """The fields of an ACL message that sets a policy: `not-inheriting` says that the channel does not inherit, `inheriting` that
-    it does, `unread` that this is no query; a part behind `above` is inherited, one behind `own` is not."""
+    """The fields of an ACL message that sets a policy: `not-inheriting` and `inheriting` speak of the channel, `unread`
+    says that this is no query; a part behind `above` is inherited, one behind `own` is not."""
     message = {"groups": [], "acls": []}
     for part in parts_of(text):
         if part in ("not-inheriting", "inheriting"):

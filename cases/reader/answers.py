@@ -1,11 +1,10 @@
 """Answers of the lines that are calls on a server: what is decided, what is told, who hears."""
 from . import mumble, program
-from .asking import Attempt, attempt, notices, settled_lines, told_text, verdict_text
+from .asking import Attempt, attempt, notices, told_text, verdict_text
 from .messages import message_of
 from .policies import policy_text, shown
 from .scene import Scene
 from .table import NoCase
-from .telling import readers_text
 from .words import calls_of, head_of, number, part, text_of, word_of
 
 VOICE = "0103aabbcc"
@@ -123,7 +122,7 @@ def keep(scene, made):
 
 
 def note_end(scene, who, words):
-    """Who left, or was put out, is here no more."""
+    """Who left, or was kicked, is here no more."""
     word, rest = word_of(words)
     if word == "leave":
         user = scene.user(who)

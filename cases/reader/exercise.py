@@ -1,4 +1,4 @@
-"""Exercises, drawn a second time by what docs/FORMATS.md says of them, and replayed: the program must count the same."""
+"""Exercises, drawn a second time by docs/FORMATS.md, and replayed: the program must count the same."""
 from collections import Counter
 
 from . import mumble, program

@@ -87,12 +87,12 @@ def entry_block(text, inherited, whole, alias):
 
 
 def acl_message(text):
-    """The fields of an ACL message that sets a policy: `anew` says that the channel does not inherit, `follows` that
-    it does, `unread` that this is no query; a part behind `above` is inherited, one behind `own` is not."""
+    """The fields of an ACL message that sets a policy: `not-inheriting` and `inheriting` speak of the channel, `unread`
+    says that this is no query; a part behind `above` is inherited, one behind `own` is not."""
     message = {"groups": [], "acls": []}
     for part in parts_of(text):
-        if part in ("anew", "follows"):
-            message["inherit_acls"] = part == "follows"
+        if part in ("not-inheriting", "inheriting"):
+            message["inherit_acls"] = part == "inheriting"
         elif part == "unread":
             message["query"] = False
         else:
@@ -115,7 +115,7 @@ def document_of(text):
     """The keys of a channel in a configuration that set a policy."""
     keys = {"groups": [], "acls": []}
     for part in parts_of(text):
-        if part == "anew":
+        if part == "not-inheriting":
             keys["inherit_acls"] = False
         elif part.startswith("group "):
             keys["groups"].append(group_of(part.removeprefix("group ")))
@@ -163,9 +163,9 @@ def entry_text(entry):
 
 
 def policy_text(answer):
-    """The policy that an ACL message tells: `anew`, groups and entries; how many there are of many."""
+    """The policy that an ACL message tells: `not-inheriting`, groups and entries; how many there are of many."""
     groups, entries = answer.get("groups", []), answer.get("acls", [])
-    words = [] if answer.get("inherit_acls", True) else ["anew"]
+    words = [] if answer.get("inherit_acls", True) else ["not-inheriting"]
     if len(groups) > 4 or len(entries) > 4:
         return ", ".join(words + [f"{len(groups)} groups", f"{len(entries)} entries"])
     return ", ".join(words + [group_text(group) for group in groups] + [entry_text(entry) for entry in entries])

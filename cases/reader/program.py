@@ -41,11 +41,16 @@ def bytes_of(text):
     return text if isinstance(text, bytes) else text.encode()
 
 
+def lines_of(output):
+    """The lines of what was written, each of which ends with a line feed."""
+    return output.decode("utf-8", "replace").removesuffix("\n").split("\n") if output else []
+
+
 def run(words, text=""):
     """Runs the program with these words and this input, a text or bytes."""
-    done = subprocess.run([path_of_program(), *words], input=bytes_of(text), capture_output=True, timeout=SECONDS, check=False)
-    return Ran(done.returncode, done.stdout.decode("utf-8", "replace").splitlines(),
-               done.stderr.decode("utf-8", "replace").splitlines())
+    done = subprocess.run([path_of_program(), *words], input=bytes_of(text), capture_output=True, timeout=SECONDS,
+                          check=False)
+    return Ran(done.returncode, lines_of(done.stdout), lines_of(done.stderr))
 
 
 def recording_of(document, steps, workers=1, end=True):

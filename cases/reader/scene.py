@@ -159,7 +159,7 @@ class Scene:
             self.configuration.add_account(rest)
 
     def change(self, word, rest, call):
-        """A channel, a list, or who is put out: the configuration's, a user's or the administrator's."""
+        """A channel, a list, or who is kicked: the configuration's, a user's or the administrator's."""
         if word == "make" and has(rest, "temporary"):
             self.make_temporary(rest, call)
         elif word in ("remove", "kick") or self.is_settled or word == "edit" and not self.configuration.may_edit(rest):
@@ -183,7 +183,7 @@ class Scene:
         return self.asked_by_name(word, rest)
 
     def asked_by_name(self, word, rest):
-        """The message that asks for a change of channels or lists, or for somebody to be put out."""
+        """The message that asks for a change of channels or lists, or for somebody to be kicked."""
         if word == "acl":
             head, _, parts = rest.partition(":")
             return mumble.ACL, {"channel_id": number(head_of(head)[0]), **acl_message(parts)}
@@ -194,7 +194,7 @@ class Scene:
         return kind, renamed(kind, message, self.session_of)
 
     def note_kick(self, word, rest):
-        """Who was put out is here no more; its connection stays open."""
+        """Who was kicked is here no more; its connection stays open."""
         if word == "kick":
             self.end(self.user(head_of(rest)[0]))
 

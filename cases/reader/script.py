@@ -130,7 +130,7 @@ def places_of(script, steps):
 def said_of(steps, told, refusals, lasts):
     """What is said of the last step of each piece."""
     lines = iter(told)
-    said = [refusals[place] if place in refusals else ", ".join(next(lines, ["nothing"])) for place in range(len(steps))]
+    said = [refusals.get(place) or ", ".join(next(lines, ["nothing"])) for place in range(len(steps))]
     return [said[place] for place in lasts]
 
 

@@ -9,6 +9,8 @@ from .telling import message_text, texts_text
 from .words import bytes_of, number, repeated
 
 GUEST, ADMINISTRATOR, SECRET = "somebody", "the administrator", "a password of the cases"
+# The digest of no password that anybody knows.
+NO_DIGEST = b"0" * 64
 
 
 # ---- as tables write them
@@ -166,13 +168,15 @@ def refused(path):
 
 
 def example(question):
-    """The answer of the table `examples`: `FILE as NAME with PASSWORD sees WHAT`, or `FILE are refused`."""
+    """The answer of the table `examples`: `FILE as NAME [with PASSWORD] sees WHAT`, or `FILE are refused`."""
     if question.endswith(" are refused"):
         return refused(question.removesuffix(" are refused"))
     path, _, rest = question.partition(" as ")
-    name, _, rest = rest.partition(" with ")
-    password, _, what = rest.partition(" sees ")
+    who, _, what = rest.partition(" sees ")
+    name, given, password = who.partition(" with ")
     document = (program.TOP / "examples" / path).read_bytes()
+    if not given:
+        document, password = document.replace(NO_DIGEST, sha256(SECRET).encode()), SECRET
     told = told_first(document, name, password)
     if isinstance(told, str):
         return f"rejected {told}"

@@ -7,6 +7,8 @@ mod outbox;
 #[cfg(test)]
 mod program;
 #[cfg(test)]
+mod published;
+#[cfg(test)]
 mod state;
 #[cfg(test)]
 mod tree;

@@ -1,5 +1,6 @@
-//! What goes to another thread, and what threads share. The calls here do nothing: that each is proved
-//! shows that values of its type may cross, so that no crate above has to show it again.
+//! What goes to another thread, and what threads share. The calls here do nothing: each is proved only where
+//! values of its type may cross, so that a field that may not is refused here and not where a thread is
+//! started.
 
 use crate::ledger::Prefix;
 use crate::naming::Naming;

@@ -9,6 +9,8 @@ mod outside;
 #[cfg(test)]
 mod program;
 #[cfg(test)]
+mod published;
+#[cfg(test)]
 mod tree;
 #[cfg(test)]
 mod users;

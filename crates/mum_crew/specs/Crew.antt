@@ -9,6 +9,9 @@ pub record CrewCounts : Type 0 where
   pub runs : ℕ
   pub refused : ℕ
 
+abbrev pub no_runs : CrewCounts
+no_runs = record { runs = 0; refused = 0 }
+
 -- a call of `run` counts how it ended, and nothing else
 abbrev pub RunCounts : CrewEnd → CrewCounts → CrewCounts → Type 0
 RunCounts Ran old new = (new ≡ record old { runs = new.runs }) × Rose old.runs new.runs

@@ -1,59 +1,51 @@
 //! A crew in the calling thread.
 
 ghost use Rattle.std.specs.Prelude.{◌≡◌};
+ghost use Rattle.mum_crew.specs.Crew.{no_runs};
 
 use crate::crew::{Crew, CrewEnd, Plan};
 use crate::station::{Look, Station};
+use crate::tally::RunTally;
 use std::alloc::Global;
 use std::mem::replace;
 use std::sync::Wait;
 use std::thread::Threads;
 use std::time::Clock;
 
-/// No station: a crew of turns never sleeps.
+/// The station of a crew that never sleeps. Nothing becomes ready at it, and it wakes nobody.
 #[derive(Debug, Drop)]
-pub enum NoStation {}
+pub struct NoStation;
 
 impl Station for NoStation {
-    fn begin(&mut self) {
-        match *self {}
-    }
+    fn begin(&mut self) {}
 
     fn were_all_asked(&self) -> bool {
-        match *self {}
+        true
     }
 
-    fn hold(&mut self) {
-        match *self {}
-    }
+    fn hold(&mut self) {}
 
     fn release(&mut self) -> bool {
-        match *self {}
+        false
     }
 
-    fn wake_others(&mut self, _owner_too: bool) {
-        match *self {}
-    }
+    fn wake_others(&mut self, _owner_too: bool) {}
 
-    fn note_owner(&mut self) {
-        match *self {}
-    }
+    fn note_owner(&mut self) {}
 
     fn did_owner_work(&mut self) -> bool {
-        match *self {}
+        false
     }
 
     fn was_shut(&mut self) -> bool {
-        match *self {}
+        false
     }
 
     fn look(&mut self, _may_sleep: bool) -> Look {
-        match *self {}
+        Look::Nothing
     }
 
-    fn note_late(&mut self) {
-        match *self {}
-    }
+    fn note_late(&mut self) {}
 }
 
 /// The calling thread as a crew: a turn for each role that a list names by its number, and then rounds over all
@@ -62,18 +54,18 @@ impl Station for NoStation {
 pub struct TurnCrew<X> {
     rt: X,
     turns: Vec<u8>,
-    runs: u64,
-    refused: u64,
+    tally: RunTally,
 }
 
 impl<X> TurnCrew<X> {
     /// The list is gone along in each run.
-    pub fn new(rt: X, turns: Vec<u8>) -> TurnCrew<X> {
+    pub fn new(rt: X, turns: Vec<u8>) -> TurnCrew<X>
+        ensures { result.tally ≡ no_runs }
+    {
         TurnCrew {
             rt,
             turns,
-            runs: 0,
-            refused: 0,
+            tally: RunTally::new(),
         }
     }
 }
@@ -83,7 +75,7 @@ impl<X: Wait + Threads + Clock + Copy + Sync> Crew for TurnCrew<X> {
 
     type Station = NoStation;
 
-    ghost counts = { λ c. record { runs = c.runs; refused = c.refused } };
+    ghost counts = { λ c. c.tally };
 
     fn runtime(&self) -> X {
         self.rt
@@ -94,7 +86,7 @@ impl<X: Wait + Threads + Clock + Copy + Sync> Crew for TurnCrew<X> {
     }
 
     fn keep(&mut self, plan: Plan<NoStation>)
-        ensures { (self.new.runs ≡ self.old.runs) × (self.new.refused ≡ self.old.refused) }
+        ensures { self.new.tally ≡ self.old.tally }
     {
         match plan {
             Plan::Turns(turns) => drop(replace(&mut self.turns, turns)),
@@ -106,10 +98,6 @@ impl<X: Wait + Threads + Clock + Copy + Sync> Crew for TurnCrew<X> {
     }
 
     fn count(&mut self, end: CrewEnd) {
-        match end {
-            CrewEnd::Ran => self.runs = self.runs.saturating_add(1),
-            CrewEnd::Refused => self.refused = self.refused.saturating_add(1),
-            CrewEnd::NoMemory => {}
-        }
+        self.tally.count(end);
     }
 }

@@ -1,6 +1,6 @@
 -- What follows of counts: a count that rose has risen later, no call makes one fall, and where one is greater the
 -- answer was the one that counts it.
-use Rattle.std.proofs.Common.{◌≡◌, ℕ, zero, suc, ◌<◌, ◌≤◌, ◌⊎◌, inl, inr, refl, sym, ap, subst, ◌∙◌, arith, le_trans, ⊎_elim}
+use Rattle.std.proofs.Common.{◌≡◌, ℕ, zero, suc, ◌<◌, ◌≤◌, ◌⊎◌, inl, inr, refl, sym, ap, subst, arith, le_trans, ⊎_elim}
 use Rattle.mum_io.specs.Counts.{Counts, CountsEnd, CountsFault, CountsStall, NoneFalls, Rose}
 use Rattle.mum_io.specs.Door.{AcceptCounts, OpenCounts}
 use Rattle.mum_io.specs.Link.{PollReadCounts, PollWriteCounts}

@@ -2,4 +2,5 @@ pub mod CountLemmas
 pub mod MemLinkLemmas
 pub mod MemoryLemmas
 pub mod OutsideLemmas
+pub mod StandardFacts
 pub mod WholeLemmas

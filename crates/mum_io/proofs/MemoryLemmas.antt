@@ -1,5 +1,5 @@
 -- What a read from memory gave, and what is left.
-use Rattle.std.proofs.Common.{arith, ◌≡◌, ℕ, ◌+◌, ◌<◌, ◌≤◌, ◌==◌, min, Bool, false, List, ◌++◌, take, drop, ap, sym, ◌∙◌}
+use Rattle.std.proofs.Common.{arith, ◌≡◌, ℕ, ◌+◌, ◌<◌, ◌≤◌, ◌==◌, min, false, List, ◌++◌, take, drop, ap, sym, ◌∙◌}
 use Rattle.std.proofs.lemmas.List.{take-append-drop, drop-drop}
 
 -- n more bytes were given, and stand at the front of a buffer
@@ -8,5 +8,6 @@ drop-given bytes buf given n copied =
     sym (take-append-drop n (drop given bytes)) ∙ ap (λ front. front ++ drop n (drop given bytes)) (sym copied)
     ∙ ap (λ rest. take n buf ++ rest) (drop-drop n given bytes)
 
-pub min-positive : (n size rest : ℕ) (none : Bool) → n ≡ min size rest → 0 < size → none ≡ (rest == 0) → none ≡ false → 1 ≤ n
-min-positive n size rest none least some tested some_left = grind arith
+-- there was room, and there were bytes
+pub min-positive : (n room bytes : ℕ) → n ≡ min room bytes → 0 < room → (bytes == 0) ≡ false → 1 ≤ n
+min-positive n room bytes least some left = grind arith

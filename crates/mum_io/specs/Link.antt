@@ -1,5 +1,5 @@
 -- What the calls on a link answer: the count that shows the cause of each answer, and the bytes that went over it.
-use Rattle.std.specs.Prelude.{ℕ, ◌≡◌, ◌≤◌, List, [], length, take, Option}
+use Rattle.std.specs.Prelude.{ℕ, ◌≡◌, ◌≤◌, List, length, take, Option}
 use Rattle.mum_io.specs.Counts.{Counts, CountsEnd, CountsFault, CountsStall}
 use Rattle.mum_io.specs.declared.link.PollRead.{PollRead}
 use Rattle.mum_io.specs.declared.link.PollRead.TheVariants.{Got, End, NotYet, Failed}

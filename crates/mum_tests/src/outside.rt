@@ -4,7 +4,7 @@
 ghost use Rattle.std.specs.Prelude.{◌≡◌, ◌==◌, None, replicate};
 
 use mum_base::Octets;
-use mum_crew::{Crew, CrewEnd, Look, Plan, Role, Station, Turn, TurnCrew};
+use mum_crew::{Crew, CrewEnd, Look, Plan, Role, RunTally, Station, Turn, TurnCrew};
 use mum_io::{
     Accept, Door, DoorEvent, DoorOpen, Link, LinkEvent, MemClock, MemDoor, MemLink, PollRead,
     PollWrite, Tally,
@@ -140,8 +140,7 @@ impl Station for Awake {
 struct Watchers<X> {
     rt: X,
     threads: usize,
-    runs: u64,
-    refused: u64,
+    tally: RunTally,
 }
 
 fn stations(alloc: Global, threads: usize) -> Result<Vec<Awake>, AllocError> {
@@ -157,7 +156,7 @@ impl<X: Wait + Threads + Clock + Copy + Sync> Crew for Watchers<X> {
 
     type Station = Awake;
 
-    ghost counts = { λ w. record { runs = w.runs; refused = w.refused } };
+    ghost counts = { λ w. w.tally };
 
     fn runtime(&self) -> X {
         self.rt
@@ -171,17 +170,13 @@ impl<X: Wait + Threads + Clock + Copy + Sync> Crew for Watchers<X> {
     }
 
     fn keep(&mut self, plan: Plan<Awake>)
-        ensures { (self.new.runs ≡ self.old.runs) × (self.new.refused ≡ self.old.refused) }
+        ensures { self.new.tally ≡ self.old.tally }
     {
         drop(plan);
     }
 
     fn count(&mut self, end: CrewEnd) {
-        match end {
-            CrewEnd::Ran => self.runs = self.runs.saturating_add(1),
-            CrewEnd::Refused => self.refused = self.refused.saturating_add(1),
-            CrewEnd::NoMemory => {}
-        }
+        self.tally.count(end);
     }
 }
 
@@ -254,8 +249,7 @@ fn threads_run_all_roles_or_none(rt: HostRuntime) -> Result<(), Fail> {
     let mut crew = Watchers {
         rt,
         threads: 0,
-        runs: 0,
-        refused: 0,
+        tally: RunTally::new(),
     };
     assert_eq!(rt; write_all(&mut crew, alloc)?, (CrewEnd::Refused, 0));
     // the first role has many turns in a round
@@ -264,7 +258,6 @@ fn threads_run_all_roles_or_none(rt: HostRuntime) -> Result<(), Fail> {
     crew.threads = 3;
     let (end, _in_any_order) = write_all(&mut crew, alloc)?;
     assert_eq!(rt; end, CrewEnd::Ran);
-    assert_eq!(rt; (crew.runs, crew.refused), (2, 1));
     Ok(())
 }
 

@@ -30,8 +30,8 @@ pub enum LinkEvent {
     End,
 }
 
-/// Where a link puts what was written to it when it is shut.
-pub type HandBack = Arc<OnceLock<Octets>>;
+// Where a link puts what was written to it when it is shut.
+pub(crate) type HandBack = Arc<OnceLock<Octets>>;
 
 // What is to be handed back is kept twice, so that `shut` takes no memory and the link still knows it.
 #[derive(Drop)]
@@ -150,8 +150,12 @@ impl MemLink {
         self.starved
     }
 
-    /// From here on `shut` puts what was written to the link there, if nothing else was.
-    pub fn return_to(&mut self, alloc: Global, hand_back: HandBack) -> Result<(), OutOfMemory>
+    // From here on `shut` puts what was written to the link there, if nothing else was.
+    pub(crate) fn return_to(
+        &mut self,
+        alloc: Global,
+        hand_back: HandBack,
+    ) -> Result<(), OutOfMemory>
         ensures { self.new ≡ self.old }
     {
         self.kept.copy_for(alloc, hand_back)

@@ -1,4 +1,4 @@
-use Rattle.std.proofs.Common.{◌≡◌, ◌+◌, ◌-◌, ◌<◌, ◌++◌, ◌∷◌, [], length, get_or, set, map, sym, ap, ◌∙◌, arith}
+use Rattle.std.proofs.Common.{◌≡◌, ◌+◌, ◌-◌, ◌<◌, ◌++◌, length, get_or, set, map, sym, ap, ◌∙◌, arith}
 use Rattle.mum_crew.specs.Deal.{thread_at, hand}
 use Rattle.mum_crew.proofs.DealLemmas.{holds_some, holds_rest, back_more}
 use Rattle.mum_crew.proofs.deal.put_back.Goals as goal

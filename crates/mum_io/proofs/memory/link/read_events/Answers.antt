@@ -1,4 +1,4 @@
-use Rattle.std.proofs.Common.{rules, ◌≡◌, refl, sym, ◌∙◌, take, arith}
+use Rattle.std.proofs.Common.{rules, ◌≡◌, sym, ◌∙◌, take, arith}
 use Rattle.mum_io.specs.MemLink.{bytes_of, with_rest}
 use Rattle.mum_io.proofs.MemLinkLemmas.{bytes_of-same, bytes_of-taken}
 use Rattle.mum_io.proofs.MemoryLemmas.{min-positive}
@@ -32,7 +32,7 @@ pub returns-clause-bytes : goal.returns-clause-bytes
 returns-clause-bytes c =
     let same : bytes_of (with_rest c.loop-events.piece c.loop-events.events.items) ≡ bytes_of (with_rest c.args.piece.now c.args.events.now.items) =
     bytes_of-same (with_rest c.loop-events.piece c.loop-events.events.items) (with_rest c.args.piece.now c.args.events.now.items) c.loop-events.invariant in (
-      min-positive _ _ _ _ c.read.ensures.count c.requires (sym c.loop-events-test.false ∙ c.is_empty.ensures) refl,
+      min-positive _ _ _ c.read.ensures.count c.requires (sym c.is_empty.ensures ∙ c.loop-events-test.false),
       omega (arith, c.read.ensures.count, c.read.auto.buf),
       sym same ∙ bytes_of-taken c.loop-events.piece (take c.read.result c.read.new.buf) c.read.new.self c.loop-events.events.items c.read.ensures.taken,
     )

@@ -2,9 +2,9 @@
 use Rattle.std.proofs.Common.{◌≡◌, ℕ, ◌+◌, ◌-◌, List, ◌∷◌, length, take, drop, sym, ap, ◌∙◌, arith}
 use Rattle.std.specs.List.{slice_split}
 use Rattle.std.proofs.lemmas.Grind.{common_steps}
-use Rattle.mum_record.specs.JournalReading.{is_line_feed}
+use Rattle.mum_record.specs.Lines.{is_line_feed}
 use Rattle.mum_record.proofs.LineFeeds.{split_at, split_nowhere}
-use Rattle.mum_record.proofs.journal_reader.split_line.Goals as goal
+use Rattle.mum_record.proofs.split.split_line.Goals as goal
 
 pub returns-in-Some-clause-lines : goal.returns-in-Some-clause-lines
 returns-in-Some-clause-lines c =

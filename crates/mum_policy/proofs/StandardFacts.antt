@@ -95,19 +95,7 @@ pub record WalksGoOn : Type 0 where
 
 pub walks_go_on : WalksGoOn
 unfolding rights
-walks_go_on = record {
-  no_entry_applies = refl;
-  traverse_denied_in_the_middle = refl;
-  one_who_may_write_passes = refl;
-  others_do_not = refl;
-  superuser_needs_no_walk = refl;
-  a_denial_that_applies_nowhere_clears_the_mark = refl;
-  a_grant_of_write_that_applies_nowhere_sets_the_mark = refl;
-  it_may_come_after_the_denial = refl;
-  one_entry_grants_and_denies_traverse = refl;
-  one_entry_grants_and_denies_write = refl;
-  a_denial_in_the_asked_channel_alone_ends_the_walk = refl;
-}
+walks_go_on = search
 
 -- ---- grants come before denies in an entry, and entries in the order of the list
 
@@ -120,11 +108,7 @@ pub record GrantsComeFirst : Type 0 where
 
 pub grants_come_first : GrantsComeFirst
 unfolding rights
-grants_come_first = record {
-  granted_then_denied = refl;
-  denied_then_granted = refl;
-  granted_and_denied_at_once = refl;
-}
+grants_come_first = search
 
 -- ---- a channel that does not inherit begins with the start set again; the marks stay
 
@@ -137,11 +121,7 @@ pub record SetsBeginAgain : Type 0 where
 
 pub sets_begin_again : SetsBeginAgain
 unfolding rights
-sets_begin_again = record {
-  the_set_begins_again = refl;
-  the_mark_of_write_stays = refl;
-  the_root_has_nothing_to_inherit = refl;
-}
+sets_begin_again = search
 
 -- ---- Write brings all but Speak and Whisper, on the root the bits of the root too
 
@@ -164,16 +144,7 @@ pub record WriteBringsAll : Type 0 where
 
 pub write_brings_all : WriteBringsAll
 unfolding rights
-write_brings_all = record {
-  write_in_one_channel = refl;
-  write_on_the_root_alone = refl;
-  bits_of_the_root_mean_nothing_below_it = refl;
-  they_do_not_come_with_write_there = refl;
-  speak_denied_beside_write = refl;
-  whisper_denied_beside_write = refl;
-  enter_denied_beside_write_comes_back = refl;
-  write_denied_below = refl;
-}
+write_brings_all = search
 
 -- ---- an entry applies in its own channel, and in those below it
 
@@ -191,14 +162,7 @@ pub record EntriesApply : Type 0 where
 
 pub entries_apply : EntriesApply
 unfolding rights
-entries_apply = record {
-  a_channel_below_undoes = refl;
-  below_and_not_here = refl;
-  here_and_not_below = refl;
-  everything_denied = refl;
-  everything_denied_but_traverse = refl;
-  superuser_is_denied_nothing = refl;
-}
+entries_apply = search
 
 -- ---- whom an entry names
 
@@ -231,19 +195,7 @@ pub record EntriesName : Type 0 where
 
 pub entries_name : EntriesName
 unfolding rights
-entries_name = record {
-  those_in_the_asked_channel = refl;
-  those_in_the_channel_of_the_list = refl;
-  those_without_an_account = refl;
-  not_those_with_one = refl;
-  an_account = refl;
-  not_another_account = refl;
-  those_with_a_token = refl;
-  a_group_from_above = refl;
-  a_guest_is_not_in_it = refl;
-  a_group_that_is_not_inheritable = refl;
-  as_the_channel_of_the_list_sees_it = refl;
-}
+entries_name = search
 
 -- ---- group names, asked in B for an entry of A, where B defines groups of account 5
 
@@ -263,6 +215,16 @@ ann = with_tokens (codes "secret" ∷ []) (placed_in 2 (holder 5))
 abbrev pub bob : Asker
 bob = with_tokens (codes "secret" ∷ []) (placed_in 2 guest)
 
+-- ë and Ë, and a token with one of them
+abbrev pub small_e : List ℕ
+small_e = 195 ∷ 171 ∷ []
+
+abbrev pub capital_e : List ℕ
+capital_e = 195 ∷ 139 ∷ []
+
+abbrev pub zoe : List ℕ
+zoe = codes "zo" ++ small_e
+
 -- negated (`!`), chosen in A (`~`), a token (`#`), and names that match nobody; a first space is the empty name
 abbrev pub that_hold_of_both : List (List ℕ)
 that_hold_of_both =
@@ -277,6 +239,9 @@ that_hold_of_neither =
 pub record NamesMean : Type 0 where
   pub by_channel_by_token_and_by_account :
       groups_of ann (words (codes "in !in ~in !~in !!in #Secret !#Secret admin ~admin")) ≡ words (codes "in !~in #Secret admin")
+  pub case_is_ignored_in_ascii_letters_alone :
+      groups_of (with_tokens (zoe ∷ []) guest) ((codes "#zo" ++ small_e) ∷ (codes "#ZO" ++ small_e) ∷ (codes "#zo" ++ capital_e) ∷ [])
+      ≡ (codes "#zo" ++ small_e) ∷ (codes "#ZO" ++ small_e) ∷ []
   pub both_are_in_these :
       (groups_of ann that_hold_of_both ≡ that_hold_of_both) × (groups_of bob that_hold_of_both ≡ that_hold_of_both)
   pub neither_is_in_these : (groups_of ann that_hold_of_neither ≡ []) × (groups_of bob that_hold_of_neither ≡ [])
@@ -287,13 +252,7 @@ pub record NamesMean : Type 0 where
 
 pub names_mean : NamesMean
 unfolding groups_of
-names_mean = record {
-  by_channel_by_token_and_by_account = refl;
-  both_are_in_these = (refl, refl);
-  neither_is_in_these = (refl, refl);
-  an_account_alone_is_in_these = (refl, refl);
-  a_guest_alone_is_in_these = (refl, refl);
-}
+names_mean = search
 
 -- ---- which of the accounts 5 to 9 are in `admin`, in the root, in A and in B
 
@@ -338,18 +297,7 @@ pub record AccountsOfAGroup : Type 0 where
 
 pub accounts_of_a_group : AccountsOfAGroup
 unfolding admins
-accounts_of_a_group = record {
-  a_group_is_inherited = refl;
-  one_that_is_not_inheritable_ends_the_collection = refl;
-  one_that_does_not_inherit_is_the_last = refl;
-  one_that_does_neither = refl;
-  the_asked_channel_does_not_inherit = refl;
-  a_channel_without_the_name_is_passed_over = refl;
-  nothing_comes_past_one_that_is_not_inheritable = refl;
-  what_is_below_one_that_is_not_inheritable_counts = refl;
-  accounts_are_removed_after_they_are_added = refl;
-  of_two_groups_of_the_name_the_first_counts = refl;
-}
+accounts_of_a_group = search
 
 -- ---- the limits of a policy
 
@@ -360,6 +308,7 @@ pub record PoliciesAreLarge : Type 0 where
   pub a_policy_at_its_limits :
       let largest = group (codes "admin") (replicate 256 5) (replicate 256 5) in
       is_large_policy (policy (replicate 64 largest) (replicate 128 (only_here (grants (named 128) MOVE)))) ≡ false
+  pub an_empty_policy : is_large_policy plain ≡ false
   pub a_group_too_many : is_large_policy (policy (replicate 65 (group (codes "admin") [] [])) []) ≡ true
   pub an_account_too_many :
       (is_large_policy (defines (group (codes "admin") (replicate 257 5) [])) ≡ true)
@@ -368,10 +317,4 @@ pub record PoliciesAreLarge : Type 0 where
   pub a_name_too_long : is_large_policy (one (grants (named 129) MOVE)) ≡ true
 
 pub policies_are_large : PoliciesAreLarge
-policies_are_large = record {
-  a_policy_at_its_limits = refl;
-  a_group_too_many = refl;
-  an_account_too_many = (refl, refl);
-  an_entry_too_many = refl;
-  a_name_too_long = refl;
-}
+policies_are_large = search

@@ -42,3 +42,8 @@ pub mod Governed
 pub mod Judged
 pub mod Marking
 pub mod Asked
+pub mod Scenes
+pub mod StandardFacts
+pub mod EffectFacts
+pub mod FitFacts
+pub mod RightsFacts

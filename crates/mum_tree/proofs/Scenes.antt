@@ -64,12 +64,12 @@ abbrev pub nested : ℕ → List Step
 nested zero = []
 nested (suc n) = nested n ++ make (suc n) n (two_letters n) ∷ []
 
--- so many channels from this number on, all under the root
+-- n channels from this number on, all under the root
 abbrev pub beside : ℕ → ℕ → List Step
 beside first zero = []
 beside first (suc n) = beside first n ++ make (first + n) 0 (two_letters (first + n)) ∷ []
 
--- links of a channel to so many from a number on
+-- links of a channel to n channels from this number on
 abbrev pub linked_to : ℕ → ℕ → ℕ → List Step
 linked_to id first zero = []
 linked_to id first (suc n) = linked_to id first n ++ link id (first + n) ∷ []

@@ -71,17 +71,7 @@ pub record ChannelsChange : Type 0 where
 
 pub channels_change : ChannelsChange
 unfolding tree upward
-channels_change = record {
-  a_new_channel = refl;
-  a_temporary_one = refl;
-  a_new_name = refl;
-  a_description = refl;
-  the_description_of_the_root = refl;
-  a_move = refl;
-  a_removal_takes_what_is_below = refl;
-  a_channel_and_all_below_it = refl;
-  what_is_not_there = (refl, refl, refl);
-}
+channels_change = search
 
 -- ---- numbers are not given again, and places are, the least first
 
@@ -98,14 +88,7 @@ pub record NumbersAndPlaces : Type 0 where
 
 pub numbers_and_places : NumbersAndPlaces
 unfolding tree
-numbers_and_places = record {
-  numbers_are_not_given_again = refl;
-  numbers_may_be_left_out = refl;
-  numbers_end = refl;
-  the_least_place_is_given_again = refl;
-  a_place_is_kept = refl;
-  channels_are_in_the_order_of_numbers = refl;
-}
+numbers_and_places = search
 
 -- ---- why a change is refused: the first cause, or none
 
@@ -146,6 +129,7 @@ pub record Refusals : Type 0 where
   pub under_itself : moving (make 1 0 a ∷ make 2 1 b ∷ []) 1 2 ≡ Some UnderItself
   pub a_name_comes_before_under_itself : moving (make 1 0 a ∷ make 2 1 a ∷ []) 1 1 ≡ Some SameName
   pub a_move_under_a_temporary_one : moving (make_temporary 1 0 a ∷ make 2 0 b ∷ []) 2 1 ≡ Some TemporaryParent
+  pub a_move_to_where_it_is : moving (make 1 0 a ∷ []) 1 0 ≡ None
   pub nothing_to_remove : removing [] 9 ≡ Some NoChannel
   pub the_root_is_not_removed : removing (make 1 0 a ∷ []) 0 ≡ Some RootFixed
   pub a_link_to_nothing : (linking [] 0 9 ≡ Some NoChannel) × (linking [] 9 0 ≡ Some NoChannel)
@@ -153,27 +137,7 @@ pub record Refusals : Type 0 where
 
 pub refusals : Refusals
 unfolding tree upward
-refusals = record {
-  no_parent = refl;
-  a_name_beside_it = refl;
-  the_same_name_elsewhere = refl;
-  a_temporary_parent = refl;
-  nothing_to_rename = refl;
-  the_root_keeps_its_name = refl;
-  a_name_beside_it_again = refl;
-  the_name_that_it_has = refl;
-  nothing_to_move = refl;
-  nowhere_to_move_to = refl;
-  the_root_is_not_moved = refl;
-  a_name_where_it_moves_to = refl;
-  under_itself = refl;
-  a_name_comes_before_under_itself = refl;
-  a_move_under_a_temporary_one = refl;
-  nothing_to_remove = refl;
-  the_root_is_not_removed = refl;
-  a_link_to_nothing = (refl, refl);
-  nothing_to_unlink = (refl, refl);
-}
+refusals = search
 
 -- ---- the limits: 32 under the root, 1,024 channels, 64 links
 
@@ -224,17 +188,7 @@ pub record LinksLead : Type 0 where
 
 pub links_lead : LinksLead
 unfolding tree is_reached
-links_lead = record {
-  a_link_is_of_both = (refl, refl);
-  it_is_taken_away_from_either_side = refl;
-  partners_are_in_the_order_of_numbers = refl;
-  no_link_is_to_itself_or_twice = refl;
-  links_go_with_a_removed_channel = refl;
-  links_lead_on_through_two = (refl, refl);
-  a_ring_holds_without_one_of_its_links = refl;
-  a_chain_falls_apart_without_its_middle = (refl, refl);
-  the_root_is_linked_as_any_other = refl;
-}
+links_lead = search
 
 -- ---- several parts at once: the faults speak of what the whole change leaves
 
@@ -273,6 +227,9 @@ pub record ChangesOfParts : Type 0 where
   pub under_a_temporary_one_comes_after_that :
       (editing (make 1 0 a ∷ make_temporary 2 0 b ∷ []) 1 (to_parent 2) ≡ Some TemporaryParent)
       × (editing (make 1 0 a ∷ make_temporary 2 0 b ∷ []) 2 (to_parent 2) ≡ Some UnderItself)
+  pub too_deep_comes_after_that :
+      (editing (nested 32 ++ make_temporary 33 0 a ∷ []) 1 (to_parent 33) ≡ Some TemporaryParent)
+      × (editing (nested 32 ++ make 33 0 a ∷ []) 1 (to_parent 33) ≡ Some Nesting)
   pub links_are_counted_last :
       (editing a_star 1 (record (to_links (66 ∷ []) []) { parent = Some (channel 1) }) ≡ Some UnderItself)
       × (editing a_star 1 (to_links (66 ∷ []) []) ≡ Some LinkCount)
@@ -294,6 +251,7 @@ changes_of_parts = record {
   who_is_not_there = (refl, refl, refl, refl);
   under_itself_comes_after_the_name = (refl, refl);
   under_a_temporary_one_comes_after_that = (refl, refl);
+  too_deep_comes_after_that = (refl, refl);
   links_are_counted_last = (refl, refl);
   one_link_for_another_at_64 = refl;
   a_partner_with_64 = (refl, refl);
@@ -310,4 +268,4 @@ pub record AreBelow : Type 0 where
 
 pub are_below : AreBelow
 unfolding tree upward
-are_below = record { a_channel_is_below_itself_and_those_above = refl }
+are_below = search

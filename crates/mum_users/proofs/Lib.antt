@@ -13,3 +13,5 @@ pub mod Edits
 pub mod Told
 pub mod Refusals
 pub mod Seats
+pub mod Scenes
+pub mod StandardFacts

@@ -1,4 +1,10 @@
-//! The numbers by which sessions, channels and accounts are named on the wire.
+//! The numbers by which sessions, channels and accounts are named on the wire, and how many there may be.
+
+/// The most sessions that any server may have at once: slots are below it.
+pub const SLOTS: usize = 128;
+
+/// The most channels that any server may have at once, with the root: places are below it.
+pub const PLACES: usize = 1024;
 
 /// The number of a session. Numbers are given in order from 1 and never given again; 0 is no
 /// session's.

@@ -7,14 +7,9 @@ mod config;
 mod decide;
 mod edits;
 mod frames;
-mod messages;
 mod notices;
-mod outbox;
 mod recording;
-mod roster;
 mod routes;
-mod state;
-mod tree;
 mod voice;
 
 use anyhow::{Context, Result, bail};
@@ -22,8 +17,6 @@ use mum_state::State;
 use std::alloc::Global;
 use std::env;
 use std::mem::drop;
-use std::sync::Wait;
-use std::thread::Threads;
 
 fn number(word: &str) -> Result<u32> {
     word.parse::<u32>().context("a size is a number")
@@ -43,18 +36,14 @@ fn on_state(
         "decide" => decide::work(alloc, state, kind, length, count),
         "notices" => notices::work(alloc, state, kind, length, count),
         "route" => routes::work(alloc, state, kind, length, count),
-        "state" => state::work(alloc, state, kind, length, count),
         _ => bail!("no such workload"),
     }
 }
 
 /// A workload of a kind: so much of it, so many times.
 fn of_kind(alloc: Global, word: &str, kind: &str, length: u32, count: u32) -> Result<u64> {
-    match word {
-        "config" => return config::work(alloc, kind, length, count),
-        "roster" => return roster::work(alloc, kind, length, count),
-        "tree" => return tree::work(alloc, kind, length, count),
-        _ => {}
+    if word == "config" {
+        return config::work(alloc, kind, length, count);
     }
     let mut state = State::empty(alloc)?;
     let sum = on_state(alloc, &mut state, word, kind, length, count);
@@ -67,8 +56,6 @@ fn in_pieces(alloc: Global, word: &str, piece: u32, size: u32) -> Result<u64> {
     match word {
         "frames" => frames::small(alloc, piece as usize, size as usize),
         "copy" => frames::copied(alloc, piece as usize, size as usize),
-        "copy-roster" => roster::work(alloc, "copy", piece, size),
-        "copy-tree" => tree::work(alloc, "copy", piece, size),
         _ => bail!("no such workload"),
     }
 }
@@ -80,46 +67,30 @@ fn of_size(alloc: Global, word: &str, size: usize) -> Result<u64> {
         "voice" => voice::copies(false, size),
         "voice-position" => voice::copies(true, size),
         "copy-packets" => Ok(voice::copied_packets(size)),
-        "hostile" => messages::hostile(alloc, size),
-        "copy-blocks" => messages::copied_blocks(alloc, size),
         _ => bail!("no such workload"),
     }
 }
 
-fn checksum<R: Wait + Threads + Copy + Send + 'static>(
-    rt: R,
-    alloc: Global,
-    words: &[String],
-) -> Result<u64> {
+fn checksum(alloc: Global, words: &[String]) -> Result<u64> {
     match words {
         [word, kind, length, count] => {
             let (length, count) = (number(length)?, number(count)?);
             of_kind(alloc, word.as_str(), kind.as_str(), length, count)
         }
-        [word, kind, size] => match word.as_str() {
-            "messages" => messages::work(alloc, kind.as_str(), number(size)? as usize),
-            "copy-messages" => messages::copied(alloc, kind.as_str(), number(size)? as usize),
-            "outbox" => outbox::work(rt, alloc, kind.as_str(), number(size)?),
-            word => in_pieces(alloc, word, number(kind)?, number(size)?),
-        },
+        [word, piece, size] => in_pieces(alloc, word.as_str(), number(piece)?, number(size)?),
         [word, size] => of_size(alloc, word.as_str(), number(size)? as usize),
         _ => bail!("mum_bench WORKLOAD [KIND] [PIECE] SIZE"),
     }
 }
 
 /// What a run prints: the recording of the exercise of a seed, of so many rounds, or a checksum.
-fn answer<R: Wait + Threads + Copy + Send + 'static>(
-    rt: R,
-    alloc: Global,
-    words: &[String],
-    text: &mut String,
-) -> Result<()> {
+fn answer(alloc: Global, words: &[String], text: &mut String) -> Result<()> {
     match words {
         [word, seed, rounds] if word.as_str() == "recording" => {
             recording::push(alloc, text, seed.as_str(), rounds.as_str())
         }
         _ => {
-            let sum = checksum(rt, alloc, words)?;
+            let sum = checksum(alloc, words)?;
             text.push_str(format!(in alloc; "{sum}\n")?.as_str())?;
             Ok(())
         }
@@ -129,7 +100,7 @@ fn answer<R: Wait + Threads + Copy + Send + 'static>(
 fn main(rt: HostRuntime) -> Result<()> {
     let words: Vec<String> = env::args(&rt)?.skip(1).collect(rt.alloc())?;
     let mut text = String::new(rt.alloc());
-    answer(rt, rt.alloc(), words.as_slice(), &mut text)?;
+    answer(rt.alloc(), words.as_slice(), &mut text)?;
     print!(rt; "{text}")?;
     Ok(())
 }

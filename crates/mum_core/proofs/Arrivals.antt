@@ -35,7 +35,8 @@ use Rattle.mum_record.specs.declared.step.Step.TheVariants.{Frame, Tell, Close}
 use Rattle.mum_core.specs.Connection.{answered, fresh, next_command, next_of_frame, seat_given, session_of, told}
 use Rattle.mum_core.specs.Core.{CoreState, start, connection_at, current, state_at}
 use Rattle.mum_core.specs.Laws.{ran}
-use Rattle.mum_core.specs.Reply.{edits_of, seat_of, verdict}
+use Rattle.mum_session.specs.Verdict.{edits_of, verdict}
+use Rattle.mum_core.specs.Reply.{seat_of}
 use Rattle.mum_core.specs.Step.{does, frame_action, frame_version}
 use Rattle.mum_core.specs.steps.Edit as edit_step
 use Rattle.mum_core.proofs.Copies.{state_of_later}

@@ -1,9 +1,8 @@
 -- What holds of all copies that workers have in hand, where it holds of those of each look; and the steps that leave outboxes as they are.
-use Rattle.std.proofs.Common.{◌≡◌, ℕ, zero, suc, Bool, true, false, cond, List, [], ◌∷◌, ◌++◌, length, map, take, drop, Option, Some, None, Result, Ok, Err, refl, sym, ap, ◌∙◌}
-use Rattle.std.specs.Prelude.{slice_get, slice_index_or, replicate}
+use Rattle.std.proofs.Common.{◌≡◌, ℕ, zero, suc, Bool, true, false, cond, List, [], ◌∷◌, ◌++◌, length, map, take, drop, Option, Some, None, refl, sym, ap, ◌∙◌}
+use Rattle.std.specs.Prelude.{slice_index_or, replicate}
 use Rattle.std.specs.List.{AllByRecursion}
 use Rattle.std.specs.Option.{option_map_or}
-use Rattle.mum_base.specs.declared.number.SessionId.{SessionId}
 use Rattle.mum_users.specs.declared.user.User.{User}
 use Rattle.mum_users.specs.Sessions.{session_of}
 use Rattle.mum_state.specs.declared.verdict.Verdict.{Verdict}
@@ -19,7 +18,7 @@ use Rattle.mum_core.specs.declared.worker.Outgoing.{Outgoing}
 use Rattle.mum_record.specs.declared.step.Step.TheVariants as steps
 use Rattle.mum_record.specs.declared.step.Step.{Step}
 use Rattle.mum_record.specs.declared.step.Step.TheVariants.{Open, Frame, Publish, Tell, Look, Offer, Post, Drain, Collect, Close, End}
-use Rattle.mum_core.specs.Core.{CoreState, connection_at, worker_at, outbox_at, state_at, at_outbox, posts_at}
+use Rattle.mum_core.specs.Core.{CoreState, connection_at, worker_at, state_at, at_outbox}
 use Rattle.mum_core.specs.Laws.{ran}
 use Rattle.mum_core.specs.Step.{does, frame_action, frame_version}
 use Rattle.mum_core.specs.Worker.{WorkerState, HeldPacket, idle}
@@ -28,9 +27,11 @@ use Rattle.mum_core.specs.steps.Frame as frame_step
 use Rattle.mum_core.specs.steps.Frame.{spoken}
 use Rattle.mum_core.specs.steps.Look as look_step
 use Rattle.mum_core.specs.steps.Offer as offer_step
-use Rattle.mum_core.specs.steps.Drain as drain_step
+use Rattle.mum_core.specs.Lists.{changed_at}
+use Rattle.mum_core.specs.Delivery.{does_from, is_for, takes, with_stale}
+use Rattle.mum_core.specs.steps.{Drain.carried, Drain.copy_queues, Collect.notice_queues}
+use Rattle.mum_core.proofs.Delivered.{delivered}
 use Rattle.mum_core.specs.steps.Post as post_step
-use Rattle.mum_core.specs.steps.Collect as collect_step
 use Rattle.mum_notify.specs.declared.notice.Notice.{Notice}
 use Rattle.mum_core.specs.steps.Tell as tell_step
 use Rattle.mum_core.proofs.Changed.{changed-by, length-changed}
@@ -173,12 +174,12 @@ put_core core next = at_outbox next.slot.0 (λ parcels. parcels ++ record { to =
 abbrev pub rest_core : CoreState → Seat → CoreState
 rest_core core seat = at_outbox seat.slot.0 (λ parcels. drop 1 parcels) core
 
-cond_boxes : (b : Bool) (boxes : List (List Parcel)) (x y : CoreState) → x.outboxes ≡ boxes → y.outboxes ≡ boxes → (cond b x y).outboxes ≡ boxes
-cond_boxes true boxes x y hx hy = hx
-cond_boxes false boxes x y hx hy = hy
-
-pub takes_boxes : (core : CoreState) (seat : Seat) (front : Parcel) → (drain_step.takes core seat (Some front)).outboxes ≡ (rest_core core seat).outboxes
-takes_boxes core seat front = cond_boxes (drain_step.is_for front seat) (rest_core core seat).outboxes _ _ refl refl
+pub takes_boxes : (core : CoreState) (seat : Seat) (front : Parcel) → (takes copy_queues core seat (Some (carried front))).outboxes ≡ (rest_core core seat).outboxes
+takes_boxes core seat front = from (is_for front.to seat)
+  where
+    from : (b : Bool) → (cond b (rest_core core seat) (with_stale (rest_core core seat))).outboxes ≡ (rest_core core seat).outboxes
+    from true = refl
+    from false = refl
 
 -- there are as many outboxes as before
 cond_length : (b : Bool) (n : ℕ) (x y : CoreState) → length x.outboxes ≡ n → length y.outboxes ≡ n → length (cond b x y).outboxes ≡ n
@@ -189,13 +190,10 @@ puts_length : (core : CoreState) (next : Option Outgoing) → length (offer_step
 puts_length core None = refl
 puts_length core (Some next) = cond_length (offer_step.has_room core next.slot.0) (length core.outboxes) _ _ (length-changed core.outboxes next.slot.0 _) refl
 
-takes_length : (core : CoreState) (seat : Seat) (front : Option Parcel) → length (drain_step.takes core seat front).outboxes ≡ length core.outboxes
-takes_length core seat None = refl
-takes_length core seat (Some front) = ap length (takes_boxes core seat front) ∙ length-changed core.outboxes seat.slot.0 _
-
-drained_length : (core : CoreState) (seat : Option Seat) → length (drain_step.does_from core seat).outboxes ≡ length core.outboxes
-drained_length core None = refl
-drained_length core (Some seat) = takes_length core seat (slice_get (outbox_at core seat.slot.0) 0)
+drained_length : (core : CoreState) (seat : Option Seat) → length (does_from copy_queues core seat).outboxes ≡ length core.outboxes
+drained_length core seat =
+    let shorter : (slot : ℕ) → length (changed_at slot (λ parcels. drop 1 parcels) core.outboxes) ≡ length core.outboxes = λ slot. length-changed core.outboxes slot (λ parcels. drop 1 parcels) in
+    delivered (λ new. length new.outboxes ≡ length core.outboxes) copy_queues core seat refl shorter shorter
 
 cond_still : (b : Bool) (core x y : CoreState) → Still core x → Still core y → Still core (cond b x y)
 cond_still true core x y hx hy = hx
@@ -208,17 +206,8 @@ post_still core (Some next) = cond_still (post_step.has_room core next.slot.0) c
 pub posted_still : (core : CoreState) → Still core (does core Post)
 posted_still core = post_still (posting_core core) (post_step.next_notice core)
 
-kept_boxes : (b : Bool) (core x y : CoreState) → x.outboxes ≡ core.outboxes → y.outboxes ≡ core.outboxes → (cond b x y).outboxes ≡ core.outboxes
-kept_boxes true core x y hx hy = hx
-kept_boxes false core x y hx hy = hy
-
-collects_boxes : (core : CoreState) (seat : Seat) (front : Option Notice) → (collect_step.takes core seat front).outboxes ≡ core.outboxes
-collects_boxes core seat None = refl
-collects_boxes core seat (Some front) = kept_boxes (collect_step.is_for front seat) core _ _ refl refl
-
-pub collect_boxes : (core : CoreState) (seat : Option Seat) → (collect_step.does_from core seat).outboxes ≡ core.outboxes
-collect_boxes core None = refl
-collect_boxes core (Some seat) = collects_boxes core seat (slice_get (posts_at core seat.slot.0) 0)
+pub collect_boxes : (core : CoreState) (seat : Option Seat) → (does_from notice_queues core seat).outboxes ≡ core.outboxes
+collect_boxes core seat = delivered (λ new. new.outboxes ≡ core.outboxes) notice_queues core seat refl (λ slot. refl) (λ slot. refl)
 
 pub boxes_step : (core : CoreState) (step : Step) → length (does core step).outboxes ≡ length core.outboxes
 boxes_step core (Open c w) = refl

@@ -1,17 +1,15 @@
 -- Each copy of a look is sent, or found its outbox full, or is left.
-use Rattle.std.proofs.Common.{◌≡◌, ℕ, zero, suc, ◌+◌, ◌-◌, ◌≤◌, ◌<◌, ◌^◌, min, Bool, true, false, cond, List, [], ◌∷◌, length, drop, get_or, Option, Some, None, Result, Ok, Err, refl, sym, ap, ◌∙◌, arith}
+use Rattle.std.proofs.Common.{◌≡◌, ℕ, zero, suc, ◌+◌, ◌-◌, ◌≤◌, ◌<◌, ◌^◌, min, Bool, true, false, cond, List, [], ◌∷◌, length, drop, get_or, Option, Some, None, refl, sym, ap, ◌∙◌, arith}
 use Rattle.std.specs.Prelude.{not, is_none, is_some, nat_lt, sum_by, slice_get, slice_index_or, slice_set, replicate, if◌then◌else◌}
 use Rattle.std.specs.Option.{option_map_or}
 use Rattle.std.proofs.lemmas.Bool.{ltb-false, ltb-true}
 use Rattle.std.proofs.lemmas.List.{length-map}
 use Rattle.std.proofs.lemmas.List.Sums.{sum_by-set}
 use Rattle.std.proofs.lemmas.Option.{slice_get_within, get_or_from_slice_get, slice_get-get_or}
-use Rattle.mum_base.specs.declared.number.SessionId.{SessionId}
 use Rattle.mum_state.specs.declared.verdict.Verdict.{Verdict}
 use Rattle.mum_state.specs.State.{StateValue}
 use Rattle.mum_voice.specs.Packet.{packet}
 use Rattle.mum_core.specs.declared.connection.Seat.{Seat}
-use Rattle.mum_core.specs.declared.outbox.Parcel.{Parcel}
 use Rattle.mum_core.specs.declared.worker.Outgoing.{Outgoing}
 use Rattle.mum_session.specs.declared.action.Action.{Action}
 use Rattle.mum_session.specs.declared.action.Action.TheVariants.{Ask, Voice, Echo, Keep, Ignore}
@@ -19,7 +17,7 @@ use Rattle.mum_record.specs.declared.step.Step.TheVariants as steps
 use Rattle.mum_record.specs.declared.step.Step.{Step}
 use Rattle.mum_record.specs.declared.step.Step.TheVariants.{Open, Frame, Publish, Tell, Look, Offer, Post, Drain, Collect, Close, End}
 use Rattle.mum_core.specs.Connection.{is_untold}
-use Rattle.mum_core.specs.Core.{CoreState, start, connection_at, worker_at, outbox_at, state_at, is_opened, posts_at}
+use Rattle.mum_core.specs.Core.{CoreState, start, connection_at, worker_at, state_at, is_opened}
 use Rattle.mum_core.specs.Laws.{IsRun, ran, looked}
 use Rattle.mum_core.specs.Lists.{changed_at, with_found}
 use Rattle.mum_core.specs.Step.{does, frame_action, frame_version, illegal}
@@ -29,9 +27,10 @@ use Rattle.mum_core.specs.steps.Frame as frame_step
 use Rattle.mum_core.specs.steps.Frame.{spoken}
 use Rattle.mum_core.specs.steps.Look as look_step
 use Rattle.mum_core.specs.steps.Offer as offer_step
-use Rattle.mum_core.specs.steps.Drain as drain_step
+use Rattle.mum_core.specs.Delivery.{Queues, does_from, with_stale}
+use Rattle.mum_core.specs.steps.{Drain.copy_queues, Collect.notice_queues}
+use Rattle.mum_core.proofs.Delivered.{delivered}
 use Rattle.mum_core.specs.steps.Post as post_step
-use Rattle.mum_core.specs.steps.Collect as collect_step
 use Rattle.mum_notify.specs.declared.notice.Notice.{Notice}
 use Rattle.mum_core.specs.steps.Tell as tell_step
 use Rattle.mum_core.proofs.Changed.{changed-by}
@@ -166,25 +165,13 @@ cond_same : (b : Bool) (core x y : CoreState) → Same core x → Same core y �
 cond_same true core x y hx hy = hx
 cond_same false core x y hx hy = hy
 
-takes_same : (core : CoreState) (seat : Seat) (front : Option Parcel) → Same core (drain_step.takes core seat front)
-takes_same core seat None = (refl, refl, refl)
-takes_same core seat (Some front) = cond_same (drain_step.is_for front seat) core _ _ (refl, refl, refl) (refl, refl, refl)
-
 post_same : (core : CoreState) (next : Option Notice) → Same core (post_step.puts core next)
 post_same core None = (refl, refl, refl)
 post_same core (Some next) = cond_same (post_step.has_room core next.slot.0) core _ _ (refl, refl, refl) (refl, refl, refl)
 
-collects_same : (core : CoreState) (seat : Seat) (front : Option Notice) → Same core (collect_step.takes core seat front)
-collects_same core seat None = (refl, refl, refl)
-collects_same core seat (Some front) = cond_same (collect_step.is_for front seat) core _ _ (refl, refl, refl) (refl, refl, refl)
-
-collect_same : (core : CoreState) (seat : Option Seat) → Same core (collect_step.does_from core seat)
-collect_same core None = (refl, refl, refl)
-collect_same core (Some seat) = collects_same core seat (slice_get (posts_at core seat.slot.0) 0)
-
-drain_same : (core : CoreState) (seat : Option Seat) → Same core (drain_step.does_from core seat)
-drain_same core None = (refl, refl, refl)
-drain_same core (Some seat) = takes_same core seat (slice_get (outbox_at core seat.slot.0) 0)
+delivery_same : (queues : Queues) (core : CoreState) (seat : Option Seat) → ((slot : ℕ) → Same core (queues.without slot core))
+    → ((slot : ℕ) → Same core (with_stale (queues.without slot core))) → Same core (does_from queues core seat)
+delivery_same queues core seat own stale = delivered (Same core) queues core seat (refl, refl, refl) own stale
 
 -- an offer counts its copy once, where no count stands at its end
 abbrev CountsOne : CoreState → CoreState → Type 0
@@ -269,9 +256,9 @@ adds core (Offer w) h clean room =
     let sum = left-found core.workers w change (worker_at core w) at in
     let longer : length (worker_at core w).copies ≡ suc (length (drop 1 (worker_at core w).copies)) = ap length some.1 in
     rw next (record { counted = omega (arith, one.0); total_is = omega (arith, one.0, one.1, sum, longer) })
-adds core (Drain c) h clean room = adds_none core (does core (Drain c)) (drain_same core (connection_at core c).seat)
+adds core (Drain c) h clean room = adds_none core (does core (Drain c)) (delivery_same copy_queues core (connection_at core c).seat (λ slot. (refl, refl, refl)) (λ slot. (refl, refl, refl)))
 adds core Post h clean room = adds_none core (does core Post) (post_same (posting_core core) (post_step.next_notice core))
-adds core (Collect c) h clean room = adds_none core (does core (Collect c)) (collect_same core (connection_at core c).seat)
+adds core (Collect c) h clean room = adds_none core (does core (Collect c)) (delivery_same notice_queues core (connection_at core c).seat (λ slot. (refl, refl, refl)) (λ slot. (refl, refl, refl)))
 adds core (Close c cause) h clean room = adds_none core (does core (Close c cause)) (refl, refl, refl)
 adds core End h clean room = adds_none core (does core End) (refl, refl, refl)
 

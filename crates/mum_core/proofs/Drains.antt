@@ -18,7 +18,7 @@ use Rattle.mum_notify.specs.Notices.{notices}
 use Rattle.mum_notify.proofs.Told.{each_has_its_session_lem}
 use Rattle.mum_session.specs.declared.command.Asked.{Asked}
 use Rattle.mum_core.specs.Connection.{lagging, next_command, session_of}
-use Rattle.mum_core.specs.Reply.{verdict}
+use Rattle.mum_session.specs.Verdict.{verdict}
 use Rattle.std.proofs.lemmas.List.{length-replicate}
 use Rattle.std.proofs.lemmas.List.Sums.{sum_by-set}
 use Rattle.std.proofs.lemmas.Option.{slice_get_within, get_or_from_slice_get, slice_get-get_or}
@@ -31,15 +31,15 @@ use Rattle.mum_core.specs.declared.worker.Outgoing.{Outgoing}
 use Rattle.mum_record.specs.declared.step.Step.TheVariants as steps
 use Rattle.mum_record.specs.declared.step.Step.{Step}
 use Rattle.mum_record.specs.declared.step.Step.TheVariants.{Open, Frame, Publish, Tell, Look, Offer, Post, Drain, Collect, Close, End}
-use Rattle.mum_core.specs.Core.{CoreState, start, connection_at, current, worker_at, outbox_at, posts_at, at_posts, at_session, state_at, up}
+use Rattle.mum_core.specs.Core.{CoreState, start, connection_at, current, worker_at, outbox_at, posts_at, at_posts, at_session, state_at}
 use Rattle.mum_core.specs.Laws.{IsRun, gathered, noticed, offered, own_front, own_notice, posted, ran, told_notice, wired}
 use Rattle.mum_core.specs.Lists.{changed_at}
 use Rattle.mum_core.specs.Step.{does, frame_action, frame_version}
 use Rattle.mum_core.specs.steps.Edit as edit_step
 use Rattle.mum_core.specs.steps.Offer as offer_step
-use Rattle.mum_core.specs.steps.Drain as drain_step
+use Rattle.mum_core.specs.Delivery.{does_from, is_for, takes, with_stale}
+use Rattle.mum_core.specs.steps.{Drain.carried, Drain.copy_queues, Collect.framed, Collect.notice_queues}
 use Rattle.mum_core.specs.steps.Post as post_step
-use Rattle.mum_core.specs.steps.Collect as collect_step
 use Rattle.mum_core.proofs.Copies.{AllCopies, AllLooked, Still, boxes_step, copies_step, decided_still, each_looked, frame_still, idle_copies, looks_before, notes_still, rest_core}
 use Rattle.mum_core.proofs.Fitted.{IsLawful, current_proper, lawful_all, lawful_start, lawful_step, state_proper}
 use Rattle.mum_core.proofs.Present.{each_below, slot_below}
@@ -103,18 +103,18 @@ puts_moves core (Some next) within room =
 by_own : (core : CoreState) (seat : Seat) (front : Parcel) (rest : List Parcel) (b : Bool)
     → sum_by length (changed_at seat.slot.0 (λ parcels. drop 1 parcels) core.outboxes) + length (front ∷ rest) ≡ sum_by length core.outboxes + length rest
     → min (core.totals.stale + 1) (2 ^ 64 - 1) ≡ core.totals.stale + 1
-    → Moves core (cond b (rest_core core seat) (record (rest_core core seat) { totals = record core.totals { stale = up core.totals.stale } })) (length (cond b (front ∷ []) []))
+    → Moves core (cond b (rest_core core seat) (with_stale (rest_core core seat))) (length (cond b (front ∷ []) []))
 by_own core seat front rest true sum more = (omega arith, omega arith, omega (arith, sum))
 by_own core seat front rest false sum more = (omega arith, omega (arith, more), omega (arith, sum, more))
 
 drained_moves : (core : CoreState) (seat : Seat) → core.totals.stale < 2 ^ 64 - 1 → (box : List Parcel) → outbox_at core seat.slot.0 ≡ box
-    → Moves core (drain_step.takes core seat (slice_get box 0)) (length (filter (λ parcel. drain_step.is_for parcel seat) (take 1 box)))
+    → Moves core (takes copy_queues core seat (option_map carried (slice_get box 0))) (length (filter (λ (parcel : Parcel). is_for parcel.to seat) (take 1 box)))
 drained_moves core seat room [] e = (omega arith, omega arith, omega arith)
 drained_moves core seat room (front ∷ rest) e =
-    by_own core seat front rest (drain_step.is_for front seat) (sum-found core.outboxes seat.slot.0 (λ parcels. drop 1 parcels) (front ∷ rest) (box_there core.outboxes seat.slot.0 front rest e))
+    by_own core seat front rest (is_for front.to seat) (sum-found core.outboxes seat.slot.0 (λ parcels. drop 1 parcels) (front ∷ rest) (box_there core.outboxes seat.slot.0 front rest e))
     (omega (arith, room))
 
-drain_moves : (core : CoreState) (seat : Option Seat) → core.totals.stale < 2 ^ 64 - 1 → Moves core (drain_step.does_from core seat) (length (own_front core seat))
+drain_moves : (core : CoreState) (seat : Option Seat) → core.totals.stale < 2 ^ 64 - 1 → Moves core (does_from copy_queues core seat) (length (own_front core seat))
 drain_moves core None room = (omega arith, omega arith, omega arith)
 drain_moves core (Some seat) room = drained_moves core seat room (outbox_at core seat.slot.0) refl
 
@@ -156,19 +156,19 @@ post_moves core (next ∷ pending) slots all = from (post_step.has_room core nex
 gone_moves : (core : CoreState) (seat : Seat) (front : Notice) (rest : List Notice) (b : Bool)
     → sum_by length (changed_at seat.slot.0 (λ posts. drop 1 posts) core.posts) + length (front ∷ rest) ≡ sum_by length core.posts + length rest
     → min (core.totals.stale + 1) (2 ^ 64 - 1) ≡ core.totals.stale + 1
-    → MovesAll core (cond b (at_posts seat.slot.0 (λ posts. drop 1 posts) core) (record (at_posts seat.slot.0 (λ posts. drop 1 posts) core) { totals = record core.totals { stale = up core.totals.stale } }))
+    → MovesAll core (cond b (at_posts seat.slot.0 (λ posts. drop 1 posts) core) (with_stale (at_posts seat.slot.0 (λ posts. drop 1 posts) core)))
     (length (cond b (front ∷ []) [])) 0
 gone_moves core seat front rest true sum more = (omega arith, omega arith, omega (arith, sum))
 gone_moves core seat front rest false sum more = (omega arith, omega (arith, more), omega (arith, sum, more))
 
 collected_moves : (core : CoreState) (seat : Seat) → core.totals.stale < 2 ^ 64 - 1 → (box : List Notice) → posts_at core seat.slot.0 ≡ box
-    → MovesAll core (collect_step.takes core seat (slice_get box 0)) (length (filter (λ (notice : Notice). collect_step.is_for notice seat) (take 1 box))) 0
+    → MovesAll core (takes notice_queues core seat (option_map framed (slice_get box 0))) (length (filter (λ (notice : Notice). is_for notice.to seat) (take 1 box))) 0
 collected_moves core seat room [] e = (omega arith, omega arith, omega arith)
 collected_moves core seat room (front ∷ rest) e =
-    gone_moves core seat front rest (collect_step.is_for front seat) (sum-found core.posts seat.slot.0 (λ posts. drop 1 posts) (front ∷ rest) (box_there core.posts seat.slot.0 front rest e))
+    gone_moves core seat front rest (is_for front.to seat) (sum-found core.posts seat.slot.0 (λ posts. drop 1 posts) (front ∷ rest) (box_there core.posts seat.slot.0 front rest e))
     (omega (arith, room))
 
-collect_moves : (core : CoreState) (seat : Option Seat) → core.totals.stale < 2 ^ 64 - 1 → MovesAll core (collect_step.does_from core seat) (length (own_notice core seat)) 0
+collect_moves : (core : CoreState) (seat : Option Seat) → core.totals.stale < 2 ^ 64 - 1 → MovesAll core (does_from notice_queues core seat) (length (own_notice core seat)) 0
 collect_moves core None room = (omega arith, omega arith, omega arith)
 collect_moves core (Some seat) room = collected_moves core seat room (posts_at core seat.slot.0) refl
 

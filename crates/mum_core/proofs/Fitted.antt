@@ -27,7 +27,7 @@ use Rattle.mum_record.specs.declared.step.Step.TheVariants.{Open, Frame, Publish
 use Rattle.mum_core.specs.Connection.{next_command, session_of}
 use Rattle.mum_core.specs.Core.{CoreState, start, connection_at, current, state_at}
 use Rattle.mum_core.specs.Laws.{IsRun, ran}
-use Rattle.mum_core.specs.Reply.{edits_of, verdict}
+use Rattle.mum_session.specs.Verdict.{edits_of, verdict}
 use Rattle.mum_core.specs.Step.{does, frame_action, frame_version}
 use Rattle.mum_core.specs.steps.Edit as edit_step
 use Rattle.mum_core.specs.steps.Offer as offer_step

@@ -40,7 +40,7 @@ use Rattle.mum_notify.specs.Texts.{session_numbers, text_told}
 use Rattle.mum_notify.proofs.Bounds.{row-few, written-append}
 use Rattle.mum_session.specs.declared.command.Asked.{Asked}
 use Rattle.mum_session.specs.declared.command.Asked.TheVariants as commands
-use Rattle.mum_core.specs.Reply.{edits_of, verdict}
+use Rattle.mum_session.specs.Verdict.{edits_of, verdict}
 use Rattle.mum_core.proofs.Lower.{tree_holds, unless}
 
 -- ---- a message takes what its fields take

@@ -27,3 +27,4 @@ pub mod Alone
 pub mod Hearing
 pub mod Notices
 pub mod Speakers
+pub mod Delivered

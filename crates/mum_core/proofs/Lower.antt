@@ -43,7 +43,8 @@ use Rattle.mum_rules_user.specs.Verdict.{asker_for, command_verdict, heard_verdi
 use Rattle.mum_rules_user.proofs.Accepted.{accepted_fits, login_accepted_fits}
 use Rattle.mum_session.specs.declared.command.Asked.{Asked}
 use Rattle.mum_session.specs.declared.command.Asked.TheVariants as commands
-use Rattle.mum_core.specs.Reply.{seat_of, verdict}
+use Rattle.mum_session.specs.Verdict.{verdict}
+use Rattle.mum_core.specs.Reply.{seat_of}
 
 pub keeps_proper : (state : StateValue) (edits : List Edit) → IsProper state → IsTrue (all_fit state edits) → IsProper (led_to state edits)
 keeps_proper = keeps_proper_lem

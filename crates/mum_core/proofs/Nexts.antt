@@ -7,7 +7,7 @@ use Rattle.mum_state.specs.State.{StateValue}
 use Rattle.mum_state.specs.declared.verdict.Verdict.{Verdict}
 use Rattle.mum_rules_user.specs.declared.message.UserMessage.TheVariants as messages
 use Rattle.mum_core.specs.Connection.{answered, leave_waiting, next_command, next_of_frame, session_of}
-use Rattle.mum_core.specs.Reply.{verdict}
+use Rattle.mum_session.specs.Verdict.{verdict}
 use Rattle.mum_session.specs.declared.command.Asked.{Asked}
 use Rattle.mum_session.specs.declared.command.Asked.TheVariants.{User}
 use Rattle.mum_core.specs.declared.{connection.Connection.Connection, connection.Leave.Leave, connection.Reply.Reply}

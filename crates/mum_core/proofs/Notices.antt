@@ -1,10 +1,9 @@
 -- The notices of accepted edits are posted in their order, and what is posted into a slot leaves it in order, or waits there.
-use Rattle.std.proofs.Common.{◌≡◌, ℕ, ◌<◌, Bool, true, false, cond, List, [], ◌∷◌, ◌++◌, length, take, drop, zero, suc, replicate, Option, Some, None, Result, Ok, Err, refl, sym, ap, subst, ◌∙◌, append_assoc}
+use Rattle.std.proofs.Common.{◌≡◌, ℕ, ◌<◌, Bool, true, false, cond, List, [], ◌∷◌, ◌++◌, length, take, drop, zero, suc, replicate, Option, Some, None, refl, sym, ap, subst, ◌∙◌, append_assoc}
 use Rattle.std.specs.Prelude.{filter, slice_get, slice_index_or, ◌==◌}
-use Rattle.std.specs.Option.{option_map_or}
+use Rattle.std.specs.Option.{option_map, option_map_or}
 use Rattle.std.proofs.lemmas.Bool.{eqb-false, eqb-true}
 use Rattle.std.proofs.lemmas.List.{append-nil, length-replicate, take-append-drop}
-use Rattle.mum_base.specs.declared.number.SessionId.{SessionId}
 use Rattle.mum_state.specs.declared.verdict.Verdict.{Verdict}
 use Rattle.mum_state.specs.State.{StateValue}
 use Rattle.mum_notify.specs.declared.notice.Notice.{Notice}
@@ -15,16 +14,16 @@ use Rattle.mum_record.specs.declared.step.Step.TheVariants.{Open, Frame, Publish
 use Rattle.mum_session.specs.declared.action.Action.{Action}
 use Rattle.mum_session.specs.declared.action.Action.TheVariants.{Ask, Voice, Echo, Keep, Ignore}
 use Rattle.mum_core.specs.declared.connection.Seat.{Seat}
-use Rattle.mum_core.specs.declared.outbox.Parcel.{Parcel}
 use Rattle.mum_core.specs.declared.slot.TheConstants.{SLOTS}
 use Rattle.mum_core.specs.declared.worker.Outgoing.{Outgoing}
-use Rattle.mum_core.specs.Core.{CoreState, start, connection_at, current, outbox_at, posts_at, at_posts, at_session, up}
+use Rattle.mum_core.specs.Core.{CoreState, start, connection_at, current, posts_at, at_posts, at_session}
 use Rattle.mum_core.specs.Laws.{collected, collected_by, gathered, noticed, offered, posted_in, ran}
 use Rattle.mum_core.specs.Connection.{lagging}
 use Rattle.mum_core.specs.Lists.{changed_at}
 use Rattle.mum_core.specs.Step.{does, frame_action, frame_version}
-use Rattle.mum_core.specs.steps.Collect as collect_step
-use Rattle.mum_core.specs.steps.Drain as drain_step
+use Rattle.mum_core.specs.Delivery.{does_from, is_for, takes, with_stale}
+use Rattle.mum_core.specs.steps.{Drain.copy_queues, Collect.framed, Collect.notice_queues}
+use Rattle.mum_core.proofs.Delivered.{delivered}
 use Rattle.mum_core.specs.steps.Edit as edit_step
 use Rattle.mum_core.specs.Worker.{HeldPacket}
 use Rattle.mum_core.specs.steps.Frame as frame_step
@@ -63,13 +62,8 @@ pub puts_quiet : (core : CoreState) (next : Option Outgoing) → Quiet core (off
 puts_quiet core None = (refl, refl)
 puts_quiet core (Some next) = cond_quiet (offer_step.has_room core next.slot.0) core _ _ (refl, refl) (refl, refl)
 
-takes_quiet : (core : CoreState) (seat : Seat) (front : Option Parcel) → Quiet core (drain_step.takes core seat front)
-takes_quiet core seat None = (refl, refl)
-takes_quiet core seat (Some front) = cond_quiet (drain_step.is_for front seat) core _ _ (refl, refl) (refl, refl)
-
-pub drain_quiet : (core : CoreState) (seat : Option Seat) → Quiet core (drain_step.does_from core seat)
-drain_quiet core None = (refl, refl)
-drain_quiet core (Some seat) = takes_quiet core seat (slice_get (outbox_at core seat.slot.0) 0)
+pub drain_quiet : (core : CoreState) (seat : Option Seat) → Quiet core (does_from copy_queues core seat)
+drain_quiet core seat = delivered (Quiet core) copy_queues core seat (refl, refl) (λ slot. (refl, refl)) (λ slot. (refl, refl))
 
 -- ---- pending
 
@@ -97,13 +91,8 @@ post_waits core =
     append-nil core.pending ∙ sym (take-append-drop 1 core.pending)
     ∙ ap (λ (xs : List Notice). take 1 core.pending ++ xs) (sym (post_pending (posting_core core) (post_step.next_notice core)))
 
-collects_pending : (core : CoreState) (seat : Seat) (front : Option Notice) → (collect_step.takes core seat front).pending ≡ core.pending
-collects_pending core seat None = refl
-collects_pending core seat (Some front) = cond_pending (collect_step.is_for front seat) core _ _ refl refl
-
-collect_pending : (core : CoreState) (seat : Option Seat) → (collect_step.does_from core seat).pending ≡ core.pending
-collect_pending core None = refl
-collect_pending core (Some seat) = collects_pending core seat (slice_get (posts_at core seat.slot.0) 0)
+collect_pending : (core : CoreState) (seat : Option Seat) → (does_from notice_queues core seat).pending ≡ core.pending
+collect_pending core seat = delivered (λ new. new.pending ≡ core.pending) notice_queues core seat refl (λ slot. refl) (λ slot. refl)
 
 pub waits : (core : CoreState) (step : Step) → Waits core (does core step) (noticed core step) (offered core step)
 waits core (Open c w) = append-nil core.pending
@@ -168,10 +157,10 @@ post_conserved slot core (next ∷ pending) within = from (post_step.has_room co
     from false = append-nil (posts_at core slot)
 
 -- the front goes, whoever's it is
-gone_posts : (core : CoreState) (seat : Seat) (front : Notice) → (collect_step.takes core seat (Some front)).posts ≡ changed_at seat.slot.0 (λ posts. drop 1 posts) core.posts
-gone_posts core seat front = from (collect_step.is_for front seat)
+gone_posts : (core : CoreState) (seat : Seat) (front : Notice) → (takes notice_queues core seat (Some (framed front))).posts ≡ changed_at seat.slot.0 (λ posts. drop 1 posts) core.posts
+gone_posts core seat front = from (is_for front.to seat)
   where
-    from : (b : Bool) → (cond b (at_posts seat.slot.0 (λ posts. drop 1 posts) core) (record (at_posts seat.slot.0 (λ posts. drop 1 posts) core) { totals = record core.totals { stale = up core.totals.stale } })).posts
+    from : (b : Bool) → (cond b (at_posts seat.slot.0 (λ posts. drop 1 posts) core) (with_stale (at_posts seat.slot.0 (λ posts. drop 1 posts) core))).posts
         ≡ changed_at seat.slot.0 (λ posts. drop 1 posts) core.posts
     from true = refl
     from false = refl
@@ -189,7 +178,7 @@ gone_conserved slot core seat front rest false e box within =
     append-nil (posts_at core slot) ∙ sym (changed_other core.posts seat.slot.0 slot (λ posts. drop 1 posts) [] (λ same. eqb-false seat.slot.0 slot e (sym same)))
 
 collects_conserved : (slot : ℕ) (core : CoreState) (seat : Seat) (box : List Notice) → posts_at core seat.slot.0 ≡ box → slot < length core.posts
-    → posts_at core slot ++ [] ≡ cond (seat.slot.0 == slot) (take 1 box) [] ++ posts_at (collect_step.takes core seat (slice_get box 0)) slot
+    → posts_at core slot ++ [] ≡ cond (seat.slot.0 == slot) (take 1 box) [] ++ posts_at (takes notice_queues core seat (option_map framed (slice_get box 0))) slot
 collects_conserved slot core seat [] e within = from (seat.slot.0 == slot)
   where
     from : (b : Bool) → posts_at core slot ++ [] ≡ cond b [] [] ++ posts_at core slot
@@ -199,7 +188,7 @@ collects_conserved slot core seat (front ∷ rest) e within =
     gone_conserved slot core seat front rest (seat.slot.0 == slot) refl e within
     ∙ ap (λ (posts : List (List Notice)). cond (seat.slot.0 == slot) (front ∷ []) [] ++ slice_index_or posts slot []) (sym (gone_posts core seat front))
 
-collect_conserved : (slot : ℕ) (core : CoreState) (seat : Option Seat) → slot < length core.posts → Conserved slot core (collect_step.does_from core seat) [] (collected_by slot core seat)
+collect_conserved : (slot : ℕ) (core : CoreState) (seat : Option Seat) → slot < length core.posts → Conserved slot core (does_from notice_queues core seat) [] (collected_by slot core seat)
 collect_conserved slot core None within = append-nil (posts_at core slot)
 collect_conserved slot core (Some seat) within = collects_conserved slot core seat (posts_at core seat.slot.0) refl within
 
@@ -227,13 +216,10 @@ post_length : (core : CoreState) (next : Option Notice) → length (post_step.pu
 post_length core None = refl
 post_length core (Some next) = cond_length (post_step.has_room core next.slot.0) _ _ (length core.posts) (length-changed core.posts next.slot.0 (λ posts. posts ++ next ∷ [])) refl
 
-collects_length : (core : CoreState) (seat : Seat) (front : Option Notice) → length (collect_step.takes core seat front).posts ≡ length core.posts
-collects_length core seat None = refl
-collects_length core seat (Some front) = ap length (gone_posts core seat front) ∙ length-changed core.posts seat.slot.0 (λ posts. drop 1 posts)
-
-collect_length : (core : CoreState) (seat : Option Seat) → length (collect_step.does_from core seat).posts ≡ length core.posts
-collect_length core None = refl
-collect_length core (Some seat) = collects_length core seat (slice_get (posts_at core seat.slot.0) 0)
+collect_length : (core : CoreState) (seat : Option Seat) → length (does_from notice_queues core seat).posts ≡ length core.posts
+collect_length core seat =
+    let shorter : (slot : ℕ) → length (changed_at slot (λ posts. drop 1 posts) core.posts) ≡ length core.posts = λ slot. length-changed core.posts slot (λ posts. drop 1 posts) in
+    delivered (λ new. length new.posts ≡ length core.posts) notice_queues core seat refl shorter shorter
 
 pub slots_stay : (core : CoreState) (step : Step) → length (does core step).posts ≡ length core.posts
 slots_stay core (Frame c bytes) = ap length (frame_quiet core c (frame_version core c bytes) (frame_action core c bytes)).1

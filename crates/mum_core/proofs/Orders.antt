@@ -22,15 +22,17 @@ use Rattle.mum_core.specs.declared.worker.Outgoing.{Outgoing}
 use Rattle.mum_record.specs.declared.step.Step.TheVariants as steps
 use Rattle.mum_record.specs.declared.step.Step.{Step}
 use Rattle.mum_record.specs.declared.step.Step.TheVariants.{Open, Frame, Publish, Tell, Look, Offer, Post, Drain, Collect, Close, End}
-use Rattle.mum_core.specs.Core.{CoreState, start, connection_at, worker_at, outbox_at, state_at, up}
+use Rattle.mum_core.specs.Core.{at_outbox, CoreState, start, connection_at, worker_at, outbox_at, state_at, up}
 use Rattle.mum_core.specs.Laws.{IsRun, front, gathered, ran, removed, sent}
 use Rattle.mum_core.specs.Lists.{changed_at}
 use Rattle.mum_core.specs.Step.{does, frame_action, frame_version}
 use Rattle.mum_core.specs.steps.Edit as edit_step
 use Rattle.mum_core.specs.steps.Offer as offer_step
-use Rattle.mum_core.specs.steps.Drain as drain_step
+use Rattle.mum_core.specs.Delivery.{does_from, takes}
+use Rattle.mum_core.specs.steps.{Drain.carried, Drain.copy_queues}
+use Rattle.mum_core.proofs.Delivered.{delivered}
 use Rattle.mum_core.proofs.Changed.{changed-by, changed_same, changed_other}
-use Rattle.mum_core.proofs.Copies.{AllCopies, AllLooked, all-dropped, all-pushed, boxes_step, copies_step, decided_still, each_looked, empty_box, frame_still, idle_copies, looks_before, notes_still, put_core, rest_core, takes_boxes, posted_still, collect_boxes}
+use Rattle.mum_core.proofs.Copies.{AllCopies, AllLooked, all-dropped, all-pushed, boxes_step, copies_step, decided_still, each_looked, empty_box, frame_still, idle_copies, looks_before, notes_still, put_core, takes_boxes, posted_still, collect_boxes}
 use Rattle.mum_core.proofs.Fitted.{IsLawful, lawful_all, lawful_start, one_slot, state_proper}
 use Rattle.mum_core.proofs.Present.{slot_below}
 use Rattle.mum_core.proofs.RunLaws.{taken_core, told_core}
@@ -71,18 +73,15 @@ puts_boxes : (n slot : ℕ) (core : CoreState) (next : Option Outgoing) → ((co
 puts_boxes n slot core None own fits = fits
 puts_boxes n slot core (Some next) own fits = cond_boxes n slot (offer_step.has_room core next.slot.0) _ _ (put_boxes n slot core next (own next refl) fits) fits
 
-rest_boxes : (n slot : ℕ) (core : CoreState) (seat : Seat) → Boxes n slot core → Boxes n slot (rest_core core seat)
-rest_boxes n slot core seat fits at =
-    changed-by (λ old new. FitsBox n slot at old → FitsBox n slot at new) (λ x all. all) core.outboxes seat.slot.0 at (λ parcels. drop 1 parcels) []
+rest_boxes : (n slot : ℕ) (core : CoreState) (k : ℕ) → Boxes n slot core → Boxes n slot (at_outbox k (λ parcels. drop 1 parcels) core)
+rest_boxes n slot core k fits at =
+    changed-by (λ old new. FitsBox n slot at old → FitsBox n slot at new) (λ x all. all) core.outboxes k at (λ parcels. drop 1 parcels) []
     (λ x there here all. all-dropped (FitsParcel n slot at) x all) (fits at)
 
-takes_fit : (n slot : ℕ) (core : CoreState) (seat : Seat) (front : Option Parcel) → Boxes n slot core → Boxes n slot (drain_step.takes core seat front)
-takes_fit n slot core seat None fits = fits
-takes_fit n slot core seat (Some front) fits = boxes_by n slot (rest_core core seat) (drain_step.takes core seat (Some front)) (takes_boxes core seat front) (rest_boxes n slot core seat fits)
-
-drain_fits : (n slot : ℕ) (core : CoreState) (seat : Option Seat) → Boxes n slot core → Boxes n slot (drain_step.does_from core seat)
-drain_fits n slot core None fits = fits
-drain_fits n slot core (Some seat) fits = takes_fit n slot core seat (slice_get (outbox_at core seat.slot.0) 0) fits
+drain_fits : (n slot : ℕ) (core : CoreState) (seat : Option Seat) → Boxes n slot core → Boxes n slot (does_from copy_queues core seat)
+drain_fits n slot core seat fits =
+    let rest : (k : ℕ) → Boxes n slot (copy_queues.without k core) = λ k. rest_boxes n slot core k fits in
+    delivered (Boxes n slot) copy_queues core seat fits rest rest
 
 first_fits : (n slot : ℕ) (copies : List Outgoing) (copy : Outgoing) → AllByRecursion (FitsCopy n slot) copies → slice_get copies 0 ≡ Some copy → FitsCopy n slot copy
 first_fits n slot [] copy all e = cc
@@ -206,10 +205,10 @@ none_mine n slot at front fits other false e = refl
 
 drained_front : (n slot : ℕ) (core : CoreState) (seat : Seat) (front : Parcel) (rest : List Parcel) → slot < length core.outboxes → outbox_at core seat.slot.0 ≡ front ∷ rest
     → FitsParcel n slot seat.slot.0 front
-    → bytes_of (mine n (outbox_at core slot)) ≡ bytes_of (mine n (front ∷ [])) ++ bytes_of (mine n (outbox_at (drain_step.takes core seat (Some front)) slot))
+    → bytes_of (mine n (outbox_at core slot)) ≡ bytes_of (mine n (front ∷ [])) ++ bytes_of (mine n (outbox_at (takes copy_queues core seat (Some (carried front))) slot))
 drained_front n slot core seat front rest within e fits =
     let boxes = takes_boxes core seat front in
-    let after : List Parcel = outbox_at (drain_step.takes core seat (Some front)) slot in
+    let after : List Parcel = outbox_at (takes copy_queues core seat (Some (carried front))) slot in
     elim (cases_eq slot seat.slot.0) [
       | inl here ↦
           let own : outbox_at core slot ≡ front ∷ rest = ap (λ (k : ℕ). outbox_at core k) here ∙ e in
@@ -227,12 +226,12 @@ drained_front n slot core seat front rest within e fits =
     ]
 
 drained : (n slot : ℕ) (core : CoreState) (seat : Seat) → slot < length core.outboxes → (box : List Parcel) → outbox_at core seat.slot.0 ≡ box → FitsBox n slot seat.slot.0 box
-    → bytes_of (mine n (outbox_at core slot)) ≡ bytes_of (mine n (take 1 box)) ++ bytes_of (mine n (outbox_at (drain_step.takes core seat (slice_get box 0)) slot))
+    → bytes_of (mine n (outbox_at core slot)) ≡ bytes_of (mine n (take 1 box)) ++ bytes_of (mine n (outbox_at (takes copy_queues core seat (option_map carried (slice_get box 0))) slot))
 drained n slot core seat within [] e fits = refl
 drained n slot core seat within (front ∷ rest) e fits = drained_front n slot core seat front rest within e fits.0
 
 drained_from : (n slot : ℕ) (core : CoreState) (seat : Option Seat) → slot < length core.outboxes → Boxes n slot core
-    → bytes_of (mine n (outbox_at core slot)) ++ [] ≡ bytes_of (mine n (front core seat)) ++ bytes_of (mine n (outbox_at (drain_step.does_from core seat) slot))
+    → bytes_of (mine n (outbox_at core slot)) ++ [] ≡ bytes_of (mine n (front core seat)) ++ bytes_of (mine n (outbox_at (does_from copy_queues core seat) slot))
 drained_from n slot core None within fits = append-nil (bytes_of (mine n (outbox_at core slot)))
 drained_from n slot core (Some seat) within fits =
     append-nil (bytes_of (mine n (outbox_at core slot))) ∙ drained n slot core seat within (outbox_at core seat.slot.0) refl (fits seat.slot.0)

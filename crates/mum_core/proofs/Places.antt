@@ -1,6 +1,6 @@
 -- What a step makes of each connection. A connection stays at its worker.
-use Rattle.std.proofs.Common.{◌≡◌, ℕ, zero, suc, ◌+◌, ◌-◌, ◌<◌, ◌≤◌, Bool, true, false, cond, List, [], ◌∷◌, ◌++◌, length, map, Option, Some, None, Result, Ok, Err, refl, sym, ap, ◌∙◌, subst, arith, inl, inr, length-append}
-use Rattle.std.specs.Prelude.{◌⊎◌, IfSome, nat_lt, slice_get, slice_index_or}
+use Rattle.std.proofs.Common.{◌≡◌, ℕ, zero, suc, ◌+◌, ◌-◌, ◌<◌, ◌≤◌, Bool, true, false, cond, List, [], ◌∷◌, ◌++◌, length, map, Option, Some, None, refl, sym, ap, ◌∙◌, subst, arith, inl, inr, length-append}
+use Rattle.std.specs.Prelude.{◌⊎◌, IfSome, nat_lt, slice_index_or}
 use Rattle.std.specs.Option.{option_map, option_map_or}
 use Rattle.std.proofs.lemmas.Bool.{and_parts, lt-ltb, ltb-true}
 use Rattle.std.proofs.lemmas.List.{length-map}
@@ -15,17 +15,18 @@ use Rattle.mum_session.specs.declared.command.Asked.{Asked}
 use Rattle.mum_core.specs.declared.connection.Connection.{Connection}
 use Rattle.mum_core.specs.declared.connection.Reply.{Reply}
 use Rattle.mum_core.specs.declared.connection.Seat.{Seat}
-use Rattle.mum_core.specs.declared.outbox.Parcel.{Parcel}
 use Rattle.mum_core.specs.declared.worker.Outgoing.{Outgoing}
 use Rattle.mum_record.specs.declared.step.Step.TheVariants as steps
 use Rattle.mum_record.specs.declared.step.Step.{Step}
 use Rattle.mum_record.specs.declared.step.Step.TheVariants.{Open, Frame, Publish, Tell, Look, Offer, Post, Drain, Collect, Close, End}
 use Rattle.mum_core.specs.Connection.{answered, asking, closed_at, fresh, is_of, lagging, next_of_frame, told}
-use Rattle.mum_core.specs.Core.{CoreState, connection_at, outbox_at, posts_at, at_posts, at_session, is_opened, up}
+use Rattle.mum_core.specs.Core.{CoreState, connection_at, at_posts, at_session, is_opened, up}
 use Rattle.mum_core.specs.Laws.{ran}
 use Rattle.mum_core.specs.Lists.{changed_at}
 use Rattle.mum_core.specs.Step.{does, frame_action, frame_version}
-use Rattle.mum_core.specs.steps.Drain as drain_step
+use Rattle.mum_core.specs.Delivery.{Queues, does_from}
+use Rattle.mum_core.specs.steps.{Drain.copy_queues, Collect.notice_queues}
+use Rattle.mum_core.proofs.Delivered.{delivered}
 use Rattle.mum_core.specs.steps.Edit as edit_step
 use Rattle.mum_core.specs.Worker.{HeldPacket}
 use Rattle.mum_core.specs.steps.Frame as frame_step
@@ -33,7 +34,6 @@ use Rattle.mum_core.specs.steps.Frame.{spoken}
 use Rattle.mum_core.specs.steps.Offer as offer_step
 use Rattle.mum_core.specs.steps.Tell as tell_step
 use Rattle.mum_core.specs.steps.Post as post_step
-use Rattle.mum_core.specs.steps.Collect as collect_step
 use Rattle.mum_core.proofs.Changed.{changed-by, length-changed}
 use Rattle.mum_core.proofs.RunLaws.{told_core, taken_core, posting_core}
 
@@ -105,14 +105,6 @@ puts_connections : (core : CoreState) (next : Option Outgoing) → (offer_step.p
 puts_connections core None = refl
 puts_connections core (Some next) = cond_connections (offer_step.has_room core next.slot.0) core _ _ refl refl
 
-takes_connections : (core : CoreState) (seat : Seat) (front : Option Parcel) → (drain_step.takes core seat front).connections ≡ core.connections
-takes_connections core seat None = refl
-takes_connections core seat (Some front) = cond_connections (drain_step.is_for front seat) core _ _ refl refl
-
-drain_connections : (core : CoreState) (seat : Option Seat) → (drain_step.does_from core seat).connections ≡ core.connections
-drain_connections core None = refl
-drain_connections core (Some seat) = takes_connections core seat (slice_get (outbox_at core seat.slot.0) 0)
-
 edit_connections : (core : CoreState) (c : ℕ) (decided : Option Verdict)
     → (option_map_or (edit_step.decides core c) decided core).connections ≡ with_change core.connections (option_map (change_to core c) decided)
 edit_connections core c None = refl
@@ -126,13 +118,9 @@ post_become core (Some next) = from (post_step.has_room core next.slot.0)
     from true = inr (inl refl)
     from false = inr (inr (next.to, refl))
 
-collects_connections : (core : CoreState) (seat : Seat) (front : Option Notice) → (collect_step.takes core seat front).connections ≡ core.connections
-collects_connections core seat None = refl
-collects_connections core seat (Some front) = cond_connections (collect_step.is_for front seat) core _ _ refl refl
-
-collect_connections : (core : CoreState) (seat : Option Seat) → (collect_step.does_from core seat).connections ≡ core.connections
-collect_connections core None = refl
-collect_connections core (Some seat) = collects_connections core seat (slice_get (posts_at core seat.slot.0) 0)
+delivery_connections : (queues : Queues) (core : CoreState) (seat : Option Seat) → ((slot : ℕ) → (queues.without slot core).connections ≡ core.connections)
+    → (does_from queues core seat).connections ≡ core.connections
+delivery_connections queues core seat rest = delivered (λ new. new.connections ≡ core.connections) queues core seat refl rest rest
 
 become : (core : CoreState) (step : Step) → Becomes core.connections (change_of core step) (does core step).connections
 become core (Open c w) = inl (w, refl)
@@ -142,9 +130,9 @@ become core Publish = inr (inl refl)
 become core (Tell c revision) = inr (inl (notes_connections (told_core core c) (connection_at core c).worker revision))
 become core (Look w revision) = inr (inl refl)
 become core (Offer w) = inr (inl (puts_connections (taken_core core w) (offer_step.next_copy core w)))
-become core (Drain c) = inr (inl (drain_connections core (connection_at core c).seat))
+become core (Drain c) = inr (inl (delivery_connections copy_queues core (connection_at core c).seat (λ slot. refl)))
 become core Post = post_become (posting_core core) (post_step.next_notice core)
-become core (Collect c) = inr (inl (collect_connections core (connection_at core c).seat))
+become core (Collect c) = inr (inl (delivery_connections notice_queues core (connection_at core c).seat (λ slot. refl)))
 become core (Close c cause) = inr (inl refl)
 become core End = inr (inl refl)
 

@@ -1,17 +1,15 @@
 -- The laws over runs, step by step.
-use Rattle.std.proofs.Common.{◌≡◌, ℕ, ◌≤◌, ◌<◌, max, Bool, true, false, cond, List, [], ◌∷◌, ◌++◌, length, drop, Option, Some, None, Result, Ok, Err, refl, sym, ap, ◌∙◌, arith, append_assoc, length-append}
+use Rattle.std.proofs.Common.{◌≡◌, ℕ, ◌≤◌, ◌<◌, max, Bool, true, false, cond, List, [], ◌∷◌, ◌++◌, length, drop, Option, Some, None, refl, sym, ap, ◌∙◌, arith, append_assoc, length-append}
 use Rattle.std.specs.Prelude.{not, is_none, nat_lt, slice_get, slice_index_or}
 use Rattle.std.specs.Option.{option_map_or}
 use Rattle.std.proofs.lemmas.Bool.{ltb-false, ltb-true}
 use Rattle.std.proofs.lemmas.List.{append-nil}
 use Rattle.std.proofs.lemmas.Option.{get_or_from_slice_get}
-use Rattle.mum_base.specs.declared.number.SessionId.{SessionId}
 use Rattle.mum_state.specs.declared.edit.Edit.{Edit}
 use Rattle.mum_state.specs.declared.verdict.Verdict.{Verdict}
 use Rattle.mum_state.specs.State.{StateValue}
 use Rattle.mum_voice.specs.Packet.{packet}
 use Rattle.mum_core.specs.declared.connection.Seat.{Seat}
-use Rattle.mum_core.specs.declared.outbox.Parcel.{Parcel}
 use Rattle.mum_core.specs.declared.worker.Outgoing.{Outgoing}
 use Rattle.mum_session.specs.declared.action.Action.{Action}
 use Rattle.mum_session.specs.declared.action.Action.TheVariants.{Ask, Voice, Echo, Keep, Ignore}
@@ -19,21 +17,22 @@ use Rattle.mum_record.specs.declared.step.Step.TheVariants as steps
 use Rattle.mum_record.specs.declared.step.Step.{Step}
 use Rattle.mum_record.specs.declared.step.Step.TheVariants.{Open, Frame, Publish, Tell, Look, Offer, Post, Drain, Collect, Close, End}
 use Rattle.mum_notify.specs.declared.notice.Notice.{Notice}
-use Rattle.mum_core.specs.Core.{CoreState, start, connection_at, worker_at, outbox_at, posts_at, at_outbox, at_connection, at_worker, up}
+use Rattle.mum_core.specs.Core.{CoreState, start, connection_at, worker_at, at_outbox, at_connection, at_worker, up}
 use Rattle.mum_core.specs.Connection.{told}
 use Rattle.mum_core.specs.steps.Edit as edit_step
 use Rattle.mum_core.specs.Laws.{IsRun, ran}
 use Rattle.mum_core.specs.Lists.{changed_at}
-use Rattle.mum_core.specs.Reply.{edits_of}
+use Rattle.mum_session.specs.Verdict.{edits_of}
 use Rattle.mum_core.specs.Step.{does, frame_action, frame_version, illegal}
 use Rattle.mum_core.specs.Worker.{WorkerState, idle, least_look, HeldPacket}
 use Rattle.mum_core.specs.steps.Frame as frame_step
 use Rattle.mum_core.specs.steps.Frame.{spoken}
 use Rattle.mum_core.specs.steps.Offer as offer_step
-use Rattle.mum_core.specs.steps.Drain as drain_step
+use Rattle.mum_core.specs.Delivery.{Queues, does_from}
+use Rattle.mum_core.specs.steps.{Drain.copy_queues, Collect.notice_queues}
+use Rattle.mum_core.proofs.Delivered.{delivered}
 use Rattle.mum_core.specs.steps.Tell as tell_step
 use Rattle.mum_core.specs.steps.Post as post_step
-use Rattle.mum_core.specs.steps.Collect as collect_step
 use Rattle.mum_core.proofs.Changed.{changed-by, changed_same}
 
 abbrev pub Grown : CoreState → CoreState → Type 0
@@ -70,25 +69,15 @@ pub puts_keep : (core : CoreState) (next : Option Outgoing) → Keeps core (offe
 puts_keep core None = (refl, refl, refl)
 puts_keep core (Some next) = cond_keeps (offer_step.has_room core next.slot.0) core _ _ (refl, refl, refl) (refl, refl, refl)
 
-takes_keep : (core : CoreState) (seat : Seat) (front : Option Parcel) → Keeps core (drain_step.takes core seat front)
-takes_keep core seat None = (refl, refl, refl)
-takes_keep core seat (Some front) = cond_keeps (drain_step.is_for front seat) core _ _ (refl, refl, refl) (refl, refl, refl)
-
-pub drain_keeps : (core : CoreState) (seat : Option Seat) → Keeps core (drain_step.does_from core seat)
-drain_keeps core None = (refl, refl, refl)
-drain_keeps core (Some seat) = takes_keep core seat (slice_get (outbox_at core seat.slot.0) 0)
+pub drain_keeps : (core : CoreState) (seat : Option Seat) → Keeps core (does_from copy_queues core seat)
+drain_keeps core seat = delivered (Keeps core) copy_queues core seat (refl, refl, refl) (λ slot. (refl, refl, refl)) (λ slot. (refl, refl, refl))
 
 post_keeps : (core : CoreState) (next : Option Notice) → Keeps core (post_step.puts core next)
 post_keeps core None = (refl, refl, refl)
 post_keeps core (Some next) = cond_keeps (post_step.has_room core next.slot.0) core _ _ (refl, refl, refl) (refl, refl, refl)
 
-collects_keep : (core : CoreState) (seat : Seat) (front : Option Notice) → Keeps core (collect_step.takes core seat front)
-collects_keep core seat None = (refl, refl, refl)
-collects_keep core seat (Some front) = cond_keeps (collect_step.is_for front seat) core _ _ (refl, refl, refl) (refl, refl, refl)
-
-pub collect_keeps : (core : CoreState) (seat : Option Seat) → Keeps core (collect_step.does_from core seat)
-collect_keeps core None = (refl, refl, refl)
-collect_keeps core (Some seat) = collects_keep core seat (slice_get (posts_at core seat.slot.0) 0)
+pub collect_keeps : (core : CoreState) (seat : Option Seat) → Keeps core (does_from notice_queues core seat)
+collect_keeps core seat = delivered (Keeps core) notice_queues core seat (refl, refl, refl) (λ slot. (refl, refl, refl)) (λ slot. (refl, refl, refl))
 
 -- the core of a post before its slot's posts
 abbrev pub posting_core : CoreState → CoreState
@@ -268,14 +257,6 @@ puts_go_on : (core : CoreState) (w : ℕ) (next : Option Outgoing) → Further (
 puts_go_on core w None = same_worker (worker_at core w)
 puts_go_on core w (Some next) = cond_goes_on (offer_step.has_room core next.slot.0) core _ _ w (same_worker (worker_at core w)) (same_worker (worker_at core w))
 
-takes_go_on : (core : CoreState) (w : ℕ) (seat : Seat) (front : Option Parcel) → Further (worker_at core w) (worker_at (drain_step.takes core seat front) w)
-takes_go_on core w seat None = same_worker (worker_at core w)
-takes_go_on core w seat (Some front) = cond_goes_on (drain_step.is_for front seat) core _ _ w (same_worker (worker_at core w)) (same_worker (worker_at core w))
-
-drain_goes_on : (core : CoreState) (w : ℕ) (seat : Option Seat) → Further (worker_at core w) (worker_at (drain_step.does_from core seat) w)
-drain_goes_on core w None = same_worker (worker_at core w)
-drain_goes_on core w (Some seat) = takes_go_on core w seat (slice_get (outbox_at core seat.slot.0) 0)
-
 decided_goes_on : (core : CoreState) (c w : ℕ) (verdict : Option Verdict) → Further (worker_at core w) (worker_at (option_map_or (edit_step.decides core c) verdict core) w)
 decided_goes_on core c w None = same_worker (worker_at core w)
 decided_goes_on core c w (Some verdict) = same_worker (worker_at core w)
@@ -291,13 +272,15 @@ post_workers core (Some next) = cond_workers (post_step.has_room core next.slot.
 pub posted_workers : (core : CoreState) → (does core Post).workers ≡ core.workers
 posted_workers core = post_workers (posting_core core) (post_step.next_notice core)
 
-collects_workers : (core : CoreState) (seat : Seat) (front : Option Notice) → (collect_step.takes core seat front).workers ≡ core.workers
-collects_workers core seat None = refl
-collects_workers core seat (Some front) = cond_workers (collect_step.is_for front seat) core _ _ refl refl
+delivery_workers : (queues : Queues) (core : CoreState) (seat : Option Seat) → ((slot : ℕ) → (queues.without slot core).workers ≡ core.workers)
+    → (does_from queues core seat).workers ≡ core.workers
+delivery_workers queues core seat rest = delivered (λ new. new.workers ≡ core.workers) queues core seat refl rest rest
 
-pub collect_workers : (core : CoreState) (seat : Option Seat) → (collect_step.does_from core seat).workers ≡ core.workers
-collect_workers core None = refl
-collect_workers core (Some seat) = collects_workers core seat (slice_get (posts_at core seat.slot.0) 0)
+pub drain_workers : (core : CoreState) (seat : Option Seat) → (does_from copy_queues core seat).workers ≡ core.workers
+drain_workers core seat = delivery_workers copy_queues core seat (λ slot. refl)
+
+pub collect_workers : (core : CoreState) (seat : Option Seat) → (does_from notice_queues core seat).workers ≡ core.workers
+collect_workers core seat = delivery_workers notice_queues core seat (λ slot. refl)
 
 unchanged : (core new : CoreState) (w : ℕ) → new.workers ≡ core.workers → Further (worker_at core w) (worker_at new w)
 unchanged core new w same = rw same (same_worker (worker_at core w))
@@ -317,7 +300,7 @@ goes_on core (Look v revision) w h =
 goes_on core (Offer v) w h =
     further_then (worker_at core w) (worker_at (taken_core core v) w) (worker_at (does core (Offer v)) w)
     (changed-by Further same_worker core.workers v w (λ worker. record worker { copies = drop 1 worker.copies }) idle (λ x at here. same_worker x)) (puts_go_on (taken_core core v) w (offer_step.next_copy core v))
-goes_on core (Drain c) w h = drain_goes_on core w (connection_at core c).seat
+goes_on core (Drain c) w h = unchanged core (does core (Drain c)) w (drain_workers core (connection_at core c).seat)
 goes_on core Post w h = unchanged core (does core Post) w (posted_workers core)
 goes_on core (Collect c) w h = unchanged core (does core (Collect c)) w (collect_workers core (connection_at core c).seat)
 goes_on core (Close c cause) w h = same_worker (worker_at core w)
@@ -342,19 +325,6 @@ puts_workers core (Some next) = from (offer_step.has_room core next.slot.0)
         (record core { totals = record core.totals { full = up core.totals.full } })).workers ≡ core.workers
     from true = refl
     from false = refl
-
-takes_workers : (core : CoreState) (seat : Seat) (front : Option Parcel) → (drain_step.takes core seat front).workers ≡ core.workers
-takes_workers core seat None = refl
-takes_workers core seat (Some front) = from (drain_step.is_for front seat)
-  where
-    from : (b : Bool) → (cond b (at_outbox seat.slot.0 (λ parcels. drop 1 parcels) core)
-        (record (at_outbox seat.slot.0 (λ parcels. drop 1 parcels) core) { totals = record core.totals { stale = up core.totals.stale } })).workers ≡ core.workers
-    from true = refl
-    from false = refl
-
-pub drain_workers : (core : CoreState) (seat : Option Seat) → (drain_step.does_from core seat).workers ≡ core.workers
-drain_workers core None = refl
-drain_workers core (Some seat) = takes_workers core seat (slice_get (outbox_at core seat.slot.0) 0)
 
 pub decided_workers : (core : CoreState) (c : ℕ) (verdict : Option Verdict) → (option_map_or (edit_step.decides core c) verdict core).workers ≡ core.workers
 decided_workers core c None = refl

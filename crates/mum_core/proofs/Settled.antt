@@ -18,7 +18,7 @@ use Rattle.mum_record.specs.declared.step.Step.TheVariants.{Frame, Tell, Close}
 use Rattle.mum_core.specs.Connection.{answered, fresh, next_command, next_of_frame, seat_given, session_of}
 use Rattle.mum_core.specs.Core.{CoreState, start, connection_at, current, is_opened}
 use Rattle.mum_core.specs.Laws.{IsRun, ran}
-use Rattle.mum_core.specs.Reply.{verdict}
+use Rattle.mum_session.specs.Verdict.{verdict}
 use Rattle.mum_core.specs.Step.{does, frame_action, frame_version, illegal}
 use Rattle.mum_core.specs.steps.Edit as edit_step
 use Rattle.mum_core.proofs.Lower.{SeatsNext, verdict_seats}

@@ -28,7 +28,8 @@ use Rattle.mum_record.specs.declared.step.Step.TheVariants.{Open, Frame, Publish
 use Rattle.mum_core.specs.Connection.{answered, fresh, next_command, next_of_frame, seat_given, session_of}
 use Rattle.mum_core.specs.Core.{CoreState, start, connection_at, current, worker_at, is_opened}
 use Rattle.mum_core.specs.Laws.{IsRun, ran, gathered, packet_taken}
-use Rattle.mum_core.specs.Reply.{edits_of, seat_of, verdict}
+use Rattle.mum_session.specs.Verdict.{edits_of, verdict}
+use Rattle.mum_core.specs.Reply.{seat_of}
 use Rattle.mum_core.specs.Step.{does, frame_action, frame_version, illegal}
 use Rattle.mum_core.specs.Worker.{WorkerState, HeldPacket, idle}
 use Rattle.mum_core.specs.steps.Edit as edit_step

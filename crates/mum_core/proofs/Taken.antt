@@ -1,12 +1,12 @@
 -- A step, with the line that it takes.
-use Rattle.std.proofs.Common.{◌≡◌, ℕ, Bool, true, false, cond, List, Option, Some, None, Result, Ok, Err, inl, inr, refl, ap, ◌∙◌}
+use Rattle.std.proofs.Common.{◌≡◌, ℕ, Bool, true, false, cond, List, Option, Some, None, Result, Ok, inr, refl, ap, ◌∙◌}
 use Rattle.std.specs.Prelude.{◌⊎◌}
 use Rattle.std.specs.Option.{option_map_or}
 use Rattle.mum_base.specs.Refusal.{Gives}
 use Rattle.mum_state.specs.declared.verdict.Verdict.{Verdict}
 use Rattle.mum_notify.specs.declared.notice.Notice.{Notice}
 use Rattle.mum_voice.specs.Packet.{packet}
-use Rattle.mum_core.specs.declared.{connection.Seat.Seat, machine.StepFault.StepFault, machine.StepFault.TheVariants.OutOfMemory, outbox.Parcel.Parcel, worker.Outgoing.Outgoing}
+use Rattle.mum_core.specs.declared.{connection.Seat.Seat, machine.StepFault.StepFault, worker.Outgoing.Outgoing}
 use Rattle.mum_session.specs.declared.action.Action.{Action}
 use Rattle.mum_session.specs.declared.action.Action.TheVariants.{Ask, Voice, Echo, Keep, Ignore}
 use Rattle.mum_record.specs.declared.step.Step.{Step}
@@ -22,8 +22,9 @@ use Rattle.mum_core.specs.steps.Edit as edit_step
 use Rattle.mum_core.specs.steps.Tell as tell_step
 use Rattle.mum_core.specs.steps.Offer as offer_step
 use Rattle.mum_core.specs.steps.Post as post_step
-use Rattle.mum_core.specs.steps.Drain as drain_step
-use Rattle.mum_core.specs.steps.Collect as collect_step
+use Rattle.mum_core.specs.Delivery.{Queues, does_from}
+use Rattle.mum_core.specs.steps.{Drain.copy_queues, Collect.notice_queues}
+use Rattle.mum_core.proofs.Delivered.{delivered}
 
 -- ---- no change of a step changes the line
 
@@ -54,25 +55,13 @@ put_line : (core : CoreState) (next : Option Outgoing) → (offer_step.puts core
 put_line core None = refl
 put_line core (Some next) = either_line (offer_step.has_room core next.slot.0) core _ _ refl refl
 
-taken_line : (core : CoreState) (seat : Seat) (front : Option Parcel) → (drain_step.takes core seat front).line ≡ core.line
-taken_line core seat None = refl
-taken_line core seat (Some front) = either_line (drain_step.is_for front seat) core _ _ refl refl
-
-drain_line : (core : CoreState) (seat : Option Seat) → (drain_step.does_from core seat).line ≡ core.line
-drain_line core None = refl
-drain_line core (Some seat) = taken_line core seat _
+delivery_line : (queues : Queues) (core : CoreState) (seat : Option Seat) → ((slot : ℕ) → (queues.without slot core).line ≡ core.line)
+    → (does_from queues core seat).line ≡ core.line
+delivery_line queues core seat rest = delivered (λ new. new.line ≡ core.line) queues core seat refl rest rest
 
 post_line : (core : CoreState) (next : Option Notice) → (post_step.puts core next).line ≡ core.line
 post_line core None = refl
 post_line core (Some next) = either_line (post_step.has_room core next.slot.0) core _ _ refl refl
-
-collected_line : (core : CoreState) (seat : Seat) (front : Option Notice) → (collect_step.takes core seat front).line ≡ core.line
-collected_line core seat None = refl
-collected_line core seat (Some front) = either_line (collect_step.is_for front seat) core _ _ refl refl
-
-collect_line : (core : CoreState) (seat : Option Seat) → (collect_step.does_from core seat).line ≡ core.line
-collect_line core None = refl
-collect_line core (Some seat) = collected_line core seat _
 
 pub same_line : (core : CoreState) (step : Step) → (changes core step).line ≡ core.line
 same_line core (Open c w) = refl
@@ -83,8 +72,8 @@ same_line core (Tell c revision) = note_line (at_connection c told core) (connec
 same_line core (Look w revision) = refl
 same_line core (Offer w) = put_line _ (offer_step.next_copy core w)
 same_line core Post = post_line _ (post_step.next_notice core)
-same_line core (Drain c) = drain_line core (connection_at core c).seat
-same_line core (Collect c) = collect_line core (connection_at core c).seat
+same_line core (Drain c) = delivery_line copy_queues core (connection_at core c).seat (λ slot. refl)
+same_line core (Collect c) = delivery_line notice_queues core (connection_at core c).seat (λ slot. refl)
 same_line core (Close c cause) = refl
 same_line core End = refl
 
@@ -101,12 +90,8 @@ done_of core mid new step is counted =
 abbrev answers : List (List ℕ) → Result (List (List ℕ)) StepFault
 answers lines = Ok lines
 
-never_starved : (lines : List (List ℕ)) → answers lines ≡ Err OutOfMemory → ⊥
-never_starved lines e = cc
-
 pub given_of : (core mid new : CoreState) (step : Step) (given lines : List (List ℕ))
-    → IsStarved core (answers given) mid ⊎ Gives named_cause (illegal core step) lines (changes core step) core (answers given) mid
+    → Gives named_cause (illegal core step) lines core core (answers given) core → mid ≡ changes core step
     → new ≡ record mid { line = up mid.line }
     → IsStarved core (answers given) new ⊎ Gives named_cause (illegal core step) lines (does core step) core (answers given) new
-given_of core mid new step given lines (inl starved) counted = absurd (never_starved given starved.0)
-given_of core mid new step given lines (inr gives) counted = inr (gives.0, gives.1, done_of core mid new step gives.2 counted)
+given_of core mid new step given lines gives changed counted = inr (gives.0, gives.1, done_of core mid new step changed counted)

@@ -1,5 +1,5 @@
 -- What a connection is to the steps.
-use Rattle.std.specs.Prelude.{ℕ, ◌+◌, ◌||◌, ◌==◌, Bool, true, false, Option, Some, None, is_some, if◌then◌else◌}
+use Rattle.std.specs.Prelude.{ℕ, ◌+◌, ◌||◌, ◌==◌, Bool, true, false, List, [], Option, Some, None, is_some, if◌then◌else◌}
 use Rattle.std.specs.Option.{option_and_then, option_map, option_map_or, option_or}
 use Rattle.mum_base.specs.declared.number.SessionId.{SessionId}
 use Rattle.mum_base.specs.declared.reply.Mark.{Mark}
@@ -90,6 +90,14 @@ is_of session connection = option_map_or (λ own. own.0 == session.0) (session_o
 
 abbrev pub rejects : Option Reply → Bool
 rejects reply = option_map_or (λ reply. is_rejected reply.mark) reply false
+
+-- the bytes of its reply; none where it is closed
+abbrev pub wire_in : Option Reply → List ℕ
+wire_in None = []
+wire_in (Some reply) = reply.wire
+
+abbrev pub wire_of : Connection → List ℕ
+wire_of connection = if is_some connection.closed then [] else wire_in connection.decided
 
 -- ---- what becomes of it
 

@@ -10,8 +10,8 @@ use Rattle.mum_core.specs.Core.{CoreState, current, state_at, connection_at, wor
 use Rattle.mum_core.specs.Step.{does, illegal}
 use Rattle.mum_core.specs.declared.{connection.Seat.Seat, outbox.Parcel.Parcel, worker.Outgoing.Outgoing}
 use Rattle.mum_core.specs.Worker.{HeldPacket}
-use Rattle.mum_core.specs.steps.{Drain.is_for, Look.audience, Offer.has_room}
-use Rattle.mum_core.specs.steps.Collect as collect_step
+use Rattle.mum_core.specs.Delivery.{is_for}
+use Rattle.mum_core.specs.steps.{Look.audience, Offer.has_room}
 use Rattle.mum_core.specs.steps.Edit as edit_step
 use Rattle.mum_core.specs.steps.Post as post_step
 
@@ -56,7 +56,7 @@ removed n core step = []
 -- of a copy that was taken out of the outbox of a seat, what its connection is told: a copy for another session is dropped
 abbrev pub own_front : CoreState → Option Seat → List Parcel
 own_front core None = []
-own_front core (Some seat) = filter (λ parcel. is_for parcel seat) (front core (Some seat))
+own_front core (Some seat) = filter (λ parcel. is_for parcel.to seat) (front core (Some seat))
 
 -- the copy that a step tells a connection
 abbrev pub wired : CoreState → Step → List Parcel
@@ -109,7 +109,7 @@ collected slot core step = []
 
 abbrev pub own_notice : CoreState → Option Seat → List Notice
 own_notice core None = []
-own_notice core (Some seat) = filter (λ notice. collect_step.is_for notice seat) (front_notice core (Some seat))
+own_notice core (Some seat) = filter (λ notice. is_for notice.to seat) (front_notice core (Some seat))
 
 -- the notice that a step tells a connection
 abbrev pub told_notice : CoreState → Step → List Notice

@@ -6,6 +6,7 @@ pub mod Worker
 pub mod Core
 pub mod Case
 pub mod Line
+pub mod Delivery
 pub mod Reply
 pub mod steps
 pub mod Step

@@ -1,5 +1,5 @@
 -- A connection as the machine of its frames.
-use Rattle.std.specs.Prelude.{ℕ, false, Option, if◌then◌else◌}
+use Rattle.std.specs.Prelude.{ℕ, false, if◌then◌else◌}
 use Rattle.std.specs.Option.{option_map_or}
 use Rattle.mum_session.specs.declared.session.Stage.{Stage}
 use Rattle.mum_session.specs.declared.session.Stage.TheVariants.{BeforeLogin, LoggedIn, Rejected}

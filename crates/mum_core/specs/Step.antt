@@ -8,6 +8,7 @@ use Rattle.mum_session.specs.Action.{action, after_frame}
 use Rattle.mum_core.specs.Case.{Case, first_that_stands}
 use Rattle.mum_core.specs.Core.{CoreState, connection_at, up}
 use Rattle.mum_core.specs.Machine.{machine_of}
+use Rattle.mum_core.specs.Delivery as delivery
 use Rattle.mum_core.specs.steps.Open as open_step
 use Rattle.mum_core.specs.steps.Frame as frame_step
 use Rattle.mum_core.specs.steps.Edit as edit_step
@@ -16,8 +17,7 @@ use Rattle.mum_core.specs.steps.Tell as tell_step
 use Rattle.mum_core.specs.steps.Look as look_step
 use Rattle.mum_core.specs.steps.Offer as offer_step
 use Rattle.mum_core.specs.steps.Post as post_step
-use Rattle.mum_core.specs.steps.Drain as drain_step
-use Rattle.mum_core.specs.steps.Collect as collect_step
+use Rattle.mum_core.specs.steps.{Drain.copy_queues, Collect.notice_queues}
 use Rattle.mum_core.specs.steps.Close as close_step
 use Rattle.mum_core.specs.steps.End as end_step
 
@@ -38,8 +38,8 @@ forbids core (Tell c revision) = tell_step.forbids core c revision
 forbids core (Look w revision) = look_step.forbids core w revision
 forbids core (Offer w) = offer_step.forbids core w
 forbids core Post = post_step.forbids core
-forbids core (Drain c) = drain_step.forbids core c
-forbids core (Collect c) = collect_step.forbids core c
+forbids core (Drain c) = delivery.forbids core c
+forbids core (Collect c) = delivery.forbids core c
 forbids core (Close c cause) = close_step.forbids core c cause
 forbids core End = end_step.forbids
 
@@ -53,8 +53,8 @@ changes core (Tell c revision) = tell_step.does core c revision
 changes core (Look w revision) = look_step.does core w revision
 changes core (Offer w) = offer_step.does core w
 changes core Post = post_step.does core
-changes core (Drain c) = drain_step.does core c
-changes core (Collect c) = collect_step.does core c
+changes core (Drain c) = delivery.does copy_queues core c
+changes core (Collect c) = delivery.does notice_queues core c
 changes core (Close c cause) = close_step.does core c
 changes core End = end_step.does core
 
@@ -71,8 +71,8 @@ lines core (Tell c revision) = tell_step.lines core c revision
 lines core (Look w revision) = look_step.lines core w revision
 lines core (Offer w) = offer_step.lines core w
 lines core Post = post_step.lines core
-lines core (Drain c) = drain_step.lines core c
-lines core (Collect c) = collect_step.lines core c
+lines core (Drain c) = delivery.lines copy_queues core c
+lines core (Collect c) = delivery.lines notice_queues core c
 lines core (Close c cause) = close_step.lines c cause
 lines core End = end_step.lines core
 

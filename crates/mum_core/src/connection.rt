@@ -2,7 +2,7 @@
 
 ghost use Rattle.std.specs.Prelude.{◌≡◌, Some, is_some, map, if◌then◌else◌};
 ghost use Rattle.std.specs.Option.{option_copied};
-ghost use Rattle.mum_core.specs.Connection.{answered, asking, closed_at, followed, fresh, is_of, is_untold, lagging, leads, leave_waiting, leaving, next_command, next_of_frame, rejects, seat_accepted, session_of, told, untold};
+ghost use Rattle.mum_core.specs.Connection.{answered, asking, closed_at, followed, fresh, is_of, is_untold, lagging, leads, leave_waiting, leaving, next_command, next_of_frame, rejects, seat_accepted, session_of, told, untold, wire_of};
 ghost use Rattle.mum_core.specs.Lists.{changed_at};
 ghost use Rattle.mum_core.specs.Machine.{machine_of, stage_of};
 
@@ -25,8 +25,8 @@ pub struct Reply {
     pub mark: Mark,
     /// The seat of the session that joined by it.
     pub seat: Option<Seat>,
-    /// The bytes of the frame that tells of a denial, or answers a query.
-    pub wire: Option<Octets>,
+    /// The bytes of the frame that reports a denial or answers a query; none where nothing is sent.
+    pub wire: Octets,
 }
 
 /// Whether the session of a connection goes.
@@ -211,6 +211,19 @@ impl Connection {
         match self.seat_accepted() {
             Some(seat) => Some(seat.session),
             None => None,
+        }
+    }
+
+    /// The bytes of its reply, where it is not closed.
+    pub fn wire(&self) -> &[u8]
+        ensures { result.now ≡ wire_of self.now }
+    {
+        if self.closed.is_some() {
+            return &[];
+        }
+        match &self.decided {
+            Some(reply) => reply.wire.as_slice(),
+            None => &[],
         }
     }
 

@@ -23,6 +23,7 @@ use thiserror::Error;
 
 mod close;
 mod collect;
+mod delivery;
 mod drain;
 mod edit;
 mod end;
@@ -294,9 +295,10 @@ impl Core {
         else {
             return self.step_alone(step);
         };
-        let told = self.step_tell(connection, revision)?;
+        let reported = self.tell_lines(connection, revision)?;
+        self.tell(connection, revision);
         self.count_line();
-        Ok(told)
+        Ok(reported)
     }
 
     /// The same of a step that tells one line.

@@ -3,7 +3,7 @@ use Rattle.std.specs.Prelude.{ℕ, Option, Some, None}
 use Rattle.mum_frame.specs.declared.framer.FrameFault.{FrameFault}
 use Rattle.mum_frame.specs.declared.framer.FrameFault.TheVariants.{FrameTooLong, OutOfMemory}
 
--- want of memory has no number
+-- that memory ran out has no number
 abbrev pub frame_fault_code : FrameFault → Option ℕ
 frame_fault_code (FrameTooLong length) = Some 10
 frame_fault_code OutOfMemory = None

@@ -41,6 +41,10 @@ pub record TooLong (bytes : List ℕ) : Type 0 where
   pub header : HEADER_LENGTH ≤ length bytes
   pub above : PAYLOAD_LIMIT < named_length bytes
 
+-- a frame within the limit begins the bytes
+abbrev pub HasFrame : List ℕ → Type 0
+HasFrame bytes = (frame : Frame) × (rest : List ℕ) × IsFrame frame × (bytes ≡ frame_spelling frame ++ rest)
+
 -- no frame within the limit begins the bytes
 abbrev pub HasNoFrame : List ℕ → Type 0
 HasNoFrame bytes = (frame : Frame) (rest : List ℕ) → IsFrame frame → bytes ≢ frame_spelling frame ++ rest

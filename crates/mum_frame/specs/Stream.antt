@@ -1,8 +1,9 @@
 -- The frames of a stream that comes in pieces.
-use Rattle.std.specs.Prelude.{◌≡◌, ℕ, List, ◌++◌, All, Option, Some, None, Result, Ok, Err, ⊤}
+use Rattle.std.specs.Prelude.{◌≡◌, ℕ, ◌*◌, ◌≤◌, max, List, ◌++◌, length, All, Option, Some, None, Result, Ok, Err, ⊤}
 use Rattle.std.specs.List.{flat_map}
 use Rattle.std.specs.declared.alloc.AllocError.{AllocError}
 use Rattle.mum_frame.specs.declared.frame.Frame.{Frame}
+use Rattle.mum_frame.specs.declared.framer.TheConstants.{ROOM_FACTOR, ROOM_LIMIT}
 use Rattle.mum_frame.specs.declared.framer.FrameFault.{FrameFault}
 use Rattle.mum_frame.specs.declared.framer.FrameFault.TheVariants.{FrameTooLong, OutOfMemory}
 use Rattle.mum_frame.specs.Frame.{frame_spelling, IsFrame, HasNoFrame, TooLong, named_length}
@@ -33,3 +34,14 @@ NextGives old (Ok (Some frame)) new = IsFrame frame × (old ≡ frame_spelling f
 NextGives old (Ok None) new = HasNoFrame old × (¬ TooLong old) × (new ≡ old)
 NextGives old (Err (FrameTooLong length)) new = TooLong old × (length ≡ named_length old) × (new ≡ old)
 NextGives old (Err OutOfMemory) new = (¬ HasNoFrame old) × (new ≡ old)
+
+-- the room did not grow, and it is at most the limit or the fixed multiple of what is kept
+pub record HasGivenBack (old new : FramerState) : Type 0 where
+  pub no_more : new.room ≤ old.room
+  pub little : new.room ≤ max ROOM_LIMIT (ROOM_FACTOR * length new.kept)
+
+-- what `next` leaves: with a frame it gives room back, and any other answer changes nothing
+abbrev pub NextLeaves : FramerState → Result (Option Frame) FrameFault → FramerState → Type 0
+NextLeaves old (Ok (Some frame)) new = HasGivenBack old new
+NextLeaves old (Ok None) new = new ≡ old
+NextLeaves old (Err fault) new = new ≡ old

@@ -11,7 +11,7 @@ ghost use Rattle.mum_frame.specs.Frame.{frame_spelling, IsFrame, IsOneFrame, Too
 ghost use Rattle.mum_frame.specs.Stream.{NextGives, IsFront, Splits};
 
 use crate::frame::{HEADER_LENGTH, PAYLOAD_LIMIT};
-use crate::framer::ROOM_LIMIT;
+use crate::framer::{ROOM_FACTOR, ROOM_LIMIT};
 use crate::kind::*;
 
 /// The numbers for which the names of types and limits stand, as the Mumble protocol documentation
@@ -20,6 +20,7 @@ pub fn limits_and_types()
     ensures header { HEADER_LENGTH ≡ 6 }
     ensures payload { PAYLOAD_LIMIT ≡ 8388607 }
     ensures room { ROOM_LIMIT ≡ 131072 }
+    ensures factor { ROOM_FACTOR ≡ 4 }
     ensures version { VERSION ≡ 0 }
     ensures udp_tunnel { UDP_TUNNEL ≡ 1 }
     ensures authenticate { AUTHENTICATE ≡ 2 }

@@ -9,4 +9,4 @@ pub mod kind;
 pub mod laws;
 
 pub use frame::{Frame, FrameView, HEADER_LENGTH, PAYLOAD_LIMIT, put_frame, whole_frame};
-pub use framer::{FrameFault, Framer, ROOM_LIMIT};
+pub use framer::{FrameFault, Framer, Kept, ROOM_FACTOR, ROOM_LIMIT};

@@ -1,5 +1,5 @@
 -- The states after the fronts of a list of edits.
-use Rattle.std.proofs.Common.{◌≡◌, ℕ, zero, suc, ◌+◌, ◌-◌, ◌<◌, ◌≤◌, List, [], ◌∷◌, ◌++◌, length, get_or, Option, Some, refl, sym, ap, ◌∙◌, arith, length-append}
+use Rattle.std.proofs.Common.{◌≡◌, ℕ, zero, suc, ◌+◌, ◌<◌, ◌≤◌, List, [], ◌∷◌, ◌++◌, length, get_or, Some, refl, sym, ap, ◌∙◌, arith, length-append}
 use Rattle.std.specs.Prelude.{IsTrue, slice_get}
 use Rattle.std.specs.List.{All}
 use Rattle.std.proofs.lemmas.Bool.{and_parts}
@@ -44,22 +44,8 @@ read_leads opening edits i edit within is =
     let next : i + 1 ≡ suc i = omega arith in
     rw next (edit_leads opening edits i edit (slice_get_read edits (length edits) i edit refl within is))
 
--- ---- the last of them
-
 pub at_all : (opening : StateValue) (edits : List Edit) → at opening edits (length edits) ≡ led_to opening edits
 at_all opening edits = ap (led_to opening) (take-length edits)
-
-pub last_fits : (opening : StateValue) (edits : List Edit) (edit : Edit) → IsTrue (all_fit opening edits) → slice_get edits (length edits - 1) ≡ Some edit
-    → IsTrue (fits (at opening edits (length edits - 1)) edit)
-last_fits opening edits edit fit found = edit_fits opening edits (length edits - 1) edit fit found
-
-pub last_leads : (opening : StateValue) (edits : List Edit) (edit : Edit) → slice_get edits (length edits - 1) ≡ Some edit
-    → applied (at opening edits (length edits - 1)) edit ≡ led_to opening edits
-last_leads opening [] edit found = cc
-last_leads opening (first ∷ edits) edit found =
-    let last : length (first ∷ edits) - 1 ≡ length edits = omega arith in
-    let here : slice_get (first ∷ edits) (length edits) ≡ Some edit = rw (sym last) found in
-    rw last (sym (edit_leads opening (first ∷ edits) (length edits) edit here) ∙ at_all opening (first ∷ edits))
 
 -- ---- one edit more
 
@@ -79,23 +65,17 @@ all_fit_on opening (first ∷ edits) edit fit next =
 pub at_front : (opening : StateValue) (edits more : List Edit) (i : ℕ) → i ≤ length edits → at opening (edits ++ more) i ≡ at opening edits i
 at_front opening edits more i within = ap (led_to opening) (take-append-le i edits more within)
 
-pub at_last : (opening : StateValue) (edits : List Edit) (edit : Edit) → at opening (edits ++ edit ∷ []) (length (edits ++ edit ∷ []) - 1) ≡ led_to opening edits
-at_last opening edits edit =
-    let last : length (edits ++ edit ∷ []) - 1 ≡ length edits = omega (arith, length-append edits (edit ∷ [])) in
-    rw last (at_front opening edits (edit ∷ []) (length edits) (omega arith) ∙ at_all opening edits)
-
 -- ---- what a history keeps
 
-pub kept_on : (opening : StateValue) (accepted new : List Edit) (published : ℕ) (current next before : StateValue) (spare : Option StateValue) (edit : Edit)
-    → IsKept opening accepted published current spare → new ≡ accepted ++ edit ∷ [] → IsTrue (fits (led_to opening accepted) edit)
-    → next ≡ applied (led_to opening accepted) edit → before ≡ current → IsKept opening new published next (Some before)
-kept_on opening accepted new published current next before spare edit kept grown fit led was =
+pub kept_on : (opening : StateValue) (accepted new : List Edit) (published : ℕ) (current next : StateValue) (edit : Edit)
+    → IsKept opening accepted published current → new ≡ accepted ++ edit ∷ [] → IsTrue (fits (led_to opening accepted) edit)
+    → next ≡ applied (led_to opening accepted) edit → IsKept opening new published next
+kept_on opening accepted new published current next edit kept grown fit led =
     let within = kept.published_accepted in
     rw grown (record {
       fitted = all_fit_on opening accepted edit kept.fitted fit;
       published_accepted = omega (arith, within, length-append accepted (edit ∷ []));
       current_led = led ∙ sym (led_on opening accepted edit);
-      spare_behind = was ∙ kept.current_led ∙ sym (at_last opening accepted edit);
     })
 
 -- a view stays one when edits are added at the end

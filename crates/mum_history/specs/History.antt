@@ -16,7 +16,7 @@ pub record HistoryValue : Type 0 where
 abbrev pub begun : StateValue → HistoryValue
 begun opening = record { opening = opening; accepted = []; published = 0 }
 
--- the state after the first so many accepted edits, and after all of them
+-- the state after the accepted edits up to a revision, and after all of them
 abbrev pub state_at : HistoryValue → ℕ → StateValue
 state_at history revision = at history.opening history.accepted revision
 

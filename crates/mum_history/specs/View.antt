@@ -9,7 +9,7 @@ pub record ViewValue : Type 0 where
   -- how many edits it has
   pub revision : ℕ
 
--- it is the state after the first so many of the edits
+-- it is the state after the edits up to its revision
 pub record IsViewOf (opening : StateValue) (edits : List Edit) (view : ViewValue) : Type 0 where
   pub within : view.revision ≤ length edits
   pub state_is : view.state ≡ at opening edits view.revision

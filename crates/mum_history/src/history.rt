@@ -1,25 +1,24 @@
 //! The list of accepted edits, and the state after all of them.
 
-ghost use Rattle.std.specs.Prelude.{◌≡◌, ◌-◌, ◌≤◌, IfOk, IsTrue, OnErr, OnOk, Some, length};
-ghost use Rattle.mum_state.specs.After.{all_fit, at};
+ghost use Rattle.std.specs.Prelude.{◌≡◌, ◌≤◌, IfOk, IsTrue, OnErr, OnOk, length};
+ghost use Rattle.mum_state.specs.After.{all_fit};
 ghost use Rattle.mum_state.specs.Applied.{applied};
 ghost use Rattle.mum_state.specs.Fits.{fits};
 ghost use Rattle.mum_history.specs.History.{begun, current, with_edit};
 
+use crate::twin::Twin;
 use mum_base::OutOfMemory;
 use mum_state::{Edit, State};
 use std::alloc::Global;
 use std::marker::Model;
-use std::mem::{drop, replace};
+use std::mem::drop;
 
 /// The edits that were accepted from an opening state on, and how many of them are published.
 #[derive(Drop)]
 pub struct History {
-    alloc: Global,
     opening: State,
-    current: State,
-    /// One edit behind the current state. There is none where it could not be brought up.
-    spare: Option<State>,
+    /// The state after all accepted edits.
+    twin: Twin,
     accepted: Vec<Edit>,
     published: u64,
 }
@@ -32,44 +31,14 @@ impl Model for History {
 
     ghost view = { λ h. record { opening = h.opening; accepted = h.accepted.items; published = h.published } };
 
-    ghost invariant = { λ h. IsKept h.opening h.accepted.items h.published h.current h.spare };
+    ghost invariant = { λ h. IsKept h.opening h.accepted.items h.published h.twin };
 }
 
-/// Two copies of a state.
-fn two_copies(alloc: Global, state: &State) -> Result<(State, State), OutOfMemory>
-    ensures one { IfOk result (λ copies. copies.0 ≡ state.now) }
-    ensures other { IfOk result (λ copies. copies.1 ≡ state.now) }
+/// A copy of a state, and a spare one of that.
+fn twin_of(alloc: Global, state: &State) -> Result<Twin, OutOfMemory>
+    ensures { IfOk result (λ twin. twin ≡ state.now) }
 {
-    let one = state.copy(alloc)?;
-    match state.copy(alloc) {
-        Ok(other) => Ok((one, other)),
-        Err(error) => {
-            drop(one);
-            Err(error)
-        }
-    }
-}
-
-/// Puts the next state in place of the current one, which becomes the spare one.
-fn renew(current: &mut State, spare: &mut Option<State>, next: State)
-    ensures next { current.new ≡ next }
-    ensures behind { spare.new ≡ Some current.old }
-{
-    drop(replace(spare, Some(replace(current, next))));
-}
-
-/// The state to which an edit leads that fits.
-fn after_edit(mut state: State, edit: &Edit) -> Result<State, OutOfMemory>
-    requires { IsTrue (fits state edit.now) }
-    ensures { IfOk result (λ next. next ≡ applied state edit.now) }
-{
-    match state.apply(edit) {
-        Ok(()) => Ok(state),
-        Err(error) => {
-            drop(state);
-            Err(error)
-        }
-    }
+    Twin::open(alloc, state.copy(alloc)?)
 }
 
 impl History {
@@ -77,12 +46,10 @@ impl History {
     pub fn open(alloc: Global, opening: State) -> Result<History, OutOfMemory>
         ensures { IfOk result (λ history. history ≡ begun opening) }
     {
-        match two_copies(alloc, &opening) {
-            Ok((current, spare)) => Ok(History {
-                alloc,
+        match twin_of(alloc, &opening) {
+            Ok(twin) => Ok(History {
                 opening,
-                current,
-                spare: Some(spare),
+                twin,
                 accepted: Vec::new(alloc),
                 published: 0,
             }),
@@ -104,7 +71,7 @@ impl History {
     pub fn current(&self) -> &State
         ensures { result.now ≡ current self.now }
     {
-        &self.current
+        self.twin.current()
     }
 
     /// The accepted edits, the first of them first.
@@ -137,38 +104,14 @@ impl History {
         self.published = self.revision();
     }
 
-    /// Brings a state that is one edit behind up to the current one.
-    #[tactic(auto, using(crate::proofs::Fronts::last_fits, crate::proofs::Fronts::last_leads))]
-    fn bring_up(&self, state: State) -> Result<State, OutOfMemory>
-        requires { state ≡ at self.now.opening self.now.accepted (length self.now.accepted - 1) }
-        ensures { IfOk result (λ state. state ≡ current self.now) }
-    {
-        let Some(last) = self.accepted.last() else {
-            return Ok(state);
-        };
-        after_edit(state, last)
-    }
-
-    /// A state that is equal to the current one: the one that was an edit behind, or else a copy.
-    fn take_spare(&mut self) -> Result<State, OutOfMemory>
-        ensures state { IfOk result (λ state. state ≡ current self.old) }
-        ensures same { self.new ≡ self.old }
-    {
-        match self.spare.take() {
-            Some(state) => self.bring_up(state),
-            None => self.current.copy(self.alloc),
-        }
-    }
-
-    /// The state to which one edit more leads, beside the current one, for `append`. No state is copied
-    /// but where memory ran out in an earlier call.
+    /// The state to which one edit more leads, beside the current one, for `append`. That no state is
+    /// copied for it, but where memory ran out or a next state was given up before, is not proved.
     pub fn next_state(&mut self, edit: &Edit) -> Result<State, OutOfMemory>
         requires { IsTrue (fits (current self.old) edit.now) }
         ensures next { IfOk result (λ next. next ≡ applied (current self.old) edit.now) }
         ensures same { self.new ≡ self.old }
     {
-        let state = self.take_spare()?;
-        after_edit(state, edit)
+        self.twin.next(edit)
     }
 
     /// Appends an edit that leads to this state.
@@ -180,8 +123,8 @@ impl History {
     {
         match self.accepted.reserve(1) {
             Ok(()) => {
+                self.twin.go_on(Some(&edit), next);
                 self.accepted.push_reserved(edit);
-                renew(&mut self.current, &mut self.spare, next);
                 Ok(())
             }
             Err(error) => {
@@ -192,7 +135,7 @@ impl History {
         }
     }
 
-    /// Accepts an edit that fits the current state. After want of memory all is as it was.
+    /// Accepts an edit that fits the current state. Where memory runs out all is as it was.
     pub fn accept(&mut self, edit: Edit) -> Result<(), OutOfMemory>
         requires { IsTrue (fits (current self.old) edit) }
         ensures ok { OnOk result (self.new ≡ with_edit self.old edit) }

@@ -1,13 +1,15 @@
-//! The edits that were accepted from one state on, and the states to which they lead. A `History` keeps
-//! the list, with the state after all of it and one that is an edit behind, so that an edit is made
-//! without a copy of a state. A `View` is a state after the first so many of the edits, for whoever
-//! reads behind.
+//! The edits that were accepted from one state on, and the states to which they lead. A `Twin` is a state
+//! with a spare one that is equal to it, so that an edit is made without a copy of a state. A `History`
+//! keeps the list, with the twin after all of it. A `View` is a state after the first of the edits,
+//! up to a revision, for whoever reads behind.
 #![tactic(auto)]
 
 mod history;
 mod opening;
+mod twin;
 mod view;
 
 pub use history::History;
 pub use opening::state_after;
+pub use twin::Twin;
 pub use view::{View, readers};

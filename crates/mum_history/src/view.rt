@@ -1,4 +1,4 @@
-//! A state after the first so many accepted edits.
+//! A state after the first accepted edits.
 
 ghost use Rattle.std.specs.Prelude.{◌≡◌, ◌+◌, ◌<◌, ◌≤◌, [], IfOk, OnErr, OnOk, length};
 ghost use Rattle.std.specs.List.{All};
@@ -45,7 +45,7 @@ impl View {
         &self.state
     }
 
-    /// Goes on by one edit. After want of memory it is where it was.
+    /// Goes on by one edit. Where memory runs out it is where it was.
     #[tactic(auto, using(crate::proofs::Fronts::read_fits, crate::proofs::Fronts::read_leads))]
     fn go_on(&mut self, history: &History) -> Result<(), OutOfMemory>
         requires view { IsViewOf history.now.opening history.now.accepted self.old }
@@ -82,7 +82,7 @@ impl View {
     }
 
     /// Goes to a revision: by the edits that are missing, or from the opening on where it is past it.
-    /// After want of memory it may be at another one.
+    /// Where memory runs out it may be at a different one.
     pub fn go_to(
         &mut self,
         alloc: Global,
@@ -103,7 +103,7 @@ impl View {
     }
 }
 
-/// So many views of an opening.
+/// As many views of an opening.
 fn opening_views(alloc: Global, count: u8, opening: &State) -> Result<Vec<View>, OutOfMemory>
     ensures each { IfOk result (λ views. All (IsViewOf opening.now []) views.items) }
     ensures count { IfOk result (λ views. length views.items ≡ count) }
@@ -115,7 +115,7 @@ fn opening_views(alloc: Global, count: u8, opening: &State) -> Result<Vec<View>,
     Ok(views)
 }
 
-/// The history of an opening that no edit changed yet, and so many views of it.
+/// The history of an opening that no edit changed yet, and as many views of it.
 pub fn readers(
     alloc: Global,
     count: u8,

@@ -1,3 +1,6 @@
+pub mod CountLemmas
+pub mod MemLinkLemmas
 pub mod MemoryLemmas
 pub mod OutsideLemmas
+pub mod StandardFacts
 pub mod WholeLemmas

@@ -1,6 +1,5 @@
-use Rattle.std.proofs.Common.{arith, ◌≡◌, ℕ, ◌+◌, ◌<◌, ◌≤◌, ◌==◌, min, Bool, false, List, ◌++◌, take, drop, ap, subst, sym, ◌∙◌}
-use Rattle.mum_io.specs.Calls.{CallCounts, after_call}
-use Rattle.mum_io.specs.Outside.{Rose}
+-- What a read from memory gave, and what is left.
+use Rattle.std.proofs.Common.{arith, ◌≡◌, ℕ, ◌+◌, ◌<◌, ◌≤◌, ◌==◌, min, false, List, ◌++◌, take, drop, ap, sym, ◌∙◌}
 use Rattle.std.proofs.lemmas.List.{take-append-drop, drop-drop}
 
 -- n more bytes were given, and stand at the front of a buffer
@@ -9,9 +8,6 @@ drop-given bytes buf given n copied =
     sym (take-append-drop n (drop given bytes)) ∙ ap (λ front. front ++ drop n (drop given bytes)) (sym copied)
     ∙ ap (λ rest. take n buf ++ rest) (drop-drop n given bytes)
 
-pub min-positive : (n size rest : ℕ) (none : Bool) → n ≡ min size rest → 0 < size → none ≡ (rest == 0) → none ≡ false → 1 ≤ n
-min-positive n size rest none least some tested some_left = grind arith
-
--- a call that was counted before its fault raised no count of faults
-pub Rose-counted : (old begun new : CallCounts) → begun ≡ after_call old → Rose begun.faults new.faults → Rose old.faults new.faults
-Rose-counted old begun new counted rose = subst (λ (calls : CallCounts). Rose calls.faults new.faults) counted rose
+-- there was room, and there were bytes
+pub min-positive : (n room bytes : ℕ) → n ≡ min room bytes → 0 < room → (bytes == 0) ≡ false → 1 ≤ n
+min-positive n room bytes least some left = grind arith

@@ -1,3 +1,9 @@
 pub mod Calls
+pub mod Counts
+pub mod Door
+pub mod Link
+pub mod MemClock
+pub mod MemDoor
+pub mod MemLink
 pub mod Memory
 pub mod Outside

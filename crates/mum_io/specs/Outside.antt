@@ -1,5 +1,5 @@
 -- What comes in from the outside and what goes out to it, where it is told, and what counts of faults say.
-use Rattle.std.specs.Prelude.{ℕ, ◌≡◌, ◌-◌, ◌^◌, ◌<◌, ◌≤◌, ◌⊎◌, List, ◌++◌, length, take, Option, Result, Ok, Err}
+use Rattle.std.specs.Prelude.{ℕ, ◌≡◌, ◌<◌, ◌≤◌, ◌⊎◌, List, ◌++◌, length, take, Option, Result, Ok, Err}
 use Rattle.mum_io.specs.declared.source.ReadEnd.{ReadEnd}
 use Rattle.mum_io.specs.declared.source.ReadEnd.TheVariants.{Got, End, Failed}
 use Rattle.mum_io.specs.declared.sink.WriteEnd.{WriteEnd}
@@ -7,11 +7,8 @@ use Rattle.mum_io.specs.declared.sink.WriteEnd.TheVariants.{Took, Failed as Writ
 use Rattle.mum_io.specs.declared.whole.ReadFault.{ReadFault}
 use Rattle.mum_io.specs.declared.whole.ReadFault.TheVariants.{Failed as ReadFailed, OutOfMemory}
 use Rattle.mum_io.specs.declared.whole.WriteFault.{WriteFault}
+pub use Rattle.mum_io.specs.Counts.{Rose}
 pub use Rattle.std.specs.Io.KnownBytes.{Appends, Consumes, IsAtEnd, Keeps}
-
--- a count of 64 bits rose, or stands at its last value, as before
-abbrev pub Rose : ℕ → ℕ → Type 0
-Rose old new = (old < new) ⊎ ((2 ^ 64 - 1 ≤ old) × (new ≡ old))
 
 -- what a read says of the count of faults: it rose where the read failed, and else stayed
 abbrev pub ReadCounts : ReadEnd → ℕ → ℕ → Type 0

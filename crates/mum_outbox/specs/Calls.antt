@@ -13,7 +13,8 @@ abbrev pub one_more : ℕ → ℕ
 one_more count = min (count + 1) LAST
 
 module _ {I : Type 0} (capacity : ℕ) (pass : PassFacts I) where
-  -- the queue held these items under the rule, when the pass had done what it has done
+  -- the queue held these items under the rule, when the pass had done what it has done. The hands of all other passes are
+  -- some of which the rule holds
   abbrev pub WasThen : List (Tagged I) → Type 0
   WasThen items = IsMomentOf capacity (hand_of_pass pass) items
 
@@ -24,17 +25,24 @@ module _ {I : Type 0} (capacity : ℕ) (pass : PassFacts I) where
   Offers item (Full back) after =
       (back ≡ item) × (after ≡ record pass { full = one_more pass.full }) × Held capacity WasThen
 
-  -- a take: the item, with its tag, is the last that the pass has taken, or there is none, since the queue was empty at
-  -- one moment of the call
+  -- a take: the item, with its tag, is the last that the pass has taken, or there is none, counted, since the queue was
+  -- empty at one moment of the call
   abbrev pub Takes : Option I → PassFacts I → Type 0
   Takes (Some item) after =
       (x : Tagged I) × (x.item ≡ item) × (after ≡ record pass { taken = pass.taken ++ x ∷ [] })
-  Takes None after = (after ≡ pass) × Held 0 WasThen
+  Takes None after = (after ≡ record pass { empty = one_more pass.empty }) × Held 0 WasThen
 
 -- the pass is new: it has offered and taken nothing, and its number is the least that the owner may give
 abbrev pub IsNewPass : {I : Type 0} → QueueFacts → PassFacts I → Type 0
 IsNewPass owner pass =
-    pass ≡ record { queue = owner.queue; number = least_number owner.low owner.end; offered = []; taken = []; full = 0 }
+    pass ≡ record {
+      queue = owner.queue;
+      number = least_number owner.low owner.end;
+      offered = [];
+      taken = [];
+      full = 0;
+      empty = 0;
+    }
 
 -- another owner is made: the first keeps the lower half of its numbers, and the other may give the upper half
 abbrev pub Halves : QueueFacts → QueueFacts → QueueFacts → Type 0

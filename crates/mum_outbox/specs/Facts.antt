@@ -10,14 +10,15 @@ pub record QueueFacts : Type 0 where
   pub low : ℕ
   pub end : ℕ
 
--- a pass: its queue, its number, the items that it has offered, those that it has taken, each with its tag, and how
--- often it found the queue full
+-- a pass: its queue, its number, the items that it has offered, those that it has taken, each with its tag, how often
+-- its offers found the queue full, and how often its takes found it empty
 pub record PassFacts (I : Type 0) : Type 0 where
   pub queue : TableId
   pub number : ℕ
   pub offered : List I
   pub taken : List (Tagged I)
   pub full : ℕ
+  pub empty : ℕ
 
 -- what the pass has done, as its hand. It may give no number to another pass
 abbrev pub hand_of_pass : {I : Type 0} → PassFacts I → Hand I

@@ -46,10 +46,23 @@ pub type Desk<T> = Queue<T, DESK_CAPACITY>;
 /// The replies of the control owner to one worker.
 pub type Bell<T> = Queue<T, BELL_CAPACITY>;
 
-/// The capacities. This does nothing: its contract is what they are.
-pub fn capacities()
-    ensures voice { VOICE_CAPACITY ≡ 128 }
-    ensures post { POST_CAPACITY ≡ 8192 }
-    ensures desk { DESK_CAPACITY ≡ 1024 }
-    ensures bell { BELL_CAPACITY ≡ 1024 }
-{}
+/// How many items these queues may hold: a voice outbox, a post outbox, a desk and a bell.
+pub fn capacities<T>(
+    voice: &VoiceBox,
+    post: &PostBox,
+    desk: &Desk<T>,
+    bell: &Bell<T>,
+) -> (usize, usize, usize, usize)
+    ensures voice { result.0 ≡ 128 }
+    ensures post { result.1 ≡ 8192 }
+    ensures desk { result.2 ≡ 1024 }
+    ensures bell { result.3 ≡ 1024 }
+    ensures constants { result ≡ (VOICE_CAPACITY, POST_CAPACITY, DESK_CAPACITY, BELL_CAPACITY) }
+{
+    (
+        Queue::<VoiceParcel, _>::capacity(voice),
+        Queue::<PostParcel, _>::capacity(post),
+        Queue::<T, _>::capacity(desk),
+        Queue::<T, _>::capacity(bell),
+    )
+}

@@ -33,12 +33,14 @@ pub struct Queue<I, const CAPACITY: usize> {
     owner: Pass<I, Hand<I>>,
 }
 
-/// What one thread holds of a queue: it keeps how often an offer of it found the queue full. Its
-/// number, and what it has offered and taken, only contracts see.
+/// What one thread holds of a queue: it keeps how often an offer of it found the queue full, and a
+/// take of it found the queue empty. Its number, and what it has offered and taken, only contracts
+/// see.
 #[derive(Drop)]
 pub struct BoxPass<I> {
     pass: Pass<I, Hand<I>>,
     full: u64,
+    empty: u64,
 }
 
 impl<I, const CAPACITY: usize> Model for Queue<I, CAPACITY> {
@@ -72,6 +74,7 @@ impl<I> Model for BoxPass<I> {
       offered = (hand_of p.pass).offered;
       taken = (hand_of p.pass).taken;
       full = p.full;
+      empty = p.empty;
     } };
 
     ghost invariant = { λ p. (p.pass.me.1 ≡ []) × (hand_of p.pass ≡ hand_of_pass (view p)) };
@@ -106,7 +109,11 @@ impl<I: Drop, const CAPACITY: usize> Queue<I, CAPACITY> {
         ensures owner { self.new ≡ record self.old { low = after_least self.old.low self.old.end } }
     {
         let pass = self.ruled.another::<GivesNumber>(&mut self.owner);
-        BoxPass { pass, full: 0 }
+        BoxPass {
+            pass,
+            full: 0,
+            empty: 0,
+        }
     }
 
     /// Puts the item at the back. It comes back only where the queue held its capacity at one moment
@@ -129,14 +136,19 @@ impl<I: Drop, const CAPACITY: usize> Queue<I, CAPACITY> {
     }
 
     /// Takes the item at the front. There is none only where the queue was empty at one moment of
-    /// the call. The call takes no memory, and may try again beside other threads.
+    /// the call, and the pass counts that. The call takes no memory, and may try again beside other
+    /// threads.
     // Inlined, it would move its answer once more.
     #[inline(never)]
     pub fn take_as<R: Wait>(&self, rt: &R, pass: &mut BoxPass<I>) -> Option<I>
         requires { pass.old.queue ≡ self.now.queue }
         ensures { Takes CAPACITY pass.old result pass.new }
     {
-        self.ruled.pop_as::<Taking<CAPACITY>, R>(rt, &mut pass.pass)
+        let taken = self.ruled.pop_as::<Taking<CAPACITY>, R>(rt, &mut pass.pass);
+        if taken.is_none() {
+            pass.empty = pass.empty.saturating_add(1);
+        }
+        taken
     }
 
     /// What the rule says at one moment of this call: the items of each pass lie in what this one
@@ -152,11 +164,27 @@ impl<I: Drop, const CAPACITY: usize> Queue<I, CAPACITY> {
     }
 }
 
+impl<I, const CAPACITY: usize> Queue<I, CAPACITY> {
+    /// The most items that it holds at any moment.
+    pub fn capacity(&self) -> usize
+        ensures { result ≡ CAPACITY }
+    {
+        CAPACITY
+    }
+}
+
 impl<I> BoxPass<I> {
     /// How often an offer of this pass found the queue full.
     pub fn full(&self) -> u64
         ensures { result ≡ self.now.full }
     {
         self.full
+    }
+
+    /// How often a take of this pass found the queue empty.
+    pub fn empty(&self) -> u64
+        ensures { result ≡ self.now.empty }
+    {
+        self.empty
     }
 }

@@ -3,3 +3,5 @@ pub mod Members
 pub mod Paths
 pub mod Walks
 pub mod Parts
+pub mod Scenes
+pub mod StandardFacts

@@ -11,7 +11,8 @@ use Rattle.hex.specs.Hex.{IsBytes}
 use Rattle.mum_record.specs.Head.{workers_line, config_line, config_word}
 use Rattle.mum_record.specs.declared.head.TheConstants.{WORKERS_LIMIT}
 use Rattle.mum_record.specs.Journal.{control_words, entry_words, control_line, entry_line, journal_head, worker_line, end_line, lines_from, lines_of, ended_lines, IsControl, IsEntry, Each, IsJournal, IsTextOf, BeginJournal}
-use Rattle.mum_record.specs.JournalReading.{taken, no_draft, journal_in, is_over, ending, goes_on, reading_from, is_line_feed, pieces_of, journal_of}
+use Rattle.mum_record.specs.JournalReading.{taken, no_draft, journal_in, is_over, ending, goes_on, reading_from, pieces_of, journal_of}
+use Rattle.mum_record.specs.Lines.{is_line_feed}
 use Rattle.mum_record.specs.JournalAnswers.{ReadsText, AnswersBy, IsFirstFault, NamesFirstFault, Takes, StopsAt}
 use Rattle.mum_record.specs.declared.journal.ControlEntry.{ControlEntry}
 use Rattle.mum_record.specs.declared.journal.WorkerEntry.{WorkerEntry}

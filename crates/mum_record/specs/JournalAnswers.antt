@@ -10,7 +10,7 @@ use Rattle.mum_record.specs.declared.journal.JournalFault.TheVariants as journal
 use Rattle.mum_record.specs.declared.draft.Draft.{Draft}
 use Rattle.mum_record.specs.declared.draft.Stage.{Stage}
 use Rattle.mum_record.specs.Journal.{lines_of, ended_lines, IsJournal, IsTextOf, BeginJournal}
-use Rattle.mum_record.specs.JournalReading.{taken, taken_at, with_entries, journal_of, pieces_of, is_line_feed}
+use Rattle.mum_record.specs.JournalReading.{taken, taken_at, with_entries, journal_of, pieces_of}
 
 -- the value that was to be read, or none where there is none; memory may run out in any case
 abbrev pub ReadsOrTires : {X : Type 0} → Result X LineFault → Option X → Type 0
@@ -61,11 +61,6 @@ pub record IsFirstFault (text : List ℕ) (n : ℕ) : Type 0 where
 abbrev pub NamesFirstFault : List ℕ → JournalFault → Type 0
 NamesFirstFault text (journal.NotALine n) = IsFirstFault text n
 NamesFirstFault text journal.OutOfMemory = Unit {0}
-
--- the first line of bytes and what follows its line feed, where one ends it
-abbrev pub IsCut : List ℕ → Option (Bor (List ℕ) × Bor (List ℕ)) → Type 0
-IsCut bytes None = slice_split is_line_feed bytes ≡ bytes ∷ []
-IsCut bytes (Some (first, rest)) = slice_split is_line_feed bytes ≡ first.now ∷ slice_split is_line_feed rest.now
 
 -- ---- laws
 

@@ -8,6 +8,7 @@ use Rattle.mum_base.specs.declared.reply.Mark.{Mark}
 use Rattle.mum_base.specs.declared.reply.Mark.TheVariants.{Accepted, Lacks, Refused, Rejected, Answer, Ignored}
 use Rattle.mum_record.specs.Words.{words_in, place_of, revision_of, byte_of, bytes_of}
 use Rattle.mum_record.specs.Reading.{frame_of, cause_of}
+use Rattle.mum_record.specs.Lines.{is_line_feed}
 use Rattle.mum_record.specs.Head.{workers_of, config_of}
 use Rattle.mum_record.specs.Journal.{may_carry, journal_head, worker_line, end_line}
 use Rattle.mum_record.specs.declared.journal.ControlEntry.{ControlEntry}
@@ -206,9 +207,6 @@ unfoldable pub reading_from : Draft → ℕ → List (List ℕ) → Result Journ
 reading_from draft n [] = Err n
 reading_from draft n (rest ∷ []) = ending draft n rest
 reading_from draft n (line ∷ next ∷ more) = goes_on n (taken draft line) (λ (after : Draft). reading_from after (n + 1) (next ∷ more))
-
-abbrev pub is_line_feed : ℕ → Bool
-is_line_feed byte = byte == 10
 
 -- a text cut at its line feeds: its lines, and last what no line feed ends
 abbrev pub pieces_of : List ℕ → List (List ℕ)

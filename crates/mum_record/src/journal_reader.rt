@@ -2,30 +2,14 @@
 
 ghost use Rattle.std.specs.Prelude.{◌≡◌, ◌+◌, IfOk, IfErr, IfSome, length, position};
 ghost use Rattle.mum_record.specs.Journal.{IsTextOf};
-ghost use Rattle.mum_record.specs.JournalReading.{ending, is_line_feed};
-ghost use Rattle.mum_record.specs.JournalAnswers.{ReadsText, AnswersBy, NamesFirstFault, IsCut, StopsAt, JournalsAreReadBack, TextsSayOneJournal};
+ghost use Rattle.mum_record.specs.JournalReading.{ending};
+ghost use Rattle.mum_record.specs.JournalAnswers.{ReadsText, AnswersBy, NamesFirstFault, StopsAt, JournalsAreReadBack, TextsSayOneJournal};
 
 use crate::draft::{Draft, Stage};
 use crate::journal::{Journal, JournalFault};
+use crate::split::split_line;
 use crate::step::LineFault;
 use std::alloc::Global;
-
-fn first_line_feed(bytes: &[u8]) -> Option<usize>
-    ensures { result ≡ position is_line_feed bytes.now }
-{
-    bytes.iter().position(|byte| *byte == b'\n')
-}
-
-/// The first line, and what follows its line feed.
-fn split_line(bytes: &[u8]) -> Option<(&[u8], &[u8])>
-    ensures lines { IsCut bytes.now result }
-    ensures shorter { IfSome result (λ parts. length parts.0.now + 1 + length parts.1.now ≡ length bytes.now) }
-{
-    match first_line_feed(bytes) {
-        Some(at) => Some((&bytes[..at], &bytes[at + 1..])),
-        None => None,
-    }
-}
 
 /// The fault of a line as that of the journal in which it stands.
 fn fault_at(line: u64, fault: LineFault) -> JournalFault

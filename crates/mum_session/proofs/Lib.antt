@@ -1,3 +1,5 @@
 pub mod Echoes
 pub mod Strangers
 pub mod Frames
+pub mod Replies
+pub mod Denials

@@ -2,3 +2,5 @@ pub mod Code
 pub mod Heard
 pub mod Machine
 pub mod Action
+pub mod Verdict
+pub mod Reply

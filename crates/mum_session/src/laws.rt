@@ -1,11 +1,23 @@
-//! Laws of the machine, for every connection and every frame. The functions do nothing.
+//! Laws of the machine, for every connection and every frame, and of what is answered, for every verdict.
+//! The functions do nothing.
 
-ghost use Rattle.std.specs.Prelude.{◌≡◌, ◌==◌, ℕ, List, None, true, false};
+ghost use Rattle.std.specs.Prelude.{◌≡◌, ◌==◌, ◌↔◌, ℕ, [], List, None, Option, Some, true, false};
 ghost use Rattle.std.specs.List.{list_any};
+ghost use Rattle.mum_frame.specs.declared.frame.Frame.{Frame};
+ghost use Rattle.mum_frame.specs.Frame.{frame_spelling};
+ghost use Rattle.mum_rules_tree.specs.Denial.{denial};
 ghost use Rattle.mum_rules_tree.specs.declared.reason.Reason.TheVariants.{Gone};
+ghost use Rattle.mum_base.specs.declared.number.SessionId.{SessionId};
+ghost use Rattle.mum_base.specs.declared.number.Slot.{Slot};
+ghost use Rattle.mum_base.specs.declared.reply.ReplyEnd.TheVariants as ends;
+ghost use Rattle.mum_base.specs.declared.reply.ReplyEnd.TheVariants.{Joined};
+ghost use Rattle.mum_state.specs.declared.edit.Edit.{Edit};
+ghost use Rattle.mum_state.specs.declared.verdict.Verdict.{Verdict};
+ghost use Rattle.mum_state.specs.declared.verdict.Verdict.TheVariants.{Accepted, Ignored, Rejected};
 ghost use Rattle.mum_session.specs.declared.action.Ignored.TheVariants.{Because};
 ghost use Rattle.mum_session.specs.Action.{action, ignore, taken_before_login};
 ghost use Rattle.mum_session.specs.Machine.{Machine, is_rejected, session_of};
+ghost use Rattle.mum_session.specs.Reply.{JoinsAs, reply_end, wire};
 
 /// Before a login, and after one that was rejected, what a frame asks for does not depend on its
 /// payload, but for a Version, a Ping and an Authenticate. After a rejection nothing is asked for.
@@ -17,4 +29,25 @@ pub fn payloads_wait_for_a_login()
     ensures rejected { (machine : Machine) (kind : ℕ) (payload : List ℕ)
         → is_rejected machine.stage ≡ true
         → action machine kind payload ≡ ignore (Because Gone) }
+{}
+
+/// The wait for a reply ends with a session in its slot exactly where a login is accepted that gives
+/// them, and for good exactly where the verdict is a rejection.
+pub fn replies_end()
+    ensures joined { (verdict : Verdict) (session : SessionId) (slot : Slot)
+        → (reply_end verdict ≡ Joined session slot) ↔ JoinsAs session slot verdict }
+    ensures rejected { (verdict : Verdict)
+        → (reply_end verdict ≡ ends.Rejected) ↔ ((kind : ℕ) × (verdict ≡ Rejected kind)) }
+{}
+
+/// For an accepted and for an ignored command the asker is sent nothing.
+pub fn silent_verdicts()
+    ensures accepted { (session : Option SessionId) (edit : Edit) → wire session (Accepted edit) ≡ [] }
+    ensures ignored { (session : Option SessionId) (why : ℕ) → wire session (Ignored why) ≡ [] }
+{}
+
+/// Whoever is denied a command or a login is sent the frame of the denial: it is always short enough.
+pub fn denials_are_sent()
+    ensures { (session : Option SessionId) (verdict : Verdict) (frame : Frame)
+        → denial session verdict ≡ Some frame → wire session verdict ≡ frame_spelling frame }
 {}

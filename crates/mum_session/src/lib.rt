@@ -1,14 +1,19 @@
-//! The machine of a connection: what each frame of it asks for, by what the connection told before and
-//! by whether it is logged in. A frame is looked at in this crate alone.
+//! The machine of a connection: what each frame of it asks for, by what the connection sent before and
+//! by whether it is logged in. A frame is decoded in this crate alone. Here too is what is decided of a
+//! command, and what its asker is answered: the core and the control owner decide by the same functions.
 #![tactic(auto)]
 
 mod action;
 mod command;
+mod decision;
 mod heard;
 mod laws;
+mod reply;
 mod session;
 
 pub use action::{Action, Ignored};
 pub use command::{Asked, Command};
-pub use laws::payloads_wait_for_a_login;
+pub use decision::decide;
+pub use laws::{denials_are_sent, payloads_wait_for_a_login, replies_end, silent_verdicts};
+pub use reply::{end_of, mark_of, wire_of};
 pub use session::{Session, Stage};

@@ -5,9 +5,11 @@
 #[cfg(test)]
 mod outbox;
 #[cfg(test)]
+mod outside;
+#[cfg(test)]
 mod program;
 #[cfg(test)]
-mod state;
+mod published;
 #[cfg(test)]
 mod tree;
 #[cfg(test)]

@@ -1,12 +1,11 @@
 //! `mum_outbox`: threads that offer and take at once, and queues that are full.
 
-ghost use Rattle.std.specs.Prelude.{◌≡◌, ◌<◌};
+ghost use Rattle.std.specs.Prelude.{◌≡◌};
 
 use arrayvec::ArrayVec;
 use mum_base::{Octets, OutOfMemory, SessionId};
 use mum_outbox::{
-    BELL_CAPACITY, BoxPass, DESK_CAPACITY, Desk, Offered, POST_CAPACITY, PostParcel, Queue,
-    VOICE_CAPACITY, VoiceBox, VoiceParcel, capacities,
+    Bell, BoxPass, Desk, Offered, PostBox, PostParcel, Queue, VoiceBox, VoiceParcel, capacities,
 };
 use std::alloc::Global;
 use std::sync::Wait;
@@ -190,19 +189,17 @@ fn fill<I: Numbered + Drop, const CAPACITY: usize, R: Wait>(
     None
 }
 
-/// A queue is filled, left by one and filled again by one: the number that came back each time, the
-/// number that was taken, and how often the pass found it full.
+/// A new queue is filled, left by one and filled again by one: the number that came back each time,
+/// the number that was taken, and how often the pass found it full.
 fn left_by_one<I: Numbered + Drop, const CAPACITY: usize, R: Wait>(
     rt: &R,
     alloc: Global,
-) -> Result<(Option<u32>, Option<u32>, Option<u32>, u64), OutOfMemory>
-    requires { 0 < CAPACITY }
-{
-    let mut queue = Queue::<I, CAPACITY>::new(alloc)?;
+    queue: &mut Queue<I, CAPACITY>,
+) -> Result<(Option<u32>, Option<u32>, Option<u32>, u64), OutOfMemory> {
     let mut pass = queue.pass();
     let mut taker = queue.pass();
     let share = queue.share()?;
-    let first = fill(rt, alloc, &queue, &mut pass);
+    let first = fill(rt, alloc, queue, &mut pass);
     let taken = share.take_as(rt, &mut taker).map(|item| item.number());
     let second = fill(rt, alloc, &share, &mut pass);
     queue.rule_as(&mut taker);
@@ -211,15 +208,35 @@ fn left_by_one<I: Numbered + Drop, const CAPACITY: usize, R: Wait>(
 
 #[test]
 fn a_queue_holds_its_capacity_and_is_left_by_one(rt: HostRuntime) -> Result<(), Fail> {
-    capacities();
-    let voice = left_by_one::<VoiceParcel, VOICE_CAPACITY, _>(&rt, rt.alloc())?;
-    assert_eq!(rt; voice, (Some(128), Some(0), Some(1), 2));
-    let post = left_by_one::<PostParcel, POST_CAPACITY, _>(&rt, rt.alloc())?;
-    assert_eq!(rt; post, (Some(8192), Some(0), Some(1), 2));
-    let desk = left_by_one::<u32, DESK_CAPACITY, _>(&rt, rt.alloc())?;
-    assert_eq!(rt; desk, (Some(1024), Some(0), Some(1), 2));
-    let bell = left_by_one::<u32, BELL_CAPACITY, _>(&rt, rt.alloc())?;
-    assert_eq!(rt; bell, (Some(1024), Some(0), Some(1), 2));
+    let mut voice = VoiceBox::new(rt.alloc())?;
+    let mut post = PostBox::new(rt.alloc())?;
+    let mut desk = Desk::<u32>::new(rt.alloc())?;
+    let mut bell = Bell::<u32>::new(rt.alloc())?;
+    assert_eq!(rt;
+        capacities(&voice, &post, &desk, &bell),
+        (128, 8192, 1024, 1024)
+    );
+    let left = left_by_one(&rt, rt.alloc(), &mut voice)?;
+    assert_eq!(rt; left, (Some(128), Some(0), Some(1), 2));
+    let left = left_by_one(&rt, rt.alloc(), &mut post)?;
+    assert_eq!(rt; left, (Some(8192), Some(0), Some(1), 2));
+    let left = left_by_one(&rt, rt.alloc(), &mut desk)?;
+    assert_eq!(rt; left, (Some(1024), Some(0), Some(1), 2));
+    let left = left_by_one(&rt, rt.alloc(), &mut bell)?;
+    assert_eq!(rt; left, (Some(1024), Some(0), Some(1), 2));
+    Ok(())
+}
+
+#[test]
+fn a_pass_counts_what_it_found_full_or_empty(rt: HostRuntime) -> Result<(), Fail> {
+    let mut outbox = VoiceBox::new(rt.alloc())?;
+    let mut offers = outbox.pass();
+    let mut takes = outbox.pass();
+    assert!(rt; outbox.take_as(&rt, &mut takes).is_none());
+    assert_eq!(rt; fill(&rt, rt.alloc(), &outbox, &mut offers), Some(128));
+    assert!(rt; outbox.take_as(&rt, &mut takes).is_some());
+    assert_eq!(rt; (offers.full(), offers.empty()), (1, 0));
+    assert_eq!(rt; (takes.full(), takes.empty()), (0, 1));
     Ok(())
 }
 

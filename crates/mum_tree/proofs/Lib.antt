@@ -22,3 +22,5 @@ pub mod SeatBack
 pub mod Shrunk
 pub mod Start
 pub mod Upward
+pub mod Scenes
+pub mod StandardFacts

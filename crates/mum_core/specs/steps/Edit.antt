@@ -9,12 +9,14 @@ use Rattle.mum_state.specs.State.{StateValue}
 use Rattle.mum_notify.specs.Notices.{notices}
 use Rattle.mum_notify.specs.declared.notice.Notice.{Notice}
 use Rattle.mum_record.specs.Journal.{verdict_words}
+use Rattle.mum_session.specs.Reply.{mark}
+use Rattle.mum_session.specs.Verdict.{edits_of, verdict}
 use Rattle.mum_core.specs.declared.connection.Reply.{Reply}
 use Rattle.mum_core.specs.Case.{Case, not_opened}
 use Rattle.mum_core.specs.Connection.{answered, next_command, next_of_frame, session_of}
 use Rattle.mum_core.specs.Core.{CoreState, connection_at, current, at_connection}
 use Rattle.mum_core.specs.Line.{said_of}
-use Rattle.mum_core.specs.Reply.{edits_of, mark, reply, verdict}
+use Rattle.mum_core.specs.Reply.{reply}
 
 abbrev pub forbids : CoreState → ℕ → List Case
 forbids core c = not_opened core c ∷ record { stands = is_none (next_command (connection_at core c)); given = c; against = 0 } ∷ []

@@ -1,10 +1,10 @@
 -- The reply to a decided command reaches the worker of its connection, with a note of a revision or without.
-use Rattle.std.specs.Prelude.{ℕ, max, not, Bool, false, List, [], ◌∷◌, Option, Some, None, is_none, is_some, nat_lt, codes, decimal, if◌then◌else◌}
-use Rattle.std.specs.Option.{option_and_then, option_map_or}
+use Rattle.std.specs.Prelude.{ℕ, ◌==◌, max, not, Bool, false, List, [], ◌∷◌, length, Option, Some, None, is_none, nat_lt, codes, decimal, if◌then◌else◌}
+use Rattle.std.specs.Option.{option_map_or}
 use Rattle.mum_record.specs.Grammar.{revision_word}
 use Rattle.mum_core.specs.declared.connection.Reply.{Reply}
 use Rattle.mum_core.specs.Case.{Case, not_opened}
-use Rattle.mum_core.specs.Connection.{is_accepted, revision_of, told}
+use Rattle.mum_core.specs.Connection.{is_accepted, revision_of, told, wire_of}
 use Rattle.mum_core.specs.Core.{CoreState, connection_at, at_connection, at_worker}
 use Rattle.mum_core.specs.Line.{wire_words}
 
@@ -42,15 +42,13 @@ does core c revision = notes (connection_at core c).worker revision (at_connecti
 abbrev pub told_words : ℕ → Option ℕ → List (List ℕ)
 told_words c revision = codes "told" ∷ decimal c ∷ revision_word revision ∷ []
 
--- the frame of a reply that has one
-abbrev pub wire_lines : ℕ → Option (List ℕ) → List (List (List ℕ))
-wire_lines c wire = option_map_or (λ bytes. wire_words c bytes ∷ []) wire []
+-- the line of a frame, where there is one
+abbrev pub wire_lines : ℕ → List ℕ → List (List (List ℕ))
+wire_lines c bytes = if length bytes == 0 then [] else wire_words c bytes ∷ []
 
 -- nothing comes on the wire of a connection that is closed
-abbrev pub wire_to : CoreState → ℕ → Option (List ℕ)
-wire_to core c =
-    let connection = connection_at core c in
-    if is_some connection.closed then None else option_and_then (λ reply. reply.wire) connection.decided
+abbrev pub wire_to : CoreState → ℕ → List ℕ
+wire_to core c = wire_of (connection_at core c)
 
 abbrev pub lines : CoreState → ℕ → Option ℕ → List (List (List ℕ))
 lines core c revision = told_words c revision ∷ wire_lines c (wire_to core c)

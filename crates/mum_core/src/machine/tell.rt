@@ -2,10 +2,10 @@
 
 ghost use Rattle.std.specs.Prelude.{◌≡◌, ◌++◌, OnOk, string_bytes};
 ghost use Rattle.mum_base.specs.Refusal.{Gives, Settles};
-ghost use Rattle.mum_core.specs.Case.{IsStarved, Passes, first_that_stands, named_cause};
+ghost use Rattle.mum_core.specs.Case.{Passes, first_that_stands, named_cause};
 ghost use Rattle.mum_core.specs.Line.{joined, wire_words};
-ghost use Rattle.std.specs.Prelude.{◌⊎◌, ◌∷◌, [], IfOk, Some, map, true};
-ghost use Rattle.std.specs.Option.{option_copied};
+ghost use Rattle.std.specs.Prelude.{◌∷◌, [], IfOk, Some, map, true};
+ghost use Rattle.std.specs.List.{join_with_byte};
 ghost use Rattle.mum_record.specs.Grammar.{revision_word};
 ghost use Rattle.mum_record.specs.Words.{line_of_words, spelled_word};
 ghost use Rattle.mum_core.specs.Core.{is_opened};
@@ -14,7 +14,7 @@ ghost use Rattle.mum_core.specs.steps.Tell.{forbids, does, lines, note_cases, to
 use super::{Core, Effects, StepFault, illegal};
 use crate::connection::{Reply, tell_at};
 use crate::worker::note_at;
-use mum_base::{Items, Mark, Octets, OutOfMemory, Text};
+use mum_base::{Items, Mark, OutOfMemory, Text};
 use mum_record::{Word, push_line};
 use std::alloc::Global;
 
@@ -26,19 +26,6 @@ fn note_word(note: Option<u64>) -> Word<'static>
         Some(revision) => Word::Number(revision),
         None => Word::Name("-"),
     }
-}
-
-/// Appends the line that a connection was told.
-fn push_told(
-    alloc: Global,
-    text: &mut String,
-    connection: u32,
-    note: Option<u64>,
-) -> Result<(), OutOfMemory>
-    ensures { IfOk result (λ _. string_bytes text.new ≡ string_bytes text.old ++ joined (told_words connection note ∷ [])) }
-{
-    let words = [Word::Number(u64::from(connection)), note_word(note)];
-    push_line(alloc, text, "told", &words)
 }
 
 /// Appends the line of a frame on the wire to a connection.
@@ -54,59 +41,48 @@ pub(super) fn push_wire(
     push_line(alloc, text, "wire", &words)
 }
 
-/// Appends what is told of a reply: a line, and another for its frame.
-fn push_reply(
-    alloc: Global,
-    text: &mut String,
-    connection: u32,
-    note: Option<u64>,
-    wire: Option<&Octets>,
-) -> Result<(), OutOfMemory>
-    ensures { IfOk result (λ _. string_bytes text.new ≡ string_bytes text.old
-        ++ joined (told_words connection note ∷ wire_lines connection (option_copied wire.entry))) }
-{
-    push_told(alloc, text, connection, note)?;
-    let Some(frame) = wire else {
-        return Ok(());
-    };
-    text.push_str("\n")?;
-    push_wire(alloc, text, connection, frame.as_slice())
-}
-
-/// The line that a connection was told, by itself.
-fn told_line(alloc: Global, connection: u32, note: Option<u64>) -> Result<Text, OutOfMemory>
-    ensures { IfOk result (λ line. line ≡ line_of_words (told_words connection note)) }
+/// A line of a first word and others, by itself.
+fn line(alloc: Global, first: &str, words: &[Word<'_>]) -> Result<Text, OutOfMemory>
+    ensures { IfOk result (λ line. line ≡ line_of_words (first.now ∷ map spelled_word words.now)) }
 {
     let mut text = String::new(alloc);
-    push_told(alloc, &mut text, connection, note)?;
+    push_line(alloc, &mut text, first, words)?;
     Ok(Text::from_string(text))
 }
 
-/// The line of a frame on the wire to a connection, by itself.
-fn wire_line(alloc: Global, connection: u32, frame: &Octets) -> Result<Text, OutOfMemory>
-    ensures { IfOk result (λ line. line ≡ line_of_words (wire_words connection frame.now)) }
-{
-    let mut text = String::new(alloc);
-    push_wire(alloc, &mut text, connection, frame.as_slice())?;
-    Ok(Text::from_string(text))
-}
-
-/// What is told of a reply, each line by itself.
+/// What is reported of a reply: that it was told, and behind that its frame, where it has one.
 fn reply_lines(
     alloc: Global,
     connection: u32,
     note: Option<u64>,
-    wire: Option<&Octets>,
+    frame: &[u8],
 ) -> Result<Effects, OutOfMemory>
-    ensures { IfOk result (λ told. told
-        ≡ map line_of_words (told_words connection note ∷ wire_lines connection (option_copied wire.entry))) }
+    ensures { IfOk result (λ reported. reported
+        ≡ map line_of_words (told_words connection note ∷ wire_lines connection frame.now)) }
 {
-    let mut told = Items::new(alloc);
-    told.push(told_line(alloc, connection, note)?)?;
-    if let Some(frame) = wire {
-        told.push(wire_line(alloc, connection, frame)?)?;
+    let number = Word::Number(u64::from(connection));
+    let mut reported = Items::new(alloc);
+    reported.push(line(alloc, "told", &[number, note_word(note)])?)?;
+    if !frame.is_empty() {
+        let words = [Word::Number(u64::from(connection)), Word::Digits(frame)];
+        reported.push(line(alloc, "wire", &words)?)?;
     }
-    Ok(told)
+    Ok(reported)
+}
+
+/// Appends lines, parted by line feeds.
+fn push_lines(text: &mut String, lines: &[Text]) -> Result<(), OutOfMemory>
+    ensures { IfOk result (λ _. string_bytes text.new ≡ string_bytes text.old ++ join_with_byte 10 lines.now) }
+{
+    match lines {
+        [] => Ok(()),
+        [last] => text.push_str(last.as_str()),
+        [first, rest @ ..] => {
+            text.push_str(first.as_str())?;
+            text.push_str("\n")?;
+            push_lines(text, rest)
+        }
+    }
 }
 
 impl Core {
@@ -143,19 +119,33 @@ impl Core {
         self.check_note(reply, note)
     }
 
-    /// The frame that comes on the wire to a connection: that of its reply, where it is not closed.
-    fn wire_to(&self, connection: u32) -> Option<&Octets>
-        ensures { option_copied result ≡ wire_to self.now connection }
+    /// The bytes that come on the wire to a connection: those of its reply, where it is not closed.
+    fn wire_to(&self, connection: u32) -> &[u8]
+        ensures { result.now ≡ wire_to self.now connection }
     {
-        let found = self.connection(connection)?;
-        if found.closed.is_some() {
-            return None;
+        match self.connection(connection) {
+            Some(found) => found.wire(),
+            None => &[],
         }
-        found.decided.as_ref()?.wire.as_ref()
+    }
+
+    /// The lines of a tell, which is refused where it is not allowed.
+    pub(super) fn tell_lines(
+        &self,
+        connection: u32,
+        note: Option<u64>,
+    ) -> Result<Effects, StepFault>
+        ensures gives { Gives named_cause (first_that_stands (forbids self.now connection note))
+            (map line_of_words (lines self.now connection note)) self.now self.now result self.now }
+        ensures opened { OnOk result (is_opened self.now connection ≡ true) }
+    {
+        self.check_tell(connection, note)?;
+        let reported = reply_lines(self.alloc, connection, note, self.wire_to(connection))?;
+        Ok(reported)
     }
 
     /// A connection is told its reply, and its worker the note.
-    fn tell(&mut self, connection: u32, note: Option<u64>)
+    pub(super) fn tell(&mut self, connection: u32, note: Option<u64>)
         requires { is_opened self.old connection ≡ true }
         ensures { self.new ≡ does self.old connection note }
     {
@@ -176,26 +166,9 @@ impl Core {
         ensures settled { Settles named_cause (first_that_stands (forbids self.old connection note)) (does self.old connection note) self.old result self.new }
         ensures told { OnOk result (string_bytes text.new ≡ string_bytes text.old ++ joined (lines self.old connection note)) }
     {
-        self.check_tell(connection, note)?;
-        push_reply(self.alloc, text, connection, note, self.wire_to(connection))?;
+        let reported = self.tell_lines(connection, note)?;
+        push_lines(text, reported.as_slice())?;
         self.tell(connection, note);
         Ok(())
-    }
-
-    /// The same, with each line by itself.
-    pub(super) fn step_tell(
-        &mut self,
-        connection: u32,
-        note: Option<u64>,
-    ) -> Result<Effects, StepFault>
-        ensures { IsStarved self.old result self.new
-            ⊎ Gives named_cause (first_that_stands (forbids self.old connection note))
-            (map line_of_words (lines self.old connection note)) (does self.old connection note)
-            self.old result self.new }
-    {
-        self.check_tell(connection, note)?;
-        let told = reply_lines(self.alloc, connection, note, self.wire_to(connection))?;
-        self.tell(connection, note);
-        Ok(told)
     }
 }

@@ -16,6 +16,6 @@ returns-in-Some-clause-verdict c =
 pub returns-in-None-clause-verdict : goal.returns-in-None-clause-verdict
 returns-in-None-clause-verdict c =
     let asker = c.args.connection.now in
-    IfOk-weaker c.decide_on_users.result _ _
+    IfOk-weaker c.decide-in-None.result _ _
     (λ decided is. decided_of c.args.state.now c.session-session.result asker (User messages.Leave) decided c.session-session.ensures (leave_next asker (sym c.in-None.ensures) c.requires) is)
-    c.decide_on_users.ensures.verdict
+    c.decide-in-None.ensures.verdict

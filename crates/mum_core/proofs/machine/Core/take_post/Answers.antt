@@ -1,4 +1,4 @@
-use Rattle.std.proofs.Common.{◌≡◌, ◌∙◌, Some, ap, drop, map, slice_get, sym}
+use Rattle.std.proofs.Common.{◌∙◌, Some, ap, drop, map, slice_get, sym}
 use Rattle.std.specs.Prelude.{if◌then◌else◌}
 use Rattle.mum_notify.specs.declared.notice.Notice.{Notice}
 use Rattle.mum_core.specs.Connection.{is_of, lagging}

@@ -1,4 +1,0 @@
-use Rattle.mum_cases_state.proofs.permissions.set_in.Given as goal
-
-abbrev pub ghosts-counted : goal.ghosts-counted
-ghosts-counted a = record { name = a.blank.name; parts = a.blank.parts }

@@ -1,0 +1,3 @@
+pub mod DealLemmas
+pub mod KeepLemmas
+pub mod StandardFacts

@@ -1,0 +1,24 @@
+-- What is decided of a command.
+use Rattle.std.specs.Prelude.{List, [], ◌∷◌, Option, Some, None}
+use Rattle.mum_base.specs.declared.number.SessionId.{SessionId}
+use Rattle.mum_state.specs.declared.edit.Edit.{Edit}
+use Rattle.mum_state.specs.declared.verdict.Verdict.{Verdict}
+use Rattle.mum_state.specs.declared.verdict.Verdict.TheVariants.{Accepted, Ignored}
+use Rattle.mum_state.specs.State.{StateValue}
+use Rattle.mum_rules_tree.specs.Codes.{reason_code}
+use Rattle.mum_rules_tree.specs.declared.reason.Reason.TheVariants.{NotLoggedIn}
+use Rattle.mum_rules_tree.specs.Verdict.{tree_verdict}
+use Rattle.mum_rules_user.specs.Verdict.{user_verdict}
+use Rattle.mum_session.specs.declared.command.Asked.{Asked}
+use Rattle.mum_session.specs.declared.command.Asked.TheVariants.{Tree, User}
+
+-- what is decided at a state of a command of a connection, which may have a session
+unfoldable pub verdict : StateValue → Option SessionId → Asked → Verdict
+verdict state None (Tree message) = Ignored (reason_code NotLoggedIn)
+verdict state (Some session) (Tree message) = tree_verdict state session message
+verdict state session (User message) = user_verdict state session message
+
+-- the edit that is accepted, if one is
+abbrev pub edits_of : Verdict → List Edit
+edits_of (Accepted edit) = edit ∷ []
+edits_of others = []

@@ -1,0 +1,61 @@
+//! What is decided of a command.
+
+ghost use Rattle.std.specs.Prelude.{◌≡◌, IfOk};
+ghost use Rattle.mum_rules_tree.specs.Decision.{FitsWhereAccepted};
+ghost use Rattle.mum_session.specs.declared.command.Asked.TheVariants as asked;
+ghost use Rattle.mum_session.specs.Verdict.{verdict};
+
+use crate::command::Asked;
+use mum_base::{OutOfMemory, SessionId};
+use mum_rules_tree::{Reason, TreeMessage, decide_tree};
+use mum_rules_user::{UserMessage, decide_user};
+use mum_state::{State, Verdict};
+use std::alloc::Global;
+
+// What is decided of a message on channels.
+#[tactic(auto, unfolding(crate::specs::Verdict::verdict))]
+fn decide_on_channels(
+    alloc: Global,
+    state: &State,
+    session: Option<SessionId>,
+    message: &TreeMessage,
+) -> Result<Verdict, OutOfMemory>
+    ensures verdict { IfOk result (λ decided. decided ≡ verdict state.now session (asked.Tree message.now)) }
+    ensures fits { IfOk result (FitsWhereAccepted state.now) }
+{
+    match session {
+        Some(session) => decide_tree(alloc, state, session, message),
+        None => Ok(Reason::NotLoggedIn.verdict()),
+    }
+}
+
+// What is decided of a message on users.
+#[tactic(auto, unfolding(crate::specs::Verdict::verdict))]
+fn decide_on_users(
+    alloc: Global,
+    state: &State,
+    session: Option<SessionId>,
+    message: &UserMessage,
+) -> Result<Verdict, OutOfMemory>
+    ensures verdict { IfOk result (λ decided. decided ≡ verdict state.now session (asked.User message.now)) }
+    ensures fits { IfOk result (FitsWhereAccepted state.now) }
+{
+    decide_user(alloc, state, session, message)
+}
+
+/// What is decided at a state of a command of a connection, which may have a session. An accepted edit
+/// fits the state.
+pub fn decide(
+    alloc: Global,
+    state: &State,
+    session: Option<SessionId>,
+    command: &Asked,
+) -> Result<Verdict, OutOfMemory>
+    ensures verdict { IfOk result (λ decided. decided ≡ verdict state.now session command.now) }
+    ensures fits { IfOk result (FitsWhereAccepted state.now) }
+{
+    match command {
+        Asked::Tree(message) => decide_on_channels(alloc, state, session, message),
+        Asked::User(message) => decide_on_users(alloc, state, session, message),
+    }
+}

@@ -1,0 +1,341 @@
+//! `mum_io` and `mum_crew`: a link, a door and a crew of a test's own, as anybody may write them; what a link in
+//! memory hands back; in which order roles get their turns.
+
+ghost use Rattle.std.specs.Prelude.{◌≡◌, ◌==◌, None, replicate};
+
+use mum_base::Octets;
+use mum_crew::{Crew, CrewEnd, Look, Plan, Role, RunTally, Station, Turn, TurnCrew};
+use mum_io::{
+    Accept, Door, DoorEvent, DoorOpen, Link, LinkEvent, MemClock, MemDoor, MemLink, PollRead,
+    PollWrite, Tally,
+};
+use std::alloc::{AllocError, Global};
+use std::process::Abort;
+use std::sync::atomic::{AtomicU64, Ordering};
+use std::sync::{Arc, Wait};
+use std::test::Fail;
+use std::thread;
+use std::thread::Threads;
+use std::time::Clock;
+
+/// A link that gives back each byte that is written to it. It tells nothing of its bytes.
+#[derive(Drop)]
+struct Echo {
+    byte: Option<u8>,
+    tally: Tally,
+    is_shut: bool,
+}
+
+impl Link for Echo {
+    ghost counts = { λ e. e.tally };
+
+    ghost left = { λ _. None };
+
+    ghost written = { λ _. None };
+
+    ghost address = { λ _. replicate 16 0 };
+
+    ghost is_shut = { λ e. e.is_shut };
+
+    fn poll_read(&mut self, buf: &mut [u8]) -> PollRead {
+        let Some(byte) = self.byte.take() else {
+            self.tally.count_stall();
+            return PollRead::NotYet;
+        };
+        buf[0] = byte;
+        PollRead::Got(1)
+    }
+
+    fn poll_write(&mut self, piece: &[u8]) -> PollWrite {
+        if self.byte.is_some() {
+            self.tally.count_stall();
+            return PollWrite::NotYet;
+        }
+        self.byte = Some(piece[0]);
+        PollWrite::Took(1)
+    }
+
+    fn shut(&mut self) {
+        self.is_shut = true;
+    }
+
+    fn address(&self) -> [u8; 16] {
+        [0; 16]
+    }
+}
+
+/// A door that gives one echo, wherever it is opened, and then fails.
+#[derive(Drop)]
+struct OneEcho {
+    given: u64,
+    tally: Tally,
+}
+
+impl Door for OneEcho {
+    type Conn = Echo;
+
+    ghost counts = { λ d. d.tally };
+
+    ghost given = { λ d. d.given };
+
+    ghost opened_at = { λ _. None };
+
+    fn open(&mut self, _address: &str) -> DoorOpen {
+        DoorOpen::Opened
+    }
+
+    fn poll_accept(&mut self) -> Accept<Echo> {
+        if self.given > 0 {
+            self.tally.count_fault();
+            return Accept::Failed;
+        }
+        self.given = 1;
+        Accept::Conn(Echo {
+            byte: None,
+            tally: Tally::new(),
+            is_shut: false,
+        })
+    }
+}
+
+/// A station of a thread that never sleeps.
+#[derive(Drop)]
+struct Awake;
+
+impl Station for Awake {
+    fn begin(&mut self) {}
+
+    fn were_all_asked(&self) -> bool {
+        true
+    }
+
+    fn hold(&mut self) {}
+
+    fn release(&mut self) -> bool {
+        false
+    }
+
+    fn wake_others(&mut self, _owner_too: bool) {}
+
+    fn note_owner(&mut self) {}
+
+    fn did_owner_work(&mut self) -> bool {
+        false
+    }
+
+    fn was_shut(&mut self) -> bool {
+        false
+    }
+
+    fn look(&mut self, _may_sleep: bool) -> Look {
+        thread::yield_now();
+        Look::Woken
+    }
+
+    fn note_late(&mut self) {}
+}
+
+/// A crew of this many threads that never sleep.
+#[derive(Drop)]
+struct Watchers<X> {
+    rt: X,
+    threads: usize,
+    tally: RunTally,
+}
+
+fn stations(alloc: Global, threads: usize) -> Result<Vec<Awake>, AllocError> {
+    let mut all = Vec::with_capacity(alloc, threads)?;
+    for _ in 0..threads {
+        all.push(Awake)?;
+    }
+    Ok(all)
+}
+
+impl<X: Wait + Threads + Clock + Copy + Sync> Crew for Watchers<X> {
+    type Runtime = X;
+
+    type Station = Awake;
+
+    ghost counts = { λ w. w.tally };
+
+    fn runtime(&self) -> X {
+        self.rt
+    }
+
+    fn plan(&mut self, alloc: Global, roles: usize) -> Plan<Awake> {
+        Plan::Threads {
+            stations: stations(alloc, self.threads).unwrap_or(Vec::new(alloc)),
+            workers: roles,
+        }
+    }
+
+    fn keep(&mut self, plan: Plan<Awake>)
+        ensures { self.new.tally ≡ self.old.tally }
+    {
+        drop(plan);
+    }
+
+    fn count(&mut self, end: CrewEnd) {
+        self.tally.count(end);
+    }
+}
+
+/// A role that writes its number into a word at each of its turns.
+#[derive(Drop)]
+struct Writer {
+    number: u64,
+    turns: u32,
+    word: Arc<AtomicU64>,
+}
+
+impl Role for Writer {
+    type Opening = u64;
+
+    ghost opening = { λ w. w.number };
+
+    ghost has_ended = { λ w. w.turns == 0 };
+
+    fn turn(&mut self) -> Turn {
+        let word = self.word.load(Ordering::SeqCst);
+        let digits = word.wrapping_mul(10).wrapping_add(self.number);
+        self.word.store(digits, Ordering::SeqCst);
+        self.turns = self.turns.saturating_sub(1);
+        if self.turns == 0 {
+            Turn::Done
+        } else {
+            Turn::Worked
+        }
+    }
+}
+
+/// Writers with the numbers from 1, each with this many turns.
+fn writers(
+    alloc: Global,
+    count: u64,
+    turns: u32,
+    word: &Arc<AtomicU64>,
+) -> Result<Vec<Writer>, AllocError> {
+    let mut all = Vec::new(alloc);
+    for number in 0..count {
+        all.push(Writer {
+            number: number.wrapping_add(1),
+            turns,
+            word: word.clone()?,
+        })?;
+    }
+    Ok(all)
+}
+
+/// Runs three writers of three turns each. The end, and what they wrote.
+fn write_all<C: Crew>(crew: &mut C, alloc: Global) -> Result<(CrewEnd, u64), AllocError> {
+    let word = Arc::new(alloc, AtomicU64::new(0))?;
+    let run = crew.run(alloc, writers(alloc, 3, 3, &word)?);
+    Ok((run.end, word.load(Ordering::SeqCst)))
+}
+
+#[test]
+fn turns_come_in_the_order_of_their_list(rt: HostRuntime) -> Result<(), Fail> {
+    let alloc: Global = rt.alloc();
+    // the second writer, the first, a number without a role, the second; then rounds
+    let mut crew = TurnCrew::new(rt, vec![in alloc; 1, 0, 9, 1]?);
+    assert_eq!(rt; write_all(&mut crew, alloc)?, (CrewEnd::Ran, 212_123_133));
+    assert_eq!(rt; write_all(&mut crew, alloc)?, (CrewEnd::Ran, 212_123_133));
+    Ok(())
+}
+
+#[test]
+fn threads_run_all_roles_or_none(rt: HostRuntime) -> Result<(), Fail> {
+    let alloc: Global = rt.alloc();
+    let mut crew = Watchers {
+        rt,
+        threads: 0,
+        tally: RunTally::new(),
+    };
+    assert_eq!(rt; write_all(&mut crew, alloc)?, (CrewEnd::Refused, 0));
+    // the first role has many turns in a round
+    crew.threads = 1;
+    assert_eq!(rt; write_all(&mut crew, alloc)?, (CrewEnd::Ran, 111_232_323));
+    crew.threads = 3;
+    let (end, _in_any_order) = write_all(&mut crew, alloc)?;
+    assert_eq!(rt; end, CrewEnd::Ran);
+    Ok(())
+}
+
+/// Asks a door once, and hands a byte to whom it gives. The byte that comes back.
+fn echoed<D: Door>(door: &mut D, byte: u8) -> Option<u8> {
+    let DoorOpen::Opened = door.open("here") else {
+        return None;
+    };
+    let Accept::Conn(mut link) = door.poll_accept() else {
+        return None;
+    };
+    let _took = link.poll_write(&[byte]);
+    let mut buf = [0u8; 4];
+    let PollRead::Got(1) = link.poll_read(&mut buf) else {
+        return None;
+    };
+    link.shut();
+    Some(buf[0])
+}
+
+#[test]
+fn a_door_of_ones_own_serves(rt: HostRuntime) -> Result<(), Fail> {
+    let mut door = OneEcho {
+        given: 0,
+        tally: Tally::new(),
+    };
+    assert_eq!(rt; echoed(&mut door, 7), Some(7));
+    assert_eq!(rt; echoed(&mut door, 7), None);
+    Ok(())
+}
+
+fn link(alloc: Global) -> Result<MemLink, AllocError> {
+    let events = vec![in alloc; LinkEvent::End]?;
+    Ok(MemLink::new(alloc, events, vec![in alloc; 2]?))
+}
+
+fn bytes(written: Option<&Octets>) -> Option<&[u8]> {
+    match written {
+        Some(octets) => Some(octets.as_slice()),
+        None => None,
+    }
+}
+
+#[test]
+fn a_link_hands_back_what_was_written(rt: HostRuntime) -> Result<(), Fail> {
+    let alloc: Global = rt.alloc();
+    let mut events = Vec::new(alloc);
+    events
+        .push(DoorEvent::Conn(link(alloc)?))
+        .map_err(AllocError::from)?;
+    events.push(DoorEvent::NotYet).map_err(AllocError::from)?;
+    events
+        .push(DoorEvent::Conn(link(alloc)?))
+        .map_err(AllocError::from)?;
+    let mut door = MemDoor::new(alloc, events, true)?;
+    assert_eq!(rt; door.open("here"), DoorOpen::Opened);
+    let Accept::Conn(mut link) = door.poll_accept() else {
+        return Err(Fail::from("no connection"));
+    };
+    assert_eq!(rt; link.poll_write(b"one"), PollWrite::Took(3));
+    assert_eq!(rt; link.poll_write(b" two"), PollWrite::Failed);
+    assert_eq!(rt; link.poll_write(b" three"), PollWrite::Took(6));
+    assert!(rt; bytes(door.written(0)).is_none());
+    link.shut();
+    link.shut();
+    assert_eq!(rt; bytes(door.written(0)), Some(b"one three".as_slice()));
+    assert!(rt; bytes(door.written(1)).is_none());
+    assert!(rt; bytes(door.written(2)).is_none());
+    assert_eq!(rt; (link.starved(), door.starved()), (0, 0));
+    Ok(())
+}
+
+fn crosses_threads<T: Send>(_value: &T) {}
+
+#[test]
+fn what_is_in_memory_crosses_threads(rt: HostRuntime) -> Result<(), Fail> {
+    let alloc: Global = rt.alloc();
+    crosses_threads(&MemDoor::new(alloc, Vec::new(alloc), true)?);
+    crosses_threads(&MemClock::new(Vec::new(alloc)));
+    Ok(())
+}

@@ -1,0 +1,1 @@
+"""Draws recordings: their story, its rows, and the picture of them."""

@@ -42,7 +42,7 @@ pub record AreSpaces : Type 0 where
   pub at_the_end : name_fault (codes "ann ") ≡ Some EdgeSpace
   pub alone : name_fault (codes " ") ≡ Some EdgeSpace
   pub within : name_fault (codes "an n") ≡ None
-  pub no_space : name_fault (codes "ann") ≡ None
+  pub in_none_of_four_bytes : name_fault (hex "7a6fc3ab") ≡ None
 
 pub spaces : AreSpaces
 spaces = search

@@ -16,3 +16,4 @@ pub mod Written
 pub mod Slashes
 pub mod WorkerLine
 pub mod Texts
+pub mod StandardFacts

@@ -2,6 +2,8 @@
 //! values of its type may cross, so that a field that may not is refused here and not where a thread is
 //! started.
 
+ghost use Rattle.std.specs.Prelude.{◌≡◌};
+
 use crate::ledger::Prefix;
 use crate::naming::Naming;
 use crate::note::Note;
@@ -11,29 +13,41 @@ use crate::reply::Reply;
 use crate::shown::{Entry, Shown};
 use mum_state::State;
 
-fn crosses<T: Send>(value: T) -> T {
+fn crosses<T: Send>(value: T) -> T
+    ensures { result ≡ value }
+{
     value
 }
 
 fn is_shared<T: Sync>(_value: &T) {}
 
-pub fn pass_crosses(pass: Pass) -> Pass {
+pub fn pass_crosses(pass: Pass) -> Pass
+    ensures { result ≡ pass }
+{
     crosses(pass)
 }
 
-pub fn publisher_crosses(publisher: Publisher) -> Publisher {
+pub fn publisher_crosses(publisher: Publisher) -> Publisher
+    ensures { result ≡ publisher }
+{
     crosses(publisher)
 }
 
-pub fn note_crosses(note: Note) -> Note {
+pub fn note_crosses(note: Note) -> Note
+    ensures { result ≡ note }
+{
     crosses(note)
 }
 
-pub fn reply_crosses<N: Naming + Send>(reply: Reply<N>) -> Reply<N> {
+pub fn reply_crosses<N: Naming + Send>(reply: Reply<N>) -> Reply<N>
+    ensures { result ≡ reply }
+{
     crosses(reply)
 }
 
-pub fn state_crosses(state: State) -> State {
+pub fn state_crosses(state: State) -> State
+    ensures { result ≡ state }
+{
     crosses(state)
 }
 
@@ -45,11 +59,15 @@ pub fn prefix_is_shared(prefix: &Prefix) {
     is_shared(prefix);
 }
 
-pub fn entry_crosses(entry: Entry) -> Entry {
+pub fn entry_crosses(entry: Entry) -> Entry
+    ensures { result ≡ entry }
+{
     crosses(entry)
 }
 
-pub fn shown_crosses(shown: Shown) -> Shown {
+pub fn shown_crosses(shown: Shown) -> Shown
+    ensures { result ≡ shown }
+{
     crosses(shown)
 }
 
@@ -57,6 +75,8 @@ pub fn shown_is_shared(shown: &Shown) {
     is_shared(shown);
 }
 
-pub fn reader_crosses(reader: ShownReader) -> ShownReader {
+pub fn reader_crosses(reader: ShownReader) -> ShownReader
+    ensures { result ≡ reader }
+{
     crosses(reader)
 }

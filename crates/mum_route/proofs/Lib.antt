@@ -7,3 +7,4 @@ pub mod Aimed
 pub mod Gathered
 pub mod Hearers
 pub mod Relations
+pub mod StandardFacts

@@ -1,5 +1,4 @@
 pub mod OneWord
-pub mod LineFeeds
 pub mod Answered
 pub mod Asked
 pub mod Told

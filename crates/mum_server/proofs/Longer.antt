@@ -9,7 +9,8 @@ use Rattle.mum_server.specs.declared.end.LineFault.TheVariants.{TooLong, BadReco
 use Rattle.mum_server.specs.declared.end.End.TheVariants.{Faulty}
 use Rattle.mum_server.specs.declared.replay.TheConstants.{LINE_LIMIT, INPUT_LIMIT}
 use Rattle.mum_core.specs.Line.{text_of}
-use Rattle.mum_server.specs.Replay.{Answer, Goes, Stops, Outcome, behind, goes_on, answer, line_answer, is_too_long, end_fault, ending_of, outcome_from, replayed, is_line_feed}
+use Rattle.mum_server.specs.Replay.{Answer, Goes, Stops, Outcome, behind, goes_on, answer, line_answer, is_too_long, end_fault, ending_of, outcome_from, replayed}
+use Rattle.mum_record.specs.Lines.{is_line_feed}
 
 -- the last part goes on
 onto_last : List (List ℕ) → List (List ℕ) → List (List ℕ)

@@ -15,7 +15,8 @@ use Rattle.mum_server.specs.Program.{Ends}
 use Rattle.mum_server.specs.Runs.{Advances}
 use Rattle.mum_server.proofs.Longer.{split_filled, outcome_cons}
 use Rattle.mum_core.specs.Line.{text_of}
-use Rattle.mum_server.specs.Replay.{Answer, Goes, Stops, Outcome, behind, stops_at, goes_on, line_answer, ending_of, outcome_from, replayed, is_line_feed}
+use Rattle.mum_server.specs.Replay.{Answer, Goes, Stops, Outcome, behind, stops_at, goes_on, line_answer, ending_of, outcome_from, replayed}
+use Rattle.mum_record.specs.Lines.{is_line_feed}
 
 -- the outcome of the bytes that are left
 abbrev pub outcome_of : Phase → ℕ → ℕ → List ℕ → Outcome

@@ -5,6 +5,7 @@ use Rattle.mum_record.specs.declared.step.Step.{Step}
 use Rattle.mum_record.specs.declared.step.Step.TheVariants as steps
 use Rattle.mum_record.specs.Head.{is_head_line, workers_of, config_of}
 use Rattle.mum_record.specs.Reading.{step_of}
+use Rattle.mum_record.specs.Lines.{is_line_feed}
 use Rattle.mum_document.specs.Fault.{Fault}
 use Rattle.mum_server.specs.declared.{end.End.End, end.End.TheVariants.Finished, end.End.TheVariants.Faulty, end.LineFault.LineFault, replay.Phase.Phase, replay.TheConstants.LINE_LIMIT, replay.TheConstants.INPUT_LIMIT}
 use Rattle.mum_server.specs.declared.end.LineFault.TheVariants.{TooLong, BadRecording, BadConfig, IllegalStep}
@@ -95,9 +96,6 @@ outcome_from phase n left [] = stops_at n BadRecording
 outcome_from phase n left (rest ∷ []) = record { text = []; ending = ending_of phase n left rest }
 outcome_from phase n left (line ∷ next ∷ more) =
     goes_on n (line_answer phase left line) (λ after. outcome_from after (n + 1) (left - (length line + 1)) (next ∷ more))
-
-abbrev pub is_line_feed : ℕ → Bool
-is_line_feed byte = byte == 10
 
 -- what the program makes of these bytes
 unfoldable pub replayed : List ℕ → Outcome

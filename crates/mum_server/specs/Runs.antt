@@ -11,7 +11,7 @@ use Rattle.mum_core.specs.Line.{text_of}
 use Rattle.mum_core.specs.Step.{does, lines}
 use Rattle.mum_state.specs.declared.edit.Edit.{Edit}
 use Rattle.mum_server.specs.Opening.{document_edits, document_fault}
-use Rattle.mum_server.specs.Replay.{Goes, Stops, answer, config_answer, step_answer, phase_after, line_answer, is_line_feed}
+use Rattle.mum_server.specs.Replay.{Goes, Stops, answer, config_answer, step_answer, phase_after, line_answer}
 
 -- line n was taken, with these bytes told; or it is where the run ends
 abbrev pub Answers : ℕ → Phase → List ℕ → Result ⊤ End → Phase → List ℕ → Type 0
@@ -79,8 +79,3 @@ Advances old line (Ok done) new =
 Advances old line (Err (Faulty n fault)) new = (line_answer old.phase old.left line ≡ Stops fault) × (n ≡ old.line)
 Advances old line (Err OutOfMemory) new = Unit {0}
 Advances old line (Err others) new = ⊥
-
--- the first line of the bytes and what follows its line feed, where one ends it
-abbrev pub IsSplit : List ℕ → Option (Bor (List ℕ) × Bor (List ℕ)) → Type 0
-IsSplit bytes None = slice_split is_line_feed bytes ≡ bytes ∷ []
-IsSplit bytes (Some (line, rest)) = slice_split is_line_feed bytes ≡ line.now ∷ slice_split is_line_feed rest.now

@@ -5,15 +5,15 @@ ghost use Rattle.mum_io.specs.Outside.{Appends, AppendsFront, Rose};
 ghost use Rattle.mum_record.specs.Grammar.{IsRecordable};
 ghost use Rattle.mum_record.specs.Reading.{step_of};
 ghost use Rattle.mum_server.specs.Program.{Ends, WritesCounted};
-ghost use Rattle.mum_server.specs.Replay.{replayed, ending_of, is_line_feed};
-ghost use Rattle.mum_server.specs.Runs.{Answers, Says, Advances, IsSplit, StepAnswers, is_end};
+ghost use Rattle.mum_server.specs.Replay.{replayed, ending_of};
+ghost use Rattle.mum_server.specs.Runs.{Answers, Says, Advances, StepAnswers, is_end};
 ghost use Rattle.mum_server.specs.declared.replay.TheConstants.{INPUT_LIMIT};
 
 use crate::end::{End, LineFault};
 use crate::opening::begin;
 use mum_core::{Core, StepFault};
 use mum_io::{Sink, write_all};
-use mum_record::{Step, is_recording, read_step, read_workers};
+use mum_record::{Step, is_recording, read_step, read_workers, split_line};
 use std::alloc::Global;
 use std::mem::{drop, replace};
 
@@ -183,23 +183,6 @@ impl Run {
             LineFault::BadRecording
         };
         End::faulty(self.line, fault)
-    }
-}
-
-fn first_line_feed(bytes: &[u8]) -> Option<usize>
-    ensures { result ≡ position is_line_feed bytes.now }
-{
-    bytes.iter().position(|byte| *byte == b'\n')
-}
-
-/// The first line, and what follows its line feed.
-fn split_line(bytes: &[u8]) -> Option<(&[u8], &[u8])>
-    ensures lines { IsSplit bytes.now result }
-    ensures shorter { IfSome result (λ parts. length parts.0.now + 1 + length parts.1.now ≡ length bytes.now) }
-{
-    match first_line_feed(bytes) {
-        Some(at) => Some((&bytes[..at], &bytes[at + 1..])),
-        None => None,
     }
 }
 

@@ -111,13 +111,37 @@ pub in_parts : Leads [] (
     ∷ asked (Ok None)
     ∷ []) []
 unfolding spelling_of
-in_parts =
-    (hex "0003000000000102", (refl,
-    (hex "0102", (search arith,
-    (hex "0102", (waits _ (omega arith),
-    (hex "0102000000020a0b", (refl,
-    ([], (search arith,
-    ([], (waits _ (omega arith), refl))))))))))))
+in_parts = (
+  hex "0003000000000102",
+  (
+    refl,
+    (
+      hex "0102",
+      (
+        search arith,
+        (
+          hex "0102",
+          (
+            waits _ (omega arith),
+            (
+              hex "0102000000020a0b",
+              (
+                refl,
+                (
+                  [],
+                  (
+                    search arith,
+                    ([], (waits _ (omega arith), refl)),
+                  ),
+                ),
+              ),
+            ),
+          ),
+        ),
+      ),
+    ),
+  ),
+)
 
 -- a length that is too great is refused once its header is there, and for good
 pub refused_for_good : Leads [] (
@@ -129,13 +153,37 @@ pub refused_for_good : Leads [] (
     ∷ asked (Err (FrameTooLong 8388608))
     ∷ []) (hex "000000800000000300000000")
 unfolding named_length
-refused_for_good =
-    (hex "0000008000", (refl,
-    (hex "0000008000", (waits _ (omega arith),
-    (hex "000000800000", (refl,
-    (hex "000000800000", (search arith,
-    (hex "000000800000000300000000", (refl,
-    (hex "000000800000000300000000", (search arith, refl))))))))))))
+refused_for_good = (
+  hex "0000008000",
+  (
+    refl,
+    (
+      hex "0000008000",
+      (
+        waits _ (omega arith),
+        (
+          hex "000000800000",
+          (
+            refl,
+            (
+              hex "000000800000",
+              (
+                search arith,
+                (
+                  hex "000000800000000300000000",
+                  (
+                    refl,
+                    (hex "000000800000000300000000", (search arith, refl)),
+                  ),
+                ),
+              ),
+            ),
+          ),
+        ),
+      ),
+    ),
+  ),
+)
 
 -- the four frames of a client, and the front of another
 pub opening : Splits

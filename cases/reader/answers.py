@@ -80,8 +80,7 @@ def list_text(made, words):
     """The groups and entries that a channel has behind the command that set them, as the sender is then told."""
     channel = word_of(words)[1].partition(":")[0]
     kind, message = message_of(f"list {channel}")
-    query = [f"frame {made.connection} {mumble.frame_of(kind, message)}", f"edit {made.connection}",
-             f"tell {made.connection} -"]
+    query = program.command_steps(made.connection, mumble.frame_of(kind, message))
     told = program.tell(made.scene.configuration.document(), made.before() + made.steps + query).steps
     digits = told[-1][-1].split(" ")[2]
     policy = policy_text(mumble.decode(*mumble.split_frame(digits)))

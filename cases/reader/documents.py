@@ -64,11 +64,11 @@ def fault(question):
 
 # ---- what is seen
 
-def login(connection, name, password, document_steps):
+def login(connection, name, password, document_steps, tokens=()):
     """Adds the steps of a login."""
-    message = {"username": name, "password": password}
-    document_steps += [f"open {connection} 0", f"frame {connection} {mumble.frame_of(mumble.LOGIN, message)}",
-                       f"edit {connection}", f"tell {connection} -"]
+    message = {"username": name, "password": password, "tokens": tokens}
+    document_steps.append(f"open {connection} 0")
+    document_steps += program.command_steps(connection, mumble.frame_of(mumble.LOGIN, message))
 
 
 def told_first(document, name, password):
@@ -103,7 +103,7 @@ def list_of(document, name, password, channel):
     steps = []
     login(1, name, password, steps)
     query = mumble.frame_of(mumble.ACL, {"channel_id": channel, "query": True})
-    told = program.tell(document, steps + [f"frame 1 {query}", "edit 1", "tell 1 -"]).steps
+    told = program.tell(document, steps + program.command_steps(1, query)).steps
     if len(told[-1]) < 2:
         return None
     kind, payload = mumble.split_frame(told[-1][1].split(" ")[2])

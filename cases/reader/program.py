@@ -77,6 +77,11 @@ def why_of(ran, steps):
     return f"{why} ({step})"
 
 
+def command_steps(connection, digits):
+    """The steps of a command: its frame comes, it is decided, and its sender gets the verdict."""
+    return [f"frame {connection} {digits}", f"edit {connection}", f"tell {connection} -"]
+
+
 @dataclass(frozen=True)
 class Told:
     """The lines that each step told, as far as a recording was run, and why it stopped."""

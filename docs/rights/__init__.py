@@ -1,0 +1,1 @@
+"""Tables of who may do what, as text and as HTML."""

@@ -62,12 +62,12 @@ def entries_of(document):
 
 
 def asked_name(group):
-    """What the group of an entry names behind the prefixes `!` and `~`."""
+    """What the group of an entry names after the prefixes `!` and `~`."""
     return group.lstrip("!~")
 
 
 def names_of_entries(document):
-    """What the groups of entries name behind their prefixes, each once. Where an account is given, it counts alone."""
+    """What the groups of entries name after their prefixes, each once. Where an account is given, it counts alone."""
     named = [asked_name(entry["group"]) for _, _, entry in entries_of(document) if "account" not in entry]
     return list(dict.fromkeys(named))
 
@@ -224,7 +224,7 @@ def refuse_failures(steps, told):
 
 
 def permissions_told(told, at):
-    """The permissions of the answer that a step told."""
+    """The permissions of the answer that a step prints."""
     kind, payload = mumble.split_frame(told[at][1].split(" ")[2])
     return mumble.decode(kind, payload)["permissions"]
 

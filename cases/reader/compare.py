@@ -4,7 +4,7 @@ import sys
 from concurrent.futures import ThreadPoolExecutor
 from pathlib import Path
 
-from . import answers, conversation, documents, exercise, program, rights, script, suspicious
+from . import answers, conversation, difference, documents, exercise, program, rights, script, suspicious
 from .table import Case, NoCase, case_of, lines_of
 
 CASES = Path(__file__).resolve().parents[1]
@@ -19,6 +19,7 @@ ANSWERS = {
     "recordings/exercises": exercise.answer,
     "configurations/sizes": documents.counted, "configurations/examples": documents.example,
     "configurations/rights": rights.answer, "configurations/suspicious": suspicious.answer,
+    "configurations/differences": difference.answer,
 }
 
 

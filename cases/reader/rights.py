@@ -14,7 +14,8 @@ from .configuration import SUPERUSER, sha256
 
 GUESTS, ANY_ACCOUNT, ROOT = "guests", "any account", "the root"
 BUILT_IN = ("all", "auth", "in", "out", "none", "strong", "sub")
-AT_ONCE = 16
+# How many ask in one run, and how many questions they have there at most: this much takes no long run.
+AT_ONCE, QUESTIONS = 16, 4000
 
 
 class Repeating(dict):
@@ -61,12 +62,12 @@ def entries_of(document):
 
 
 def asked_name(group):
-    """What the group of an entry names behind the prefixes `!` and `~`."""
+    """What the group of an entry names after the prefixes `!` and `~`."""
     return group.lstrip("!~")
 
 
 def names_of_entries(document):
-    """What the groups of entries name behind their prefixes, each once. Where an account is given, it counts alone."""
+    """What the groups of entries name after their prefixes, each once. Where an account is given, it counts alone."""
     named = [asked_name(entry["group"]) for _, _, entry in entries_of(document) if "account" not in entry]
     return list(dict.fromkeys(named))
 
@@ -223,7 +224,7 @@ def refuse_failures(steps, told):
 
 
 def permissions_told(told, at):
-    """The permissions of the answer that a step told."""
+    """The permissions of the answer that a step prints."""
     kind, payload = mumble.split_frame(told[at][1].split(" ")[2])
     return mumble.decode(kind, payload)["permissions"]
 
@@ -240,7 +241,8 @@ def rights_of(document):
     """Who may do what in each channel."""
     inside, askers, answers = asks_who_is_inside(document), askers_of(document), {}
     kinds = [[asker for asker in askers if asker.is_stranger == stranger] for stranger in (False, True)]
-    parts = [kind[at:at + AT_ONCE] for kind in kinds for at in range(0, len(kind), AT_ONCE)]
+    size = min(AT_ONCE, max(1, QUESTIONS // len(channels_of(document))))
+    parts = [kind[at:at + size] for kind in kinds for at in range(0, len(kind), size)]
     with ThreadPoolExecutor(os.cpu_count()) as pool:
         for part in pool.map(lambda some: asked(document, some, inside), parts):
             answers.update(part)
@@ -256,6 +258,14 @@ def askers_text(askers):
         labels = {key: label for key, label in labels.items() if not key.startswith("account ")}
         labels[ANY_ACCOUNT] = "all other accounts"
     return ", ".join(labels.values())
+
+
+def gathered(pairs):
+    """Pairs of a thing and a value as values, in the order in which they come first, each with all its things."""
+    groups = {}
+    for one, value in pairs:
+        groups.setdefault(value, []).append(one)
+    return groups.items()
 
 
 # ---- as tables ask

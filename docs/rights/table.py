@@ -2,7 +2,7 @@
 from dataclasses import dataclass
 
 from reader import mumble
-from reader.rights import askers_text, channels_of, path_text
+from reader.rights import askers_text, channels_of, gathered, path_text
 
 SHORT = {
     "Write": "Wr", "Traverse": "Tr", "Enter": "En", "Speak": "Sp", "MuteDeafen": "Mu", "Move": "Mo",
@@ -25,14 +25,6 @@ class Channel:
     number: int
     path: str
     rows: list
-
-
-def gathered(pairs):
-    """Values, each with all that come with it, in the order in which they come first: pairs of one thing and a value."""
-    groups = {}
-    for one, value in pairs:
-        groups.setdefault(value, []).append(one)
-    return groups.items()
 
 
 def rows_of(answers, number):

@@ -1,8 +1,6 @@
 """What is different between two configurations: of each channel and of each who asks in both, the permissions."""
-from reader import mumble
-from reader.rights import channels_of, path_text
-
-from .table import gathered
+from . import mumble
+from .rights import channels_of, gathered, known, path_text
 
 
 def change_text(before, after):
@@ -40,10 +38,9 @@ def difference_lines(documents, answers):
     first, second = answers
     keys, keys_now = ({asker.key: asker.label for asker in one.askers} for one in answers)
     paths, paths_now = map(paths_of, documents)
-    yield from only_lines("channel ", paths, paths_now)
-    yield from only_lines("", keys, keys_now)
-    yield from (f"channel {path} is now {paths_now[number]}" for number, path in paths.items()
-                if paths_now.get(number, path) != path)
+    for kind, before, now in (("channel ", paths, paths_now), ("", keys, keys_now)):
+        yield from only_lines(kind, before, now)
+        yield from (f"{kind}{name} is now {now[key]}" for key, name in before.items() if now.get(key, name) != name)
     both = {key: label for key, label in keys_now.items() if key in keys}
     for number in paths_now:
         if number in paths:
@@ -51,3 +48,9 @@ def difference_lines(documents, answers):
             if found:
                 yield paths_now[number]
             yield from (f"  {change}  {', '.join(who)}" for change, who in found)
+
+
+def answer(question):
+    """The answer of the table `differences`: `DOCUMENT becomes DOCUMENT`."""
+    documents, answers = zip(*map(known, question.split(" becomes ")))
+    return " | ".join(line.strip() for line in difference_lines(documents, answers)) or "nothing"

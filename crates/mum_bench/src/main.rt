@@ -8,6 +8,7 @@ mod decide;
 mod edits;
 mod frames;
 mod notices;
+mod published;
 mod recording;
 mod routes;
 mod voice;
@@ -17,6 +18,7 @@ use mum_state::State;
 use std::alloc::Global;
 use std::env;
 use std::mem::drop;
+use std::sync::Wait;
 
 fn number(word: &str) -> Result<u32> {
     word.parse::<u32>().context("a size is a number")
@@ -71,11 +73,14 @@ fn of_size(alloc: Global, word: &str, size: usize) -> Result<u64> {
     }
 }
 
-fn checksum(alloc: Global, words: &[String]) -> Result<u64> {
+fn checksum<R: Wait + Copy + Drop>(rt: R, alloc: Global, words: &[String]) -> Result<u64> {
     match words {
         [word, kind, length, count] => {
             let (length, count) = (number(length)?, number(count)?);
             of_kind(alloc, word.as_str(), kind.as_str(), length, count)
+        }
+        [word, kind, count] if word.as_str() == "published" => {
+            published::work(rt, alloc, kind.as_str(), number(count)?)
         }
         [word, piece, size] => in_pieces(alloc, word.as_str(), number(piece)?, number(size)?),
         [word, size] => of_size(alloc, word.as_str(), number(size)? as usize),
@@ -84,13 +89,18 @@ fn checksum(alloc: Global, words: &[String]) -> Result<u64> {
 }
 
 /// What a run prints: the recording of the exercise of a seed, of so many rounds, or a checksum.
-fn answer(alloc: Global, words: &[String], text: &mut String) -> Result<()> {
+fn answer<R: Wait + Copy + Drop>(
+    rt: R,
+    alloc: Global,
+    words: &[String],
+    text: &mut String,
+) -> Result<()> {
     match words {
         [word, seed, rounds] if word.as_str() == "recording" => {
             recording::push(alloc, text, seed.as_str(), rounds.as_str())
         }
         _ => {
-            let sum = checksum(alloc, words)?;
+            let sum = checksum(rt, alloc, words)?;
             text.push_str(format!(in alloc; "{sum}\n")?.as_str())?;
             Ok(())
         }
@@ -100,7 +110,7 @@ fn answer(alloc: Global, words: &[String], text: &mut String) -> Result<()> {
 fn main(rt: HostRuntime) -> Result<()> {
     let words: Vec<String> = env::args(&rt)?.skip(1).collect(rt.alloc())?;
     let mut text = String::new(rt.alloc());
-    answer(rt.alloc(), words.as_slice(), &mut text)?;
+    answer(rt, rt.alloc(), words.as_slice(), &mut text)?;
     print!(rt; "{text}")?;
     Ok(())
 }

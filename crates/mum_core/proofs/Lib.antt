@@ -10,7 +10,6 @@ pub mod Lower
 pub mod Decided
 pub mod Framed
 pub mod Nexts
-pub mod Fewer
 pub mod Lagged
 pub mod Fitted
 pub mod Members

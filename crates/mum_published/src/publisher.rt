@@ -161,6 +161,13 @@ impl Publisher {
         }
     }
 
+    /// How many edits were appended: the revision of the last one.
+    pub fn revision(&self) -> u64
+        ensures { result ≡ length (appended self.now) }
+    {
+        self.ledger.count()
+    }
+
     /// How many appended edits are not published, after a `publish` that was refused too.
     pub fn pending(&self) -> u64
         ensures { result ≡ length self.now.pending }

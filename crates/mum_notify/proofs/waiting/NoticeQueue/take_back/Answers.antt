@@ -1,0 +1,10 @@
+use Rattle.std.proofs.Common.{◌∙◌, ◌-◌, List, ap, length, take}
+use Rattle.mum_notify.specs.declared.notice.Notice.{Notice}
+use Rattle.mum_notify.proofs.Fewer.{take-fewer}
+use Rattle.mum_notify.proofs.waiting.NoticeQueue.take_back.Goals as goal
+
+pub loop-taken-preserved : goal.loop-taken-preserved
+loop-taken-preserved c =
+    c.drop_back.ensures
+    ∙ ap (λ (seen : List Notice). take (length seen - 1) seen) c.loop-taken.invariant
+    ∙ take-fewer c.args.self.now c.loop-taken._taken

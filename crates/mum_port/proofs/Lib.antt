@@ -1,4 +1,12 @@
+pub mod Balance
+pub mod BoxParts
+pub mod Closing
+pub mod Course
+pub mod HandlePart
 pub mod Links
 pub mod Machines
+pub mod ReadPart
+pub mod Resting
 pub mod Seats
 pub mod Wires
+pub mod WritePart

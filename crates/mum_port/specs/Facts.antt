@@ -1,5 +1,5 @@
 -- What contracts see of a port, and what it may do.
-use Rattle.std.specs.Prelude.{◌≡◌, ◌==◌, ℕ, ◌≤◌, Bool, true, false, ◌&&◌, not, is_none, IsTrue, List, [], length, Option, Some, None, if◌then◌else◌}
+use Rattle.std.specs.Prelude.{◌≡◌, ◌==◌, ℕ, Bool, true, false, ◌&&◌, not, nat_le, is_none, IsTrue, List, [], length, Option, Some, None, if◌then◌else◌}
 use Rattle.mum_base.specs.declared.number.SessionId.{SessionId}
 use Rattle.mum_frame.specs.Frame.{HasNoFrame, TooLong}
 use Rattle.mum_frame.specs.Stream.{FramerState}
@@ -64,16 +64,16 @@ module _ {L : Type 0} where
   abbrev pub due_item : PortFacts L → Option DeskItem
   due_item port = next_item port.waiting port.machine port.stage
 
-  -- it may handle a whole frame: it is live, awaits no reply, and nothing of it waits for the desk
+  -- it may handle a whole frame: it is live, awaits no reply, nothing of it waits for the desk, and it has little to write
   abbrev pub may_handle : PortFacts L → Bool
-  may_handle port = is_live port.stage && (not port.machine.awaits && is_none port.waiting)
+  may_handle port =
+      is_live port.stage && (not port.machine.awaits && (is_none port.waiting && nat_le (length port.out) UNWRITTEN_LIMIT))
 
-  -- it may read: it might handle a frame, keeps none and no length above the limit, and has little to write
+  -- it may read: it might handle a frame, and keeps none and no length above the limit
   pub record MayRead (port : PortFacts L) : Type 0 where
     pub ready : IsTrue (may_handle port)
     pub no_frame : HasNoFrame port.framer.kept
     pub not_too_long : ¬ TooLong port.framer.kept
-    pub little_unwritten : length port.out ≤ UNWRITTEN_LIMIT
 
   -- it may write: it is open, and has something to write
   abbrev pub may_write : PortFacts L → Bool

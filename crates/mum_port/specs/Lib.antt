@@ -1,4 +1,5 @@
 pub mod Client
+pub mod Did
 pub mod Facts
 pub mod Handling
 pub mod Linking
@@ -8,3 +9,4 @@ pub mod Replies
 pub mod Stage
 pub mod Steps
 pub mod Taking
+pub mod Turn

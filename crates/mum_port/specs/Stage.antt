@@ -6,6 +6,8 @@ use Rattle.mum_base.specs.declared.reply.ReplyEnd.{ReplyEnd}
 use Rattle.mum_base.specs.declared.reply.ReplyEnd.TheVariants as ends
 use Rattle.mum_port.specs.declared.stage.Farewell.{Farewell}
 use Rattle.mum_port.specs.declared.stage.Farewell.TheVariants.{Leave, LastWord, Done}
+use Rattle.mum_port.specs.declared.stage.Parting.{Parting}
+use Rattle.mum_port.specs.declared.stage.Parting.TheVariants as partings
 use Rattle.mum_port.specs.declared.stage.Stage.{Stage}
 use Rattle.mum_port.specs.declared.stage.Stage.TheVariants.{Live, Ending, Closed}
 use Rattle.mum_port.specs.declared.stage.Went.{Went}
@@ -63,10 +65,15 @@ after_word Live = Live
 after_word (Ending cause) = Ending cause
 after_word (Closed cause farewell) = Closed cause (owed_after farewell)
 
+-- the cause for which a port closes that writes what it keeps
+abbrev pub parting_cause : Parting → Cause
+parting_cause partings.Rejected = causes.Rejected
+parting_cause partings.Kicked = causes.Kicked
+
 -- one that ends closes once it has nothing to write
 abbrev pub settled_where : Bool → Stage → Stage
 settled_where nothing_unwritten Live = Live
-settled_where nothing_unwritten (Ending cause) = if nothing_unwritten then closed_for cause else Ending cause
+settled_where nothing_unwritten (Ending parting) = if nothing_unwritten then closed_for (parting_cause parting) else Ending parting
 settled_where nothing_unwritten (Closed cause farewell) = Closed cause farewell
 
 -- for what a port closed, if it did
@@ -77,7 +84,7 @@ cause_of (Closed cause farewell) = Some cause
 
 -- a login that was rejected is the end of a live port
 abbrev pub rejected : Stage → Stage
-rejected Live = Ending causes.Rejected
+rejected Live = Ending partings.Rejected
 rejected (Ending cause) = Ending cause
 rejected (Closed cause farewell) = Closed cause farewell
 

@@ -1,6 +1,5 @@
 -- What a port takes from the boxes of its slot.
 use Rattle.std.specs.Prelude.{◌≡◌, ◌≢◌, ◌⊎◌, ℕ, Bool, true, false, List, [], slice_get, Option, Some, None, if◌then◌else◌}
-use Rattle.mum_base.specs.declared.number.Cause.TheVariants.{Kicked}
 use Rattle.mum_base.specs.declared.number.SessionId.{SessionId}
 use Rattle.mum_frame.specs.declared.kind.TheConstants.{UDP_TUNNEL}
 use Rattle.mum_frame.specs.Frame.{spelling_of}
@@ -12,6 +11,7 @@ use Rattle.mum_outbox.specs.declared.parcel.VoiceParcel.{VoiceParcel}
 use Rattle.mum_port.specs.declared.outbound.Taking.{Taking}
 use Rattle.mum_port.specs.declared.outbound.Taking.TheVariants.{NotDue, Nothing, Own, Foreign}
 use Rattle.mum_port.specs.declared.seat.Seat.{Seat}
+use Rattle.mum_port.specs.declared.stage.Parting.TheVariants.{Kicked}
 use Rattle.mum_port.specs.declared.stage.Stage.{Stage}
 use Rattle.mum_port.specs.declared.stage.Stage.TheVariants.{Ending}
 

@@ -19,4 +19,4 @@ pub use outgoing::Outgoing;
 pub use port::{Port, Step, UNWRITTEN_LIMIT};
 pub use router::VoiceRouter;
 pub use seat::Seat;
-pub use stage::{Farewell, Stage};
+pub use stage::{Farewell, Parting, Stage};

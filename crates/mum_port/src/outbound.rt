@@ -6,7 +6,7 @@ ghost use Rattle.mum_port.specs.Taking.{Collects, Drains, HearsParcel, IsPassOfP
 
 use crate::outgoing::Outgoing;
 use crate::seat::Seat;
-use crate::stage::{Stage, Went};
+use crate::stage::{Parting, Stage, Went};
 use mum_base::{Cause, SessionId};
 use mum_io::{Link, PollWrite};
 use mum_outbox::{PostBox, PostParcel, VoiceBox, VoiceParcel};
@@ -58,7 +58,7 @@ fn post(parcel: PostParcel, session: SessionId, out: &mut Outgoing, stage: &mut 
     }
     out.hold(bytes);
     if last {
-        *stage = Stage::Ending(Cause::Kicked);
+        *stage = Stage::Ending(Parting::Kicked);
     }
     Taking::Own
 }

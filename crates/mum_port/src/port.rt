@@ -26,8 +26,8 @@ use std::marker::Model;
 use std::mem::replace;
 use std::sync::Wait;
 
-/// A port that keeps more unwritten bytes than these reads nothing more. So it keeps at most these and one
-/// frame more.
+/// A port that keeps more unwritten bytes than these reads and handles nothing more. So no echo makes it keep
+/// more than these and one frame.
 pub const UNWRITTEN_LIMIT: usize = 65_536;
 
 /// What a step of a port came to.
@@ -117,16 +117,16 @@ impl<L: Link> Port<L> {
     fn may_handle(&self) -> bool
         ensures { result ≡ may_handle self.now }
     {
-        self.stage.is_live() && !self.client.awaits() && self.waiting.is_none()
+        self.stage.is_live()
+            && (!self.client.awaits()
+                && (self.waiting.is_none() && self.out.length() <= UNWRITTEN_LIMIT))
     }
 
-    // It might handle a frame, keeps none, and has little to write.
+    // It might handle a frame, and keeps none.
     fn may_read(&self) -> bool
         ensures { IsTrue result ↔ MayRead self.now }
     {
-        self.may_handle()
-            && matches!(self.framer.kept(), Kept::Nothing)
-            && self.out.length() <= UNWRITTEN_LIMIT
+        self.may_handle() && matches!(self.framer.kept(), Kept::Nothing)
     }
 
     // What it owes the desk next, once it is closed.

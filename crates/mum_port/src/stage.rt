@@ -1,7 +1,7 @@
 //! How far a port has come, and how a part of its step ended.
 
 ghost use Rattle.std.specs.Prelude.{◌≡◌};
-ghost use Rattle.mum_port.specs.Stage.{after_word, closed_for, has_worked, is_closed, is_gone, is_live, settled_where, stage_after_reply, stage_by};
+ghost use Rattle.mum_port.specs.Stage.{after_word, closed_for, has_worked, is_closed, is_gone, is_live, parting_cause, settled_where, stage_after_reply, stage_by};
 
 use mum_base::{Cause, ReplyEnd};
 
@@ -16,14 +16,34 @@ pub enum Farewell {
     Done,
 }
 
+/// Why a port writes what it keeps and does nothing else.
+#[derive(Clone, Copy, Debug, PartialEq, Eq)]
+pub enum Parting {
+    /// Its login was rejected.
+    Rejected,
+    /// It took the last parcel of its session.
+    Kicked,
+}
+
+impl Parting {
+    /// The cause for which the port closes then.
+    pub(crate) fn cause(self) -> Cause
+        ensures { result ≡ parting_cause self }
+    {
+        match self {
+            Parting::Rejected => Cause::Rejected,
+            Parting::Kicked => Cause::Kicked,
+        }
+    }
+}
+
 /// How far a port has come.
 #[derive(Clone, Copy, Debug, PartialEq, Eq)]
 pub enum Stage {
     /// It reads, handles, takes and writes.
     Live,
-    /// It took a rejection, or the last parcel of its session: it writes what it keeps, and closes for this
-    /// cause.
-    Ending(Cause),
+    /// It writes what it keeps, and then closes.
+    Ending(Parting),
     /// It closed, and its link is shut.
     Closed { cause: Cause, farewell: Farewell },
 }
@@ -89,7 +109,7 @@ impl Stage {
         ensures { result ≡ stage_after_reply end self }
     {
         match (self, end) {
-            (Stage::Live, ReplyEnd::Rejected) => Stage::Ending(Cause::Rejected),
+            (Stage::Live, ReplyEnd::Rejected) => Stage::Ending(Parting::Rejected),
             _ => self,
         }
     }
@@ -99,7 +119,7 @@ impl Stage {
         ensures { result ≡ settled_where nothing_unwritten self }
     {
         match self {
-            Stage::Ending(cause) if nothing_unwritten => closed(cause),
+            Stage::Ending(parting) if nothing_unwritten => closed(parting.cause()),
             _ => self,
         }
     }

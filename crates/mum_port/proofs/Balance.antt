@@ -98,10 +98,10 @@ module _ {L V : Type 0} {counts : L → Counts} {left written : L → Option (Li
 
   -- ---- what was read
 
-  kept_put : c.after_put.framer.kept ≡ old.framer.kept
+  pub kept_put : c.after_put.framer.kept ≡ old.framer.kept
   kept_put = ap (λ (p : PortFacts L). p.framer.kept) (port_put c)
 
-  kept_write : c.after_write.framer.kept ≡ c.after_handle.framer.kept
+  pub kept_write : c.after_write.framer.kept ≡ c.after_handle.framer.kept
   kept_write = ap (λ (f : _). f.kept) ((write_part c).framer ∙ ((voice_part c).framer ∙ (post_part c).framer))
 
   -- all that was kept and taken is the frame that was handled, and what remains
@@ -132,12 +132,12 @@ module _ {L V : Type 0} {counts : L → Counts} {left written : L → Option (Li
 
   -- ---- what was written
 
-  echo_handle : old.out ++ echo_of (action_of old.machine (frame c)) ≡ c.after_handle.out ++ (handle_part c).dropped
+  pub echo_handle : old.out ++ echo_of (action_of old.machine (frame c)) ≡ c.after_handle.out ++ (handle_part c).dropped
   echo_handle =
       ap (λ (l : List ℕ). l ++ echo_of (action_of old.machine (frame c))) (sym (out_read c))
       ∙ (ap (λ (m : Machine). c.after_read.out ++ echo_of (action_of m (frame c))) (sym (machine_read c)) ∙ (handle_part c).out)
 
-  out_post : c.after_post.out ≡ c.after_handle.out ++ post_bytes (session_of old.machine.stage) (post c)
+  pub out_post : c.after_post.out ≡ c.after_handle.out ++ post_bytes (session_of old.machine.stage) (post c)
   out_post = (post_part c).out ∙ ap (λ (s : Option SessionId). c.after_handle.out ++ post_bytes s (post c)) (session_handle c)
 
   out_voice : c.after_voice.out ≡ (c.after_handle.out ++ post_bytes (session_of old.machine.stage) (post c)) ++ voice_bytes (session_of old.machine.stage) (voice c)

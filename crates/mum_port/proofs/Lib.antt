@@ -2,11 +2,16 @@ pub mod Balance
 pub mod BoxParts
 pub mod Closing
 pub mod Course
+pub mod Ends
 pub mod HandlePart
+pub mod Idle
 pub mod Links
 pub mod Machines
 pub mod ReadPart
 pub mod Resting
+pub mod SeatTakes
 pub mod Seats
+pub mod Speaking
+pub mod Turned
 pub mod Wires
 pub mod WritePart

@@ -1,11 +1,13 @@
 //! A connection of a worker.
 
 ghost use Rattle.std.specs.Prelude.{◌≡◌, ◌<◌, ◌==◌, ◌↔◌, IsTrue, [], length};
+ghost use Rattle.mum_port.specs.Did.{PortDid};
 ghost use Rattle.mum_port.specs.Facts.{MayRead, PortFacts, may_handle, new_port, next_word, taking_session};
 ghost use Rattle.mum_port.specs.Stage.{is_closed, is_gone};
 ghost use Rattle.mum_port.specs.Replies.{Answers, Lags, seat_after};
 ghost use Rattle.mum_port.specs.Steps.{ClosesFor, CollectsPost, DrainsVoice, Handles, PortChain, Puts, Reads, Settles, Writes, step_of};
 ghost use Rattle.mum_port.specs.Taking.{IsPosted, IsVoiced};
+ghost use Rattle.mum_port.specs.Turn.{PortTurn};
 ghost use Rattle.mum_session.specs.Machine.{session_of};
 
 use crate::client::Client;
@@ -54,6 +56,7 @@ pub struct Port<L: Link> {
 }
 
 impl<L: Link> Model for Port<L> {
+    ghost use Rattle.mum_port.specs.Did.{PortDid};
     ghost use Rattle.mum_port.specs.Facts.{PortFacts};
 
     ghost Value = { PortFacts L };
@@ -332,6 +335,8 @@ impl<L: Link> Port<L> {
         requires buffer { 0 < length buf.old }
         ensures chain { PortChain L.counts L.left L.written L.is_shut V.routed posts.now voices.now
             self.old pass.old router.old result self.new pass.new router.new }
+        ensures turn { (did : PortDid) × PortTurn L.counts L.left L.written L.is_shut V.routed posts.now voices.now
+            self.old pass.old router.old did result self.new pass.new router.new }
         ensures desk { pass.new.queue ≡ desk.now.queue }
         ensures posts { IsPosted posts.now self.new.seat }
         ensures voices { IsVoiced voices.now self.new.seat }

@@ -3,6 +3,7 @@ use Rattle.mum_outbox.specs.Facts.{QueueFacts}
 use Rattle.mum_port.specs.Steps.{Settles}
 use Rattle.mum_port.specs.Taking.{IsPosted, IsVoiced}
 use Rattle.mum_port.proofs.Seats.{CollectsPost-posted, CollectsPost-voiced, DrainsVoice-posted, DrainsVoice-voiced, Handles-seat, Puts-queue, Puts-seat, Reads-seat, Settles-seat, Writes-seat}
+use Rattle.mum_port.proofs.Turned.{did_turn}
 use Rattle.mum_port.proofs.port.Port.step.Goals as goal
 
 pub collect-posted-requires : goal.collect-posted-requires
@@ -46,6 +47,9 @@ returns-clause-chain g c = record {
       c.is_closed-was_closed.ensures c.settle-closed.ensures;
   came_to = c.of.ensures;
 }
+
+pub returns-clause-turn : goal.returns-clause-turn
+returns-clause-turn g c = did_turn (returns-clause-chain g c)
 
 pub returns-clause-desk : goal.returns-clause-desk
 returns-clause-desk g c = Puts-queue _ _ _ _ _ c.put-put.ensures ∙ c.requires.desk

@@ -1,25 +1,24 @@
 -- The bytes of a step: what was read, handled and kept, and what was to be written, was written and is kept.
-use Rattle.std.proofs.Common.{◌≡◌, ◌≢◌, ℕ, ◌+◌, ◌≤◌, Bool, true, false, ◌&&◌, IsTrue, List, [], ◌∷◌, ◌++◌, length, Option, Some, None, refl, sym, ap, subst, ◌∙◌, ◌⊎◌, inl, inr, ⊎_elim, append_assoc, arith, length-append, nat_le}
+use Rattle.std.proofs.Common.{◌≡◌, ℕ, Bool, true, false, List, [], ◌++◌, Option, Some, None, refl, sym, ap, subst, ◌∙◌, inl, inr, append_assoc}
 use Rattle.std.proofs.lemmas.List.{append-nil}
 use Rattle.mum_base.specs.declared.number.Cause.{Cause}
 use Rattle.mum_base.specs.declared.number.SessionId.{SessionId}
-use Rattle.mum_frame.specs.declared.frame.Frame.{Frame}
 use Rattle.mum_io.specs.Counts.{Counts}
-use Rattle.mum_io.specs.Link.{Appends, Consumes, Keeps}
+use Rattle.mum_io.specs.Link.{Consumes, Keeps}
 use Rattle.mum_outbox.specs.Facts.{PassFacts, QueueFacts}
 use Rattle.mum_outbox.specs.declared.parcel.PostParcel.{PostParcel}
 use Rattle.mum_outbox.specs.declared.parcel.VoiceParcel.{VoiceParcel}
 use Rattle.mum_session.specs.Machine.{Machine, session_of}
-use Rattle.mum_port.specs.Did.{PortDid, action_of, bytes_of, echo_of, port_after_put, post_bytes, queued, voice_bytes}
-use Rattle.mum_port.specs.Facts.{MayRead, PortFacts, may_handle}
+use Rattle.mum_port.specs.Did.{action_of, bytes_of, echo_of, post_bytes, queued, voice_bytes}
+use Rattle.mum_port.specs.Facts.{MayRead, PortFacts}
+use Rattle.mum_port.specs.Stage.{is_closed}
 use Rattle.mum_port.specs.Steps.{PortChain, Settles}
-use Rattle.mum_port.specs.Turn.{KeepsWithin, ReadsInTurn, WritesInTurn}
+use Rattle.mum_port.specs.Turn.{ReadsInTurn, WritesInTurn}
 use Rattle.mum_port.specs.declared.item.DeskItem.{DeskItem}
 use Rattle.mum_port.specs.declared.port.Step.{Step}
-use Rattle.mum_port.specs.declared.port.TheConstants.{UNWRITTEN_LIMIT}
-use Rattle.mum_port.proofs.Course.{GoesOn, Way, at_close, bytes_written, did_of, frame, goes_on, handle_part, item, lost, machine_read, out_read, port_put, post, post_part, read_part, remains, session_handle, session_post, took, unsent, voice, voice_part, way, write_part}
+use Rattle.mum_port.proofs.Course.{closed_rests, Way, at_close, bytes_written, did_of, frame, goes_on, handle_part, lost, machine_read, out_read, port_put, post, post_part, read_part, remains, session_handle, session_post, took, unsent, voice, voice_part, way, write_part}
 use Rattle.mum_port.proofs.Links.{Appends-keeps, Consumes-keeps, Keeps-then_appends}
-use Rattle.mum_port.proofs.ReadPart.{Keeps-refl, Keeps-same, closes}
+use Rattle.mum_port.proofs.ReadPart.{Keeps-same, closes}
 
 -- what stays twice stays
 pub Keeps-trans : (a b c : Option (List ℕ)) → Keeps a b → Keeps b c → Keeps a c
@@ -53,6 +52,10 @@ echo_balance old echo mid post voice wrote new dropped echoed no_post no_voice n
 kept_or_dropped : (closed : Option Cause) (bytes kept : List ℕ) → (closed ≡ None → bytes ≡ kept) → ((cause : Cause) → closed ≡ Some cause → kept ≡ []) → bytes ≡ kept ++ at_close closed bytes
 kept_or_dropped None bytes kept stays drops = stays refl ∙ sym (append-nil kept)
 kept_or_dropped (Some cause) bytes kept stays drops = ap (λ (l : List ℕ). l ++ bytes) (sym (drops cause refl))
+
+false_unless : (test : Bool) → (test ≡ true → ⊥) → test ≡ false
+false_unless false never = refl
+false_unless true never = absurd (never refl)
 
 pub at_close-none : (closed : Option Cause) (bytes : List ℕ) → closed ≡ None → at_close closed bytes ≡ []
 at_close-none None bytes is = refl
@@ -176,6 +179,7 @@ module _ {L V : Type 0} {counts : L → Counts} {left written : L → Option (Li
     bytes = all_sent ∙ ap (λ (l : List ℕ). bytes_written c ++ l)
         (kept_or_dropped c.closed (unsent c) new.out (unsent_kept) (λ cause some. (settle-empty counts left written is_shut _ _ _ _ c.settles cause some).1));
     unsaid_at_close = at_close-none c.closed (unsent c);
+    allowed = λ some. false_unless (is_closed old.stage) (λ closed. some (closed_rests c closed).no_write.1);
     appended = Appends-keeps _ _ _ (bytes_written c)
         (Keeps-then_appends _ _ _ (bytes_written c)
         (subst (λ (l : L). Keeps (written l) (written c.after_voice.link)) (link_put)

@@ -1,13 +1,12 @@
 -- A port that closed does nothing more in its step but shut its link.
-use Rattle.std.proofs.Common.{◌≡◌, ℕ, Bool, true, false, ◌&&◌, IsTrue, List, Option, Some, None, refl, sym, ap, subst, ◌∙◌, ◌⊎◌, inl, inr, true≢false, ◌==◌, [], not, length, ⊎_elim}
+use Rattle.std.proofs.Common.{◌≡◌, ℕ, Bool, true, false, ◌&&◌, IsTrue, List, Option, Some, None, refl, sym, ap, ◌∙◌, inl, inr, true≢false, ⊎_elim}
 use Rattle.mum_base.specs.declared.number.Cause.{Cause}
 use Rattle.mum_io.specs.Counts.{Counts}
-use Rattle.mum_outbox.specs.Facts.{PassFacts, QueueFacts}
-use Rattle.mum_port.specs.Facts.{PortFacts, may_handle, may_write, stage_after_put, taking_session}
-use Rattle.mum_port.specs.Stage.{after_word, cause_of, closed_for, is_closed, is_live, stage_by}
-use Rattle.mum_port.specs.Steps.{CollectsPost, DrainsVoice, Handles, Puts, Reads, Settles, Writes, settled}
+use Rattle.mum_outbox.specs.Facts.{PassFacts}
+use Rattle.mum_port.specs.Facts.{PortFacts, stage_after_put}
+use Rattle.mum_port.specs.Stage.{after_word, cause_of, closed_for, is_live, stage_by}
+use Rattle.mum_port.specs.Steps.{Puts, Settles, settled}
 use Rattle.mum_port.specs.declared.item.DeskItem.{DeskItem}
-use Rattle.mum_port.specs.declared.outbound.Taking.{Taking}
 use Rattle.mum_port.specs.declared.stage.Stage.{Stage}
 use Rattle.mum_port.specs.declared.stage.Stage.TheVariants.{Live, Ending, Closed}
 use Rattle.mum_port.specs.declared.stage.Went.{Went}

@@ -1,5 +1,5 @@
 -- What a step of a port did, read off the chain of its parts, and the ways in which it may close.
-use Rattle.std.proofs.Common.{◌≡◌, ◌≢◌, ℕ, Bool, true, false, IsTrue, List, [], ◌++◌, Option, Some, None, refl, sym, ap, subst, ◌∙◌, ◌⊎◌, inl, inr, true≢false, ⊎_elim}
+use Rattle.std.proofs.Common.{◌≡◌, ℕ, Bool, true, false, IsTrue, List, [], ◌++◌, Option, Some, None, refl, sym, ap, subst, ◌∙◌, ◌⊎◌, inl, inr, true≢false, ⊎_elim}
 use Rattle.mum_base.specs.declared.number.Cause.{Cause}
 use Rattle.mum_base.specs.declared.number.Cause.TheVariants.{End, LinkFault, FrameTooLong, Rejected, Kicked, Lagged, Memory}
 use Rattle.mum_base.specs.declared.number.SessionId.{SessionId}
@@ -25,7 +25,7 @@ use Rattle.mum_port.proofs.Closing.{Puts-live, settles-closed}
 use Rattle.mum_port.proofs.HandlePart.{HandleLeaves, HandleShows, handle-leaves, handled_of}
 use Rattle.mum_port.proofs.Machines.{stage-after_frame}
 use Rattle.mum_port.proofs.ReadPart.{ReadLeaves, ReadShows, closes, lost_of, put-port, put_of, read-leaves, read-shows, stage_by-open, took_of}
-use Rattle.mum_port.proofs.Resting.{handle-rests, live-open, may-live, may_write-open, post-rests, stage_after_put-closed, voice-rests, write-rests}
+use Rattle.mum_port.proofs.Resting.{handle-rests, read-rests, live-open, may-live, may_write-open, post-rests, stage_after_put-closed, voice-rests, write-rests}
 use Rattle.mum_port.proofs.WritePart.{WriteLeaves, WriteShows, write-leaves, wrote_of}
 
 pub closes-is : (went : Went) (cause : Cause) → closes went ≡ Some cause → went ≡ Closes cause
@@ -274,6 +274,15 @@ module _ {L V : Type 0} {counts : L → Counts} {left written : L → Option (Li
 
   put-closed : is_closed c.after_put.stage ≡ is_closed old.stage
   put-closed = ap (λ (p : PortFacts L). is_closed p.stage) (port_put) ∙ stage_once_put-closed (item) old.waiting old.stage
+
+  -- one that was closed before the step rests whole
+  pub closed_rests : is_closed old.stage ≡ true → Rests
+  closed_rests closed =
+      let closed_put : is_closed c.after_put.stage ≡ true = put-closed ∙ closed in
+      let reads = read-rests counts left written is_shut c.after_put c.read c.after_read c.reads closed_put in
+      let closed_read : is_closed c.after_read.stage ≡ true = ap (λ (p : PortFacts L). is_closed p.stage) reads.1 ∙ closed_put in
+      let handles = handle-rests routed c.after_read router c.handled c.after_handle router_after c.handles closed_read in
+      rests (ap (λ (p : PortFacts L). is_closed p.stage) handles.2 ∙ closed_read)
 
   -- it is as open as it was
   pub as_open : closes c.read ≡ None → closes c.handled ≡ None → is_closed c.after_voice.stage ≡ is_closed old.stage

@@ -1,5 +1,5 @@
 -- For what a step closes its port, and what shows it.
-use Rattle.std.proofs.Common.{◌≡◌, ◌≢◌, ℕ, ◌<◌, Bool, true, false, ◌&&◌, IsTrue, List, [], ◌∷◌, ◌++◌, length, Option, Some, None, refl, sym, ap, subst, ◌∙◌, ◌⊎◌, inl, inr, ⊎_elim, true≢false, arith, ◌==◌, ◌≤◌, if◌then◌else◌}
+use Rattle.std.proofs.Common.{◌≡◌, ℕ, ◌<◌, Bool, true, false, IsTrue, List, [], ◌∷◌, ◌++◌, length, Option, Some, None, refl, sym, ap, subst, ◌∙◌, ◌⊎◌, inl, inr, true≢false, arith, ◌≤◌, if◌then◌else◌}
 use Rattle.std.proofs.lemmas.Bool.{ne_eqb}
 use Rattle.std.proofs.lemmas.List.{append-nil}
 use Rattle.mum_base.specs.declared.number.Cause.{Cause}
@@ -13,24 +13,19 @@ use Rattle.mum_io.specs.Link.{IsAtEnd}
 use Rattle.mum_io.proofs.CountLemmas.{NoneFalls-same, NoneFalls-trans, Rose-earlier, Rose-later}
 use Rattle.mum_outbox.specs.Facts.{PassFacts, QueueFacts}
 use Rattle.mum_port.specs.Did.{bytes_of, port_after_put, stage_kept}
-use Rattle.mum_port.specs.Facts.{MayRead, PortFacts, due_item, empty_framer, may_handle}
+use Rattle.mum_port.specs.Facts.{PortFacts, may_handle}
 use Rattle.mum_port.specs.Stage.{cause_of, closed_for, is_closed, parting_cause}
 use Rattle.mum_port.specs.Steps.{PortChain, Settles, settled}
-use Rattle.mum_port.specs.Turn.{ClosesInTurn, EndsInTurn, Settled, ShowsCause, StaysInTurn, UsedMemory}
+use Rattle.mum_port.specs.Turn.{Settled, ShowsCause, UsedMemory}
 use Rattle.mum_port.specs.declared.item.DeskItem.{DeskItem}
 use Rattle.mum_port.specs.declared.port.Step.{Step}
 use Rattle.mum_port.specs.declared.stage.Parting.{Parting}
 use Rattle.mum_port.specs.declared.stage.Parting.TheVariants as partings
 use Rattle.mum_port.specs.declared.stage.Stage.{Stage}
 use Rattle.mum_port.specs.declared.stage.Stage.TheVariants.{Live, Ending, Closed}
-use Rattle.mum_port.specs.declared.stage.Went.{Went}
-use Rattle.mum_port.specs.declared.stage.Went.TheVariants.{NotDue, Stalled, Worked, Closes}
 use Rattle.mum_port.proofs.Balance.{all_read, link_put, link_voice, settle-link}
-use Rattle.mum_port.proofs.BoxParts.{is_empty}
-use Rattle.mum_port.proofs.Course.{GoesOn, HandleCloses, ReadCloses, Way, WriteCloses, as_open, at_close, did_of, frame, goes_on, handle_closes, handle_part, item, lost, out_read, machine_read, port_put, read_part, remains, stage_end, took, unsent, way, write_part}
-use Rattle.mum_port.proofs.HandlePart.{HandleShows}
+use Rattle.mum_port.proofs.Course.{GoesOn, HandleCloses, ReadCloses, Way, WriteCloses, as_open, at_close, did_of, frame, goes_on, handle_part, item, port_put, read_part, remains, stage_end, took, unsent, way, write_part}
 use Rattle.mum_port.proofs.ReadPart.{closes, stage_by-open}
-use Rattle.mum_port.proofs.Resting.{may-live}
 
 -- ---- facts on stages
 
@@ -108,8 +103,9 @@ module _ {L V : Type 0} {counts : L → Counts} {left written : L → Option (Li
       let same : old.framer.kept ≡ at_close c.closed (remains c) = remains_old reads.no_frame reads.shown.1 ∙ sym (dropped_bytes End reads.closed) in
       let none : HasNoFrame old.framer.kept = subst (λ (p : PortFacts L). HasNoFrame p.framer.kept) (port_put c) reads.shown.0.no_frame in (
         rose_read (λ (k : Counts). k.ends) (λ a b falls. falls.ends) reads.shown.2,
-        subst HasNoFrame same none,
+        reads.no_frame,
         reads.shown.1,
+        subst HasNoFrame same none,
         subst (λ (l : L). IsAtEnd (left l)) (link_put c) reads.shown.3,
       )
   shown_by_read LinkFault reads = rose_read (λ (k : Counts). k.faults) (λ a b falls. falls.faults) reads.shown.1

@@ -1,12 +1,12 @@
 -- A step that did nothing had to wait for all that it might have used, and one that worked did something.
-use Rattle.std.proofs.Common.{◌≡◌, ◌≢◌, ℕ, ◌≤◌, Bool, true, false, ◌&&◌, ◌||◌, IsTrue, List, [], ◌∷◌, ◌++◌, length, Option, Some, None, is_none, is_some, not, refl, sym, ap, subst, ◌∙◌, ◌⊎◌, inl, inr, ⊎_elim, true≢false, ◌==◌}
+use Rattle.std.proofs.Common.{◌≡◌, ◌≢◌, ℕ, Bool, true, false, ◌&&◌, ◌||◌, IsTrue, List, [], ◌∷◌, ◌++◌, Option, Some, None, is_none, is_some, not, refl, sym, ap, subst, ◌∙◌, inl, inr, ⊎_elim, true≢false}
 use Rattle.std.proofs.lemmas.List.{append-nil}
 use Rattle.std.specs.List.{list_any}
 use Rattle.mum_base.specs.declared.number.Cause.{Cause}
 use Rattle.mum_base.specs.declared.number.Cause.TheVariants.{End, LinkFault, FrameTooLong, Rejected, Kicked, Lagged, Memory}
 use Rattle.mum_base.specs.declared.number.SessionId.{SessionId}
 use Rattle.mum_frame.specs.declared.frame.Frame.{Frame}
-use Rattle.mum_frame.specs.Frame.{HasFrame, HasNoFrame, IsFrame, TooLong}
+use Rattle.mum_frame.specs.Frame.{HasNoFrame, IsFrame, TooLong}
 use Rattle.mum_frame.proofs.Headers.{HasNoFrame-above_limit}
 use Rattle.mum_io.specs.Counts.{Counts, Rose}
 use Rattle.mum_outbox.specs.Facts.{PassFacts, QueueFacts}
@@ -14,8 +14,8 @@ use Rattle.mum_outbox.specs.declared.parcel.PostParcel.{PostParcel}
 use Rattle.mum_outbox.specs.declared.parcel.TheConstants.{POST_CAPACITY, VOICE_CAPACITY}
 use Rattle.mum_outbox.specs.declared.parcel.VoiceParcel.{VoiceParcel}
 use Rattle.mum_session.specs.Machine.{session_of}
-use Rattle.mum_port.specs.Did.{PortDid, action_of, bytes_of, desk_after_put, echo_of, is_last, machine_after, port_after_put, post_bytes, stage_kept, voice_bytes, waiting_after}
-use Rattle.mum_port.specs.Facts.{MayRead, PortFacts, due_item, may_handle, may_write, next_item, taking_session}
+use Rattle.mum_port.specs.Did.{PortDid, action_of, bytes_of, desk_after_put, echo_of, is_last, machine_after, port_after_put, post_bytes, voice_bytes, waiting_after}
+use Rattle.mum_port.specs.Facts.{MayRead, PortFacts, due_item, may_handle, may_write, taking_session}
 use Rattle.mum_port.specs.Stage.{has_worked, is_live}
 use Rattle.mum_port.specs.Steps.{PortChain, Reads}
 use Rattle.mum_port.specs.Taking.{has_taken, stage_after_post}
@@ -23,14 +23,12 @@ use Rattle.mum_port.specs.Turn.{FindBoxesEmpty, FindsNothing, IsIdle, did_nothin
 use Rattle.mum_port.specs.declared.item.DeskItem.{DeskItem}
 use Rattle.mum_port.specs.declared.port.Step.{Step}
 use Rattle.mum_port.specs.declared.seat.Seat.{Seat}
-use Rattle.mum_port.specs.declared.stage.Stage.{Stage}
-use Rattle.mum_port.specs.declared.stage.Stage.TheVariants.{Live, Ending, Closed}
 use Rattle.mum_port.specs.declared.stage.Went.{Went}
 use Rattle.mum_port.specs.declared.stage.Went.TheVariants.{NotDue, Stalled, Worked, Closes}
 use Rattle.mum_port.proofs.Balance.{at_close-none, echo_handle, kept_put, kept_write, out_post, settle-same}
 use Rattle.mum_port.proofs.BoxParts.{SeatAfterPost, SeatAfterVoice}
-use Rattle.mum_port.proofs.Closing.{and-left, live-is}
-use Rattle.mum_port.proofs.Course.{GoesOn, at_close, bytes_written, did_of, frame, goes_on, handle_closes, handle_part, item, machine_read, machine_write, out_read, port_put, post, post_part, read_part, remains, seat_handle, session_handle, session_post, stage_handle, stage_voice, stage_end, took, unsent, voice, voice_part, write_part}
+use Rattle.mum_port.proofs.Closing.{and-left}
+use Rattle.mum_port.proofs.Course.{at_close, bytes_written, did_of, frame, goes_on, handle_closes, handle_part, item, machine_read, machine_write, out_read, port_put, post, post_part, read_part, remains, seat_handle, session_handle, session_post, took, unsent, voice, voice_part, write_part}
 use Rattle.mum_port.proofs.Ends.{may_same, rose_read, rose_write}
 use Rattle.mum_port.proofs.HandlePart.{HandleShows, HandledOrNot}
 use Rattle.mum_port.proofs.ReadPart.{ReadShows, closes, put-due, put-pass, put-some, put-worked, read-shows, stage_by-open}
@@ -51,7 +49,7 @@ some_of : {A : Type 0} (x : Option A) → is_some x ≡ false → x ≡ None
 some_of None none = refl
 some_of (Some x) none = absurd (true≢false none)
 
-none_of : {A : Type 0} (x : Option A) → IsTrue (is_none x) → x ≡ None
+pub none_of : {A : Type 0} (x : Option A) → IsTrue (is_none x) → x ≡ None
 none_of None none = refl
 none_of (Some x) none = absurd (true≢false (sym none))
 

@@ -3,9 +3,12 @@ pub mod BoxParts
 pub mod Closing
 pub mod Course
 pub mod Ends
+pub mod Farewells
 pub mod HandlePart
 pub mod Idle
+pub mod Lifelong
 pub mod Links
+pub mod Living
 pub mod Machines
 pub mod ReadPart
 pub mod Resting

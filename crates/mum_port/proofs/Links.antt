@@ -1,5 +1,5 @@
 -- What follows of what a link tells of its bytes.
-use Rattle.std.proofs.Common.{◌≡◌, ℕ, List, [], ◌++◌, Option, Some, None, sym, ◌∙◌, ap}
+use Rattle.std.proofs.Common.{ℕ, List, [], ◌++◌, Option, Some, None, sym, ◌∙◌, ap}
 use Rattle.mum_io.specs.Link.{Appends, Consumes, Keeps}
 use Rattle.std.proofs.lemmas.List.{append-nil}
 

@@ -1,5 +1,5 @@
 -- What frames and replies leave of the machine of a connection.
-use Rattle.std.proofs.Common.{◌≡◌, ℕ, List, Option, Some, None, Result, Ok, Err, OnErr, OnOk, refl, ap, ◌∙◌}
+use Rattle.std.proofs.Common.{◌≡◌, ℕ, List, Result, Ok, Err, OnErr, OnOk, refl, ap, ◌∙◌}
 use Rattle.std.specs.declared.alloc.AllocError.{AllocError}
 use Rattle.mum_session.specs.Action.{after_frame}
 use Rattle.mum_session.specs.Machine.{Machine}

@@ -1,6 +1,5 @@
 -- What a step takes from the boxes of its seat.
-use Rattle.std.proofs.Common.{◌≡◌, ◌≢◌, ℕ, ◌+◌, Bool, true, false, ◌&&◌, IsTrue, List, [], ◌∷◌, ◌++◌, length, Option, Some, None, refl, sym, ap, subst, ◌∙◌, ◌⊎◌, inl, inr, ⊎_elim, true≢false}
-use Rattle.mum_base.specs.declared.number.Cause.{Cause}
+use Rattle.std.proofs.Common.{◌≡◌, ℕ, ◌+◌, Bool, true, false, List, [], ◌∷◌, ◌++◌, Option, Some, None, refl, sym, ap, subst, ◌∙◌, inl, inr, ⊎_elim}
 use Rattle.mum_base.specs.declared.number.SessionId.{SessionId}
 use Rattle.mum_io.specs.Counts.{Counts}
 use Rattle.mum_outbox.specs.Facts.{PassFacts, QueueFacts}
@@ -8,7 +7,7 @@ use Rattle.mum_outbox.specs.declared.parcel.PostParcel.{PostParcel}
 use Rattle.mum_outbox.specs.declared.parcel.TheConstants.{POST_CAPACITY, VOICE_CAPACITY}
 use Rattle.mum_outbox.specs.declared.parcel.VoiceParcel.{VoiceParcel}
 use Rattle.mum_session.specs.Machine.{session_of}
-use Rattle.mum_port.specs.Did.{PortDid, is_last, stray_posts, stray_voices}
+use Rattle.mum_port.specs.Did.{PortDid, stray_posts, stray_voices}
 use Rattle.mum_port.specs.Facts.{PortFacts, taking_session}
 use Rattle.mum_port.specs.Stage.{stage_by}
 use Rattle.mum_port.specs.Steps.{PortChain}

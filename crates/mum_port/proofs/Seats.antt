@@ -1,6 +1,5 @@
 -- What the parts of a step leave of a port's seat, and of the passes in it.
-use Rattle.std.proofs.Common.{◌≡◌, ℕ, Bool, List, Option, Some, None, refl, sym, ap, subst, ◌∙◌, ◌⊎◌, inl, inr}
-use Rattle.std.specs.Prelude.{slice_get}
+use Rattle.std.proofs.Common.{◌≡◌, ℕ, Bool, List, Option, Some, None, refl, sym, ap, subst, ◌∙◌, inl, inr}
 use Rattle.mum_base.specs.declared.number.Cause.{Cause}
 use Rattle.mum_base.specs.declared.number.SessionId.{SessionId}
 use Rattle.mum_io.specs.Counts.{Counts}
@@ -8,7 +7,7 @@ use Rattle.mum_outbox.specs.Calls.{Takes}
 use Rattle.mum_outbox.specs.Facts.{PassFacts, QueueFacts}
 use Rattle.mum_port.specs.Facts.{PortFacts, due_item}
 use Rattle.mum_port.specs.Steps.{CollectsPost, DrainsVoice, Handles, Puts, Reads, Settles, Writes, desk_refused}
-use Rattle.mum_port.specs.Taking.{Collects, Drains, FindsNoBox, IsPassOfPost, IsPassOfVoice, IsPosted, IsVoiced, SeatCollects, SeatDrains}
+use Rattle.mum_port.specs.Taking.{Collects, Drains, IsPassOfPost, IsPassOfVoice, IsPosted, IsVoiced, SeatCollects, SeatDrains}
 use Rattle.mum_port.specs.declared.item.DeskItem.{DeskItem}
 use Rattle.mum_port.specs.declared.outbound.Taking.{Taking}
 use Rattle.mum_port.specs.declared.seat.Seat.{Seat}

@@ -1,5 +1,5 @@
 -- The sentences of a step, of the chain of its parts.
-use Rattle.std.proofs.Common.{◌≡◌, ◌≢◌, ℕ, ◌+◌, ◌≤◌, Bool, true, false, ◌&&◌, IsTrue, List, [], ◌++◌, length, Option, Some, None, is_none, nat_le, not, refl, sym, ap, subst, ◌∙◌, ◌⊎◌, inl, inr, ⊎_elim, arith, length-append}
+use Rattle.std.proofs.Common.{◌≡◌, ℕ, ◌+◌, ◌≤◌, Bool, IsTrue, List, ◌++◌, length, Option, Some, None, is_none, not, refl, sym, ap, subst, ◌∙◌, ◌⊎◌, inl, inr, arith, length-append}
 use Rattle.std.proofs.lemmas.Bool.{leb-true}
 use Rattle.mum_base.specs.declared.number.SessionId.{SessionId}
 use Rattle.mum_frame.specs.declared.frame.Frame.{Frame}
@@ -8,8 +8,8 @@ use Rattle.mum_outbox.specs.Facts.{PassFacts, QueueFacts}
 use Rattle.mum_outbox.specs.declared.parcel.PostParcel.{PostParcel}
 use Rattle.mum_outbox.specs.declared.parcel.VoiceParcel.{VoiceParcel}
 use Rattle.mum_session.specs.Machine.{Machine, session_of}
-use Rattle.mum_port.specs.Did.{PortDid, action_of, echo_of, machine_after, port_after_put, post_bytes, queued, voice_bytes, waiting_after, waiting_after_put}
-use Rattle.mum_port.specs.Facts.{PortFacts, due_item, may_handle, taking_session}
+use Rattle.mum_port.specs.Did.{PortDid, action_of, echo_of, port_after_put, post_bytes, queued, voice_bytes, waiting_after}
+use Rattle.mum_port.specs.Facts.{PortFacts, may_handle}
 use Rattle.mum_port.specs.Stage.{is_live}
 use Rattle.mum_port.specs.Steps.{PortChain}
 use Rattle.mum_port.specs.Turn.{EndsInTurn, HandlesInTurn, KeepsWithin, LooksWhereItMay, PortTurn, PutsInTurn, RoutesPacket, WritesInTurn}
@@ -18,7 +18,7 @@ use Rattle.mum_port.specs.declared.port.Step.{Step}
 use Rattle.mum_port.specs.declared.port.TheConstants.{UNWRITTEN_LIMIT}
 use Rattle.mum_port.proofs.Balance.{reads_in_turn, settle-machine, writes_in_turn}
 use Rattle.mum_port.proofs.BoxParts.{taking-is}
-use Rattle.mum_port.proofs.Course.{Way, did_of, frame, handle_part, item, machine_read, machine_write, port_put, post_part, read_part, voice_part, way, write_part}
+use Rattle.mum_port.proofs.Course.{Way, did_of, frame, handle_part, machine_read, machine_write, port_put, post_part, read_part, voice_part, way, write_part}
 use Rattle.mum_port.proofs.Ends.{falls_all, may_before, settled_in_turn}
 use Rattle.mum_port.proofs.HandlePart.{RoutesOf}
 use Rattle.mum_port.proofs.Idle.{and-right, did_something, is_idle, too_long}

@@ -1,6 +1,5 @@
 -- What the write of a step leaves, by the bytes that were written.
-use Rattle.std.proofs.Common.{◌≡◌, ◌≢◌, ℕ, ◌<◌, Bool, true, false, IsTrue, List, [], ◌∷◌, ◌++◌, length, Option, Some, None, refl, sym, ap, subst, ◌∙◌, ◌⊎◌, inl, inr, arith}
-use Rattle.mum_base.specs.declared.number.Cause.{Cause}
+use Rattle.std.proofs.Common.{◌≡◌, ◌≢◌, ℕ, ◌<◌, Bool, IsTrue, List, [], ◌∷◌, ◌++◌, length, Option, refl, sym, ap, subst, ◌∙◌, inl, inr, arith}
 use Rattle.mum_base.specs.declared.number.Cause.TheVariants.{End, LinkFault, FrameTooLong, Rejected, Kicked, Lagged, Memory}
 use Rattle.mum_io.specs.Counts.{Counts, NoneFalls, Rose}
 use Rattle.mum_io.specs.Link.{Appends, Keeps}
@@ -9,7 +8,6 @@ use Rattle.mum_port.specs.Facts.{PortFacts, may_write}
 use Rattle.mum_port.specs.Linking.{WriteEnded}
 use Rattle.mum_port.specs.Stage.{stage_by}
 use Rattle.mum_port.specs.Steps.{Writes}
-use Rattle.mum_port.specs.declared.stage.Stage.{Stage}
 use Rattle.mum_port.specs.declared.stage.Went.{Went}
 use Rattle.mum_port.specs.declared.stage.Went.TheVariants.{NotDue, Stalled, Worked, Closes}
 use Rattle.mum_port.proofs.Links.{Keeps-appends}

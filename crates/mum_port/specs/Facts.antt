@@ -1,5 +1,5 @@
 -- What contracts see of a port, and what it may do.
-use Rattle.std.specs.Prelude.{◌≡◌, ◌==◌, ℕ, Bool, true, false, ◌&&◌, not, nat_le, is_none, IsTrue, List, [], length, Option, Some, None, if◌then◌else◌}
+use Rattle.std.specs.Prelude.{◌==◌, ℕ, Bool, ◌&&◌, not, nat_le, is_none, IsTrue, List, [], length, Option, Some, None, if◌then◌else◌}
 use Rattle.mum_base.specs.declared.number.SessionId.{SessionId}
 use Rattle.mum_frame.specs.Frame.{HasNoFrame, TooLong}
 use Rattle.mum_frame.specs.Stream.{FramerState}

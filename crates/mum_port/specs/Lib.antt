@@ -2,6 +2,7 @@ pub mod Client
 pub mod Did
 pub mod Facts
 pub mod Handling
+pub mod Life
 pub mod Linking
 pub mod Outgoing
 pub mod Putting

@@ -1,5 +1,5 @@
 -- What is to be written to a link.
-use Rattle.std.specs.Prelude.{◌≡◌, ℕ, ◌<◌, ◌≤◌, List, [], ◌++◌, length, All, Option}
+use Rattle.std.specs.Prelude.{◌≡◌, ℕ, ◌<◌, List, [], ◌++◌, length, All, Option}
 use Rattle.std.specs.List.{concat}
 use Rattle.mum_io.specs.Link.{Appends}
 use Rattle.mum_io.specs.declared.link.PollWrite.{PollWrite}

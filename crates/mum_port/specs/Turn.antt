@@ -4,21 +4,17 @@ use Rattle.mum_base.specs.declared.number.Cause.{Cause}
 use Rattle.mum_base.specs.declared.number.Cause.TheVariants.{End, LinkFault, FrameTooLong, Rejected, Kicked, Lagged, Memory}
 use Rattle.mum_base.specs.declared.number.SessionId.{SessionId}
 use Rattle.mum_frame.specs.declared.frame.Frame.{Frame}
-use Rattle.mum_frame.specs.declared.frame.TheConstants.{HEADER_LENGTH, PAYLOAD_LIMIT}
 use Rattle.mum_frame.specs.Frame.{HasFrame, HasNoFrame, IsFrame, TooLong}
 use Rattle.mum_io.specs.Counts.{Counts, NoneFalls, Rose}
 use Rattle.mum_io.specs.Link.{Appends, Consumes, IsAtEnd}
 use Rattle.mum_outbox.specs.Calls.{Takes}
 use Rattle.mum_outbox.specs.Facts.{PassFacts, QueueFacts}
-use Rattle.mum_outbox.specs.declared.parcel.PostParcel.{PostParcel}
 use Rattle.mum_outbox.specs.declared.parcel.TheConstants.{POST_CAPACITY, VOICE_CAPACITY}
-use Rattle.mum_outbox.specs.declared.parcel.VoiceParcel.{VoiceParcel}
 use Rattle.mum_session.specs.Machine.{session_of}
 use Rattle.mum_session.specs.declared.action.Action.{Action}
 use Rattle.mum_session.specs.declared.action.Action.TheVariants.{Ask, Voice, Echo, Keep, Ignore}
-use Rattle.mum_port.specs.Did.{PortDid, action_of, bytes_of, desk_after_put, echo_of, is_last, machine_after, port_after_put, post_bytes, queued, stage_kept, stray_posts, stray_voices, voice_bytes, waiting_after, waiting_after_put}
+use Rattle.mum_port.specs.Did.{PortDid, action_of, bytes_of, desk_after_put, machine_after, port_after_put, queued, stage_kept, stray_posts, stray_voices, waiting_after, waiting_after_put}
 use Rattle.mum_port.specs.Facts.{MayRead, PortFacts, due_item, empty_framer, may_handle, may_write, taking_session}
-use Rattle.mum_port.specs.Handling.{Routes}
 use Rattle.mum_port.specs.Stage.{closed_for, is_closed}
 use Rattle.mum_port.specs.declared.item.DeskItem.{DeskItem}
 use Rattle.mum_port.specs.declared.port.Step.{Step}
@@ -26,7 +22,6 @@ use Rattle.mum_port.specs.declared.port.TheConstants.{UNWRITTEN_LIMIT}
 use Rattle.mum_port.specs.declared.seat.Seat.{Seat}
 use Rattle.mum_port.specs.declared.stage.Parting.{Parting}
 use Rattle.mum_port.specs.declared.stage.Parting.TheVariants as partings
-use Rattle.mum_port.specs.declared.stage.Stage.{Stage}
 use Rattle.mum_port.specs.declared.stage.Stage.TheVariants.{Ending}
 
 -- ---- what is handled
@@ -130,11 +125,13 @@ module _ {L : Type 0} (counts : L → Counts) (left written : L → Option (List
   pub record WritesInTurn (old : PortFacts L) (did : PortDid) (new : PortFacts L) : Type 0 where
     pub bytes : old.out ++ queued old.machine did ≡ did.wrote ++ (new.out ++ did.unsaid)
     pub unsaid_at_close : did.closed ≡ None → did.unsaid ≡ []
+    pub allowed : did.wrote ≢ [] → is_closed old.stage ≡ false
     pub appended : Appends (written old.link) (written new.link) did.wrote
 
   -- what shows the cause for which a port closed
   abbrev pub ShowsCause : PortFacts L → PortDid → PortFacts L → Cause → Type 0
-  ShowsCause old did new End = Rose (counts old.link).ends (counts new.link).ends × HasNoFrame did.lost × (did.took ≡ []) × IsAtEnd (left old.link)
+  ShowsCause old did new End =
+      Rose (counts old.link).ends (counts new.link).ends × (did.handled ≡ None) × (did.took ≡ []) × HasNoFrame did.lost × IsAtEnd (left old.link)
   ShowsCause old did new LinkFault = Rose (counts old.link).faults (counts new.link).faults
   ShowsCause old did new FrameTooLong = (did.handled ≡ None) × TooLong did.lost × HasNoFrame did.lost
   ShowsCause old did new Rejected = (stage_kept old did ≡ Ending partings.Rejected) × (did.unsaid ≡ [])

@@ -7,6 +7,7 @@ mod desk;
 mod front;
 mod inbound;
 pub mod item;
+pub mod laws;
 mod outbound;
 pub mod outgoing;
 pub mod port;

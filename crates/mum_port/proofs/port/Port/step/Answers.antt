@@ -1,5 +1,4 @@
-use Rattle.std.proofs.Common.{Bool, ◌≡◌, ◌∙◌, subst, sym}
-use Rattle.mum_outbox.specs.Facts.{QueueFacts}
+use Rattle.std.proofs.Common.{Bool, ◌∙◌, subst, sym}
 use Rattle.mum_port.specs.Steps.{Settles}
 use Rattle.mum_port.specs.Taking.{IsPosted, IsVoiced}
 use Rattle.mum_port.proofs.Seats.{CollectsPost-posted, CollectsPost-voiced, DrainsVoice-posted, DrainsVoice-voiced, Handles-seat, Puts-queue, Puts-seat, Reads-seat, Settles-seat, Writes-seat}

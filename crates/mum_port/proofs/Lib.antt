@@ -1,3 +1,4 @@
+pub mod Awaiting
 pub mod Balance
 pub mod BoxParts
 pub mod Closing

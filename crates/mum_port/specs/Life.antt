@@ -114,3 +114,10 @@ words_said machine (Ending parting) = []
 words_said machine (Closed cause Leave) = []
 words_said machine (Closed cause LastWord) = items.Command (leave machine) ∷ []
 words_said machine (Closed cause Done) = items.Command (leave machine) ∷ items.Closed machine.connection ∷ []
+
+-- no reply is among them
+abbrev pub AreUnanswered : List Event → Type 0
+AreUnanswered [] = Unit {0}
+AreUnanswered (stepped machine did ∷ events) = AreUnanswered events
+AreUnanswered (replied wire closed ∷ events) = ⊥
+AreUnanswered (lagged closed ∷ events) = AreUnanswered events

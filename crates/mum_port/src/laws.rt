@@ -9,9 +9,9 @@ ghost use Rattle.mum_frame.specs.Frame.{IsFrame, frame_spelling};
 ghost use Rattle.mum_frame.specs.Stream.{IsFront, Splits};
 ghost use Rattle.mum_session.specs.Machine.{Machine};
 ghost use Rattle.mum_port.specs.declared.item.DeskItem.{DeskItem};
-ghost use Rattle.mum_port.specs.Did.{PortDid};
+ghost use Rattle.mum_port.specs.Did.{PortDid, action_of};
 ghost use Rattle.mum_port.specs.Facts.{PortFacts, new_port};
-ghost use Rattle.mum_port.specs.Life.{Event, Lives, Steps, and_item, bytes_queued, bytes_taken, bytes_written, frames_handled, items_asked, items_put, words_said};
+ghost use Rattle.mum_port.specs.Life.{AreUnanswered, Event, Lives, Steps, and_item, asked_item, bytes_queued, bytes_taken, bytes_written, frames_handled, items_asked, items_put, words_said};
 ghost use Rattle.mum_port.specs.Stage.{is_closed};
 
 use crate::router::VoiceRouter;
@@ -53,4 +53,13 @@ pub fn the_desk_gets_each_item_once<L: Link, V: VoiceRouter>()
         Lives L.counts L.left L.written L.is_shut V.routed (new_port connection worker link) events port →
         (commands : List DeskItem) × (items_put events ≡ commands ++ words_said port.machine port.stage)
         × (items_asked events ≡ commands ++ and_item port.waiting []) }
+{}
+
+/// Behind a frame that asks for a command no frame is handled before a reply comes.
+pub fn a_command_is_answered_before_the_next_frame<L: Link, V: VoiceRouter>()
+    ensures { (old mid port : PortFacts L) (machine : Machine) (did : PortDid) (item : DeskItem)
+        (events : List Event) → Steps L.counts L.left L.written L.is_shut V.routed old machine did mid →
+        asked_item (action_of machine did.handled) ≡ Some item →
+        Lives L.counts L.left L.written L.is_shut V.routed mid events port →
+        AreUnanswered events → frames_handled events ≡ [] }
 {}

@@ -1,0 +1,367 @@
+-- What the takes from the boxes leave, by the parcels that were taken.
+use Rattle.std.proofs.Common.{◌≡◌, ◌≢◌, ℕ, Bool, true, false, ◌&&◌, List, [], ◌∷◌, ◌++◌, length, Option, Some, None, refl, sym, ap, subst, ◌∙◌, ◌⊎◌, inl, inr, arith, true≢false, ◌==◌}
+use Rattle.std.specs.Prelude.{slice_get, if◌then◌else◌}
+use Rattle.std.proofs.lemmas.List.{append-nil}
+use Rattle.std.proofs.lemmas.Bool.{eq-eqb, ne_eqb}
+use Rattle.mum_base.specs.declared.number.SessionId.{SessionId}
+use Rattle.mum_frame.specs.declared.kind.TheConstants.{UDP_TUNNEL}
+use Rattle.mum_frame.specs.Frame.{spelling_of}
+use Rattle.mum_outbox.specs.Calls.{Takes}
+use Rattle.mum_outbox.specs.Facts.{QueueFacts}
+use Rattle.mum_outbox.specs.declared.parcel.PostParcel.{PostParcel}
+use Rattle.mum_outbox.specs.declared.parcel.TheConstants.{POST_CAPACITY, VOICE_CAPACITY}
+use Rattle.mum_outbox.specs.declared.parcel.VoiceParcel.{VoiceParcel}
+use Rattle.mum_session.specs.Machine.{session_of}
+use Rattle.mum_port.specs.Did.{is_for, is_last, post_bytes, stray_posts, stray_voices, voice_bytes}
+use Rattle.mum_port.specs.Facts.{PortFacts, taking_session}
+use Rattle.mum_port.specs.Stage.{is_live}
+use Rattle.mum_port.specs.Steps.{CollectsPost, DrainsVoice}
+use Rattle.mum_port.specs.Taking.{Collects, Drains, HearsParcel, HearsTaken, PostsParcel, PostsTaken, SeatCollects, SeatDrains, foreign_count, has_taken, stage_after_post}
+use Rattle.mum_port.specs.Turn.{FindsNothing, TakesAtMostOne}
+use Rattle.mum_port.specs.declared.outbound.Taking.{Taking}
+use Rattle.mum_port.specs.declared.outbound.Taking.TheVariants.{NotDue, Nothing, Own, Foreign}
+use Rattle.mum_port.specs.declared.seat.Seat.{Seat}
+use Rattle.mum_port.specs.declared.stage.Stage.{Stage}
+use Rattle.mum_port.specs.declared.stage.Stage.TheVariants.{Live}
+use Rattle.mum_port.proofs.Closing.{live-is}
+
+-- ---- who may look
+
+if_some : {S : Type 0} (test : Bool) (found : Option S) (session : S) → (if test then found else None) ≡ Some session → (test ≡ true) × (found ≡ Some session)
+if_some true found session is = (refl, is)
+if_some false found session is = absurd (cc is)
+
+both_true : (a b : Bool) → (a && b) ≡ true → (a ≡ true) × (b ≡ true)
+both_true true true both = (refl, refl)
+both_true true false both = absurd (true≢false (sym both))
+both_true false b both = absurd (true≢false (sym both))
+
+pub is_empty : {A : Type 0} (xs : List A) → (length xs == 0) ≡ true → xs ≡ []
+is_empty [] is = refl
+is_empty (x ∷ xs) is = absurd (true≢false (sym is ∙ ne_eqb (length (x ∷ xs)) 0 (λ none. absurd (omega (arith, none)))))
+
+module _ {L : Type 0} where
+  pub taking-is : (port : PortFacts L) (session : SessionId) → taking_session port ≡ Some session
+      → (port.stage ≡ Live) × (port.out ≡ []) × (session_of port.machine.stage ≡ Some session)
+  taking-is port session is =
+      let found = if_some (is_live port.stage && (length port.out == 0)) (session_of port.machine.stage) session is in
+      let both = both_true (is_live port.stage) (length port.out == 0) found.0 in
+      (live-is port.stage both.0, is_empty port.out both.1, found.1)
+
+-- ---- for whom a parcel is
+
+own-is : (session to : SessionId) → to ≡ session → is_for (Some session) to ≡ true
+own-is session to own = eq-eqb to.0 session.0 (ap (λ (s : SessionId). s.0) own)
+
+foreign-is : (session to : SessionId) → to ≢ session → is_for (Some session) to ≡ false
+foreign-is session to foreign = ne_eqb to.0 session.0 (λ (same : to.0 ≡ session.0). foreign (ap (λ (n : ℕ). record { 0 = n }) same))
+
+-- ---- the post box
+
+-- what a take came to, by what the box gave
+pub record PostCounts (session : SessionId) (post : Option PostParcel) (took : Taking) (out : List ℕ) (stage after : Stage) : Type 0 where
+  pub bytes : out ≡ post_bytes (Some session) post
+  pub stage_is : after ≡ stage_after_post (is_last (Some session) post) stage
+  pub count : foreign_count took ≡ stray_posts (Some session) post
+  pub idle : has_taken took ≡ false → post ≡ None
+  pub worked : has_taken took ≡ true → post ≢ None
+
+parcel-counts : (session : SessionId) (parcel : PostParcel) (took : Taking) (out : List ℕ) (stage after : Stage)
+    → PostsParcel parcel session took out stage after → PostCounts session (Some parcel) took out stage after
+parcel-counts session parcel NotDue out stage after posts = absurd posts
+parcel-counts session parcel Nothing out stage after posts = absurd posts
+parcel-counts session parcel Own out stage after posts =
+    let own = own-is session parcel.to posts.0 in record {
+      bytes = posts.1 ∙ ap (λ (b : Bool). if b then parcel.bytes else []) (sym own);
+      stage_is = posts.2 ∙ ap (λ (b : Bool). stage_after_post (b && parcel.last) stage) (sym own);
+      count = ap (λ (b : Bool). if b then 0 else 1) (sym own);
+      idle = λ is. absurd (true≢false is);
+      worked = λ is none. absurd (cc none);
+    }
+parcel-counts session parcel Foreign out stage after posts =
+    let other = foreign-is session parcel.to posts.0 in record {
+      bytes = posts.1 ∙ ap (λ (b : Bool). if b then parcel.bytes else []) (sym other);
+      stage_is = posts.2 ∙ ap (λ (b : Bool). stage_after_post (b && parcel.last) stage) (sym other);
+      count = ap (λ (b : Bool). if b then 0 else 1) (sym other);
+      idle = λ is. absurd (true≢false is);
+      worked = λ is none. absurd (cc none);
+    }
+
+taken-counts : (session : SessionId) (post : Option PostParcel) (took : Taking) (out : List ℕ) (stage after : Stage)
+    → PostsTaken post session took out stage after → PostCounts session post took out stage after
+taken-counts session (Some parcel) took out stage after posts = parcel-counts session parcel took out stage after posts
+taken-counts session None took out stage after posts = record {
+  bytes = posts.1;
+  stage_is = posts.2;
+  count = ap foreign_count posts.0;
+  idle = λ is. refl;
+  worked = λ is. absurd (true≢false (sym is ∙ ap has_taken posts.0));
+}
+
+untaken-counts : (session : SessionId) (took : Taking) (out : List ℕ) (stage after : Stage) → took ≡ NotDue → out ≡ [] → after ≡ stage
+    → PostCounts session None took out stage after
+untaken-counts session took out stage after not_due none same = record {
+  bytes = none;
+  stage_is = same;
+  count = ap foreign_count not_due;
+  idle = λ is. refl;
+  worked = λ is. absurd (true≢false (sym is ∙ ap has_taken not_due));
+}
+
+-- what becomes of the seat
+abbrev pub SeatAfterPost : List QueueFacts → Option Seat → Option PostParcel → Option Seat → Type 0
+SeatAfterPost posts None post None = post ≡ None
+SeatAfterPost posts None post (Some after) = ⊥
+SeatAfterPost posts (Some seat) post None = ⊥
+SeatAfterPost posts (Some seat) post (Some after) =
+    (after.slot ≡ seat.slot) × (after.voice ≡ seat.voice) × TakesAtMostOne POST_CAPACITY seat.post post after.post
+    × (post ≡ None → FindsNothing POST_CAPACITY posts seat.slot.0 seat.post after.post)
+
+abbrev pub post_in_seat : (posts : List QueueFacts) (session : SessionId) (seat : Seat) (stage : Stage) (took : Taking) (seat_after : Seat) (out : List ℕ) (after : Stage)
+    → SeatCollects posts session seat stage took seat_after out after → Option PostParcel
+post_in_seat posts session seat stage took seat_after out after (inl none) = None
+post_in_seat posts session seat stage took seat_after out after (inr takes) = takes.parcel
+
+abbrev pub post_in : (posts : List QueueFacts) (session : SessionId) (seat : Option Seat) (stage : Stage) (took : Taking) (seat_after : Option Seat) (out : List ℕ) (after : Stage)
+    → Collects posts session seat stage took seat_after out after → Option PostParcel
+post_in posts session None stage took None out after collects = None
+post_in posts session None stage took (Some seat_after) out after collects = None
+post_in posts session (Some seat) stage took None out after collects = None
+post_in posts session (Some seat) stage took (Some seat_after) out after collects = post_in_seat posts session seat stage took seat_after out after collects
+
+no_box_there : {P : Type 0} (found : Option QueueFacts) (queue : QueueFacts) → found ≡ None → found ≡ Some queue → P
+no_box_there found queue none some = absurd (cc (sym none ∙ some))
+
+post_seat : (posts : List QueueFacts) (session : SessionId) (seat : Seat) (stage : Stage) (took : Taking) (seat_after : Seat) (out : List ℕ) (after : Stage)
+    (collects : SeatCollects posts session seat stage took seat_after out after)
+    → PostCounts session (post_in_seat posts session seat stage took seat_after out after collects) took out stage after
+    × SeatAfterPost posts (Some seat) (post_in_seat posts session seat stage took seat_after out after collects) (Some seat_after)
+post_seat posts session seat stage took seat_after out after (inl (none, same)) = (
+  untaken-counts session took out stage after none.not_due none.out_same same,
+  (
+    ap (λ (s : Seat). s.slot) none.seat_same,
+    ap (λ (s : Seat). s.voice) none.seat_same,
+    inl (refl, ap (λ (s : Seat). s.post) none.seat_same),
+    λ unused queue found. no_box_there (slice_get posts seat.slot.0) queue none.no_box found,
+  ),
+)
+post_seat posts session seat stage took seat_after out after (inr takes) =
+    let given : Takes POST_CAPACITY seat.post takes.parcel seat_after.post = subst (λ (s : Seat). Takes POST_CAPACITY seat.post takes.parcel s.post) (sym takes.after) takes.takes in (
+      taken-counts session takes.parcel took out stage after takes.posted,
+      (
+        ap (λ (s : Seat). s.slot) takes.after,
+        ap (λ (s : Seat). s.voice) takes.after,
+        inr given,
+        λ none queue found. subst (λ (p : Option PostParcel). Takes POST_CAPACITY seat.post p seat_after.post) none given,
+      ),
+    )
+
+post_option : (posts : List QueueFacts) (session : SessionId) (seat : Option Seat) (stage : Stage) (took : Taking) (seat_after : Option Seat) (out : List ℕ) (after : Stage)
+    (collects : Collects posts session seat stage took seat_after out after)
+    → PostCounts session (post_in posts session seat stage took seat_after out after collects) took out stage after
+    × SeatAfterPost posts seat (post_in posts session seat stage took seat_after out after collects) seat_after
+post_option posts session None stage took None out after collects = (untaken-counts session took out stage after collects.0 collects.1 collects.2, refl)
+post_option posts session None stage took (Some seat_after) out after collects = absurd collects
+post_option posts session (Some seat) stage took None out after collects = absurd collects
+post_option posts session (Some seat) stage took (Some seat_after) out after collects = post_seat posts session seat stage took seat_after out after collects
+
+module _ {L : Type 0} (posts : List QueueFacts) where
+  abbrev pub post_of : (old : PortFacts L) (took : Taking) (new : PortFacts L) → CollectsPost posts old took new → Option PostParcel
+  post_of old took new (inl nothing) = None
+  post_of old took new (inr one) = post_in posts one.session old.seat old.stage took new.seat new.out new.stage one.taken
+
+  -- the box was not looked at, or the port might look at it
+  abbrev pub LookedForPost : PortFacts L → Option PostParcel → PortFacts L → Type 0
+  LookedForPost old post new =
+      ((post ≡ None) × (new ≡ old) × (taking_session old ≡ None))
+      ⊎ ((session : SessionId) × (taking_session old ≡ Some session) × SeatAfterPost posts old.seat post new.seat)
+
+  pub record PostLeaves (old : PortFacts L) (took : Taking) (new : PortFacts L) (post : Option PostParcel) : Type 0 where
+    pub out : new.out ≡ old.out ++ post_bytes (session_of old.machine.stage) post
+    pub stage : new.stage ≡ stage_after_post (is_last (session_of old.machine.stage) post) old.stage
+    pub count : foreign_count took ≡ stray_posts (session_of old.machine.stage) post
+    pub idle : has_taken took ≡ false → post ≡ None
+    pub worked : has_taken took ≡ true → post ≢ None
+    pub looked : LookedForPost old post new
+    pub link : new.link ≡ old.link
+    pub machine : new.machine ≡ old.machine
+    pub framer : new.framer ≡ old.framer
+    pub waiting : new.waiting ≡ old.waiting
+
+  pub post-leaves : (old : PortFacts L) (took : Taking) (new : PortFacts L) (collects : CollectsPost posts old took new) → PostLeaves old took new (post_of old took new collects)
+  post-leaves old took new (inl nothing) = record {
+    out = ap (λ (p : PortFacts L). p.out) nothing.same ∙ sym (append-nil old.out);
+    stage = ap (λ (p : PortFacts L). p.stage) nothing.same;
+    count = ap foreign_count nothing.so;
+    idle = λ is. refl;
+    worked = λ is. absurd (true≢false (sym is ∙ ap has_taken nothing.so));
+    looked = inl (refl, nothing.same, nothing.forbidden);
+    link = ap (λ (p : PortFacts L). p.link) nothing.same;
+    machine = ap (λ (p : PortFacts L). p.machine) nothing.same;
+    framer = ap (λ (p : PortFacts L). p.framer) nothing.same;
+    waiting = ap (λ (p : PortFacts L). p.waiting) nothing.same;
+  }
+  post-leaves old took new (inr one) =
+      let may = taking-is old one.session one.allowed in
+      let both = post_option posts one.session old.seat old.stage took new.seat new.out new.stage one.taken in
+      let counts = both.0 in record {
+        out = counts.bytes ∙ ap (λ (s : Option SessionId). post_bytes s (post_of old took new (inr one))) (sym may.2)
+            ∙ ap (λ (l : List ℕ). l ++ post_bytes (session_of old.machine.stage) (post_of old took new (inr one))) (sym may.1);
+        stage = counts.stage_is ∙ ap (λ (s : Option SessionId). stage_after_post (is_last s (post_of old took new (inr one))) old.stage) (sym may.2);
+        count = counts.count ∙ ap (λ (s : Option SessionId). stray_posts s (post_of old took new (inr one))) (sym may.2);
+        idle = counts.idle;
+        worked = counts.worked;
+        looked = inr (one.session, one.allowed, both.1);
+        link = ap (λ (p : PortFacts L). p.link) one.left;
+        machine = ap (λ (p : PortFacts L). p.machine) one.left;
+        framer = ap (λ (p : PortFacts L). p.framer) one.left;
+        waiting = ap (λ (p : PortFacts L). p.waiting) one.left;
+      }
+
+-- ---- the voice box
+
+pub record VoiceCounts (session : SessionId) (voice : Option VoiceParcel) (took : Taking) (out : List ℕ) : Type 0 where
+  pub bytes : out ≡ voice_bytes (Some session) voice
+  pub count : foreign_count took ≡ stray_voices (Some session) voice
+  pub idle : has_taken took ≡ false → voice ≡ None
+  pub worked : has_taken took ≡ true → voice ≢ None
+
+packet-counts : (session : SessionId) (parcel : VoiceParcel) (took : Taking) (out : List ℕ) → HearsParcel parcel session took out → VoiceCounts session (Some parcel) took out
+packet-counts session parcel NotDue out hears = absurd hears
+packet-counts session parcel Nothing out hears = absurd hears
+packet-counts session parcel Own out hears =
+    let own = own-is session parcel.to hears.0 in record {
+      bytes = hears.1 ∙ ap (λ (b : Bool). if b then spelling_of UDP_TUNNEL parcel.bytes.items else []) (sym own);
+      count = ap (λ (b : Bool). if b then 0 else 1) (sym own);
+      idle = λ is. absurd (true≢false is);
+      worked = λ is none. absurd (cc none);
+    }
+packet-counts session parcel Foreign out hears =
+    let other = foreign-is session parcel.to hears.0 in record {
+      bytes = hears.1 ∙ ap (λ (b : Bool). if b then spelling_of UDP_TUNNEL parcel.bytes.items else []) (sym other);
+      count = ap (λ (b : Bool). if b then 0 else 1) (sym other);
+      idle = λ is. absurd (true≢false is);
+      worked = λ is none. absurd (cc none);
+    }
+
+heard-counts : (session : SessionId) (voice : Option VoiceParcel) (took : Taking) (out : List ℕ) → HearsTaken voice session took out → VoiceCounts session voice took out
+heard-counts session (Some parcel) took out hears = packet-counts session parcel took out hears
+heard-counts session None took out hears = record {
+  bytes = hears.1;
+  count = ap foreign_count hears.0;
+  idle = λ is. refl;
+  worked = λ is. absurd (true≢false (sym is ∙ ap has_taken hears.0));
+}
+
+unheard-counts : (session : SessionId) (took : Taking) (out : List ℕ) → took ≡ NotDue → out ≡ [] → VoiceCounts session None took out
+unheard-counts session took out not_due none = record {
+  bytes = none;
+  count = ap foreign_count not_due;
+  idle = λ is. refl;
+  worked = λ is. absurd (true≢false (sym is ∙ ap has_taken not_due));
+}
+
+abbrev pub SeatAfterVoice : List QueueFacts → Option Seat → Option VoiceParcel → Option Seat → Type 0
+SeatAfterVoice voices None voice None = voice ≡ None
+SeatAfterVoice voices None voice (Some after) = ⊥
+SeatAfterVoice voices (Some seat) voice None = ⊥
+SeatAfterVoice voices (Some seat) voice (Some after) =
+    (after.slot ≡ seat.slot) × (after.post ≡ seat.post) × TakesAtMostOne VOICE_CAPACITY seat.voice voice after.voice
+    × (voice ≡ None → FindsNothing VOICE_CAPACITY voices seat.slot.0 seat.voice after.voice)
+
+abbrev pub voice_in_seat : (voices : List QueueFacts) (session : SessionId) (seat : Seat) (took : Taking) (seat_after : Seat) (out : List ℕ)
+    → SeatDrains voices session seat took seat_after out → Option VoiceParcel
+voice_in_seat voices session seat took seat_after out (inl none) = None
+voice_in_seat voices session seat took seat_after out (inr takes) = takes.parcel
+
+abbrev pub voice_in : (voices : List QueueFacts) (session : SessionId) (seat : Option Seat) (took : Taking) (seat_after : Option Seat) (out : List ℕ)
+    → Drains voices session seat took seat_after out → Option VoiceParcel
+voice_in voices session None took None out drains = None
+voice_in voices session None took (Some seat_after) out drains = None
+voice_in voices session (Some seat) took None out drains = None
+voice_in voices session (Some seat) took (Some seat_after) out drains = voice_in_seat voices session seat took seat_after out drains
+
+voice_seat : (voices : List QueueFacts) (session : SessionId) (seat : Seat) (took : Taking) (seat_after : Seat) (out : List ℕ)
+    (drains : SeatDrains voices session seat took seat_after out)
+    → VoiceCounts session (voice_in_seat voices session seat took seat_after out drains) took out
+    × SeatAfterVoice voices (Some seat) (voice_in_seat voices session seat took seat_after out drains) (Some seat_after)
+voice_seat voices session seat took seat_after out (inl none) = (
+  unheard-counts session took out none.not_due none.out_same,
+  (
+    ap (λ (s : Seat). s.slot) none.seat_same,
+    ap (λ (s : Seat). s.post) none.seat_same,
+    inl (refl, ap (λ (s : Seat). s.voice) none.seat_same),
+    λ unused queue found. no_box_there (slice_get voices seat.slot.0) queue none.no_box found,
+  ),
+)
+voice_seat voices session seat took seat_after out (inr takes) =
+    let given : Takes VOICE_CAPACITY seat.voice takes.parcel seat_after.voice = subst (λ (s : Seat). Takes VOICE_CAPACITY seat.voice takes.parcel s.voice) (sym takes.after) takes.takes in (
+      heard-counts session takes.parcel took out takes.heard,
+      (
+        ap (λ (s : Seat). s.slot) takes.after,
+        ap (λ (s : Seat). s.post) takes.after,
+        inr given,
+        λ none queue found. subst (λ (p : Option VoiceParcel). Takes VOICE_CAPACITY seat.voice p seat_after.voice) none given,
+      ),
+    )
+
+voice_option : (voices : List QueueFacts) (session : SessionId) (seat : Option Seat) (took : Taking) (seat_after : Option Seat) (out : List ℕ)
+    (drains : Drains voices session seat took seat_after out)
+    → VoiceCounts session (voice_in voices session seat took seat_after out drains) took out
+    × SeatAfterVoice voices seat (voice_in voices session seat took seat_after out drains) seat_after
+voice_option voices session None took None out drains = (unheard-counts session took out drains.0 drains.1, refl)
+voice_option voices session None took (Some seat_after) out drains = absurd drains
+voice_option voices session (Some seat) took None out drains = absurd drains
+voice_option voices session (Some seat) took (Some seat_after) out drains = voice_seat voices session seat took seat_after out drains
+
+module _ {L : Type 0} (voices : List QueueFacts) where
+  abbrev pub voice_of : (old : PortFacts L) (took : Taking) (new : PortFacts L) → DrainsVoice voices old took new → Option VoiceParcel
+  voice_of old took new (inl nothing) = None
+  voice_of old took new (inr one) = voice_in voices one.session old.seat took new.seat new.out one.taken
+
+  abbrev pub LookedForVoice : PortFacts L → Option VoiceParcel → PortFacts L → Type 0
+  LookedForVoice old voice new =
+      ((voice ≡ None) × (new ≡ old) × (taking_session old ≡ None))
+      ⊎ ((session : SessionId) × (taking_session old ≡ Some session) × SeatAfterVoice voices old.seat voice new.seat)
+
+  pub record VoiceLeaves (old : PortFacts L) (took : Taking) (new : PortFacts L) (voice : Option VoiceParcel) : Type 0 where
+    pub out : new.out ≡ old.out ++ voice_bytes (session_of old.machine.stage) voice
+    pub stage : new.stage ≡ old.stage
+    pub count : foreign_count took ≡ stray_voices (session_of old.machine.stage) voice
+    pub idle : has_taken took ≡ false → voice ≡ None
+    pub worked : has_taken took ≡ true → voice ≢ None
+    pub looked : LookedForVoice old voice new
+    pub link : new.link ≡ old.link
+    pub machine : new.machine ≡ old.machine
+    pub framer : new.framer ≡ old.framer
+    pub waiting : new.waiting ≡ old.waiting
+
+  pub voice-leaves : (old : PortFacts L) (took : Taking) (new : PortFacts L) (drains : DrainsVoice voices old took new) → VoiceLeaves old took new (voice_of old took new drains)
+  voice-leaves old took new (inl nothing) = record {
+    out = ap (λ (p : PortFacts L). p.out) nothing.same ∙ sym (append-nil old.out);
+    stage = ap (λ (p : PortFacts L). p.stage) nothing.same;
+    count = ap foreign_count nothing.so;
+    idle = λ is. refl;
+    worked = λ is. absurd (true≢false (sym is ∙ ap has_taken nothing.so));
+    looked = inl (refl, nothing.same, nothing.forbidden);
+    link = ap (λ (p : PortFacts L). p.link) nothing.same;
+    machine = ap (λ (p : PortFacts L). p.machine) nothing.same;
+    framer = ap (λ (p : PortFacts L). p.framer) nothing.same;
+    waiting = ap (λ (p : PortFacts L). p.waiting) nothing.same;
+  }
+  voice-leaves old took new (inr one) =
+      let may = taking-is old one.session one.allowed in
+      let both = voice_option voices one.session old.seat took new.seat new.out one.taken in
+      let counts = both.0 in record {
+        out = counts.bytes ∙ ap (λ (s : Option SessionId). voice_bytes s (voice_of old took new (inr one))) (sym may.2)
+            ∙ ap (λ (l : List ℕ). l ++ voice_bytes (session_of old.machine.stage) (voice_of old took new (inr one))) (sym may.1);
+        stage = ap (λ (p : PortFacts L). p.stage) one.left;
+        count = counts.count ∙ ap (λ (s : Option SessionId). stray_voices s (voice_of old took new (inr one))) (sym may.2);
+        idle = counts.idle;
+        worked = counts.worked;
+        looked = inr (one.session, one.allowed, both.1);
+        link = ap (λ (p : PortFacts L). p.link) one.left;
+        machine = ap (λ (p : PortFacts L). p.machine) one.left;
+        framer = ap (λ (p : PortFacts L). p.framer) one.left;
+        waiting = ap (λ (p : PortFacts L). p.waiting) one.left;
+      }

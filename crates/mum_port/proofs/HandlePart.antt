@@ -1,0 +1,252 @@
+-- What the handling of a frame leaves, by the frame that was handled.
+use Rattle.std.proofs.Common.{◌≡◌, ◌≢◌, ℕ, IsTrue, List, [], ◌++◌, Option, Some, None, refl, sym, ap, subst, ◌∙◌, ◌⊎◌, inl, inr}
+use Rattle.std.proofs.lemmas.List.{append-nil}
+use Rattle.mum_base.specs.declared.number.Cause.TheVariants.{End, LinkFault, FrameTooLong, Rejected, Kicked, Lagged, Memory}
+use Rattle.mum_base.specs.declared.number.SessionId.{SessionId}
+use Rattle.mum_frame.specs.declared.frame.Frame.{Frame}
+use Rattle.mum_frame.specs.Frame.{HasFrame, HasNoFrame, IsFrame, TooLong}
+use Rattle.mum_session.specs.Machine.{Machine, session_of}
+use Rattle.mum_session.specs.declared.action.Action.{Action}
+use Rattle.mum_session.specs.declared.action.Action.TheVariants.{Ask, Voice, Echo, Keep, Ignore}
+use Rattle.mum_port.specs.Did.{action_of, bytes_of, echo_of, machine_after, waiting_after}
+use Rattle.mum_port.specs.Facts.{PortFacts, may_handle}
+use Rattle.mum_port.specs.Handling.{Acts, HandlesKept, Routes}
+use Rattle.mum_port.specs.Stage.{stage_by}
+use Rattle.mum_port.specs.Steps.{Handles}
+use Rattle.mum_port.specs.declared.item.DeskItem.{DeskItem}
+use Rattle.mum_port.specs.declared.stage.Went.{Went}
+use Rattle.mum_port.specs.declared.stage.Went.TheVariants.{NotDue, Stalled, Worked, Closes}
+use Rattle.mum_port.proofs.ReadPart.{closes}
+
+module _ {V : Type 0} (routed : V → ℕ → SessionId → List ℕ → V → Type 0) where
+  -- a packet of a connection that may have no session goes to the router
+  abbrev pub RoutesOf : ℕ → Option SessionId → Option Action → V → V → Type 0
+  RoutesOf connection session None router after = after ≡ router
+  RoutesOf connection session (Some (Ask command)) router after = after ≡ router
+  RoutesOf connection session (Some (Voice packet)) router after = Routes routed connection session packet router after
+  RoutesOf connection session (Some (Echo wire)) router after = after ≡ router
+  RoutesOf connection session (Some Keep) router after = after ≡ router
+  RoutesOf connection session (Some (Ignore why)) router after = after ≡ router
+
+  -- what a frame that was handled leaves: dropped is an echo for which there was no memory
+  pub record ActLeaves (connection : ℕ) (session : Option SessionId) (asked : Option Action) (waiting : Option DeskItem) (out : List ℕ) (router : V) (went : Went)
+      (waiting_new : Option DeskItem) (out_new : List ℕ) (router_new : V) : Type 0 where
+    pub dropped : List ℕ
+    pub waits : waiting_new ≡ waiting_after asked waiting
+    pub bytes : out ++ echo_of asked ≡ out_new ++ dropped
+    pub dropped_none : closes went ≡ None → dropped ≡ []
+    pub routes : RoutesOf connection session asked router router_new
+    pub ends : (went ≡ Worked) ⊎ (went ≡ Closes Memory)
+
+  -- where nothing is to be written the bytes stay
+  quiet : (out out_new : List ℕ) → out_new ≡ out → out ++ [] ≡ out_new ++ []
+  quiet out out_new same = ap (λ (l : List ℕ). l ++ []) (sym same)
+
+  act-leaves : (connection : ℕ) (session : Option SessionId) (asked : Action) (waiting : Option DeskItem) (out : List ℕ) (router : V) (went : Went) (waiting_new : Option DeskItem) (out_new : List ℕ) (router_new : V)
+      → Acts routed connection session asked waiting out router went waiting_new out_new router_new
+      → ActLeaves connection session (Some asked) waiting out router went waiting_new out_new router_new
+  act-leaves connection session (Ask command) waiting out router went waiting_new out_new router_new acts = record {
+    dropped = [];
+    waits = acts.1;
+    bytes = quiet out out_new acts.2;
+    dropped_none = λ open_still. refl;
+    routes = acts.3;
+    ends = inl acts.0;
+  }
+  act-leaves connection session (Voice packet) waiting out router went waiting_new out_new router_new acts = record {
+    dropped = [];
+    waits = acts.1;
+    bytes = quiet out out_new acts.2;
+    dropped_none = λ open_still. refl;
+    routes = acts.3;
+    ends = inl acts.0;
+  }
+  act-leaves connection session (Echo wire) waiting out router went waiting_new out_new router_new (inl done, waits, routes) = record {
+    dropped = [];
+    waits = waits;
+    bytes = sym done.1 ∙ sym (append-nil out_new);
+    dropped_none = λ open_still. refl;
+    routes = routes;
+    ends = inl done.0;
+  }
+  act-leaves connection session (Echo wire) waiting out router went waiting_new out_new router_new (inr lacks, waits, routes) = record {
+    dropped = wire;
+    waits = waits;
+    bytes = ap (λ (l : List ℕ). l ++ wire) (sym lacks.1);
+    dropped_none = λ open_still. absurd (cc (sym open_still ∙ ap closes lacks.0));
+    routes = routes;
+    ends = inr lacks.0;
+  }
+  act-leaves connection session Keep waiting out router went waiting_new out_new router_new acts = record {
+    dropped = [];
+    waits = acts.1;
+    bytes = quiet out out_new acts.2;
+    dropped_none = λ open_still. refl;
+    routes = acts.3;
+    ends = inl acts.0;
+  }
+  act-leaves connection session (Ignore why) waiting out router went waiting_new out_new router_new acts = record {
+    dropped = [];
+    waits = acts.1;
+    bytes = quiet out out_new acts.2;
+    dropped_none = λ open_still. refl;
+    routes = acts.3;
+    ends = inl acts.0;
+  }
+
+  abbrev pub handled_in_kept : (machine : Machine) (kept : List ℕ) (waiting : Option DeskItem) (out : List ℕ) (router : V) (went : Went)
+      (machine_new : Machine) (kept_new : List ℕ) (waiting_new : Option DeskItem) (out_new : List ℕ) (router_new : V)
+      → HandlesKept routed machine kept waiting out router went machine_new kept_new waiting_new out_new router_new → Option Frame
+  handled_in_kept machine kept waiting out router went machine_new kept_new waiting_new out_new router_new (inl (whole, inl first)) = Some first.frame
+  handled_in_kept machine kept waiting out router went machine_new kept_new waiting_new out_new router_new (inl (whole, inr lacks)) = None
+  handled_in_kept machine kept waiting out router went machine_new kept_new waiting_new out_new router_new (inr none) = None
+
+  -- why a part of a step that handles a frame ended as it did
+  abbrev pub HandleShows : List ℕ → Option Frame → Went → Type 0
+  HandleShows kept frame NotDue = ⊥
+  HandleShows kept frame Stalled = (frame ≡ None) × HasNoFrame kept × ¬ TooLong kept
+  HandleShows kept frame Worked = frame ≢ None
+  HandleShows kept frame (Closes End) = ⊥
+  HandleShows kept frame (Closes LinkFault) = ⊥
+  HandleShows kept frame (Closes FrameTooLong) = (frame ≡ None) × TooLong kept
+  HandleShows kept frame (Closes Rejected) = ⊥
+  HandleShows kept frame (Closes Kicked) = ⊥
+  HandleShows kept frame (Closes Lagged) = ⊥
+  HandleShows kept frame (Closes Memory) = HasFrame kept
+
+  pub record KeptLeaves (machine : Machine) (kept : List ℕ) (waiting : Option DeskItem) (out : List ℕ) (router : V) (went : Went)
+      (machine_new : Machine) (kept_new : List ℕ) (waiting_new : Option DeskItem) (out_new : List ℕ) (router_new : V) (frame : Option Frame) : Type 0 where
+    -- the bytes behind the frame, and the echo for which there was no memory
+    pub unhandled : List ℕ
+    pub dropped : List ℕ
+    pub bytes : kept ≡ bytes_of frame ++ unhandled
+    pub unhandled_kept : closes went ≡ None → unhandled ≡ kept_new
+    pub machine_is : machine_new ≡ machine_after machine frame
+    pub waits : waiting_new ≡ waiting_after (action_of machine frame) waiting
+    pub out_bytes : out ++ echo_of (action_of machine frame) ≡ out_new ++ dropped
+    pub dropped_none : closes went ≡ None → dropped ≡ []
+    pub routes : RoutesOf machine.connection (session_of machine.stage) (action_of machine frame) router router_new
+    pub whole : (f : Frame) → frame ≡ Some f → IsFrame f
+    pub shows : HandleShows kept frame went
+
+  shows_of_act : (kept : List ℕ) (frame : Frame) (went : Went) → HasFrame kept → ((went ≡ Worked) ⊎ (went ≡ Closes Memory)) → HandleShows kept (Some frame) went
+  shows_of_act kept frame went has (inl worked) = subst (HandleShows kept (Some frame)) (sym worked) (λ is. absurd (cc is))
+  shows_of_act kept frame went has (inr lacks) = subst (HandleShows kept (Some frame)) (sym lacks) has
+
+  whole_is : (first f : Frame) → IsFrame first → Some first ≡ Some f → IsFrame f
+  whole_is first f whole is = let same : first ≡ f = cc is in subst IsFrame same whole
+
+  pub kept-leaves : (machine : Machine) (kept : List ℕ) (waiting : Option DeskItem) (out : List ℕ) (router : V) (went : Went)
+      (machine_new : Machine) (kept_new : List ℕ) (waiting_new : Option DeskItem) (out_new : List ℕ) (router_new : V)
+      (handles : HandlesKept routed machine kept waiting out router went machine_new kept_new waiting_new out_new router_new)
+      → KeptLeaves machine kept waiting out router went machine_new kept_new waiting_new out_new router_new
+      (handled_in_kept machine kept waiting out router went machine_new kept_new waiting_new out_new router_new handles)
+  kept-leaves machine kept waiting out router went machine_new kept_new waiting_new out_new router_new (inl (has, inl first)) =
+      let act = act-leaves _ _ _ _ _ _ _ _ _ _ first.handled.acts in record {
+        unhandled = kept_new;
+        dropped = act.dropped;
+        bytes = first.first;
+        unhandled_kept = λ open_still. refl;
+        machine_is = first.handled.taken;
+        waits = act.waits;
+        out_bytes = act.bytes;
+        dropped_none = act.dropped_none;
+        routes = act.routes;
+        whole = λ f is. whole_is first.frame f first.whole is;
+        shows = shows_of_act kept first.frame went has act.ends;
+      }
+  kept-leaves machine kept waiting out router went machine_new kept_new waiting_new out_new router_new (inl (has, inr lacks)) = record {
+    unhandled = kept;
+    dropped = [];
+    bytes = refl;
+    unhandled_kept = λ open_still. absurd (cc (sym open_still ∙ ap closes lacks.went_so));
+    machine_is = lacks.machine_same;
+    waits = lacks.waiting_same;
+    out_bytes = ap (λ (l : List ℕ). l ++ []) (sym lacks.out_same);
+    dropped_none = λ open_still. refl;
+    routes = lacks.router_same;
+    whole = λ f is. absurd (cc is);
+    shows = subst (HandleShows kept None) (sym lacks.went_so) has;
+  }
+  kept-leaves machine kept waiting out router went machine_new kept_new waiting_new out_new router_new (inr none) = record {
+    unhandled = kept;
+    dropped = [];
+    bytes = refl;
+    unhandled_kept = λ open_still. sym none.kept_same;
+    machine_is = none.machine_same;
+    waits = none.waiting_same;
+    out_bytes = ap (λ (l : List ℕ). l ++ []) (sym none.out_same);
+    dropped_none = λ open_still. refl;
+    routes = none.router_same;
+    whole = λ f is. absurd (cc is);
+    shows = shows_of_none kept went none.why;
+  }
+    where
+      shows_of_none : (kept : List ℕ) (went : Went) → (((went ≡ Stalled) × HasNoFrame kept × ¬ TooLong kept) ⊎ ((went ≡ Closes FrameTooLong) × TooLong kept)) → HandleShows kept None went
+      shows_of_none kept went (inl stalls) = subst (HandleShows kept None) (sym stalls.0) (refl, stalls.1, stalls.2)
+      shows_of_none kept went (inr above) = subst (HandleShows kept None) (sym above.0) (refl, above.1)
+
+module _ {L V : Type 0} (routed : V → ℕ → SessionId → List ℕ → V → Type 0) where
+  abbrev pub handled_of : (old : PortFacts L) (router : V) (went : Went) (new : PortFacts L) (router_new : V) → Handles routed old router went new router_new → Option Frame
+  handled_of old router went new router_new (inl never) = None
+  handled_of old router went new router_new (inr one) = handled_in_kept routed _ _ _ _ _ _ _ _ _ _ _ one.handled
+
+  -- whether it was due, and then what it shows
+  abbrev pub HandledOrNot : PortFacts L → Option Frame → Went → PortFacts L → Type 0
+  HandledOrNot old frame went new =
+      ((went ≡ NotDue) × (frame ≡ None) × (new ≡ old) × (IsTrue (may_handle old) → ⊥)) ⊎ (IsTrue (may_handle old) × HandleShows routed old.framer.kept frame went)
+
+  pub record HandleLeaves (old : PortFacts L) (router : V) (went : Went) (new : PortFacts L) (router_new : V) (frame : Option Frame) : Type 0 where
+    pub unhandled : List ℕ
+    pub dropped : List ℕ
+    pub bytes : old.framer.kept ≡ bytes_of frame ++ unhandled
+    pub unhandled_kept : closes went ≡ None → unhandled ≡ new.framer.kept
+    pub machine : new.machine ≡ machine_after old.machine frame
+    pub waiting : new.waiting ≡ waiting_after (action_of old.machine frame) old.waiting
+    pub out : old.out ++ echo_of (action_of old.machine frame) ≡ new.out ++ dropped
+    pub dropped_none : closes went ≡ None → dropped ≡ []
+    pub routes : RoutesOf routed old.machine.connection (session_of old.machine.stage) (action_of old.machine frame) router router_new
+    pub whole : (f : Frame) → frame ≡ Some f → IsFrame f
+    pub allowed : (f : Frame) → frame ≡ Some f → IsTrue (may_handle old)
+    pub shows : HandledOrNot old frame went new
+    pub link : new.link ≡ old.link
+    pub seat : new.seat ≡ old.seat
+    pub stage : new.stage ≡ stage_by went old.stage
+
+  pub handle-leaves : (old : PortFacts L) (router : V) (went : Went) (new : PortFacts L) (router_new : V) (handles : Handles routed old router went new router_new)
+      → HandleLeaves old router went new router_new (handled_of old router went new router_new handles)
+  handle-leaves old router went new router_new (inl (never, same)) = record {
+    unhandled = old.framer.kept;
+    dropped = [];
+    bytes = refl;
+    unhandled_kept = λ open_still. ap (λ (p : PortFacts L). p.framer.kept) (sym never.same);
+    machine = ap (λ (p : PortFacts L). p.machine) never.same;
+    waiting = ap (λ (p : PortFacts L). p.waiting) never.same;
+    out = ap (λ (p : PortFacts L). p.out ++ []) (sym never.same);
+    dropped_none = λ open_still. refl;
+    routes = same;
+    whole = λ f is. absurd (cc is);
+    allowed = λ f is. absurd (cc is);
+    shows = inl (never.so, refl, never.same, never.forbidden);
+    link = ap (λ (p : PortFacts L). p.link) never.same;
+    seat = ap (λ (p : PortFacts L). p.seat) never.same;
+    stage = ap (λ (p : PortFacts L). p.stage) never.same ∙ ap (λ (w : Went). stage_by w old.stage) (sym never.so);
+  }
+  handle-leaves old router went new router_new (inr one) =
+      let kept = kept-leaves routed _ _ _ _ _ _ _ _ _ _ _ one.handled in record {
+        unhandled = kept.unhandled;
+        dropped = kept.dropped;
+        bytes = kept.bytes;
+        unhandled_kept = kept.unhandled_kept;
+        machine = kept.machine_is;
+        waiting = kept.waits;
+        out = kept.out_bytes;
+        dropped_none = kept.dropped_none;
+        routes = kept.routes;
+        whole = kept.whole;
+        allowed = λ f is. one.allowed;
+        shows = inr (one.allowed, kept.shows);
+        link = ap (λ (p : PortFacts L). p.link) one.left;
+        seat = ap (λ (p : PortFacts L). p.seat) one.left;
+        stage = ap (λ (p : PortFacts L). p.stage) one.left;
+      }

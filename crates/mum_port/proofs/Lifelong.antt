@@ -1,0 +1,67 @@
+-- What holds of a connection from its taking in on.
+use Rattle.std.proofs.Common.{◌≡◌, ℕ, Bool, false, List, ◌++◌, Option, Some, None, refl, sym, ap, subst, ◌∙◌, All}
+use Rattle.std.specs.List.{flat_map}
+use Rattle.std.proofs.lemmas.List.{append-nil}
+use Rattle.mum_base.specs.declared.number.Cause.{Cause}
+use Rattle.mum_base.specs.declared.number.Cause.TheVariants.{End}
+use Rattle.mum_base.specs.declared.number.SessionId.{SessionId}
+use Rattle.mum_frame.specs.declared.frame.Frame.{Frame}
+use Rattle.mum_frame.specs.Frame.{HasNoFrame, IsFrame, frame_spelling}
+use Rattle.mum_frame.specs.Stream.{IsFront, Splits}
+use Rattle.mum_frame.proofs.Streams.{longest-Splits}
+use Rattle.mum_io.specs.Counts.{Counts}
+use Rattle.mum_session.specs.Machine.{Machine}
+use Rattle.mum_port.specs.Did.{PortDid, bytes_of}
+use Rattle.mum_port.specs.Facts.{PortFacts, new_port}
+use Rattle.mum_port.specs.Life.{Event, Lives, Steps, bytes_queued, bytes_taken, bytes_written, frames_handled}
+use Rattle.mum_port.specs.Stage.{is_closed}
+use Rattle.mum_port.specs.Turn.{Settled}
+use Rattle.mum_port.proofs.Living.{life_handled, life_wrote}
+
+module _ {L V : Type 0} (counts : L → Counts) (left written : L → Option (List ℕ)) (is_shut : L → Bool) (routed : V → ℕ → SessionId → List ℕ → V → Type 0) where
+  pub conserved : (connection worker : ℕ) (link : L) (events : List Event) (port : PortFacts L)
+      → Lives counts left written is_shut routed (new_port connection worker link) events port
+      → (rest : List ℕ) × (bytes_taken events ≡ flat_map frame_spelling (frames_handled events) ++ rest) × All IsFrame (frames_handled events) × (is_closed port.stage ≡ false → rest ≡ port.framer.kept)
+  conserved connection worker link events port lives =
+      let all = life_handled counts left written is_shut routed (new_port connection worker link) events port lives in
+      (all.rest, all.bytes, all.each, all.kept)
+
+  pub front_of : (connection worker : ℕ) (link : L) (events : List Event) (port : PortFacts L) (frames : List Frame) (rest : List ℕ)
+      → Lives counts left written is_shut routed (new_port connection worker link) events port → Splits (bytes_taken events) frames rest → IsFront (frames_handled events) frames
+  front_of connection worker link events port frames rest lives splits =
+      let all = life_handled counts left written is_shut routed (new_port connection worker link) events port lives in
+      longest-Splits (bytes_taken events) rest all.rest frames (frames_handled events) splits all.each all.bytes
+
+  -- a close at the end of the link: the port was open, and kept no whole frame
+  closed_at_end : (old : PortFacts L) (machine : Machine) (did : PortDid) (new : PortFacts L) (closed : Option Cause) → did.closed ≡ closed → closed ≡ Some End
+      → Steps counts left written is_shut routed old machine did new → Settled counts left written is_shut old did new closed
+      → (is_closed old.stage ≡ false) × HasNoFrame old.framer.kept
+  closed_at_end old machine did new None is end steps settled = absurd (cc end)
+  closed_at_end old machine did new (Some cause) is end steps closes =
+      let same : cause ≡ End = cc end in
+      let at_end = subst (λ (x : Cause). Settled counts left written is_shut old did new (Some x)) same closes in
+      let lost : old.framer.kept ≡ did.lost =
+      sym (append-nil old.framer.kept)
+      ∙ (ap (λ (l : List ℕ). old.framer.kept ++ l) (sym at_end.shown.2)
+      ∙ (steps.turn.reads.bytes
+      ∙ (ap (λ (f : Option Frame). bytes_of f ++ (new.framer.kept ++ did.lost)) at_end.shown.1
+      ∙ ap (λ (f : _). f.kept ++ did.lost) at_end.framer_empty))) in
+      (at_end.was_open, subst HasNoFrame (sym lost) at_end.shown.3)
+
+  pub end_has_all : (connection worker : ℕ) (link : L) (events : List Event) (port last : PortFacts L) (machine : Machine) (did : PortDid)
+      → Lives counts left written is_shut routed (new_port connection worker link) events port → Steps counts left written is_shut routed port machine did last
+      → did.closed ≡ Some End → Splits (bytes_taken events) (frames_handled events) port.framer.kept
+  end_has_all connection worker link events port last machine did lives steps ends =
+      let all = life_handled counts left written is_shut routed (new_port connection worker link) events port lives in
+      let at_end = closed_at_end port machine did last did.closed refl ends steps steps.turn.ends.settled in record {
+        whole = all.bytes ∙ ap (λ (l : List ℕ). flat_map frame_spelling (frames_handled events) ++ l) (all.kept at_end.0);
+        each = all.each;
+        no_frame = at_end.1;
+      }
+
+  pub written_in_order : (connection worker : ℕ) (link : L) (events : List Event) (port : PortFacts L)
+      → Lives counts left written is_shut routed (new_port connection worker link) events port
+      → (rest : List ℕ) × (bytes_queued events ≡ bytes_written events ++ rest) × (is_closed port.stage ≡ false → rest ≡ port.out)
+  written_in_order connection worker link events port lives =
+      let all = life_wrote counts left written is_shut routed (new_port connection worker link) events port lives in
+      (all.rest, all.bytes, all.kept)

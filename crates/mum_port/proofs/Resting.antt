@@ -1,0 +1,69 @@
+-- A port that is closed does nothing more in its step but put its farewell.
+use Rattle.std.proofs.Common.{◌≡◌, ℕ, Bool, true, false, IsTrue, List, [], Option, Some, None, refl, sym, ap, ◌∙◌, inl, inr, true≢false, not, length, ◌==◌}
+use Rattle.mum_base.specs.declared.number.SessionId.{SessionId}
+use Rattle.mum_io.specs.Counts.{Counts}
+use Rattle.mum_outbox.specs.Facts.{QueueFacts}
+use Rattle.mum_port.specs.Facts.{PortFacts, may_handle, may_write, stage_after_put}
+use Rattle.mum_port.specs.Stage.{is_closed, is_live}
+use Rattle.mum_port.specs.Steps.{CollectsPost, DrainsVoice, Handles, Reads, Writes}
+use Rattle.mum_port.specs.declared.item.DeskItem.{DeskItem}
+use Rattle.mum_port.specs.declared.outbound.Taking.{Taking}
+use Rattle.mum_port.specs.declared.stage.Stage.{Stage}
+use Rattle.mum_port.specs.declared.stage.Stage.TheVariants.{Live, Ending, Closed}
+use Rattle.mum_port.specs.declared.stage.Went.{Went}
+use Rattle.mum_port.specs.declared.stage.Went.TheVariants.{NotDue}
+use Rattle.mum_port.proofs.BoxParts.{post_of, taking-is, voice_of}
+use Rattle.mum_port.proofs.Closing.{and-left, live-is}
+use Rattle.mum_port.proofs.HandlePart.{handled_of}
+use Rattle.mum_port.proofs.WritePart.{wrote_of}
+
+-- a live port is open
+pub live-open : (stage : Stage) → stage ≡ Live → is_closed stage ≡ false
+live-open stage live = ap is_closed live
+
+module _ {L : Type 0} where
+  pub may-live : (port : PortFacts L) → IsTrue (may_handle port) → port.stage ≡ Live
+  may-live port may = live-is port.stage (and-left (is_live port.stage) _ may)
+
+  closed_live : (port : PortFacts L) → is_closed port.stage ≡ true → port.stage ≡ Live → {P : Type 0} → P
+  closed_live port closed live = absurd (true≢false (sym closed ∙ live-open port.stage live))
+
+  pub handle-rests : {V : Type 0} (routed : V → ℕ → SessionId → List ℕ → V → Type 0) (old : PortFacts L) (router : V) (went : Went) (new : PortFacts L) (router_after : V)
+      (handles : Handles routed old router went new router_after)
+      → is_closed old.stage ≡ true → (went ≡ NotDue) × (handled_of routed old router went new router_after handles ≡ None) × (new ≡ old)
+  handle-rests routed old router went new router_after (inl never) closed = (never.0.so, refl, never.0.same)
+  handle-rests routed old router went new router_after (inr one) closed = closed_live old closed (may-live old one.allowed)
+
+  pub post-rests : (posts : List QueueFacts) (old : PortFacts L) (took : Taking) (new : PortFacts L) (collects : CollectsPost posts old took new)
+      → is_closed old.stage ≡ true → (post_of posts old took new collects ≡ None) × (new ≡ old)
+  post-rests posts old took new (inl nothing) closed = (refl, nothing.same)
+  post-rests posts old took new (inr one) closed = closed_live old closed (taking-is old one.session one.allowed).0
+
+  pub voice-rests : (voices : List QueueFacts) (old : PortFacts L) (took : Taking) (new : PortFacts L) (drains : DrainsVoice voices old took new)
+      → is_closed old.stage ≡ true → (voice_of voices old took new drains ≡ None) × (new ≡ old)
+  voice-rests voices old took new (inl nothing) closed = (refl, nothing.same)
+  voice-rests voices old took new (inr one) closed = closed_live old closed (taking-is old one.session one.allowed).0
+
+  pub may_write-open : (port : PortFacts L) → IsTrue (may_write port) → is_closed port.stage ≡ false
+  may_write-open port may = opened (is_closed port.stage) (and-left (not (is_closed port.stage)) (not (length port.out == 0)) may)
+    where
+      opened : (closed : Bool) → not closed ≡ true → closed ≡ false
+      opened false is = refl
+      opened true is = absurd (true≢false (sym is))
+
+module _ {L : Type 0} (counts : L → Counts) (left written : L → Option (List ℕ)) (is_shut : L → Bool) where
+  pub read-rests : (old : PortFacts L) (went : Went) (new : PortFacts L) (reads : Reads counts left written is_shut old went new)
+      → is_closed old.stage ≡ true → (went ≡ NotDue) × (new ≡ old)
+  read-rests old went new (inl never) closed = (never.so, never.same)
+  read-rests old went new (inr once) closed = absurd (true≢false (sym closed ∙ live-open old.stage (may-live old once.allowed.ready)))
+
+  pub write-rests : (old : PortFacts L) (went : Went) (new : PortFacts L) (writes : Writes counts left written is_shut old went new)
+      → is_closed old.stage ≡ true → (went ≡ NotDue) × (wrote_of counts left written is_shut old went new writes ≡ []) × (new ≡ old)
+  write-rests old went new (inl never) closed = (never.so, refl, never.same)
+  write-rests old went new (inr once) closed = absurd (true≢false (sym closed ∙ may_write-open old once.allowed))
+
+pub stage_after_put-closed : (waiting : Option DeskItem) (stage : Stage) → is_closed (stage_after_put waiting stage) ≡ is_closed stage
+stage_after_put-closed (Some item) stage = refl
+stage_after_put-closed None Live = refl
+stage_after_put-closed None (Ending parting) = refl
+stage_after_put-closed None (Closed cause farewell) = refl

@@ -1,0 +1,125 @@
+-- The sentences of a step, of the chain of its parts.
+use Rattle.std.proofs.Common.{◌≡◌, ℕ, ◌+◌, ◌≤◌, Bool, IsTrue, List, ◌++◌, length, Option, Some, None, is_none, not, refl, sym, ap, subst, ◌∙◌, ◌⊎◌, inl, inr, arith, length-append}
+use Rattle.std.proofs.lemmas.Bool.{leb-true}
+use Rattle.mum_base.specs.declared.number.SessionId.{SessionId}
+use Rattle.mum_frame.specs.declared.frame.Frame.{Frame}
+use Rattle.mum_io.specs.Counts.{Counts}
+use Rattle.mum_outbox.specs.Facts.{PassFacts, QueueFacts}
+use Rattle.mum_outbox.specs.declared.parcel.PostParcel.{PostParcel}
+use Rattle.mum_outbox.specs.declared.parcel.VoiceParcel.{VoiceParcel}
+use Rattle.mum_session.specs.Machine.{Machine, session_of}
+use Rattle.mum_port.specs.Did.{PortDid, action_of, echo_of, port_after_put, post_bytes, queued, voice_bytes, waiting_after}
+use Rattle.mum_port.specs.Facts.{PortFacts, may_handle}
+use Rattle.mum_port.specs.Stage.{is_live}
+use Rattle.mum_port.specs.Steps.{PortChain}
+use Rattle.mum_port.specs.Turn.{EndsInTurn, HandlesInTurn, KeepsWithin, LooksWhereItMay, PortTurn, PutsInTurn, RoutesPacket, WritesInTurn}
+use Rattle.mum_port.specs.declared.item.DeskItem.{DeskItem}
+use Rattle.mum_port.specs.declared.port.Step.{Step}
+use Rattle.mum_port.specs.declared.port.TheConstants.{UNWRITTEN_LIMIT}
+use Rattle.mum_port.proofs.Balance.{reads_in_turn, settle-machine, writes_in_turn}
+use Rattle.mum_port.proofs.BoxParts.{taking-is}
+use Rattle.mum_port.proofs.Course.{Way, did_of, frame, handle_part, machine_read, machine_write, port_put, post_part, read_part, voice_part, way, write_part}
+use Rattle.mum_port.proofs.Ends.{falls_all, may_before, settled_in_turn}
+use Rattle.mum_port.proofs.HandlePart.{RoutesOf}
+use Rattle.mum_port.proofs.Idle.{and-right, did_something, is_idle, too_long}
+use Rattle.mum_port.proofs.ReadPart.{closes, put-due, put-pass}
+use Rattle.mum_port.proofs.SeatTakes.{looks_where_it_may, takes_in_turn}
+use Rattle.mum_port.proofs.Speaking.{routes_packet}
+
+-- ---- the bound on what is kept
+
+-- one more frame behind at most the limit, or behind nothing
+bounded : (limit frame_limit old more wrote kept unsaid : ℕ) → old + more ≡ wrote + (kept + unsaid) → more ≤ frame_limit → ((more ≡ 0) ⊎ (old ≤ limit)) → old ≤ limit + frame_limit → kept ≤ limit + frame_limit
+bounded limit frame_limit old more wrote kept unsaid sum few (inl none) within = omega (arith, sum, few, none, within)
+bounded limit frame_limit old more wrote kept unsaid sum few (inr little) within = omega (arith, sum, few, little, within)
+
+lengths : (old more wrote kept unsaid : List ℕ) → old ++ more ≡ wrote ++ (kept ++ unsaid) → length old + length more ≡ length wrote + (length kept + length unsaid)
+lengths old more wrote kept unsaid same =
+    sym (length-append old more) ∙ (ap (λ (l : List ℕ). length l) same ∙ (length-append wrote (kept ++ unsaid) ∙ ap (λ (n : ℕ). length wrote + n) (length-append kept unsaid)))
+
+module _ {L : Type 0} where
+  little_unwritten : (port : PortFacts L) → IsTrue (may_handle port) → length port.out ≤ UNWRITTEN_LIMIT
+  little_unwritten port may =
+      leb-true (length port.out) UNWRITTEN_LIMIT
+      (and-right (is_none port.waiting) _ (and-right (not port.machine.awaits) _ (and-right (is_live port.stage) _ may)))
+
+  -- nothing is to be written more, or little was
+  more_or_little : (old new : PortFacts L) (did : PortDid) (handled : Option Frame) → did.handled ≡ handled → HandlesInTurn old did new → LooksWhereItMay old did new
+      → (length (queued old.machine did) ≡ 0) ⊎ (length old.out ≤ UNWRITTEN_LIMIT)
+  more_or_little old new did (Some one) is handles looks = inr (little_unwritten (port_after_put did.put old) (handles.allowed one is))
+  more_or_little old new did None is handles (inl unlooked) =
+      inl (ap (λ (f : Option Frame). length (echo_of (action_of old.machine f) ++ (post_bytes (session_of old.machine.stage) did.post ++ voice_bytes (session_of old.machine.stage) did.voice))) is
+      ∙ (ap (λ (p : Option PostParcel). length (post_bytes (session_of old.machine.stage) p ++ voice_bytes (session_of old.machine.stage) did.voice)) unlooked.0.0
+      ∙ ap (λ (v : Option VoiceParcel). length (voice_bytes (session_of old.machine.stage) v)) unlooked.0.1))
+  more_or_little old new did None is handles (inr looks) =
+      inr (subst (λ (l : List ℕ). length l ≤ UNWRITTEN_LIMIT) (sym (taking-is old looks.0 looks.1).1) (omega arith))
+
+module _ {L : Type 0} (counts : L → Counts) (left written : L → Option (List ℕ)) (is_shut : L → Bool) where
+  keeps_within : (old new : PortFacts L) (did : PortDid) → HandlesInTurn old did new → LooksWhereItMay old did new → WritesInTurn counts left written is_shut old did new → KeepsWithin old did new
+  keeps_within old new did handles looks writes frame_limit few within =
+      bounded UNWRITTEN_LIMIT frame_limit (length old.out) (length (queued old.machine did)) (length did.wrote) (length new.out) (length did.unsaid)
+      (lengths old.out (queued old.machine did) did.wrote new.out did.unsaid writes.bytes) few (more_or_little old new did did.handled refl handles looks) within
+
+-- ---- the sentences
+
+module _ {L V : Type 0} {counts : L → Counts} {left written : L → Option (List ℕ)} {is_shut : L → Bool} {routed : V → ℕ → SessionId → List ℕ → V → Type 0}
+    {posts voices : List QueueFacts} {old : PortFacts L} {desk : PassFacts DeskItem} {router : V} {step : Step}
+    {new : PortFacts L} {desk_after : PassFacts DeskItem} {router_after : V}
+    (c : PortChain counts left written is_shut routed posts voices old desk router step new desk_after router_after) where
+  -- where a frame was handled the read met no cause
+  reads_on : (f : Frame) → frame c ≡ Some f → closes c.read ≡ None
+  reads_on f is = by_way (way c)
+    where
+      by_way : Way c → closes c.read ≡ None
+      by_way (inl (cause, reads)) = absurd (cc (sym reads.no_frame ∙ is))
+      by_way (inr (inl (cause, reads_so, handles))) = reads_so
+      by_way (inr (inr (inl (cause, reads_so, handles_on, writes)))) = reads_so
+      by_way (inr (inr (inr on))) = on.reads_on
+
+  pub handles_in_turn : HandlesInTurn old (did_of c) new
+  handles_in_turn = record {
+    whole = (handle_part c).whole;
+    allowed = λ f is. may_before c (reads_on f is) ((handle_part c).allowed f is);
+    machine = (settle-machine counts left written is_shut _ _ _ _ c.settles).0 ∙ machine_write c;
+  }
+
+  pub routes_in_turn : RoutesPacket routed old.machine.connection (session_of old.machine.stage) (action_of old.machine (frame c)) router router_after
+  routes_in_turn =
+      routes_packet routed old.machine (frame c) router router_after
+      (subst (λ (m : Machine). RoutesOf routed m.connection (session_of m.stage) (action_of m (frame c)) router router_after) (machine_read c) (handle_part c).routes)
+
+  pub puts_in_turn : PutsInTurn old desk (did_of c) new desk_after
+  puts_in_turn = record {
+    due = put-due old desk c.put c.after_put desk_after c.puts;
+    pass = put-pass old desk c.put c.after_put desk_after c.puts;
+    waiting = (settle-machine counts left written is_shut _ _ _ _ c.settles).1 ∙ ((write_part c).waiting ∙ ((voice_part c).waiting ∙ ((post_part c).waiting ∙ ((handle_part c).waiting
+        ∙ (ap (λ (m : Machine). waiting_after (action_of m (frame c)) c.after_read.waiting) (machine_read c)
+        ∙ ap (λ (w : Option DeskItem). waiting_after (action_of old.machine (frame c)) w)
+        ((read_part c).waiting ∙ ap (λ (p : PortFacts L). p.waiting) (port_put c)))))));
+  }
+
+  pub ends_in_turn : EndsInTurn counts left written is_shut old (did_of c) step new
+  ends_in_turn = record {
+    reported = ap (λ (s : Step). s.closed) c.came_to;
+    settled = settled_in_turn c c.settles;
+    too_long = too_long c;
+    none_falls = falls_all c;
+  }
+
+  pub turned : PortTurn counts left written is_shut routed posts voices old desk router (did_of c) step new desk_after router_after
+  turned = record {
+    reads = reads_in_turn c;
+    handles = handles_in_turn;
+    routes = routes_in_turn;
+    puts = puts_in_turn;
+    takes = takes_in_turn c;
+    writes = writes_in_turn c;
+    within = keeps_within counts left written is_shut old new (did_of c) handles_in_turn (looks_where_it_may c) (writes_in_turn c);
+    ends = ends_in_turn;
+    idle = is_idle c;
+    worked = did_something c;
+  }
+
+  -- a step did something of which the sentences hold
+  pub did_turn : (did : PortDid) × PortTurn counts left written is_shut routed posts voices old desk router did step new desk_after router_after
+  did_turn = (did_of c, turned)

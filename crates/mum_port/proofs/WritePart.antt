@@ -1,0 +1,91 @@
+-- What the write of a step leaves, by the bytes that were written.
+use Rattle.std.proofs.Common.{◌≡◌, ◌≢◌, ℕ, ◌<◌, Bool, IsTrue, List, [], ◌∷◌, ◌++◌, length, Option, refl, sym, ap, subst, ◌∙◌, inl, inr, arith}
+use Rattle.mum_base.specs.declared.number.Cause.TheVariants.{End, LinkFault, FrameTooLong, Rejected, Kicked, Lagged, Memory}
+use Rattle.mum_io.specs.Counts.{Counts, NoneFalls, Rose}
+use Rattle.mum_io.specs.Link.{Appends, Keeps}
+use Rattle.mum_io.proofs.CountLemmas.{NoneFalls-refl}
+use Rattle.mum_port.specs.Facts.{PortFacts, may_write}
+use Rattle.mum_port.specs.Linking.{WriteEnded}
+use Rattle.mum_port.specs.Stage.{stage_by}
+use Rattle.mum_port.specs.Steps.{Writes}
+use Rattle.mum_port.specs.declared.stage.Went.{Went}
+use Rattle.mum_port.specs.declared.stage.Went.TheVariants.{NotDue, Stalled, Worked, Closes}
+use Rattle.mum_port.proofs.Links.{Keeps-appends}
+use Rattle.mum_port.proofs.ReadPart.{Keeps-same}
+
+some_wrote : (wrote : List ℕ) → 0 < length wrote → wrote ≢ []
+some_wrote [] some is = absurd (omega (arith, some))
+some_wrote (x ∷ wrote) some is = absurd (cc is)
+
+module _ {L : Type 0} (counts : L → Counts) (left written : L → Option (List ℕ)) (is_shut : L → Bool) where
+  abbrev pub wrote_of : (old : PortFacts L) (went : Went) (new : PortFacts L) → Writes counts left written is_shut old went new → List ℕ
+  wrote_of old went new (inl never) = []
+  wrote_of old went new (inr once) = once.wrote.wrote
+
+  -- what shows why it ended as it did
+  abbrev pub WriteShows : PortFacts L → PortFacts L → Went → List ℕ → Type 0
+  WriteShows old new NotDue wrote = (wrote ≡ []) × (new ≡ old) × (IsTrue (may_write old) → ⊥)
+  WriteShows old new Stalled wrote = (wrote ≡ []) × Rose (counts old.link).stalls (counts new.link).stalls
+  WriteShows old new Worked wrote = wrote ≢ []
+  WriteShows old new (Closes End) wrote = ⊥
+  WriteShows old new (Closes LinkFault) wrote = IsTrue (may_write old) × Rose (counts old.link).faults (counts new.link).faults
+  WriteShows old new (Closes FrameTooLong) wrote = ⊥
+  WriteShows old new (Closes Rejected) wrote = ⊥
+  WriteShows old new (Closes Kicked) wrote = ⊥
+  WriteShows old new (Closes Lagged) wrote = ⊥
+  WriteShows old new (Closes Memory) wrote = ⊥
+
+  shown_once : (old : PortFacts L) (went : Went) (new : PortFacts L) (wrote : List ℕ) → IsTrue (may_write old) → WriteEnded went wrote (counts old.link) (counts new.link)
+      → WriteShows old new went wrote
+  shown_once old NotDue new wrote allowed ended = absurd ended
+  shown_once old Stalled new wrote allowed ended = ended
+  shown_once old Worked new wrote allowed ended = some_wrote wrote ended
+  shown_once old (Closes End) new wrote allowed ended = absurd ended
+  shown_once old (Closes LinkFault) new wrote allowed ended = (allowed, ended.1)
+  shown_once old (Closes FrameTooLong) new wrote allowed ended = absurd ended
+  shown_once old (Closes Rejected) new wrote allowed ended = absurd ended
+  shown_once old (Closes Kicked) new wrote allowed ended = absurd ended
+  shown_once old (Closes Lagged) new wrote allowed ended = absurd ended
+  shown_once old (Closes Memory) new wrote allowed ended = absurd ended
+
+  pub record WriteLeaves (old : PortFacts L) (went : Went) (new : PortFacts L) (wrote : List ℕ) : Type 0 where
+    pub bytes : old.out ≡ wrote ++ new.out
+    pub appended : Appends (written old.link) (written new.link) wrote
+    pub left_same : Keeps (left old.link) (left new.link)
+    pub none_falls : NoneFalls (counts old.link) (counts new.link)
+    pub shut_same : is_shut new.link ≡ is_shut old.link
+    pub shows : WriteShows old new went wrote
+    pub machine : new.machine ≡ old.machine
+    pub framer : new.framer ≡ old.framer
+    pub waiting : new.waiting ≡ old.waiting
+    pub seat : new.seat ≡ old.seat
+    pub stage : new.stage ≡ stage_by went old.stage
+
+  pub write-leaves : (old : PortFacts L) (went : Went) (new : PortFacts L) (writes : Writes counts left written is_shut old went new)
+      → WriteLeaves old went new (wrote_of old went new writes)
+  write-leaves old went new (inl never) = record {
+    bytes = ap (λ (p : PortFacts L). p.out) (sym never.same);
+    appended = Keeps-appends _ _ (Keeps-same _ _ (ap (λ (p : PortFacts L). written p.link) never.same));
+    left_same = Keeps-same _ _ (ap (λ (p : PortFacts L). left p.link) never.same);
+    none_falls = subst (λ (p : PortFacts L). NoneFalls (counts old.link) (counts p.link)) (sym never.same) (NoneFalls-refl (counts old.link));
+    shut_same = ap (λ (p : PortFacts L). is_shut p.link) never.same;
+    shows = subst (λ (w : Went). WriteShows old new w []) (sym never.so) (refl, never.same, never.forbidden);
+    machine = ap (λ (p : PortFacts L). p.machine) never.same;
+    framer = ap (λ (p : PortFacts L). p.framer) never.same;
+    waiting = ap (λ (p : PortFacts L). p.waiting) never.same;
+    seat = ap (λ (p : PortFacts L). p.seat) never.same;
+    stage = ap (λ (p : PortFacts L). p.stage) never.same ∙ ap (λ (w : Went). stage_by w old.stage) (sym never.so);
+  }
+  write-leaves old went new (inr once) = record {
+    bytes = once.wrote.bytes;
+    appended = once.wrote.appended;
+    left_same = once.wrote.left_same;
+    none_falls = once.wrote.none_falls;
+    shut_same = once.wrote.shut_same;
+    shows = shown_once old went new _ once.allowed once.wrote.ended;
+    machine = ap (λ (p : PortFacts L). p.machine) once.rest;
+    framer = ap (λ (p : PortFacts L). p.framer) once.rest;
+    waiting = ap (λ (p : PortFacts L). p.waiting) once.rest;
+    seat = ap (λ (p : PortFacts L). p.seat) once.rest;
+    stage = ap (λ (p : PortFacts L). p.stage) once.rest;
+  }

@@ -1,0 +1,132 @@
+-- What a step of a port did, and what follows of it for what the port keeps.
+use Rattle.std.specs.Prelude.{◌==◌, ℕ, Bool, false, ◌&&◌, List, [], ◌++◌, Option, Some, None, if◌then◌else◌}
+use Rattle.mum_base.specs.declared.number.Cause.{Cause}
+use Rattle.mum_base.specs.declared.number.SessionId.{SessionId}
+use Rattle.mum_frame.specs.declared.frame.Frame.{Frame}
+use Rattle.mum_frame.specs.declared.kind.TheConstants.{UDP_TUNNEL}
+use Rattle.mum_frame.specs.Frame.{frame_spelling, spelling_of}
+use Rattle.mum_outbox.specs.Facts.{PassFacts}
+use Rattle.mum_outbox.specs.declared.parcel.PostParcel.{PostParcel}
+use Rattle.mum_outbox.specs.declared.parcel.VoiceParcel.{VoiceParcel}
+use Rattle.mum_session.specs.Action.{action, after_frame}
+use Rattle.mum_session.specs.Machine.{Machine, session_of}
+use Rattle.mum_session.specs.declared.action.Action.{Action}
+use Rattle.mum_session.specs.declared.action.Action.TheVariants.{Ask, Voice, Echo, Keep, Ignore}
+use Rattle.mum_port.specs.Facts.{PortFacts, stage_after_put}
+use Rattle.mum_port.specs.Putting.{with_offered}
+use Rattle.mum_port.specs.Steps.{desk_refused}
+use Rattle.mum_port.specs.Taking.{stage_after_post}
+use Rattle.mum_port.specs.declared.item.DeskItem.{DeskItem}
+use Rattle.mum_port.specs.declared.item.DeskItem.TheVariants as items
+use Rattle.mum_port.specs.declared.stage.Stage.{Stage}
+
+pub record PortDid : Type 0 where
+  -- what it put on the desk
+  pub put : Option DeskItem
+  -- the bytes that it took from its link, and those that it dropped unhandled as it closed
+  pub took : List ℕ
+  pub lost : List ℕ
+  -- the frame that it handled
+  pub handled : Option Frame
+  -- what its post box and its voice box gave
+  pub post : Option PostParcel
+  pub voice : Option VoiceParcel
+  -- the bytes that it wrote, and those that it dropped unwritten as it closed
+  pub wrote : List ℕ
+  pub unsaid : List ℕ
+  -- for what it closed
+  pub closed : Option Cause
+
+-- ---- the desk
+
+-- the desk's pass after an item was put, or after nothing was: where something was due, the desk was full
+abbrev pub desk_after_put : Option DeskItem → Option DeskItem → PassFacts DeskItem → PassFacts DeskItem
+desk_after_put (Some item) due desk = with_offered desk item
+desk_after_put None due desk = desk_refused due desk
+
+-- what waits once an item was put
+abbrev pub waiting_after_put : Option DeskItem → Option DeskItem → Option DeskItem
+waiting_after_put (Some item) waiting = None
+waiting_after_put None waiting = waiting
+
+-- how far the port has come then
+abbrev pub stage_once_put : Option DeskItem → Option DeskItem → Stage → Stage
+stage_once_put (Some item) waiting stage = stage_after_put waiting stage
+stage_once_put None waiting stage = stage
+
+abbrev pub port_after_put : {L : Type 0} → Option DeskItem → PortFacts L → PortFacts L
+port_after_put put port = record port { waiting = waiting_after_put put port.waiting; stage = stage_once_put put port.waiting port.stage }
+
+-- ---- the frame that was handled
+
+abbrev pub bytes_of : Option Frame → List ℕ
+bytes_of None = []
+bytes_of (Some frame) = frame_spelling frame
+
+abbrev pub machine_after : Machine → Option Frame → Machine
+machine_after machine None = machine
+machine_after machine (Some frame) = after_frame machine frame.kind frame.payload
+
+-- what it asked for
+abbrev pub action_of : Machine → Option Frame → Option Action
+action_of machine None = None
+action_of machine (Some frame) = Some (action machine frame.kind frame.payload)
+
+-- a command waits for the desk
+abbrev pub waiting_after : Option Action → Option DeskItem → Option DeskItem
+waiting_after None waiting = waiting
+waiting_after (Some (Ask command)) waiting = Some (items.Command command)
+waiting_after (Some (Voice packet)) waiting = waiting
+waiting_after (Some (Echo wire)) waiting = waiting
+waiting_after (Some Keep) waiting = waiting
+waiting_after (Some (Ignore why)) waiting = waiting
+
+-- an echo is to be written
+abbrev pub echo_of : Option Action → List ℕ
+echo_of None = []
+echo_of (Some (Ask command)) = []
+echo_of (Some (Voice packet)) = []
+echo_of (Some (Echo wire)) = wire
+echo_of (Some Keep) = []
+echo_of (Some (Ignore why)) = []
+
+-- ---- what the boxes gave
+
+abbrev pub is_for : Option SessionId → SessionId → Bool
+is_for None to = false
+is_for (Some session) to = to.0 == session.0
+
+-- a parcel of the post box is to be written, where it is for the session
+abbrev pub post_bytes : Option SessionId → Option PostParcel → List ℕ
+post_bytes session None = []
+post_bytes session (Some parcel) = if is_for session parcel.to then parcel.bytes else []
+
+-- a parcel of the voice box is to be written as a frame of type 1, where it is for the session
+abbrev pub voice_bytes : Option SessionId → Option VoiceParcel → List ℕ
+voice_bytes session None = []
+voice_bytes session (Some parcel) = if is_for session parcel.to then spelling_of UDP_TUNNEL parcel.bytes.items else []
+
+-- a parcel for another session is counted
+abbrev pub stray_posts : Option SessionId → Option PostParcel → ℕ
+stray_posts session None = 0
+stray_posts session (Some parcel) = if is_for session parcel.to then 0 else 1
+
+abbrev pub stray_voices : Option SessionId → Option VoiceParcel → ℕ
+stray_voices session None = 0
+stray_voices session (Some parcel) = if is_for session parcel.to then 0 else 1
+
+-- whether it is the last parcel of the session
+abbrev pub is_last : Option SessionId → Option PostParcel → Bool
+is_last session None = false
+is_last session (Some parcel) = is_for session parcel.to && parcel.last
+
+-- ---- all of it
+
+-- the bytes that are to be written after those that were, in the order in which the step took them
+abbrev pub queued : Machine → PortDid → List ℕ
+queued machine did =
+    echo_of (action_of machine did.handled) ++ (post_bytes (session_of machine.stage) did.post ++ voice_bytes (session_of machine.stage) did.voice)
+
+-- how far a port has come after a step in which it did not close
+abbrev pub stage_kept : {L : Type 0} → PortFacts L → PortDid → Stage
+stage_kept port did = stage_after_post (is_last (session_of port.machine.stage) did.post) (stage_once_put did.put port.waiting port.stage)

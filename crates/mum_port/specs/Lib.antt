@@ -1,0 +1,13 @@
+pub mod Client
+pub mod Did
+pub mod Facts
+pub mod Handling
+pub mod Life
+pub mod Linking
+pub mod Outgoing
+pub mod Putting
+pub mod Replies
+pub mod Stage
+pub mod Steps
+pub mod Taking
+pub mod Turn

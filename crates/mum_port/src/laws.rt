@@ -1,0 +1,65 @@
+//! What holds of a connection whatever happens to it: steps, replies and lags in any order, over any link
+//! and any router. These functions do nothing: each contract is a theorem.
+
+ghost use Rattle.std.specs.Prelude.{◌≡◌, ◌++◌, ℕ, [], List, Some, None, Option, All, false};
+ghost use Rattle.std.specs.List.{flat_map};
+ghost use Rattle.mum_base.specs.declared.number.Cause.TheVariants.{End};
+ghost use Rattle.mum_frame.specs.declared.frame.Frame.{Frame};
+ghost use Rattle.mum_frame.specs.Frame.{IsFrame, frame_spelling};
+ghost use Rattle.mum_frame.specs.Stream.{IsFront, Splits};
+ghost use Rattle.mum_session.specs.Machine.{Machine};
+ghost use Rattle.mum_port.specs.declared.item.DeskItem.{DeskItem};
+ghost use Rattle.mum_port.specs.Did.{PortDid, action_of};
+ghost use Rattle.mum_port.specs.Facts.{PortFacts, new_port};
+ghost use Rattle.mum_port.specs.Life.{AreUnanswered, Event, Lives, Steps, and_item, asked_item, bytes_queued, bytes_taken, bytes_written, frames_handled, items_asked, items_put, words_said};
+ghost use Rattle.mum_port.specs.Stage.{is_closed};
+
+use crate::router::VoiceRouter;
+use mum_io::Link;
+
+/// Each frame of the stream is handled once, in order, and no other.
+pub fn frames_are_handled_in_order<L: Link, V: VoiceRouter>()
+    // No byte is lost or made: what was taken is the frames that were handled, and what is kept while the
+    // port is open.
+    ensures conserved { (connection worker : ℕ) (link : L) (events : List Event) (port : PortFacts L) →
+        Lives L.counts L.left L.written L.is_shut V.routed (new_port connection worker link) events port →
+        (rest : List ℕ) × (bytes_taken events ≡ flat_map frame_spelling (frames_handled events) ++ rest)
+        × All IsFrame (frames_handled events) × (is_closed port.stage ≡ false → rest ≡ port.framer.kept) }
+    ensures front { (connection worker : ℕ) (link : L) (events : List Event) (port : PortFacts L)
+        (frames : List Frame) (rest : List ℕ) →
+        Lives L.counts L.left L.written L.is_shut V.routed (new_port connection worker link) events port →
+        Splits (bytes_taken events) frames rest → IsFront (frames_handled events) frames }
+    // A port that closes at the end of its link has handled all of them.
+    ensures at_end { (connection worker : ℕ) (link : L) (events : List Event) (port last : PortFacts L)
+        (machine : Machine) (did : PortDid) →
+        Lives L.counts L.left L.written L.is_shut V.routed (new_port connection worker link) events port →
+        Steps L.counts L.left L.written L.is_shut V.routed port machine did last →
+        did.closed ≡ Some End → Splits (bytes_taken events) (frames_handled events) port.framer.kept }
+{}
+
+/// What a port takes to be written is written in the order in which it was taken, each byte once: what was
+/// written is a front of it, and what is kept is the rest while the port is open.
+pub fn bytes_are_written_in_order<L: Link, V: VoiceRouter>()
+    ensures { (connection worker : ℕ) (link : L) (events : List Event) (port : PortFacts L) →
+        Lives L.counts L.left L.written L.is_shut V.routed (new_port connection worker link) events port →
+        (rest : List ℕ) × (bytes_queued events ≡ bytes_written events ++ rest)
+        × (is_closed port.stage ≡ false → rest ≡ port.out) }
+{}
+
+/// Each command is put on the desk once, in order; behind all of them come one Leave and then one `Closed`,
+/// and nothing else.
+pub fn the_desk_gets_each_item_once<L: Link, V: VoiceRouter>()
+    ensures { (connection worker : ℕ) (link : L) (events : List Event) (port : PortFacts L) →
+        Lives L.counts L.left L.written L.is_shut V.routed (new_port connection worker link) events port →
+        (commands : List DeskItem) × (items_put events ≡ commands ++ words_said port.machine port.stage)
+        × (items_asked events ≡ commands ++ and_item port.waiting []) }
+{}
+
+/// Behind a frame that asks for a command no frame is handled before a reply comes.
+pub fn a_command_is_answered_before_the_next_frame<L: Link, V: VoiceRouter>()
+    ensures { (old mid port : PortFacts L) (machine : Machine) (did : PortDid) (item : DeskItem)
+        (events : List Event) → Steps L.counts L.left L.written L.is_shut V.routed old machine did mid →
+        asked_item (action_of machine did.handled) ≡ Some item →
+        Lives L.counts L.left L.written L.is_shut V.routed mid events port →
+        AreUnanswered events → frames_handled events ≡ [] }
+{}

@@ -78,7 +78,12 @@ impl Wire {
                 self.note_read(&buf[..count], is_full);
                 PollRead::Got(count)
             }
-            Err(error) => self.read_nothing(error.kind()),
+            Err(error) => {
+                if self.breaks_read(error.kind()) {
+                    return PollRead::Failed;
+                }
+                PollRead::NotYet
+            }
         }
     }
 
@@ -92,20 +97,14 @@ impl Wire {
         }
     }
 
-    fn read_nothing(&mut self, kind: ErrorKind) -> PollRead
-        ensures { result ≡ PollRead.NotYet ⊎ result ≡ PollRead.Failed }
-    {
+    // Whether a read with this error failed. Else nothing has come yet.
+    fn breaks_read(&mut self, kind: ErrorKind) -> bool {
         match kind {
-            ErrorKind::WouldBlock => PollRead::NotYet,
-            ErrorKind::Interrupted => {
-                self.hub.set(self.slot, READABLE);
-                PollRead::NotYet
-            }
-            _ => {
-                self.is_broken = true;
-                PollRead::Failed
-            }
+            ErrorKind::WouldBlock => {}
+            ErrorKind::Interrupted => self.hub.set(self.slot, READABLE),
+            _ => self.is_broken = true,
         }
+        self.is_broken
     }
 
     /// Sends the piece where nothing is kept and nobody holds back, and else keeps it as far as there is room.
@@ -162,24 +161,23 @@ impl Wire {
                 self.bytes_written = self.bytes_written.saturating_add(count as u64);
                 PollWrite::Took(count)
             }
-            Err(error) => self.write_nothing(error.kind()),
+            Err(error) => {
+                if self.breaks_write(error.kind()) {
+                    return PollWrite::Failed;
+                }
+                PollWrite::NotYet
+            }
         }
     }
 
-    fn write_nothing(&mut self, kind: ErrorKind) -> PollWrite
-        ensures { result ≡ PollWrite.NotYet ⊎ result ≡ PollWrite.Failed }
-    {
+    // Whether a write with this error failed. Else there is no room yet.
+    fn breaks_write(&mut self, kind: ErrorKind) -> bool {
         match kind {
-            ErrorKind::WouldBlock => {
-                self.await_room();
-                PollWrite::NotYet
-            }
-            ErrorKind::Interrupted => PollWrite::NotYet,
-            _ => {
-                self.is_broken = true;
-                PollWrite::Failed
-            }
+            ErrorKind::WouldBlock => self.await_room(),
+            ErrorKind::Interrupted => {}
+            _ => self.is_broken = true,
         }
+        self.is_broken
     }
 
     // Has the system report room. It stays asked.
@@ -217,7 +215,7 @@ impl Wire {
                     self.bytes_written = self.bytes_written.saturating_add(count as u64);
                 }
                 Err(error) => {
-                    let _counted_later = self.write_nothing(error.kind());
+                    let _counted_at_the_next_call = self.breaks_write(error.kind());
                 }
             }
         }

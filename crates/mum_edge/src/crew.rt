@@ -1,0 +1,168 @@
+//! A crew of threads that sleep until a socket is ready or another thread wakes them.
+
+ghost use Rattle.std.specs.Prelude.{◌≡◌};
+
+use crate::board::Board;
+use crate::entrance::Post;
+use crate::hub::{Hub, THREAD_LIMIT};
+use crate::station::{SocketStation, WAKER};
+use mio::{Events, Poll, Token, Waker};
+use mum_crew::{Crew, CrewEnd, Plan, RunTally};
+use std::alloc::Global;
+use std::net::Net;
+use std::sync::{Arc, Wait};
+use std::thread::Threads;
+use std::time::{Clock, Instant};
+use std::{io, thread};
+
+/// How many events one look takes notice of.
+const EVENTS: usize = 256;
+
+/// Threads with a station each: the first for the owner and the roles behind the workers, the others for the workers.
+#[derive(Drop)]
+pub struct ThreadCrew<X> {
+    rt: X,
+    hub: Arc<Hub>,
+    stations: Vec<SocketStation<X>>,
+    spare: Vec<SocketStation<X>>,
+    later_roles: usize,
+    tally: RunTally,
+}
+
+/// How many threads a crew has on this machine: the owner's, and one for each two processors.
+pub fn thread_count<X: Threads>(rt: &X) -> usize {
+    let processors = match thread::available_parallelism(rt) {
+        Ok(count) => count.get(),
+        Err(_) => 1,
+    };
+    (processors / 2).clamp(1, THREAD_LIMIT - 1) + 1
+}
+
+impl<X: Net + Clock + Copy> ThreadCrew<X> {
+    /// A crew of this many threads, for as many roles behind the workers.
+    pub(crate) fn new(
+        rt: X,
+        alloc: Global,
+        hub: Arc<Hub>,
+        threads: usize,
+        later_roles: usize,
+    ) -> io::Result<ThreadCrew<X>> {
+        Ok(ThreadCrew {
+            rt,
+            stations: stations(rt, alloc, &hub, threads.min(THREAD_LIMIT))?,
+            spare: Vec::new(alloc),
+            hub,
+            later_roles,
+            tally: RunTally::new(),
+        })
+    }
+
+    /// What links on each of its threads need.
+    pub(crate) fn posts(&self, alloc: Global) -> io::Result<Vec<Post>> {
+        let mut posts = Vec::with_capacity(alloc, self.stations.len())?;
+        for station in self.stations.iter() {
+            posts.push(Post {
+                board: station.board.clone()?,
+                registry: Arc::new(alloc, station.poll.registry().try_clone()?)?,
+            })?;
+        }
+        Ok(posts)
+    }
+}
+
+impl<X> ThreadCrew<X> {
+    /// How many rounds worked although their thread slept to the end: wakes that were missed.
+    pub fn late_rounds(&self) -> u64 {
+        self.hub.late_rounds()
+    }
+}
+
+fn stations<X: Net + Clock + Copy>(
+    rt: X,
+    alloc: Global,
+    hub: &Arc<Hub>,
+    threads: usize,
+) -> io::Result<Vec<SocketStation<X>>> {
+    let start = Instant::now(&rt)?;
+    let mut polls = Vec::with_capacity(alloc, threads)?;
+    let mut wakers = Vec::with_capacity(alloc, threads)?;
+    for _ in 0..threads {
+        let poll = Poll::new(&rt)?;
+        wakers.push(Waker::new(poll.registry(), Token(WAKER))?)?;
+        polls.push(poll)?;
+    }
+    let wakers = Arc::new(alloc, wakers)?;
+    let mut stations = Vec::with_capacity(alloc, threads)?;
+    for poll in polls.into_iter() {
+        let thread = stations.len();
+        stations.push(SocketStation {
+            rt,
+            start,
+            poll,
+            events: Events::with_capacity(alloc, EVENTS)?,
+            hub: hub.clone()?,
+            board: Arc::new(alloc, Board::new())?,
+            wakers: wakers.clone()?,
+            thread,
+            owner_turns: 0,
+            shut: 0,
+        })?;
+    }
+    Ok(stations)
+}
+
+// Moves the last stations from one list to the other, until this many are left. Those for which there is no memory
+// are dropped.
+fn move_last<X: Drop>(
+    from: &mut Vec<SocketStation<X>>,
+    to: &mut Vec<SocketStation<X>>,
+    left: usize,
+) {
+    for _ in 0..THREAD_LIMIT {
+        if from.len() <= left {
+            break;
+        }
+        if let Some(station) = from.pop() {
+            let _no_memory = to.push(station);
+        }
+    }
+}
+
+impl<X: Net + Wait + Threads + Clock + Copy + Sync + Send> Crew for ThreadCrew<X> {
+    type Runtime = X;
+
+    type Station = SocketStation<X>;
+
+    ghost counts = { λ c. c.tally };
+
+    fn runtime(&self) -> X {
+        self.rt
+    }
+
+    fn plan(&mut self, alloc: Global, roles: usize) -> Plan<SocketStation<X>> {
+        let workers = roles.saturating_sub(self.later_roles).saturating_sub(1);
+        let threads = workers.saturating_add(1);
+        move_last(&mut self.stations, &mut self.spare, threads);
+        self.hub.set_crew(workers, self.stations.len());
+        Plan::Threads {
+            stations: std::mem::replace(&mut self.stations, Vec::new(alloc)),
+            workers,
+        }
+    }
+
+    fn keep(&mut self, plan: Plan<SocketStation<X>>)
+        ensures { self.new.tally ≡ self.old.tally }
+    {
+        match plan {
+            Plan::Threads { stations, .. } => {
+                drop(std::mem::replace(&mut self.stations, stations));
+                move_last(&mut self.spare, &mut self.stations, 0);
+            }
+            Plan::Turns(turns) => drop(turns),
+        }
+    }
+
+    fn count(&mut self, end: CrewEnd) {
+        self.tally.count(end);
+    }
+}

@@ -1,0 +1,229 @@
+//! How fast a client may send. Whoever toggles a mute as fast as the line takes it makes as many notices for everybody,
+//! and no rule of the server knows time; so a link reads no more for a while from a client that sends too many frames.
+
+ghost use Rattle.std.specs.Prelude.{◌<◌, ◌≤◌, length};
+
+/// Frames a second in the long run, and how many at once.
+#[derive(Clone, Copy, Debug, PartialEq, Eq)]
+pub struct Rate {
+    pub each_second: u32,
+    pub at_once: u32,
+}
+
+/// How fast the client of one connection may send. A Ping counts as nothing.
+#[derive(Clone, Copy, Debug, PartialEq, Eq)]
+pub enum Pace {
+    /// As fast as its line takes it.
+    Unlimited,
+    /// At these rates: frames of voice, and all others.
+    Limited { messages: Rate, voice: Rate },
+}
+
+/// The types of frames that do not count as messages.
+const VOICE: u16 = 1;
+
+const PING: u16 = 3;
+
+const HEADER_LENGTH: usize = 6;
+
+/// What one frame takes of a rate, which is counted in thousandths.
+const FRAME: u64 = 1000;
+
+impl Pace {
+    /// What applies unless something else is asked for. Clients send 50 to 100 frames of voice a second.
+    pub const fn usual() -> Pace {
+        Pace::Limited {
+            messages: Rate {
+                each_second: 20,
+                at_once: 200,
+            },
+            voice: Rate {
+                each_second: 200,
+                at_once: 400,
+            },
+        }
+    }
+
+    /// `none`, or two rates as in `20/200,200/400`: of messages, and of voice. No number is 0.
+    pub fn from_text(text: &str) -> Option<Pace> {
+        if text == "none" {
+            return Some(Pace::Unlimited);
+        }
+        let (messages, voice) = text.split_once(',')?;
+        Some(Pace::Limited {
+            messages: Rate::from_text(messages)?,
+            voice: Rate::from_text(voice)?,
+        })
+    }
+}
+
+impl Rate {
+    fn from_text(text: &str) -> Option<Rate> {
+        let (each_second, at_once) = text.split_once('/')?;
+        let each_second: u32 = each_second.parse().ok()?;
+        let at_once: u32 = at_once.parse().ok()?;
+        if each_second == 0 || at_once == 0 {
+            return None;
+        }
+        Some(Rate {
+            each_second,
+            at_once,
+        })
+    }
+}
+
+// What a client has used up of a rate, in thousandths of a frame. Time gives it back.
+#[derive(Clone, Copy)]
+struct Used {
+    rate: Rate,
+    thousandths: u64,
+}
+
+impl Used {
+    fn none_of(rate: Rate) -> Used {
+        Used {
+            rate,
+            thousandths: 0,
+        }
+    }
+
+    fn add_frame(&mut self) {
+        self.thousandths = self.thousandths.saturating_add(FRAME);
+    }
+
+    fn give_back(&mut self, milliseconds: u64) {
+        let returned = milliseconds.saturating_mul(u64::from(self.rate.each_second));
+        self.thousandths = self.thousandths.saturating_sub(returned);
+    }
+
+    // Whether there is room for one more frame.
+    fn has_room(&self) -> bool {
+        self.thousandths.saturating_add(FRAME) <= u64::from(self.rate.at_once).saturating_mul(FRAME)
+    }
+}
+
+// What the bytes at the front of a piece are: of a payload or a header, how many, and the type of the frame whose
+// header they end.
+#[derive(Clone, Copy)]
+struct Front {
+    length: usize,
+    kind: Option<u16>,
+}
+
+// Where a client is in the frames that it sends.
+#[derive(Clone, Copy)]
+struct Frames {
+    header: [u8; HEADER_LENGTH],
+    gathered: usize,
+    payload_left: u64,
+    ghost begun: { gathered < 6 },
+}
+
+impl Frames {
+    fn new() -> Frames {
+        Frames {
+            header: [0; HEADER_LENGTH],
+            gathered: 0,
+            payload_left: 0,
+        }
+    }
+
+    // Goes past the front of a piece.
+    fn pass_front(&mut self, piece: &[u8]) -> Front
+        ensures { result.length ≤ length piece.now }
+    {
+        if self.payload_left > 0 {
+            return self.pass_payload(piece.len());
+        }
+        let length = piece.len().min(HEADER_LENGTH - self.gathered);
+        self.header[self.gathered..self.gathered + length].copy_from_slice(&piece[..length]);
+        if self.gathered + length < HEADER_LENGTH {
+            self.gathered += length;
+            return Front { length, kind: None };
+        }
+        self.gathered = 0;
+        let [a, b, c, d, e, f] = self.header;
+        self.payload_left = u64::from(u32::from_be_bytes([c, d, e, f]));
+        Front {
+            length,
+            kind: Some(u16::from_be_bytes([a, b])),
+        }
+    }
+
+    fn pass_payload(&mut self, most: usize) -> Front
+        ensures { result.length ≤ most }
+    {
+        let length = most.min(usize::try_from(self.payload_left).unwrap_or(usize::MAX));
+        self.payload_left = self.payload_left.saturating_sub(length as u64);
+        Front { length, kind: None }
+    }
+}
+
+/// Counts the frames that a client sends, and says when no more may be read.
+#[derive(Clone, Copy)]
+pub struct Meter {
+    is_limited: bool,
+    frames: Frames,
+    messages: Used,
+    voice: Used,
+    milliseconds: u64,
+}
+
+impl Meter {
+    /// A meter for a client that sent nothing yet.
+    pub fn new(pace: Pace, milliseconds: u64) -> Meter {
+        let unused = Rate {
+            each_second: 1,
+            at_once: 1,
+        };
+        let (is_limited, messages, voice) = match pace {
+            Pace::Unlimited => (false, unused, unused),
+            Pace::Limited { messages, voice } => (true, messages, voice),
+        };
+        Meter {
+            is_limited,
+            frames: Frames::new(),
+            messages: Used::none_of(messages),
+            voice: Used::none_of(voice),
+            milliseconds,
+        }
+    }
+
+    /// Whether more may be read at this time.
+    pub fn may_read(&mut self, milliseconds: u64) -> bool {
+        if !self.is_limited {
+            return true;
+        }
+        let passed = milliseconds.saturating_sub(self.milliseconds);
+        self.milliseconds = self.milliseconds.max(milliseconds);
+        self.messages.give_back(passed);
+        self.voice.give_back(passed);
+        self.messages.has_room() && self.voice.has_room()
+    }
+
+    /// Counts the frames that begin in what was read. How many there are.
+    pub fn count(&mut self, read: &[u8]) -> usize {
+        let mut rest = read;
+        let mut begun = 0usize;
+        for _ in 0..read.len() {
+            if rest.is_empty() {
+                break;
+            }
+            let front = self.frames.pass_front(rest);
+            if let Some(kind) = front.kind {
+                begun = begun.saturating_add(1);
+                self.count_frame(kind);
+            }
+            rest = &rest[front.length..];
+        }
+        begun
+    }
+
+    fn count_frame(&mut self, kind: u16) {
+        match kind {
+            VOICE => self.voice.add_frame(),
+            PING => {}
+            _ => self.messages.add_frame(),
+        }
+    }
+}

@@ -1,0 +1,75 @@
+//! A connected socket, over TCP or in the machine.
+
+ghost use Rattle.std.specs.Io.{ReadsAtMost, WritesAtMost};
+
+use mio::net::{TcpStream, UnixStream};
+use mio::{Interest, Registry, Token};
+use std::io;
+use std::io::{Read, Write};
+use std::net::Shutdown;
+
+/// A connected socket whose calls do not wait.
+#[derive(Drop)]
+pub enum Stream {
+    Tcp(TcpStream),
+    Unix(UnixStream),
+}
+
+impl Stream {
+    pub fn read(&self, buf: &mut [u8]) -> io::Result<usize>
+        ensures { ReadsAtMost result buf.new }
+    {
+        match self {
+            Stream::Tcp(stream) => (&*stream).read(buf),
+            Stream::Unix(stream) => (&*stream).read(buf),
+        }
+    }
+
+    pub fn write(&self, piece: &[u8]) -> io::Result<usize>
+        ensures { WritesAtMost result piece.now }
+    {
+        match self {
+            Stream::Tcp(stream) => (&*stream).write(piece),
+            Stream::Unix(stream) => (&*stream).write(piece),
+        }
+    }
+
+    /// Has small pieces sent at once.
+    pub fn set_no_delay(&self) -> io::Result<()> {
+        match self {
+            Stream::Tcp(stream) => stream.set_nodelay(true),
+            Stream::Unix(_) => Ok(()),
+        }
+    }
+
+    /// Tells the peer that no more comes.
+    pub fn end_writing(&self) -> io::Result<()> {
+        match self {
+            Stream::Tcp(stream) => stream.shutdown(Shutdown::Write),
+            Stream::Unix(stream) => stream.shutdown(Shutdown::Write),
+        }
+    }
+
+    pub fn register(&mut self, registry: &Registry, slot: usize) -> io::Result<()> {
+        match self {
+            Stream::Tcp(stream) => registry.register(stream, Token(slot), Interest::READABLE),
+            Stream::Unix(stream) => registry.register(stream, Token(slot), Interest::READABLE),
+        }
+    }
+
+    /// Has room for bytes reported too.
+    pub fn register_both(&mut self, registry: &Registry, slot: usize) -> io::Result<()> {
+        let both = Interest::READABLE | Interest::WRITABLE;
+        match self {
+            Stream::Tcp(stream) => registry.reregister(stream, Token(slot), both),
+            Stream::Unix(stream) => registry.reregister(stream, Token(slot), both),
+        }
+    }
+
+    pub fn deregister(&mut self, registry: &Registry) -> io::Result<()> {
+        match self {
+            Stream::Tcp(stream) => registry.deregister(stream),
+            Stream::Unix(stream) => registry.deregister(stream),
+        }
+    }
+}

@@ -1,0 +1,250 @@
+//! How a link reads and writes its stream: it asks the system only where the stream may be ready, and keeps what is
+//! written in batches where more is coming.
+
+ghost use Rattle.std.specs.Prelude.{◌<◌, ◌≤◌, length};
+ghost use Rattle.mum_edge.specs.Wire.{ReadsWithin, TakesWithin};
+
+use crate::board::Board;
+use crate::hub::{HUNG_UP, Hub, READABLE, WRITABLE};
+use crate::pace::Meter;
+use crate::stream::Stream;
+use mio::Registry;
+use mum_io::{PollRead, PollWrite};
+use std::io::ErrorKind;
+use std::sync::Arc;
+
+/// The room for bytes that are kept to be sent in batches.
+pub const KEPT_LIMIT: usize = 8192;
+
+/// How many bytes are thrown away of a peer that still sends when its link is shut.
+const DRAIN_LIMIT: usize = 65_536;
+
+const DRAIN_PIECE: usize = 4096;
+
+/// A stream with its slot among those of all links, and what it keeps.
+#[derive(Drop)]
+pub struct Wire {
+    pub stream: Stream,
+    pub hub: Arc<Hub>,
+    pub board: Arc<Board>,
+    pub registry: Arc<Registry>,
+    pub slot: usize,
+    pub meter: Meter,
+    pub kept: Vec<u8>,
+    pub sent: usize,
+    pub batch: u64,
+    pub is_broken: bool,
+    pub awaits_room: bool,
+    pub bytes_read: u64,
+    pub bytes_written: u64,
+}
+
+impl Wire {
+    /// Reads what has come, if its pace allows that. What was kept in an earlier batch is sent before.
+    pub fn read(&mut self, buf: &mut [u8]) -> PollRead
+        requires { 0 < length buf.old }
+        ensures { ReadsWithin result buf.new }
+    {
+        self.board.ask();
+        if self.keeps_an_earlier_batch() {
+            self.send_kept();
+        }
+        if self.is_broken {
+            return PollRead::Failed;
+        }
+        if !self.hub.has(self.slot, READABLE) {
+            return PollRead::NotYet;
+        }
+        if !self.meter.may_read(self.board.milliseconds()) {
+            self.board.slow_down();
+            return PollRead::NotYet;
+        }
+        self.read_stream(buf)
+    }
+
+    // The flag is left where there may be more: the system reports no change of that.
+    fn read_stream(&mut self, buf: &mut [u8]) -> PollRead
+        requires { 0 < length buf.old }
+        ensures { ReadsWithin result buf.new }
+    {
+        self.hub.clear(self.slot, READABLE);
+        match self.stream.read(buf) {
+            Ok(0) => {
+                self.hub.set(self.slot, READABLE);
+                PollRead::End
+            }
+            Ok(count) => {
+                let is_full = count == buf.len();
+                self.note_read(&buf[..count], is_full);
+                PollRead::Got(count)
+            }
+            Err(error) => {
+                if self.breaks_read(error.kind()) {
+                    return PollRead::Failed;
+                }
+                PollRead::NotYet
+            }
+        }
+    }
+
+    fn note_read(&mut self, bytes: &[u8], is_full: bool) {
+        self.bytes_read = self.bytes_read.saturating_add(bytes.len() as u64);
+        if self.meter.count(bytes) > 1 {
+            self.board.hold();
+        }
+        if is_full || self.hub.has(self.slot, HUNG_UP) {
+            self.hub.set(self.slot, READABLE);
+        }
+    }
+
+    // Whether a read with this error failed. Else nothing has come yet.
+    fn breaks_read(&mut self, kind: ErrorKind) -> bool {
+        match kind {
+            ErrorKind::WouldBlock => {}
+            ErrorKind::Interrupted => self.hub.set(self.slot, READABLE),
+            _ => self.is_broken = true,
+        }
+        self.is_broken
+    }
+
+    /// Sends the piece where nothing is kept and nobody holds back, and else keeps it as far as there is room.
+    pub fn write(&mut self, piece: &[u8]) -> PollWrite
+        requires { 0 < length piece.now }
+        ensures { TakesWithin result piece.now }
+    {
+        if self.keeps_an_earlier_batch() || self.room() < piece.len() {
+            self.send_kept();
+        }
+        if self.is_broken {
+            return PollWrite::Failed;
+        }
+        if self.kept.is_empty() && (KEPT_LIMIT < piece.len() || !self.board.is_holding()) {
+            return self.write_stream(piece);
+        }
+        self.keep(piece)
+    }
+
+    fn room(&self) -> usize {
+        KEPT_LIMIT.saturating_sub(self.kept.len())
+    }
+
+    fn keep(&mut self, piece: &[u8]) -> PollWrite
+        requires { 0 < length piece.now }
+        ensures { TakesWithin result piece.now }
+    {
+        let taken = self.room().min(piece.len());
+        if taken == 0 {
+            return PollWrite::NotYet;
+        }
+        if self.kept.is_empty() {
+            self.batch = self.board.batch();
+        }
+        match self.kept.extend_from_slice(&piece[..taken]) {
+            Ok(()) => PollWrite::Took(taken),
+            Err(_) => PollWrite::Failed,
+        }
+    }
+
+    fn write_stream(&mut self, piece: &[u8]) -> PollWrite
+        requires { 0 < length piece.now }
+        ensures { TakesWithin result piece.now }
+    {
+        if !self.hub.has(self.slot, WRITABLE) {
+            return PollWrite::NotYet;
+        }
+        match self.stream.write(piece) {
+            Ok(0) => {
+                self.is_broken = true;
+                PollWrite::Failed
+            }
+            Ok(count) => {
+                self.bytes_written = self.bytes_written.saturating_add(count as u64);
+                PollWrite::Took(count)
+            }
+            Err(error) => {
+                if self.breaks_write(error.kind()) {
+                    return PollWrite::Failed;
+                }
+                PollWrite::NotYet
+            }
+        }
+    }
+
+    // Whether a write with this error failed. Else there is no room yet.
+    fn breaks_write(&mut self, kind: ErrorKind) -> bool {
+        match kind {
+            ErrorKind::WouldBlock => self.await_room(),
+            ErrorKind::Interrupted => {}
+            _ => self.is_broken = true,
+        }
+        self.is_broken
+    }
+
+    // Has the system report room. It stays asked.
+    fn await_room(&mut self) {
+        self.hub.clear(self.slot, WRITABLE);
+        if !self.awaits_room {
+            self.awaits_room = true;
+            if self
+                .stream
+                .register_both(&self.registry, self.slot)
+                .is_err()
+            {
+                self.is_broken = true;
+            }
+        }
+    }
+
+    fn keeps_an_earlier_batch(&self) -> bool {
+        !self.kept.is_empty() && self.batch != self.board.batch()
+    }
+
+    // Sends what is kept, as far as the stream takes it.
+    fn send_kept(&mut self) {
+        for _ in 0..KEPT_LIMIT {
+            let Some(rest) = self.kept.get(self.sent..) else {
+                break;
+            };
+            if rest.is_empty() || self.is_broken || !self.hub.has(self.slot, WRITABLE) {
+                break;
+            }
+            match self.stream.write(rest) {
+                Ok(0) => self.is_broken = true,
+                Ok(count) => {
+                    self.sent = self.sent.saturating_add(count);
+                    self.bytes_written = self.bytes_written.saturating_add(count as u64);
+                }
+                Err(error) => {
+                    let _counted_at_the_next_call = self.breaks_write(error.kind());
+                }
+            }
+        }
+        if self.is_broken || self.kept.len() <= self.sent {
+            self.kept.clear();
+            self.sent = 0;
+        }
+    }
+
+    /// Sends what is kept, ends the writing side, and takes the link out of its slot. What the peer has still sent is
+    /// read, or else the close would be a reset, and the peer might lose what was written last.
+    pub fn shut(&mut self) {
+        self.send_kept();
+        let _gone_already = self.stream.end_writing();
+        self.drain();
+        let _gone_already = self.stream.deregister(&self.registry);
+        self.is_broken = true;
+        self.hub.free_slot(self.slot);
+        self.board.shut_link();
+        self.hub.note_shut();
+    }
+
+    fn drain(&mut self) {
+        let mut buf = [0u8; DRAIN_PIECE];
+        for _ in 0..DRAIN_LIMIT / DRAIN_PIECE {
+            match self.stream.read(&mut buf) {
+                Ok(count) if 0 < count => {}
+                _ => break,
+            }
+        }
+    }
+}

@@ -1,0 +1,9 @@
+//! Tests of the adapters over sockets of this machine: what clients send and read there.
+#![tactic(auto)]
+
+#[cfg(test)]
+mod addresses;
+#[cfg(test)]
+mod echo;
+#[cfg(test)]
+mod lines;

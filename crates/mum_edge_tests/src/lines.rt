@@ -1,0 +1,175 @@
+//! Connections over TCP: bytes both ways, many clients, a client that floods, one that is dismissed.
+
+use crate::echo::{Heard, Manner, all_heard, parts};
+use mum_crew::{Crew, CrewEnd};
+use mum_edge::{Machine, Pace, Rate};
+use mum_io::{Door, DoorOpen};
+use std::alloc::Global;
+use std::fs::Files;
+use std::io::{Eprint, Read, Write};
+use std::net::{Net, OpenStream, Shutdown, SocketAddr, TcpStream};
+use std::rt::Env;
+use std::test::Fail;
+use std::thread::Threads;
+use std::time::Clock;
+use std::{io, thread};
+
+/// An IPv4 address of this machine, as a link tells it.
+const LOCAL: [u8; 16] = [0, 0, 0, 0, 0, 0, 0, 0, 0, 0, 255, 255, 127, 0, 0, 1];
+
+/// A machine that is open at a port of this machine, and the port's address.
+fn open<X: AllocGlobal + Net + Files + Env + Eprint + Threads + Clock + Copy + Send>(
+    rt: X,
+    threads: usize,
+    pace: Pace,
+) -> Result<(Machine<X>, SocketAddr), Fail> {
+    let mut machine = Machine::quiet(rt, rt.alloc(), threads, 0, pace)?;
+    if machine.door.open("127.0.0.1:0") != DoorOpen::Opened {
+        return Err(Fail::from("the door does not open"));
+    }
+    match machine.door.local_address() {
+        Some(address) => Ok((machine, address)),
+        None => Err(Fail::from("the door has no address")),
+    }
+}
+
+/// Sends a word and reads it back, so many times, and ends. Whether the server ended then, too.
+fn talk<X: Net>(rt: &X, address: SocketAddr, times: usize) -> io::Result<bool> {
+    let mut stream = TcpStream::connect(rt, address)?;
+    let mut buf = [0u8; 5];
+    for _ in 0..times {
+        stream.write_all(b"hello")?;
+        stream.read_exact(&mut buf)?;
+        if &buf != b"hello" {
+            return Ok(false);
+        }
+    }
+    stream.shutdown(Shutdown::Write)?;
+    Ok(stream.read(&mut buf)? == 0)
+}
+
+#[test]
+fn a_crew_of_threads_sends_back_what_comes(rt: HostRuntime) -> Result<(), Fail> {
+    let alloc: Global = rt.alloc();
+    let (machine, address) = open(rt, 3, Pace::Unlimited)?;
+    let Machine { mut crew, door, .. } = machine;
+    let roles = parts(rt, alloc, door, 3, 2, Manner::Echo)?;
+    let clients = thread::spawn(&rt, move || {
+        (
+            talk(&rt, address, 3).unwrap_or(false),
+            talk(&rt, address, 1).unwrap_or(false),
+            talk(&rt, address, 0).unwrap_or(false),
+        )
+    })?;
+    let run = crew.run(alloc, roles);
+    assert_eq!(rt; clients.join(&rt), (true, true, true));
+    assert_eq!(rt; run.end, CrewEnd::Ran);
+    let all = all_heard(alloc, &run.roles)?;
+    assert_eq!(rt; all.len(), 3);
+    assert!(rt; all.iter().all(|heard| heard.address == LOCAL));
+    assert_eq!(rt; all.iter().map(|heard| heard.bytes).sum::<usize>(), 20);
+    assert_eq!(rt; crew.late_rounds(), 0);
+    Ok(())
+}
+
+/// Sends frames without a payload, of the type that stands in their second byte.
+fn flood(stream: &mut TcpStream, kind: u8, frames: usize) -> io::Result<()> {
+    for _ in 0..frames {
+        stream.write_all(&[0, kind, 0, 0, 0, 0])?;
+    }
+    Ok(())
+}
+
+#[test]
+fn who_floods_is_held_up_and_others_are_not(rt: HostRuntime) -> Result<(), Fail> {
+    let alloc: Global = rt.alloc();
+    let rate = Rate {
+        each_second: 1,
+        at_once: 200,
+    };
+    let pace = Pace::Limited {
+        messages: rate,
+        voice: rate,
+    };
+    let (machine, address) = open(rt, 2, pace)?;
+    let Machine { mut crew, door, .. } = machine;
+    let roles = parts(rt, alloc, door, 2, 1, Manner::EchoForOne)?;
+    let clients = thread::spawn(&rt, move || {
+        let mut stream = TcpStream::connect(&rt, address)?;
+        flood(&mut stream, 9, 1000)?;
+        // Pings count as nothing
+        let mut other = TcpStream::connect(&rt, address)?;
+        flood(&mut other, 3, 500)?;
+        let mut buf = [0u8; 3000];
+        other.read_exact(&mut buf)?;
+        Ok::<bool, io::Error>(buf[2999] == 0)
+    })?;
+    let run = crew.run(alloc, roles);
+    assert!(rt; clients.join(&rt)?);
+    assert_eq!(rt; run.end, CrewEnd::Ran);
+    let all: Vec<Heard> = all_heard(alloc, &run.roles)?;
+    let most = all.iter().map(|heard| heard.bytes).max().unwrap_or(0);
+    let least = all.iter().map(|heard| heard.bytes).min().unwrap_or(0);
+    assert_eq!(rt; (all.len(), most), (2, 3000));
+    // 200 frames at once, and a few for the seconds that passed
+    assert!(rt; (1200..1800).contains(&least), "{least} bytes");
+    Ok(())
+}
+
+#[test]
+fn who_is_dismissed_reads_why(rt: HostRuntime) -> Result<(), Fail> {
+    let alloc: Global = rt.alloc();
+    let (machine, address) = open(rt, 2, Pace::Unlimited)?;
+    let Machine { mut crew, door, .. } = machine;
+    let roles = parts(rt, alloc, door, 1, 1, Manner::Dismiss)?;
+    let client = thread::spawn(&rt, move || {
+        let mut stream = TcpStream::connect(&rt, address)?;
+        // the server closes long before all of it is sent
+        for _ in 0..256u32 {
+            if stream.write_all(&[7; 4096]).is_err() {
+                break;
+            }
+        }
+        let mut buf = [0u8; 2];
+        stream.read_exact(&mut buf)?;
+        Ok::<[u8; 2], io::Error>(buf)
+    })?;
+    let run = crew.run(alloc, roles);
+    assert_eq!(rt; run.end, CrewEnd::Ran);
+    assert_eq!(rt; client.join(&rt)?, *b"no");
+    Ok(())
+}
+
+/// Sends several frames at once, to which the answers are kept back, and reads all of them.
+#[test]
+fn what_is_kept_back_is_sent(rt: HostRuntime) -> Result<(), Fail> {
+    let alloc: Global = rt.alloc();
+    let (machine, address) = open(rt, 2, Pace::Unlimited)?;
+    let Machine { mut crew, door, .. } = machine;
+    let roles = parts(rt, alloc, door, 1, 1, Manner::Echo)?;
+    let client = thread::spawn(&rt, move || {
+        let mut stream = TcpStream::connect(&rt, address)?;
+        let mut buf = [0u8; 54];
+        for _ in 0..100u32 {
+            stream.write_all(&[0; 54])?;
+            stream.read_exact(&mut buf)?;
+        }
+        // more than a link keeps, while nobody reads it
+        flood(&mut stream, 1, 10_000)?;
+        stream.shutdown(Shutdown::Write)?;
+        let mut count = 0usize;
+        for _ in 0..60_001u32 {
+            let got = stream.read(&mut buf)?;
+            if got == 0 {
+                break;
+            }
+            count = count.saturating_add(got);
+        }
+        Ok::<usize, io::Error>(count)
+    })?;
+    let run = crew.run(alloc, roles);
+    assert_eq!(rt; run.end, CrewEnd::Ran);
+    assert_eq!(rt; client.join(&rt)?, 60_000);
+    assert_eq!(rt; crew.late_rounds(), 0);
+    Ok(())
+}

@@ -8,5 +8,5 @@ pub mod config;
 mod given;
 mod link;
 
-pub use config::{Config, read_config};
+pub use config::{Config, DOCUMENT_LIMIT, read_config};
 pub use mum_document::{BadConfig, ConfigFault};

@@ -1,0 +1,81 @@
+-- Passes of boxes: how they are made, and how they are used at a place.
+use Rattle.std.proofs.Common.{◌≡◌, ◌∙◌, ℕ, ◌<◌, List, [], ◌∷◌, ◌++◌, length, map, None, refl, ap, sym, subst, append_assoc, arith}
+use Rattle.std.specs.Prelude.{slice_index_or, slice_set}
+use Rattle.std.specs.List.{AllByRecursion}
+use Rattle.std.proofs.lemmas.List.{length-map, map-append}
+use Rattle.std.proofs.lemmas.Option.{slice_get_read}
+use Rattle.atomic_table.specs.Seated.{TableId}
+use Rattle.mum_outbox.specs.declared.parcel.PostParcel.{PostParcel}
+use Rattle.mum_outbox.specs.declared.parcel.TheConstants.{POST_CAPACITY}
+use Rattle.mum_outbox.specs.declared.queue.Offered.{Offered}
+use Rattle.mum_outbox.specs.declared.rule.Tagged.{Tagged}
+use Rattle.mum_outbox.specs.Calls.{Offers, Takes}
+use Rattle.mum_outbox.specs.Facts.{PassFacts, QueueFacts}
+use Rattle.mum_control.specs.Posting.{EmptiesAt, IsEmptied, IsUnused, OffersAt}
+
+abbrev pub names : List (PassFacts PostParcel) → List TableId
+names posts = map (λ (post : PassFacts PostParcel). post.queue) posts
+
+abbrev pub names_of : List QueueFacts → List TableId
+names_of queues = map (λ (queue : QueueFacts). queue.queue) queues
+
+-- ---- a pass of one box more
+
+all_more : (posts : List (PassFacts PostParcel)) (post : PassFacts PostParcel) → AllByRecursion IsUnused posts → IsUnused post → AllByRecursion IsUnused (posts ++ post ∷ [])
+all_more [] post all unused = (unused, tt)
+all_more (first ∷ posts) post all unused = (all.0, all_more posts post all.1 unused)
+
+pub passes_more : (posts : List (PassFacts PostParcel)) (post : PassFacts PostParcel) (queue : QueueFacts) (left all : List QueueFacts)
+    → AllByRecursion IsUnused posts → IsUnused post → post.queue ≡ queue.queue → names posts ++ names_of (queue ∷ left) ≡ names_of all
+    → AllByRecursion IsUnused (posts ++ post ∷ []) × (names (posts ++ post ∷ []) ++ names_of left ≡ names_of all)
+passes_more posts post queue left all unused new of so = (
+  all_more posts post unused new,
+  rw (map-append (λ (p : PassFacts PostParcel). p.queue) posts (post ∷ []), append_assoc (names posts) (post.queue ∷ []) (names_of left), of) so,
+)
+
+pub nothing_left : {X : Type 0} (xs : List X) → length xs ≡ 0 → xs ≡ []
+nothing_left [] none = refl
+nothing_left (x ∷ xs) none = absurd (omega (arith, none))
+
+-- as many passes as boxes
+pub as_many : (posts : List (PassFacts PostParcel)) (queues : List QueueFacts) → names posts ≡ names_of queues → length posts ≡ length queues
+as_many posts queues same =
+    sym (length-map posts (λ (post : PassFacts PostParcel). post.queue)) ∙ ap length same ∙ length-map queues (λ (queue : QueueFacts). queue.queue)
+
+-- ---- a box that is emptied
+
+pub taken_more : (old pass after : PassFacts PostParcel) (taken : List (Tagged PostParcel)) (x : Tagged PostParcel)
+    → pass ≡ record old { taken = old.taken ++ taken } → after ≡ record pass { taken = pass.taken ++ x ∷ [] }
+    → after ≡ record old { taken = old.taken ++ (taken ++ x ∷ []) }
+taken_more old pass after taken x so_far takes =
+    takes ∙ ap (λ (p : PassFacts PostParcel). record p { taken = p.taken ++ x ∷ [] }) so_far
+    ∙ ap (λ (t : List (Tagged PostParcel)). record old { taken = t }) (append_assoc old.taken taken (x ∷ []))
+
+pub emptied_so : (old pass after : PassFacts PostParcel) (taken : List (Tagged PostParcel))
+    → pass ≡ record old { taken = old.taken ++ taken } → Takes POST_CAPACITY pass None after → IsEmptied old after
+emptied_so old pass after taken so_far takes =
+    record { taken = taken; last = subst (λ (p : PassFacts PostParcel). Takes POST_CAPACITY p None after) so_far takes }
+
+-- ---- the box at a place
+
+pub offered_at : (posts : List (PassFacts PostParcel)) (place : ℕ) (before later : PassFacts PostParcel) (parcel : PostParcel) (offered : Offered PostParcel)
+    → place < length posts → before ≡ slice_index_or posts place before → Offers POST_CAPACITY before parcel offered later
+    → OffersAt posts place parcel offered (slice_set posts place later)
+offered_at posts place before later parcel offered within is offers = record {
+  before = before;
+  later = later;
+  box = slice_get_read posts (length posts) place before refl within is;
+  offers = offers;
+  others = refl;
+}
+
+pub emptied_at : (posts : List (PassFacts PostParcel)) (place : ℕ) (before later : PassFacts PostParcel)
+    → place < length posts → before ≡ slice_index_or posts place before → IsEmptied before later
+    → EmptiesAt posts place (slice_set posts place later)
+emptied_at posts place before later within is emptied = record {
+  before = before;
+  later = later;
+  box = slice_get_read posts (length posts) place before refl within is;
+  emptied = emptied;
+  others = refl;
+}

@@ -1,0 +1,7 @@
+pub mod Copied
+pub mod Listing
+pub mod Addressed
+pub mod Boxes
+pub mod Appending
+pub mod Settling
+pub mod Keeping

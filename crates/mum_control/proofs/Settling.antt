@@ -1,0 +1,99 @@
+-- What verdicts, publishes and replies come to.
+use Rattle.std.proofs.Common.{◌≡◌, ℕ, Bool, true, false, not, List, [], Option, Some, None, Result, Ok, Err, IfOk, OnErr, OnOk, refl, ap, sym, subst, ◌∙◌, inl, inr}
+use Rattle.std.specs.Prelude.{◌⊎◌, is_none, is_some}
+use Rattle.std.specs.Result.{result_ok}
+use Rattle.mum_base.specs.declared.number.SessionId.{SessionId}
+use Rattle.mum_base.specs.declared.reply.ReplyEnd.{ReplyEnd}
+use Rattle.mum_state.specs.declared.edit.Edit.{Edit}
+use Rattle.mum_state.specs.declared.verdict.Verdict.{Verdict}
+use Rattle.mum_state.specs.declared.verdict.Verdict.TheVariants.{Accepted, Lacks, Refused, Rejected, Answer, Ignored}
+use Rattle.mum_notify.specs.declared.notice.Notice.{Notice}
+use Rattle.mum_published.specs.Calls.{all_published}
+use Rattle.mum_published.specs.Facts.{NoteFacts, PublisherFacts}
+use Rattle.mum_session.specs.Reply.{mark, reply_end}
+use Rattle.mum_session.specs.Verdict.{edits_of}
+use Rattle.mum_control.specs.Commanded.{Accepts, accepted, Decides, Denies, IsDropped, Publishes, note_of}
+use Rattle.mum_control.specs.Facts.{ControlFacts, ReplyFacts}
+use Rattle.mum_control.specs.Posting.{Posts}
+use Rattle.mum_control.specs.declared.posted.Posted.{Posted}
+
+-- ---- a verdict that accepts no edit
+
+-- its outcome has no revision
+pub mark_of_denied : (one other : ℕ) (denied : Verdict) → edits_of denied ≡ [] → mark one denied ≡ mark other denied
+mark_of_denied one other (Accepted edit) none = cc
+mark_of_denied one other (Lacks perm channel) none = refl
+mark_of_denied one other (Refused kind) none = refl
+mark_of_denied one other (Rejected kind) none = refl
+mark_of_denied one other (Answer frame) none = refl
+mark_of_denied one other (Ignored why) none = refl
+
+-- it is denied
+pub denied_so : (old : ControlFacts) (connection : ℕ) (session : Option SessionId) (denied : Verdict) (reply : ReplyFacts) (new : ControlFacts)
+    → edits_of denied ≡ [] → Denies old connection session denied reply new → Decides old connection session denied reply new
+denied_so old connection session (Accepted edit) reply new none so = cc
+denied_so old connection session (Lacks perm channel) reply new none so = so
+denied_so old connection session (Refused kind) reply new none so = so
+denied_so old connection session (Rejected kind) reply new none so = so
+denied_so old connection session (Answer frame) reply new none so = so
+denied_so old connection session (Ignored why) reply new none so = so
+
+-- ---- a publish that may be refused
+
+pub publishes_so : {E : Type 0} (answer : Result NoteFacts E) (before after : PublisherFacts) → OnOk answer (after ≡ all_published before) → OnErr answer (after ≡ before)
+    → IfOk answer (λ note. note ≡ note_of before) → Publishes before (result_ok answer) after
+publishes_so (Ok note) before after ok err is = (is, ok)
+publishes_so (Err error) before after ok err is = err
+
+-- whether there is no note
+pub none_so : {A : Type 0} (note : Option A) (none : Bool) → is_some note ≡ not none → none ≡ is_none note
+none_so {A} None true is = refl
+none_so {A} None false is = cc
+none_so {A} (Some note) true is = cc
+none_so {A} (Some note) false is = refl
+
+-- ---- a reply, part by part
+
+pub reply_so : (a b : ℕ) (e f : ReplyEnd) (n m : Option NoteFacts) (w v : List ℕ) (p q : Bool) → a ≡ b → e ≡ f → n ≡ m → w ≡ v → p ≡ q
+    → ◌≡◌ {A = ReplyFacts} (record { connection = a; end = e; note = n; wire = w; no_memory = p }) (record { connection = b; end = f; note = m; wire = v; no_memory = q })
+reply_so a b e f n m w v p q one two three four five = cc
+
+-- ---- what a verdict comes to is what is done of it
+
+pub settled_accepting : (old : ControlFacts) (connection : ℕ) (session : Option SessionId) (decided : Verdict) (edit : Edit) (reply : ReplyFacts) (new : ControlFacts)
+    → decided ≡ Accepted edit → IsDropped old connection reply new ⊎ Accepts old connection edit reply new
+    → IsDropped old connection reply new ⊎ Decides old connection session decided reply new
+settled_accepting old connection session decided edit reply new is done =
+    subst (λ (v : Verdict). IsDropped old connection reply new ⊎ Decides old connection session v reply new) (sym is) done
+
+denied_or_dropped : (old : ControlFacts) (connection : ℕ) (session : Option SessionId) (denied : Verdict) (reply : ReplyFacts) (new : ControlFacts) → edits_of denied ≡ []
+    → IsDropped old connection reply new ⊎ Denies old connection session denied reply new → IsDropped old connection reply new ⊎ Decides old connection session denied reply new
+denied_or_dropped old connection session denied reply new none (inl dropped) = inl dropped
+denied_or_dropped old connection session denied reply new none (inr so) = inr (denied_so old connection session denied reply new none so)
+
+pub settled_denying : (old : ControlFacts) (connection : ℕ) (session : Option SessionId) (decided denied : Verdict) (reply : ReplyFacts) (new : ControlFacts)
+    → decided ≡ denied → edits_of denied ≡ [] → IsDropped old connection reply new ⊎ Denies old connection session denied reply new
+    → IsDropped old connection reply new ⊎ Decides old connection session decided reply new
+settled_denying old connection session decided denied reply new is none done =
+    subst (λ (v : Verdict). IsDropped old connection reply new ⊎ Decides old connection session v reply new) (sym is)
+    (denied_or_dropped old connection session denied reply new none done)
+
+-- ---- a notice that is taken and then posted
+
+pub posts_on : (old mid : ControlFacts) (rest : List Notice) (notice : Notice) (result : Posted) (new : ControlFacts)
+    → mid ≡ record old { pending = rest } → Posts mid notice mid.pending result new → Posts old notice rest result new
+posts_on old mid rest notice result new taken posted =
+    let own : Posts (record old { pending = rest }) notice rest result new = subst (λ (m : ControlFacts). Posts m notice m.pending result new) taken posted in
+    record { offered = own.offered; offers = own.offers; others = own.others; answer = own.answer }
+
+-- ---- an edit that is accepted, then published
+
+pub accepts_so : (old mid new : ControlFacts) (edit : Edit) (connection : ℕ) (end : ReplyEnd) (reply : ReplyFacts) → mid ≡ accepted old edit
+    → Publishes mid.publisher reply.note new.publisher → new ≡ record mid { publisher = new.publisher }
+    → reply.connection ≡ connection → reply.end ≡ end → end ≡ reply_end (Accepted edit) → reply.wire ≡ [] → reply.no_memory ≡ is_none reply.note
+    → Accepts old connection edit reply new
+accepts_so old mid new edit connection end reply accepts published others one two three four five = record {
+  published = subst (λ (k : ControlFacts). Publishes k.publisher reply.note new.publisher) accepts published;
+  others = others ∙ ap (λ (k : ControlFacts). record k { publisher = new.publisher }) accepts;
+  answer = reply_so reply.connection connection reply.end (reply_end (Accepted edit)) reply.note reply.note reply.wire [] reply.no_memory (is_none reply.note) one (two ∙ three) refl four five;
+}

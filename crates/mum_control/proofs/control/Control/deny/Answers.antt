@@ -1,0 +1,19 @@
+use Rattle.std.proofs.Common.{◌∙◌, Some, ap, inl, inr}
+use Rattle.mum_base.specs.declared.reply.Mark.{Mark}
+use Rattle.mum_control.specs.Commanded.{next_revision}
+use Rattle.mum_control.specs.Facts.{ControlFacts}
+use Rattle.mum_control.proofs.Settling.{mark_of_denied, reply_so}
+use Rattle.mum_control.proofs.control.Control.deny.Goals as goal
+
+pub returns-in-Ok : goal.returns-in-Ok
+returns-in-Ok g c =
+    let old = c.args.self.now in
+    let told = c.mark_of-mark.result in
+    inr (
+      ap (λ (k : ControlFacts). record k { mark = Some told }) c.self.view_is
+          ∙ ap (λ (m : Mark). record old { mark = Some m }) (c.mark_of-mark.ensures ∙ mark_of_denied 0 (next_revision old) c.args.denied c.requires),
+      reply_so _ _ _ _ _ _ _ _ _ _ c.new.ensures.connection (c.new.ensures.end ∙ c.end_of-end.ensures) c.new.ensures.note (c.new.ensures.wire ∙ c.in-Ok.ensures) c.new.ensures.no_memory,
+    )
+
+pub returns-in-Err : goal.returns-in-Err
+returns-in-Err g c = inl c.refuse.ensures

@@ -1,0 +1,11 @@
+use Rattle.std.proofs.Common.{◌∙◌, ap, subst}
+use Rattle.std.specs.Prelude.{◌↔◌, IsTrue}
+use Rattle.mum_state.specs.State.{StateValue}
+use Rattle.mum_control.specs.Commanded.{current}
+use Rattle.mum_control.specs.Kept.{MayIn}
+use Rattle.mum_control.proofs.control.Control.holds.Goals as goal
+
+pub returns : goal.returns
+returns g c =
+    subst (λ (s : StateValue). IsTrue c.holds.result ↔ MayIn s c.args.session c.args.perm c.args.channel)
+    (c.current.ensures ∙ c.self.invariant.twin_is ∙ ap current c.self.view_is) c.holds.ensures

@@ -1,0 +1,9 @@
+use Rattle.std.proofs.Common.{◌∙◌, ap}
+use Rattle.mum_state.specs.State.{StateValue}
+use Rattle.mum_control.specs.Commanded.{current}
+use Rattle.mum_control.specs.Kept.{is_there}
+use Rattle.mum_control.proofs.control.Control.is_there.Goals as goal
+
+pub returns : goal.returns
+returns g c =
+    c.is_there.ensures.there ∙ ap (λ (s : StateValue). is_there s c.args.session) (c.current.ensures ∙ c.self.invariant.twin_is ∙ ap current c.self.view_is)

@@ -1,0 +1,36 @@
+use Rattle.std.proofs.Common.{◌≡◌, ◌∙◌, IfOk, ap, subst}
+use Rattle.std.specs.Result.{result_ok}
+use Rattle.std.specs.Vec.{vec_capacity}
+use Rattle.std.proofs.lemmas.Result.{on_err_weaker, on_ok_weaker}
+use Rattle.mum_published.specs.Calls.{all_published}
+use Rattle.mum_published.specs.Facts.{PublisherFacts}
+use Rattle.mum_control.specs.Commanded.{note_of}
+use Rattle.mum_control.specs.Facts.{ControlFacts}
+use Rattle.mum_control.proofs.Keeping.{kept_publishing}
+use Rattle.mum_control.proofs.Settling.{publishes_so}
+use Rattle.mum_control.proofs.control.Control.publish.Goals as goal
+
+pub invariant_of-self : goal.invariant_of-self
+invariant_of-self g c =
+    let inside = c.self.inside in
+    let said = c.publish.ensures in
+    kept_publishing g.N.Naming.opening inside.publisher.now c.publish.new.self inside.twin inside.posts.items inside.pending inside.lagged.items (vec_capacity inside.lagged)
+    (result_ok c.publish.result) c.self.invariant (publishes_so c.publish.result inside.publisher.now c.publish.new.self said.ok said.err said.note)
+
+pub returns-clause-ok : goal.returns-clause-ok
+returns-clause-ok g c =
+    let inside = c.self.inside in
+    on_ok_weaker c.publish.result (λ published.
+    ap (λ (p : PublisherFacts). let k : ControlFacts = record { publisher = p; posts = inside.posts.items; pending = inside.pending; lagged = inside.lagged.items; mark = inside.mark } in k) published
+    ∙ ap (λ (k : ControlFacts). record k { publisher = all_published k.publisher }) c.self.view_is) c.publish.ensures.ok
+
+pub returns-clause-err : goal.returns-clause-err
+returns-clause-err g c =
+    let inside = c.self.inside in
+    on_err_weaker c.publish.result (λ same.
+    ap (λ (p : PublisherFacts). let k : ControlFacts = record { publisher = p; posts = inside.posts.items; pending = inside.pending; lagged = inside.lagged.items; mark = inside.mark } in k) same
+    ∙ c.self.view_is) c.publish.ensures.err
+
+pub returns-clause-note : goal.returns-clause-note
+returns-clause-note g c =
+    subst (λ (k : ControlFacts). IfOk c.publish.result (λ note. note ≡ note_of k.publisher)) c.self.view_is c.publish.ensures.note

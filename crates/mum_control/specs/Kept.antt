@@ -1,0 +1,62 @@
+-- What the control owner keeps true of its parts.
+use Rattle.std.specs.Prelude.{◌≡◌, ℕ, ◌<◌, ◌≤◌, ◌==◌, not, Bool, List, [], ◌∷◌, length, Option, is_some, IsSomeAnd, IsTrue, ⊤}
+use Rattle.std.specs.List.{AllByRecursion, list_any}
+use Rattle.std.specs.Option.{option_map}
+use Rattle.mum_base.specs.declared.number.ChannelId.{ChannelId}
+use Rattle.mum_base.specs.declared.number.SessionId.{SessionId}
+use Rattle.mum_base.specs.declared.number.Slot.{Slot}
+use Rattle.mum_base.specs.declared.number.TheConstants.{SLOTS}
+use Rattle.mum_base.specs.declared.perm.Perm.{Perm}
+use Rattle.mum_base.specs.Perm.{Holds}
+use Rattle.mum_users.specs.Sessions.{next_join, session_of}
+use Rattle.mum_state.specs.Permissions.{perm_of}
+use Rattle.mum_state.specs.State.{StateValue, session_limit}
+use Rattle.mum_notify.specs.declared.notice.Notice.{Notice}
+use Rattle.mum_outbox.specs.declared.parcel.PostParcel.{PostParcel}
+use Rattle.mum_outbox.specs.Facts.{PassFacts as BoxFacts}
+use Rattle.mum_published.specs.Calls.{latest}
+use Rattle.mum_published.specs.Facts.{Opening, PublisherFacts}
+
+-- the session is in the state
+abbrev pub is_there : StateValue → SessionId → Bool
+is_there state session = is_some (session_of state.roster session)
+
+-- the slot of a session
+abbrev pub slot_of : StateValue → SessionId → Option Slot
+slot_of state session = option_map (λ user. user.slot) (session_of state.roster session)
+
+-- the slot that the next session that joins gets; none where no more may join
+abbrev pub next_slot : StateValue → Option Slot
+next_slot state = option_map (λ next. next.1) (next_join (session_limit state) state.roster)
+
+-- the session has this permission in the channel, and both are in the state
+abbrev pub MayIn : StateValue → SessionId → Perm → ChannelId → Type 0
+MayIn state session perm channel = IsSomeAnd (perm_of state session channel) (λ held. Holds held perm.0)
+
+-- the session is one of these
+abbrev pub is_listed : List SessionId → SessionId → Bool
+is_listed sessions session = list_any (λ listed. listed.0 == session.0) sessions
+
+-- no session is listed twice
+abbrev pub AreApart : List SessionId → Type 0
+AreApart [] = ⊤
+AreApart (session ∷ sessions) = IsTrue (not (is_listed sessions session)) × AreApart sessions
+
+-- each session is listed once and is in the state
+pub record IsListing (state : StateValue) (sessions : List SessionId) : Type 0 where
+  pub apart : AreApart sessions
+  pub present : AllByRecursion (λ session. IsTrue (is_there state session)) sessions
+
+-- the notice is for a slot that has a box
+abbrev pub IsInSlot : Notice → Type 0
+IsInSlot notice = notice.slot.0 < SLOTS
+
+-- the twin is the state after all appended edits, each pending notice has a box, and there is room to list each session
+pub record IsKept (opening : Opening) (publisher : PublisherFacts) (twin : StateValue) (posts : List (BoxFacts PostParcel))
+    (pending : List Notice) (lagged : List SessionId) (room : ℕ) : Type 0 where
+  pub same_opening : publisher.opening ≡ opening
+  pub twin_is : twin ≡ latest publisher
+  pub box_each : length posts ≡ SLOTS
+  pub in_slots : AllByRecursion IsInSlot pending
+  pub listing : IsListing twin lagged
+  pub room_is : SLOTS ≤ room

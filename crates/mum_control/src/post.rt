@@ -1,0 +1,110 @@
+//! The boxes into which notices are posted, one for each slot.
+
+ghost use Rattle.std.specs.Prelude.{◌≡◌, ◌<◌, IfOk, length, map};
+ghost use Rattle.std.specs.List.{AllByRecursion};
+ghost use Rattle.mum_outbox.specs.Calls.{Offers};
+ghost use Rattle.mum_outbox.specs.declared.parcel.TheConstants.{POST_CAPACITY};
+ghost use Rattle.mum_control.specs.Posting.{EmptiesAt, IsEmptied, IsUnused, OffersAt};
+
+use mum_base::OutOfMemory;
+use mum_outbox::{BoxPass, Offered, PostBox, PostParcel};
+use std::alloc::Global;
+use std::marker::Model;
+use std::sync::Wait;
+
+/// The box of one slot, and the pass by which the control owner offers to it.
+#[derive(Drop)]
+pub(crate) struct Post {
+    queue: PostBox,
+    pass: BoxPass<PostParcel>,
+}
+
+impl Model for Post {
+    ghost use Rattle.std.specs.Prelude.{◌≡◌};
+    ghost use Rattle.mum_outbox.specs.declared.parcel.PostParcel.{PostParcel};
+    ghost use Rattle.mum_outbox.specs.Facts.{PassFacts};
+
+    ghost Value = { PassFacts PostParcel };
+
+    ghost view = { λ p. p.pass };
+
+    ghost invariant = { λ p. p.pass.queue ≡ p.queue.queue };
+}
+
+/// Takes parcels from a box until it is empty.
+fn empty_queue<R: Wait>(rt: &R, queue: &PostBox, pass: &mut BoxPass<PostParcel>)
+    requires { pass.old.queue ≡ queue.now.queue }
+    ensures { IsEmptied pass.old pass.new }
+{
+    for _ in rt.forever() {
+        let Some(_parcel) = queue.take_as(rt, pass) else {
+            return;
+        };
+    }
+    unreachable!()
+}
+
+impl Post {
+    /// A pass of this box.
+    fn of(queue: PostBox) -> Post
+        ensures queue { result.queue ≡ queue.queue }
+        ensures unused { IsUnused result }
+    {
+        let mut queue = queue;
+        let pass = queue.pass();
+        Post { queue, pass }
+    }
+
+    /// Offers a parcel once.
+    fn offer<R: Wait>(&mut self, rt: &R, parcel: PostParcel) -> Offered<PostParcel>
+        ensures { Offers POST_CAPACITY self.old parcel result self.new }
+    {
+        self.queue.offer_as(rt, &mut self.pass, parcel)
+    }
+
+    /// Takes parcels until the box is empty.
+    fn empty<R: Wait>(&mut self, rt: &R)
+        ensures { IsEmptied self.old self.new }
+    {
+        empty_queue(rt, &self.queue, &mut self.pass);
+    }
+}
+
+/// A pass of each box, in their order.
+pub(crate) fn posts_of(alloc: Global, boxes: Vec<PostBox>) -> Result<Vec<Post>, OutOfMemory>
+    ensures unused { IfOk result (λ posts. AllByRecursion IsUnused posts.items) }
+    ensures boxes { IfOk result (λ posts. map (λ post. post.queue) posts.items ≡ map (λ queue. queue.queue) boxes.items) }
+{
+    let mut posts = Vec::new(alloc);
+    for queue in boxes {
+        posts.push(Post::of(queue))?;
+    }
+    Ok(posts)
+}
+
+/// Offers a parcel once to the box at this place.
+pub(crate) fn offer_at<R: Wait>(
+    rt: &R,
+    posts: &mut Vec<Post>,
+    place: usize,
+    parcel: PostParcel,
+) -> Offered<PostParcel>
+    requires { place < length posts.old.items }
+    ensures { OffersAt posts.old.items place parcel result posts.new.items }
+{
+    let Some(post) = posts.get_mut(place) else {
+        unreachable!()
+    };
+    post.offer(rt, parcel)
+}
+
+/// Takes parcels from the box at this place until it is empty.
+pub(crate) fn empty_at<R: Wait>(rt: &R, posts: &mut Vec<Post>, place: usize)
+    requires { place < length posts.old.items }
+    ensures { EmptiesAt posts.old.items place posts.new.items }
+{
+    let Some(post) = posts.get_mut(place) else {
+        unreachable!()
+    };
+    post.empty(rt);
+}

@@ -3,6 +3,8 @@
 #![tactic(auto)]
 
 #[cfg(test)]
+mod control;
+#[cfg(test)]
 mod outbox;
 #[cfg(test)]
 mod outside;

@@ -1,0 +1,4 @@
+pub mod Slots
+pub mod Listing
+pub mod Delivering
+pub mod Completed

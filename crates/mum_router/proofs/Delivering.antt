@@ -1,5 +1,5 @@
 -- One copy more is offered.
-use Rattle.std.proofs.Common.{◌≡◌, ℕ, ◌+◌, ◌<◌, Bool, true, false, List, [], ◌∷◌, ◌++◌, filter, length, length-append, map, refl, ap, slice_index_or, sym, subst, take, ◌∙◌}
+use Rattle.std.proofs.Common.{◌≡◌, ℕ, ◌+◌, ◌<◌, Bool, true, false, List, [], ◌∷◌, ◌++◌, filter, length, length-append, refl, ap, slice_index_or, sym, subst, take, ◌∙◌}
 use Rattle.std.specs.Int.{from_bool}
 use Rattle.std.specs.Prelude.{if◌then◌else◌}
 use Rattle.std.proofs.lemmas.Fn.{FoldsTo-push}

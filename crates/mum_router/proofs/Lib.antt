@@ -2,3 +2,4 @@ pub mod Slots
 pub mod Listing
 pub mod Delivering
 pub mod Completed
+pub mod Others

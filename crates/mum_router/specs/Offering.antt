@@ -14,6 +14,10 @@ use Rattle.mum_record.specs.declared.journal.Marked.{Marked}
 use Rattle.mum_voice.specs.Packet.{Parts, copy}
 use Rattle.mum_router.specs.declared.hearers.Hearer.{Hearer}
 
+-- the passes of the voice boxes, by their slots
+abbrev pub Outs : Type 0
+Outs = List (PassFacts VoiceParcel)
+
 -- the first pass that an owner of a voice box makes
 abbrev pub new_pass : QueueFacts → PassFacts VoiceParcel
 new_pass owner = record { queue = owner.queue; number = least_number owner.low owner.end; offered = []; taken = []; full = 0; empty = 0 }
@@ -40,7 +44,7 @@ abbrev pub mark_of : Delivery → Marked
 mark_of delivery = record { session = delivery.hearer.session; context = delivery.hearer.context; sent = was_sent delivery }
 
 -- a copy is offered once, to the box of its slot, and the pass of no other box changes
-pub record Delivers (speaker : SessionId) (packet : Parts) (outs : List (PassFacts VoiceParcel)) (delivery : Delivery) (after : List (PassFacts VoiceParcel)) : Type 0 where
+pub record Delivers (speaker : SessionId) (packet : Parts) (outs : Outs) (delivery : Delivery) (after : Outs) : Type 0 where
   pub old : PassFacts VoiceParcel
   pub new : PassFacts VoiceParcel
   pub box : slice_get outs delivery.hearer.slot.0 ≡ Some old
@@ -56,7 +60,7 @@ abbrev pub full_of : List (PassFacts VoiceParcel) → ℕ
 full_of outs = min (sum_by (λ pass. pass.full) outs) LAST
 
 -- a copy is offered to each of these, in their order; the marks say what became of them, and so many were sent
-abbrev pub DeliversEach : SessionId → Parts → List Hearer → List (PassFacts VoiceParcel) → List (PassFacts VoiceParcel) → List Marked → ℕ → Type 0
+abbrev pub DeliversEach : SessionId → Parts → List Hearer → Outs → Outs → List Marked → ℕ → Type 0
 DeliversEach speaker packet hearers outs after marks sent =
     (deliveries : List Delivery) × (map (λ delivery. delivery.hearer) deliveries ≡ hearers)
     × FoldsTo (Delivers speaker packet) outs deliveries after

@@ -1,4 +1,4 @@
-use Rattle.std.proofs.Common.{◌≡◌, ℕ, ◌+◌, length, length-append, ap, arith, rules, ◌∙◌}
+use Rattle.std.proofs.Common.{length, length-append, ap, arith, rules, ◌∙◌}
 use Rattle.mum_voice.specs.Packet.{plain_parts}
 use Rattle.mum_router.proofs.Delivering.{delivers_next}
 use Rattle.mum_router.proofs.offering.deliver_each.Goals as goal

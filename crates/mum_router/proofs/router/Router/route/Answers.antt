@@ -1,4 +1,4 @@
-use Rattle.std.proofs.Common.{◌≡◌, ℕ, ◌-◌, List, length, ap, subst, sym}
+use Rattle.std.proofs.Common.{◌-◌, List, length, ap, subst, sym}
 use Rattle.mum_voice.specs.Packet.{plain_parts}
 use Rattle.mum_router.specs.declared.hearers.Hearer.{Hearer}
 use Rattle.mum_router.specs.Facts.{RouterFacts}

@@ -122,46 +122,28 @@ impl<L: Link> Guest<L> {
     }
 }
 
-impl<D: Door, X: Wait> Owner<D, X> {
-    fn turn(&mut self) -> Turn {
-        if self.given >= self.wanted {
-            for bell in self.bells.iter() {
-                let _full = bell.push(&self.rt, None);
-            }
-            return Turn::Done;
-        }
+impl<D: Door, X> Owner<D, X> {
+    fn has_all(&self) -> bool {
+        self.given >= self.wanted
+    }
+
+    // The next connection, and the place of its worker.
+    fn next(&mut self) -> Option<(usize, D::Conn)> {
         match self.door.poll_accept() {
             Accept::Conn(link) => {
                 let place = self.given.checked_rem(self.bells.len()).unwrap_or(0);
-                if let Some(bell) = self.bells.get(place) {
-                    let _full = bell.push(&self.rt, Some(link));
-                }
                 self.given = self.given.saturating_add(1);
-                Turn::Worked
+                Some((place, link))
             }
-            Accept::NotYet => Turn::Idle,
-            Accept::End | Accept::Failed => Turn::Done,
+            Accept::NotYet | Accept::End | Accept::Failed => None,
         }
     }
 }
 
-impl<L: Link, X: Wait> Worker<L, X> {
-    fn turn(&mut self) -> Turn {
-        let heard = self.listen();
-        let served = self.serve();
-        if self.has_all && self.guests.is_empty() {
-            return Turn::Done;
-        }
-        if heard || served {
-            Turn::Worked
-        } else {
-            Turn::Idle
-        }
-    }
-
-    // Takes one connection. Whether something came.
-    fn listen(&mut self) -> bool {
-        match self.bell.pop(&self.rt) {
+impl<L: Link, X> Worker<L, X> {
+    // Takes what its bell gave. Whether something came.
+    fn listen(&mut self, item: Option<Option<L>>) -> bool {
+        match item {
             Some(Some(link)) => {
                 let guest = Guest {
                     link,
@@ -177,6 +159,18 @@ impl<L: Link, X: Wait> Worker<L, X> {
                 true
             }
             None => false,
+        }
+    }
+
+    fn turn(&mut self, heard: bool) -> Turn {
+        let served = self.serve();
+        if self.has_all && self.guests.is_empty() {
+            return Turn::Done;
+        }
+        if heard || served {
+            Turn::Worked
+        } else {
+            Turn::Idle
         }
     }
 
@@ -233,19 +227,32 @@ impl<D: Door, X: Wait + Drop> Role for Part<D, X> {
 
     ghost has_ended = { λ p. p.is_done };
 
+    // The bells are rung and heard here, and nowhere below.
     fn turn(&mut self) -> Turn {
-        let turn = self.duty.turn();
+        let turn = match &mut self.duty {
+            Duty::Owner(owner) => {
+                if owner.has_all() {
+                    for bell in owner.bells.iter() {
+                        let _full = bell.push(&owner.rt, None);
+                    }
+                    Turn::Done
+                } else if let Some((place, link)) = owner.next() {
+                    if let Some(bell) = owner.bells.get(place) {
+                        let _full = bell.push(&owner.rt, Some(link));
+                    }
+                    Turn::Worked
+                } else {
+                    Turn::Idle
+                }
+            }
+            Duty::Worker(worker) => {
+                let item = worker.bell.pop(&worker.rt);
+                let heard = worker.listen(item);
+                worker.turn(heard)
+            }
+        };
         self.is_done = turn == Turn::Done;
         turn
-    }
-}
-
-impl<D: Door, X: Wait> Duty<D, X> {
-    fn turn(&mut self) -> Turn {
-        match self {
-            Duty::Owner(owner) => owner.turn(),
-            Duty::Worker(worker) => worker.turn(),
-        }
     }
 }
 

@@ -32,7 +32,7 @@ fn open<X: AllocGlobal + Net + Files + Env + Eprint + Threads + time::Clock + Co
     }
 }
 
-/// Sends a word and reads it back, so many times, and ends. Whether the server ended then, too.
+/// Sends a word and reads it back, this many times, and ends. Whether the server ended then, too.
 fn talk<X: Net>(rt: &X, address: SocketAddr, times: usize) -> io::Result<bool> {
     let mut stream = TcpStream::connect(rt, address)?;
     let mut buf = [0u8; 5];
@@ -66,7 +66,10 @@ fn a_crew_of_threads_sends_back_what_comes(rt: HostRuntime) -> Result<(), Fail> 
     let all = all_heard(alloc, &run.roles)?;
     assert_eq!(rt; all.len(), 3);
     assert!(rt; all.iter().all(|heard| heard.address == LOCAL));
-    assert_eq!(rt; all.iter().map(|heard| heard.bytes).sum::<usize>(), 20);
+    let bytes = all
+        .iter()
+        .fold(0usize, |sum, heard| sum.saturating_add(heard.bytes));
+    assert_eq!(rt; bytes, 20);
     assert_eq!(rt; crew.late_rounds(), 0);
     Ok(())
 }

@@ -53,7 +53,7 @@ impl<X: Eprint> Life<X> {
         }
     }
 
-    /// So many connections began without a header until now.
+    /// This many connections began without a header until now.
     pub fn has_no_header(&self, refused: u64) {
         if self.has_signs {
             self.write(format!(in self.alloc;

@@ -1,8 +1,8 @@
 //! How a link reads and writes its stream: it asks the system only where the stream may be ready, and keeps what is
 //! written in batches where more is coming.
 
-ghost use Rattle.std.specs.Prelude.{◌<◌, ◌≤◌, length};
-ghost use Rattle.mum_edge.specs.Wire.{ReadsWithin, TakesWithin};
+ghost use Rattle.std.specs.Prelude.{◌<◌, length, None};
+ghost use Rattle.mum_io.specs.Link.{PollReadLeaves, PollWriteLeaves};
 
 use crate::board::Board;
 use crate::hub::{HUNG_UP, Hub, READABLE, WRITABLE};
@@ -21,7 +21,7 @@ const DRAIN_LIMIT: usize = 65_536;
 
 const DRAIN_PIECE: usize = 4096;
 
-/// A stream with its slot among those of all links, and what it keeps.
+/// A stream with its slot among those of all links, and what it keeps. Which bytes it carries nobody knows.
 #[derive(Drop)]
 pub struct Wire {
     pub stream: Stream,
@@ -43,7 +43,7 @@ impl Wire {
     /// Reads what has come, if its pace allows that. What was kept in an earlier batch is sent before.
     pub fn read(&mut self, buf: &mut [u8]) -> PollRead
         requires { 0 < length buf.old }
-        ensures { ReadsWithin result buf.new }
+        ensures { PollReadLeaves result None None buf.new }
     {
         self.board.ask();
         if self.keeps_an_earlier_batch() {
@@ -65,7 +65,7 @@ impl Wire {
     // The flag is left where there may be more: the system reports no change of that.
     fn read_stream(&mut self, buf: &mut [u8]) -> PollRead
         requires { 0 < length buf.old }
-        ensures { ReadsWithin result buf.new }
+        ensures { PollReadLeaves result None None buf.new }
     {
         self.hub.clear(self.slot, READABLE);
         match self.stream.read(buf) {
@@ -110,7 +110,7 @@ impl Wire {
     /// Sends the piece where nothing is kept and nobody holds back, and else keeps it as far as there is room.
     pub fn write(&mut self, piece: &[u8]) -> PollWrite
         requires { 0 < length piece.now }
-        ensures { TakesWithin result piece.now }
+        ensures { PollWriteLeaves result None None piece.now }
     {
         if self.keeps_an_earlier_batch() || self.room() < piece.len() {
             self.send_kept();
@@ -130,7 +130,7 @@ impl Wire {
 
     fn keep(&mut self, piece: &[u8]) -> PollWrite
         requires { 0 < length piece.now }
-        ensures { TakesWithin result piece.now }
+        ensures { PollWriteLeaves result None None piece.now }
     {
         let taken = self.room().min(piece.len());
         if taken == 0 {
@@ -147,7 +147,7 @@ impl Wire {
 
     fn write_stream(&mut self, piece: &[u8]) -> PollWrite
         requires { 0 < length piece.now }
-        ensures { TakesWithin result piece.now }
+        ensures { PollWriteLeaves result None None piece.now }
     {
         if !self.hub.has(self.slot, WRITABLE) {
             return PollWrite::NotYet;

@@ -122,46 +122,10 @@ impl<L: Link> Guest<L> {
     }
 }
 
-impl<D: Door, X: Wait> Owner<D, X> {
-    fn turn(&mut self) -> Turn {
-        if self.given >= self.wanted {
-            for bell in self.bells.iter() {
-                let _full = bell.push(&self.rt, None);
-            }
-            return Turn::Done;
-        }
-        match self.door.poll_accept() {
-            Accept::Conn(link) => {
-                let place = self.given.checked_rem(self.bells.len()).unwrap_or(0);
-                if let Some(bell) = self.bells.get(place) {
-                    let _full = bell.push(&self.rt, Some(link));
-                }
-                self.given = self.given.saturating_add(1);
-                Turn::Worked
-            }
-            Accept::NotYet => Turn::Idle,
-            Accept::End | Accept::Failed => Turn::Done,
-        }
-    }
-}
-
-impl<L: Link, X: Wait> Worker<L, X> {
-    fn turn(&mut self) -> Turn {
-        let heard = self.listen();
-        let served = self.serve();
-        if self.has_all && self.guests.is_empty() {
-            return Turn::Done;
-        }
-        if heard || served {
-            Turn::Worked
-        } else {
-            Turn::Idle
-        }
-    }
-
-    // Takes one connection. Whether something came.
-    fn listen(&mut self) -> bool {
-        match self.bell.pop(&self.rt) {
+impl<L: Link, X> Worker<L, X> {
+    // Takes what its bell gave. Whether something came.
+    fn listen(&mut self, item: Option<Option<L>>) -> bool {
+        match item {
             Some(Some(link)) => {
                 let guest = Guest {
                     link,
@@ -177,6 +141,18 @@ impl<L: Link, X: Wait> Worker<L, X> {
                 true
             }
             None => false,
+        }
+    }
+
+    fn turn(&mut self, heard: bool) -> Turn {
+        let served = self.serve();
+        if self.has_all && self.guests.is_empty() {
+            return Turn::Done;
+        }
+        if heard || served {
+            Turn::Worked
+        } else {
+            Turn::Idle
         }
     }
 
@@ -233,19 +209,34 @@ impl<D: Door, X: Wait + Drop> Role for Part<D, X> {
 
     ghost has_ended = { λ p. p.is_done };
 
+    // A call of a function over any door, in place of these lines, is not proved today.
     fn turn(&mut self) -> Turn {
-        let turn = self.duty.turn();
+        let turn = match &mut self.duty {
+            Duty::Owner(owner) => {
+                if owner.given >= owner.wanted {
+                    for bell in owner.bells.iter() {
+                        let _full = bell.push(&owner.rt, None);
+                    }
+                    Turn::Done
+                } else if let Accept::Conn(link) = owner.door.poll_accept() {
+                    let place = owner.given.checked_rem(owner.bells.len()).unwrap_or(0);
+                    if let Some(bell) = owner.bells.get(place) {
+                        let _full = bell.push(&owner.rt, Some(link));
+                    }
+                    owner.given = owner.given.saturating_add(1);
+                    Turn::Worked
+                } else {
+                    Turn::Idle
+                }
+            }
+            Duty::Worker(worker) => {
+                let item = worker.bell.pop(&worker.rt);
+                let heard = worker.listen(item);
+                worker.turn(heard)
+            }
+        };
         self.is_done = turn == Turn::Done;
         turn
-    }
-}
-
-impl<D: Door, X: Wait> Duty<D, X> {
-    fn turn(&mut self) -> Turn {
-        match self {
-            Duty::Owner(owner) => owner.turn(),
-            Duty::Worker(worker) => worker.turn(),
-        }
     }
 }
 

@@ -3,7 +3,7 @@
 use crate::echo::{Heard, Manner, all_heard, parts};
 use mum_crew::{Crew, CrewEnd};
 use mum_edge::{Machine, Pace, Rate};
-use mum_io::{Door, DoorOpen};
+use mum_io::{Clock, Door, DoorOpen};
 use std::alloc::Global;
 use std::fs::Files;
 use std::io::{Eprint, Read, Write};
@@ -11,14 +11,13 @@ use std::net::{Net, OpenStream, Shutdown, SocketAddr, TcpStream};
 use std::rt::Env;
 use std::test::Fail;
 use std::thread::Threads;
-use std::time::Clock;
-use std::{io, thread};
+use std::{io, thread, time};
 
 /// An IPv4 address of this machine, as a link tells it.
 const LOCAL: [u8; 16] = [0, 0, 0, 0, 0, 0, 0, 0, 0, 0, 255, 255, 127, 0, 0, 1];
 
 /// A machine that is open at a port of this machine, and the port's address.
-fn open<X: AllocGlobal + Net + Files + Env + Eprint + Threads + Clock + Copy + Send>(
+fn open<X: AllocGlobal + Net + Files + Env + Eprint + Threads + time::Clock + Copy + Send>(
     rt: X,
     threads: usize,
     pace: Pace,
@@ -33,7 +32,7 @@ fn open<X: AllocGlobal + Net + Files + Env + Eprint + Threads + Clock + Copy + S
     }
 }
 
-/// Sends a word and reads it back, so many times, and ends. Whether the server ended then, too.
+/// Sends a word and reads it back, this many times, and ends. Whether the server ended then, too.
 fn talk<X: Net>(rt: &X, address: SocketAddr, times: usize) -> io::Result<bool> {
     let mut stream = TcpStream::connect(rt, address)?;
     let mut buf = [0u8; 5];
@@ -67,7 +66,10 @@ fn a_crew_of_threads_sends_back_what_comes(rt: HostRuntime) -> Result<(), Fail> 
     let all = all_heard(alloc, &run.roles)?;
     assert_eq!(rt; all.len(), 3);
     assert!(rt; all.iter().all(|heard| heard.address == LOCAL));
-    assert_eq!(rt; all.iter().map(|heard| heard.bytes).sum::<usize>(), 20);
+    let bytes = all
+        .iter()
+        .fold(0usize, |sum, heard| sum.saturating_add(heard.bytes));
+    assert_eq!(rt; bytes, 20);
     assert_eq!(rt; crew.late_rounds(), 0);
     Ok(())
 }
@@ -137,6 +139,16 @@ fn who_is_dismissed_reads_why(rt: HostRuntime) -> Result<(), Fail> {
     let run = crew.run(alloc, roles);
     assert_eq!(rt; run.end, CrewEnd::Ran);
     assert_eq!(rt; client.join(&rt)?, *b"no");
+    Ok(())
+}
+
+#[test]
+fn the_clock_counts_seconds_of_this_century(rt: HostRuntime) -> Result<(), Fail> {
+    let (machine, _address) = open(rt, 1, Pace::Unlimited)?;
+    let Machine { mut clock, .. } = machine;
+    let first = clock.now();
+    assert!(rt; (946_684_800..4_102_444_800).contains(&first), "{first}");
+    assert!(rt; first <= clock.now());
     Ok(())
 }
 

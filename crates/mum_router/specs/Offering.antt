@@ -1,0 +1,55 @@
+-- The copies of a packet, and what became of each.
+use Rattle.std.specs.Prelude.{◌≡◌, ℕ, Bool, true, false, List, [], length, map, min, slice_get, slice_set, sum, Some}
+use Rattle.mum_base.specs.declared.number.SessionId.{SessionId}
+use Rattle.mum_outbox.specs.Calls.{Offers}
+use Rattle.mum_outbox.specs.declared.parcel.TheConstants.{VOICE_CAPACITY}
+use Rattle.mum_outbox.specs.declared.parcel.VoiceParcel.{VoiceParcel}
+use Rattle.mum_outbox.specs.declared.queue.Offered.{Offered}
+use Rattle.mum_outbox.specs.declared.queue.Offered.TheVariants.{Sent, Full}
+use Rattle.mum_outbox.specs.declared.rule.TheConstants.{LAST}
+use Rattle.mum_outbox.specs.Facts.{PassFacts, QueueFacts}
+use Rattle.mum_outbox.specs.Rule.{least_number}
+use Rattle.mum_record.specs.declared.journal.Marked.{Marked}
+use Rattle.mum_voice.specs.Packet.{Parts, copy}
+use Rattle.mum_router.specs.declared.hearers.Hearer.{Hearer}
+
+-- the first pass that an owner of a voice box makes
+abbrev pub new_pass : QueueFacts → PassFacts VoiceParcel
+new_pass owner = record { queue = owner.queue; number = least_number owner.low owner.end; offered = []; taken = []; full = 0; empty = 0 }
+
+-- the copy of a packet for one who hears it: the speaker and the context are set, and the position comes along where the
+-- two are in the same context of their plugins
+abbrev pub parcel_for : SessionId → Parts → Hearer → VoiceParcel
+parcel_for speaker packet hearer =
+    record { to = hearer.session; bytes = record { items = copy packet speaker.0 hearer.context hearer.same } }
+
+-- a copy that was offered: for whom, and what the box answered
+pub record Delivery : Type 0 where
+  pub hearer : Hearer
+  pub answer : Offered VoiceParcel
+
+abbrev pub is_sent : Offered VoiceParcel → Bool
+is_sent Sent = true
+is_sent (Full back) = false
+
+abbrev pub was_sent : Delivery → Bool
+was_sent delivery = is_sent delivery.answer
+
+abbrev pub mark_of : Delivery → Marked
+mark_of delivery = record { session = delivery.hearer.session; context = delivery.hearer.context; sent = was_sent delivery }
+
+-- a copy is offered once, to the box of its slot, and the pass of no other box changes
+pub record Delivers (speaker : SessionId) (packet : Parts) (outs : List (PassFacts VoiceParcel)) (delivery : Delivery) (after : List (PassFacts VoiceParcel)) : Type 0 where
+  pub old : PassFacts VoiceParcel
+  pub new : PassFacts VoiceParcel
+  pub box : slice_get outs delivery.hearer.slot.0 ≡ Some old
+  pub offers : Offers VOICE_CAPACITY old (parcel_for speaker packet delivery.hearer) delivery.answer new
+  pub others : after ≡ slice_set outs delivery.hearer.slot.0 new
+
+-- how many copies these passes offered that were sent, as far as that is counted
+abbrev pub copies_of : List (PassFacts VoiceParcel) → ℕ
+copies_of outs = min (sum (map (λ pass. length pass.offered) outs)) LAST
+
+-- how many of their copies found a full box, as far as that is counted
+abbrev pub full_of : List (PassFacts VoiceParcel) → ℕ
+full_of outs = min (sum (map (λ pass. pass.full) outs)) LAST

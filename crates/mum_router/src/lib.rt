@@ -1,0 +1,18 @@
+//! What a voice worker routes packets with: the pass that looks at what is published, what is kept of its
+//! answers, and the voice box of each slot. A packet takes one look, which finds those who hear it, and one
+//! offer for each of them. Neither takes memory.
+#![tactic(auto)]
+
+mod caches;
+pub mod crossing;
+mod hearers;
+mod marks;
+mod offering;
+mod out;
+mod picking;
+mod router;
+
+pub use caches::Caches;
+pub use hearers::Hearer;
+pub use offering::Routed;
+pub use router::Router;

@@ -1,0 +1,77 @@
+//! The voice box of one slot, as a worker offers to it.
+
+ghost use Rattle.std.specs.Prelude.{◌≡◌, ◌≤◌, length, min};
+ghost use Rattle.mum_outbox.specs.Calls.{Offers};
+ghost use Rattle.mum_outbox.specs.declared.parcel.TheConstants.{VOICE_CAPACITY};
+ghost use Rattle.mum_outbox.specs.declared.parcel.VoiceParcel.{VoiceParcel};
+ghost use Rattle.mum_outbox.specs.declared.queue.Offered.{Offered};
+ghost use Rattle.mum_outbox.specs.declared.rule.TheConstants.{LAST};
+ghost use Rattle.mum_router.specs.Offering.{is_sent, new_pass};
+
+use mum_outbox::{BoxPass, Offered, VoiceBox, VoiceParcel};
+use std::marker::Model;
+use std::sync::Wait;
+
+/// A voice box with the worker's own pass of it. A contract sees the pass.
+#[derive(Drop)]
+pub(crate) struct Out {
+    queue: VoiceBox,
+    pass: BoxPass<VoiceParcel>,
+    // How many copies were sent. It stands still at its last value.
+    sent: u64,
+}
+
+impl Model for Out {
+    ghost use Rattle.std.specs.Prelude.{◌≡◌, length, min};
+    ghost use Rattle.mum_outbox.specs.declared.parcel.VoiceParcel.{VoiceParcel};
+    ghost use Rattle.mum_outbox.specs.declared.rule.TheConstants.{LAST};
+    ghost use Rattle.mum_outbox.specs.Facts.{PassFacts};
+
+    ghost Value = { PassFacts VoiceParcel };
+
+    ghost view = { λ o. o.pass };
+
+    ghost invariant = { λ o. (o.pass.queue ≡ o.queue.queue) × (o.sent ≡ min (length o.pass.offered) LAST) };
+}
+
+impl Out {
+    /// The box with a new pass of it.
+    pub(crate) fn new(queue: VoiceBox) -> Out
+        ensures { result ≡ new_pass queue }
+    {
+        let mut queue = queue;
+        let pass = queue.pass();
+        Out {
+            queue,
+            pass,
+            sent: 0,
+        }
+    }
+
+    /// Offers a copy, and answers whether it was sent; else the box was full, and the copy is dropped.
+    pub(crate) fn offer<W: Wait>(&mut self, rt: &W, parcel: VoiceParcel) -> bool
+        ensures { (answer : Offered VoiceParcel) × Offers VOICE_CAPACITY self.old parcel answer self.new × (result ≡ is_sent answer) }
+    {
+        match self.queue.offer_as(rt, &mut self.pass, parcel) {
+            Offered::Sent => {
+                self.sent = self.sent.saturating_add(1);
+                true
+            }
+            Offered::Full(_) => false,
+        }
+    }
+
+    /// How many copies were sent, as far as that is counted.
+    pub(crate) fn sent(&self) -> u64
+        ensures { result ≡ min (length self.now.offered) LAST }
+    {
+        self.sent
+    }
+
+    /// How many copies found the box full.
+    pub(crate) fn full(&self) -> u64
+        ensures { result ≡ self.now.full }
+    {
+        self.pass.full()
+    }
+}

@@ -1,6 +1,6 @@
 //! What a port reads, and what it makes of the frames that it keeps.
 
-ghost use Rattle.std.specs.Prelude.{◌≡◌, ◌<◌, ℕ, Bool, false, length};
+ghost use Rattle.std.specs.Prelude.{◌≡◌, ◌<◌, ℕ, Bool, IsTrue, false, length};
 ghost use Rattle.mum_frame.specs.Frame.{HasFrame};
 ghost use Rattle.mum_session.specs.Machine.{session_of};
 ghost use Rattle.mum_port.specs.Handling.{Acts, HandlesKept, HandlesWhole, TakesFrame};
@@ -44,8 +44,9 @@ fn act<V: VoiceRouter>(
     out: &mut Outgoing,
     router: &mut V,
 ) -> Went
-    ensures { Acts V.routed connection session action waiting.old out.old router.old result
-        waiting.new out.new router.new }
+    requires { IsTrue (V.has_room router.old) }
+    ensures { Acts V.routed connection session action waiting.old out.old (V.without_room router.old)
+        result waiting.new out.new (V.without_room router.new) }
 {
     match action {
         Action::Ask(command) => {
@@ -80,9 +81,10 @@ fn take_frame<V: VoiceRouter>(
     out: &mut Outgoing,
     router: &mut V,
 ) -> Went
-    requires { client.old.awaits ≡ false }
-    ensures { TakesFrame V.routed client.old frame waiting.old out.old router.old result
-        client.new waiting.new out.new router.new }
+    requires ready { client.old.awaits ≡ false }
+    requires room { IsTrue (V.has_room router.old) }
+    ensures { TakesFrame V.routed client.old frame waiting.old out.old (V.without_room router.old)
+        result client.new waiting.new out.new (V.without_room router.new) }
 {
     let connection = client.connection();
     let session = client.session();
@@ -102,8 +104,9 @@ fn handle_whole<V: VoiceRouter>(
     router: &mut V,
 ) -> Went
     requires { client.old.awaits ≡ false }
-    ensures { HandlesWhole V.routed client.old framer.old.kept waiting.old out.old router.old result
-        client.new framer.new.kept waiting.new out.new router.new }
+    ensures { HandlesWhole V.routed client.old framer.old.kept waiting.old out.old
+        (V.without_room router.old) result client.new framer.new.kept waiting.new out.new
+        (V.without_room router.new) }
 {
     if router.reserve().is_err() {
         return Went::Closes(Cause::Memory);
@@ -124,8 +127,9 @@ pub(crate) fn handle<V: VoiceRouter>(
     router: &mut V,
 ) -> Went
     requires { client.old.awaits ≡ false }
-    ensures { HandlesKept V.routed client.old framer.old.kept waiting.old out.old router.old result
-        client.new framer.new.kept waiting.new out.new router.new }
+    ensures { HandlesKept V.routed client.old framer.old.kept waiting.old out.old
+        (V.without_room router.old) result client.new framer.new.kept waiting.new out.new
+        (V.without_room router.new) }
 {
     match framer.kept() {
         Kept::Nothing => Went::Stalled,

@@ -177,7 +177,8 @@ impl<L: Link> Port<L> {
 
     // Handles the first frame that it keeps, where it may.
     fn handle<V: VoiceRouter>(&mut self, alloc: Global, router: &mut V) -> Went
-        ensures { Handles V.routed self.old router.old result self.new router.new }
+        ensures { Handles V.routed self.old (V.without_room router.old) result self.new
+            (V.without_room router.new) }
     {
         if !self.may_handle() {
             return Went::NotDue;
@@ -331,7 +332,8 @@ impl<L: Link> Port<L> {
         requires voices { IsVoiced voices.now self.old.seat }
         requires buffer { 0 < length buf.old }
         ensures chain { PortChain L.counts L.left L.written L.is_shut V.routed posts.now voices.now
-            self.old pass.old router.old result self.new pass.new router.new }
+            self.old pass.old (V.without_room router.old) result self.new pass.new
+            (V.without_room router.new) }
         ensures desk { pass.new.queue ≡ desk.now.queue }
         ensures posts { IsPosted posts.now self.new.seat }
         ensures voices { IsVoiced voices.now self.new.seat }

@@ -42,7 +42,7 @@ returns-clause-chain g c = record {
   drains = c.drain-heard.ensures;
   writes = c.write-wrote.ensures;
   settles =
-    subst (λ (b : Bool). Settles g.L.Link.counts g.L.Link.left g.L.Link.written g.L.Link.is_shut b c.write-wrote.new.self c.settle-closed.result c.settle-closed.new.self)
+      subst (λ (b : Bool). Settles g.L.Link.counts g.L.Link.left g.L.Link.written g.L.Link.is_shut b c.write-wrote.new.self c.settle-closed.result c.settle-closed.new.self)
       c.is_closed-was_closed.ensures c.settle-closed.ensures;
   came_to = c.of.ensures;
 }

@@ -30,10 +30,10 @@ pub record BellFacts (L : Type 0) : Type 0 where
   pub taken : List (Ring L)
   pub empty : ℕ
 
-module _ {L N : Type 0} {naming : Ghosts N} where
-  abbrev pub reply_of : Reply N naming → ReplyFacts
-  reply_of reply = record { connection = reply.connection; end = reply.end; note = reply.note; wire = reply.wire }
+abbrev pub reply_of : {N : Type 0} {naming : Ghosts N} → Reply N naming → ReplyFacts
+reply_of reply = record { connection = reply.connection; end = reply.end; note = reply.note; wire = reply.wire }
 
+module _ {L N : Type 0} {naming : Ghosts N} where
   abbrev pub ring_of : BellItem L N naming → Ring L
   ring_of (items.Reply reply) = Answer (reply_of reply)
   ring_of (items.Conn connection link) = Comes connection link

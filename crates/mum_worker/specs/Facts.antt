@@ -1,5 +1,5 @@
 -- What contracts see of a worker, as plain data.
-use Rattle.std.specs.Prelude.{ℕ, Bool, true, false, ◌&&◌, ◌==◌, not, List, [], ◌∷◌, Option, None, if◌then◌else◌}
+use Rattle.std.specs.Prelude.{ℕ, Bool, true, false, ◌&&◌, ◌==◌, not, List, [], ◌∷◌, option_and_then, position, slice_get, Option}
 use Rattle.mum_base.specs.declared.number.SessionId.{SessionId}
 use Rattle.mum_outbox.specs.Facts.{PassFacts}
 use Rattle.mum_port.specs.Facts.{PortFacts}
@@ -33,10 +33,12 @@ module _ {L : Type 0} where
   abbrev pub is_of : ℕ → PortFacts L → Bool
   is_of connection port = port.machine.connection == connection
 
+  abbrev pub session_at : List (PortFacts L) → ℕ → Option SessionId
+  session_at ports place = option_and_then (λ (port : PortFacts L). session_of port.machine.stage) (slice_get ports place)
+
   -- the session of the first port of a connection, where it is logged in
   abbrev pub speaker_of : List (PortFacts L) → ℕ → Option SessionId
-  speaker_of [] connection = None
-  speaker_of (port ∷ ports) connection = if is_of connection port then session_of port.machine.stage else speaker_of ports connection
+  speaker_of ports connection = option_and_then (session_at ports) (position (is_of connection) ports)
 
   -- nothing more is to be done: no connection comes, and no port is left
   abbrev pub is_done : WorkerFacts L → Bool

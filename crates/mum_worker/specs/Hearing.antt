@@ -1,6 +1,5 @@
 -- What a worker makes of what its bell carries.
-use Rattle.std.specs.Prelude.{◌≡◌, ◌≢◌, ◌⊎◌, ℕ, Bool, true, false, ◌&&◌, nat_lt, IsTrue, List, [], ◌∷◌, ◌++◌, length, Option, Some, None}
-use Rattle.std.specs.List.{All}
+use Rattle.std.specs.Prelude.{◌≡◌, ◌≢◌, ◌⊎◌, ℕ, Bool, true, false, ◌&&◌, nat_lt, List, [], ◌∷◌, ◌++◌, length, position, slice_get, slice_set, Option, Some, None}
 use Rattle.mum_base.specs.declared.number.Cause.{Cause}
 use Rattle.mum_base.specs.declared.number.SessionId.{SessionId}
 use Rattle.mum_base.specs.declared.number.TheConstants.{CONNECTION_LIMIT}
@@ -15,7 +14,7 @@ use Rattle.mum_router.specs.Facts.{RouterFacts}
 use Rattle.mum_session.specs.Machine.{session_of}
 use Rattle.mum_worker.specs.Along.{EachAlong}
 use Rattle.mum_worker.specs.Bell.{ReplyFacts, Ring, Answer, Comes, Lagging, NoMore}
-use Rattle.mum_worker.specs.Boxes.{AreSameBoxes, IsSeatFor}
+use Rattle.mum_worker.specs.Boxes.{AreSameBoxes, BoxesFacts, IsSeatFor}
 use Rattle.mum_worker.specs.Facts.{WorkerFacts, is_of, stays}
 use Rattle.mum_worker.specs.Record.{RecordFacts, after_close, may_take_in, taking_in}
 
@@ -48,19 +47,17 @@ module _ {L : Type 0} where
 module _ {L : Type 0} (counts : L → Counts) (left written : L → Option (List ℕ)) (is_shut : L → Bool) where
   -- the first port of the connection takes a reply
   pub record FirstAnswers (connection : ℕ) (end : ReplyEnd) (wire : List ℕ) (seat : Option Seat) (olds : List (PortFacts L)) (closed : Option Cause) (news : List (PortFacts L)) : Type 0 where
-    pub front : List (PortFacts L)
+    pub place : ℕ
     pub old : PortFacts L
     pub new : PortFacts L
-    pub back : List (PortFacts L)
-    pub olds_are : olds ≡ front ++ old ∷ back
-    pub news_are : news ≡ front ++ new ∷ back
-    pub others : All (λ (port : PortFacts L). is_of connection port ≡ false) front
-    pub its : is_of connection old ≡ true
+    pub first : position (is_of connection) olds ≡ Some place
+    pub there : slice_get olds place ≡ Some old
     pub answers : Answers counts left written is_shut end wire seat old closed new
+    pub others : news ≡ slice_set olds place new
 
   -- no port is of the connection, and the reply is dropped
   pub record NoneAnswers (connection : ℕ) (olds : List (PortFacts L)) (closed : Option Cause) (news : List (PortFacts L)) : Type 0 where
-    pub others : All (λ (port : PortFacts L). is_of connection port ≡ false) olds
+    pub none : position (is_of connection) olds ≡ None
     pub closed_none : closed ≡ None
     pub same : news ≡ olds
 
@@ -85,14 +82,18 @@ module _ {L : Type 0} (counts : L → Counts) (left written : L → Option (List
   LagsWhereIts session old before new after = PassesPort session old before new after ⊎ LagsPort session old before new after
 
   -- a reply: its note is learnt first, and then the first port of its connection takes it, with a seat where it gives one
-  pub record HearsReply (reply : ReplyFacts) (old new : WorkerFacts L) : Type 0 where
-    pub learns : LearnsGiven reply.note old.common.router new.common.router
+  pub record TakesReply (reply : ReplyFacts) (router : RouterFacts) (kept : RecordFacts) (boxes : BoxesFacts) (ports : List (PortFacts L))
+      (router_after : RouterFacts) (kept_after : RecordFacts) (boxes_after : BoxesFacts) (ports_after : List (PortFacts L)) : Type 0 where
+    pub learns : LearnsGiven reply.note router router_after
     pub seat : Option Seat
-    pub seats : IsSeatFor old.boxes reply.end seat
-    pub boxes : AreSameBoxes old.boxes new.boxes
+    pub seats : IsSeatFor boxes reply.end seat
+    pub same : AreSameBoxes boxes boxes_after
     pub closed : Option Cause
-    pub answers : AnswersFirst reply.connection reply.end reply.wire seat old.ports closed new.ports
-    pub noted : new.common.kept ≡ after_close reply.connection closed old.common.kept
+    pub answers : AnswersFirst reply.connection reply.end reply.wire seat ports closed ports_after
+    pub noted : kept_after ≡ after_close reply.connection closed kept
+
+  pub record HearsReply (reply : ReplyFacts) (old new : WorkerFacts L) : Type 0 where
+    pub takes : TakesReply reply old.common.router old.common.kept old.boxes old.ports new.common.router new.common.kept new.boxes new.ports
     pub rest : new ≡ record old { common = new.common; boxes = new.boxes; ports = new.ports }
 
   -- a connection: it is taken in, where there is room

@@ -1,7 +1,7 @@
 //! The boxes of all slots, from which ports take.
 
-ghost use Rattle.std.specs.Prelude.{◌≡◌, IfOk};
-ghost use Rattle.mum_worker.specs.Boxes.{AreSameBoxes, IsSeatFor, IsSeatIn, queues};
+ghost use Rattle.std.specs.Prelude.{◌≡◌, IfOk, length};
+ghost use Rattle.mum_worker.specs.Boxes.{AreSameBoxes, IsSeatFor, IsSeatIn};
 
 use mum_base::{OutOfMemory, ReplyEnd, Slot};
 use mum_outbox::{PostBox, VoiceBox};
@@ -24,19 +24,22 @@ impl Model for Boxes {
     ghost view = { λ b. record { posts = b.posts.items; voices = b.voices.items } };
 }
 
-/// More owners of these boxes, one of each.
+/// These boxes, and one more owner of each.
 pub(crate) fn share_each(
     alloc: Global,
-    boxes: &mut Vec<VoiceBox>,
-) -> Result<Vec<VoiceBox>, OutOfMemory>
-    ensures same { queues boxes.new.items ≡ queues boxes.old.items }
-    ensures shares { IfOk result (λ shares. queues shares.items ≡ queues boxes.old.items) }
+    voices: Vec<VoiceBox>,
+) -> Result<(Vec<VoiceBox>, Vec<VoiceBox>), OutOfMemory>
+    ensures { IfOk result (λ both. (length both.0.items ≡ length voices.items) × (length both.1.items ≡ length voices.items)) }
 {
+    let mut owners = Vec::new(alloc);
     let mut shares = Vec::new(alloc);
-    for voice in boxes.iter_mut() {
-        shares.push(voice.share()?)?;
+    for voice in voices {
+        let mut voice = voice;
+        let share = voice.share()?;
+        owners.push(voice)?;
+        shares.push(share)?;
     }
-    Ok(shares)
+    Ok((owners, shares))
 }
 
 impl Boxes {

@@ -6,6 +6,7 @@ mod boxes;
 mod common;
 mod desk;
 mod ear;
+mod hearing;
 mod ports;
 mod record;
 mod role;

@@ -4,7 +4,7 @@ ghost use Rattle.std.specs.Prelude.{◌≡◌, ◌≤◌, ◌<◌, ◌++◌, ◌
 ghost use Rattle.std.specs.List.{All};
 ghost use Rattle.std.specs.VecDeque.{deque_capacity, deque_len};
 ghost use Rattle.mum_worker.specs.Along.{EachAlong};
-ghost use Rattle.mum_worker.specs.Facts.{is_empty, is_of, speaker_of, stays};
+ghost use Rattle.mum_worker.specs.Facts.{is_empty, is_of, session_at, speaker_of, stays};
 ghost use Rattle.mum_worker.specs.Hearing.{AnswersFirst, LagsWhereIts, TakesOrTurns};
 ghost use Rattle.mum_worker.specs.Record.{without_room};
 ghost use Rattle.mum_worker.specs.Routing.{bare};
@@ -165,6 +165,16 @@ fn place_of<L: Link>(list: &VecDeque<Port<L>>, connection: u32) -> Option<usize>
     list.iter().position(|port| port.connection() == connection)
 }
 
+// The session of the port at this place, where it is logged in.
+fn session_at<L: Link>(list: &VecDeque<Port<L>>, place: usize) -> Option<SessionId>
+    ensures { result ≡ session_at list.now.items place }
+{
+    match list.get(place) {
+        Some(port) => port.session(),
+        None => None,
+    }
+}
+
 // The first port of a connection takes a reply. Answers for what it closes, if it does.
 fn answer_first<L: Link>(
     list: &mut VecDeque<Port<L>>,
@@ -209,7 +219,7 @@ impl<L: Link> Ports<L> {
         ensures { result ≡ speaker_of self.now connection }
     {
         match place_of(&self.list, connection) {
-            Some(place) => self.list[place].session(),
+            Some(place) => session_at(&self.list, place),
             None => None,
         }
     }

@@ -16,6 +16,7 @@ use crate::boxes::{Boxes, share_each};
 use crate::common::Common;
 use crate::desk::DeskEnd;
 use crate::ear::BellEnd;
+use crate::hearing::{take_connection, take_lag, take_reply};
 use crate::ports::Ports;
 use crate::record::Record;
 use mum_base::{OutOfMemory, SessionId, Steps};
@@ -136,8 +137,7 @@ impl<L: Link, G: Gate, N: Naming, R: Wait + Copy> Worker<L, G, N, R> {
             desk,
             bell,
         } = shared;
-        let mut voice = voice;
-        let voices = share_each(alloc, &mut voice)?;
+        let (voice, voices) = share_each(alloc, voice)?;
         let kept = Record::open(alloc, journal)?;
         let ports = Ports::open(alloc)?;
         let buffer = read_buffer(alloc)?;
@@ -167,30 +167,28 @@ impl<L: Link, G: Gate, N: Naming, R: Wait + Copy> Worker<L, G, N, R> {
     fn heed_reply(&mut self, reply: Reply<N>)
         ensures { HearsReply L.counts L.left L.written L.is_shut (reply_of reply) self.old self.new }
     {
-        if let Some(note) = &reply.note {
-            self.common.router.learn(note);
-        }
-        let Reply {
-            connection,
-            end,
-            wire,
-            ..
-        } = reply;
-        let seat = self.boxes.seat_for(end);
-        let closed = self.ports.answered(self.alloc, connection, end, wire, seat);
-        self.common.kept.closed(connection, closed);
+        take_reply(
+            reply,
+            self.alloc,
+            &mut self.common.router,
+            &mut self.common.kept,
+            &mut self.boxes,
+            &mut self.ports,
+        );
     }
 
     // A connection that comes.
     fn heed_connection(&mut self, connection: u32, link: L)
-        ensures { HearsConnection connection link self.old self.new }
+        ensures { HearsConnection L.counts L.left L.written L.is_shut connection link self.old self.new }
     {
-        self.ports.take_in(
-            self.alloc,
-            self.number,
+        take_connection(
             connection,
             link,
+            self.alloc,
+            self.number,
             &mut self.common.kept,
+            &mut self.boxes,
+            &mut self.ports,
         );
     }
 
@@ -198,7 +196,13 @@ impl<L: Link, G: Gate, N: Naming, R: Wait + Copy> Worker<L, G, N, R> {
     fn heed_lag(&mut self, session: SessionId)
         ensures { HearsLag L.counts L.left L.written L.is_shut session self.old self.new }
     {
-        self.ports.lag(self.alloc, &mut self.common.kept, session);
+        take_lag(
+            session,
+            self.alloc,
+            &mut self.common.kept,
+            &mut self.boxes,
+            &mut self.ports,
+        );
     }
 
     // What is made of an item of the bell.

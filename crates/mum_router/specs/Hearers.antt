@@ -22,7 +22,7 @@ hearer_of state speaker member = option_map
     (session_of state.roster member.0)
 
 -- these members of a route of the speaker, each in its slot
-unfoldable pub hearers_of : StateValue → SessionId → List Member → List Hearer
+abbrev pub hearers_of : StateValue → SessionId → List Member → List Hearer
 hearers_of state speaker members = filter_map (hearer_of state speaker) members
 
 -- who hears what a session says to a target, each in its slot

@@ -4,3 +4,4 @@ pub mod Hearers
 pub mod Picking
 pub mod Offering
 pub mod Routing
+pub mod Laws

@@ -1,5 +1,6 @@
 -- The copies of a packet, and what became of each.
-use Rattle.std.specs.Prelude.{◌≡◌, ℕ, Bool, true, false, List, [], length, map, min, slice_get, slice_set, sum, Some}
+use Rattle.std.specs.Prelude.{◌≡◌, ℕ, Bool, true, false, List, [], filter, length, map, min, slice_get, slice_set, Some}
+use Rattle.std.specs.List.{FoldsTo, sum_by}
 use Rattle.mum_base.specs.declared.number.SessionId.{SessionId}
 use Rattle.mum_outbox.specs.Calls.{Offers}
 use Rattle.mum_outbox.specs.declared.parcel.TheConstants.{VOICE_CAPACITY}
@@ -12,6 +13,10 @@ use Rattle.mum_outbox.specs.Rule.{least_number}
 use Rattle.mum_record.specs.declared.journal.Marked.{Marked}
 use Rattle.mum_voice.specs.Packet.{Parts, copy}
 use Rattle.mum_router.specs.declared.hearers.Hearer.{Hearer}
+
+-- the passes of the voice boxes, by their slots
+abbrev pub Outs : Type 0
+Outs = List (PassFacts VoiceParcel)
 
 -- the first pass that an owner of a voice box makes
 abbrev pub new_pass : QueueFacts → PassFacts VoiceParcel
@@ -39,7 +44,7 @@ abbrev pub mark_of : Delivery → Marked
 mark_of delivery = record { session = delivery.hearer.session; context = delivery.hearer.context; sent = was_sent delivery }
 
 -- a copy is offered once, to the box of its slot, and the pass of no other box changes
-pub record Delivers (speaker : SessionId) (packet : Parts) (outs : List (PassFacts VoiceParcel)) (delivery : Delivery) (after : List (PassFacts VoiceParcel)) : Type 0 where
+pub record Delivers (speaker : SessionId) (packet : Parts) (outs : Outs) (delivery : Delivery) (after : Outs) : Type 0 where
   pub old : PassFacts VoiceParcel
   pub new : PassFacts VoiceParcel
   pub box : slice_get outs delivery.hearer.slot.0 ≡ Some old
@@ -48,8 +53,15 @@ pub record Delivers (speaker : SessionId) (packet : Parts) (outs : List (PassFac
 
 -- how many copies these passes offered that were sent, as far as that is counted
 abbrev pub copies_of : List (PassFacts VoiceParcel) → ℕ
-copies_of outs = min (sum (map (λ pass. length pass.offered) outs)) LAST
+copies_of outs = min (sum_by (λ pass. length pass.offered) outs) LAST
 
 -- how many of their copies found a full box, as far as that is counted
 abbrev pub full_of : List (PassFacts VoiceParcel) → ℕ
-full_of outs = min (sum (map (λ pass. pass.full) outs)) LAST
+full_of outs = min (sum_by (λ pass. pass.full) outs) LAST
+
+-- a copy is offered to each of these, in their order; the marks say what became of them, and so many were sent
+abbrev pub DeliversEach : SessionId → Parts → List Hearer → Outs → Outs → List Marked → ℕ → Type 0
+DeliversEach speaker packet hearers outs after marks sent =
+    (deliveries : List Delivery) × (map (λ delivery. delivery.hearer) deliveries ≡ hearers)
+    × FoldsTo (Delivers speaker packet) outs deliveries after
+    × (marks ≡ map mark_of deliveries) × (sent ≡ length (filter was_sent deliveries))

@@ -17,7 +17,9 @@ ask_of speaker packet = record { speaker = speaker; target = packet.target; pack
 
 -- a look that saw these edits: its answer is the route at their state, and who hears is kept, each in its slot at that
 -- state. The passes of the boxes and the marks are as before
-pub record PicksAt (opening : Opening) (old : RouterFacts) (speaker : SessionId) (packet : Parts) (edits : List Edit) (new : RouterFacts) (audience : List Member) : Type 0 where
+pub record PicksAt
+    (opening : Opening) (old : RouterFacts) (speaker : SessionId) (packet : Parts)
+    (edits : List Edit) (new : RouterFacts) (audience : List Member) : Type 0 where
   pub may : MayMeet old.pass edits
   pub router : new ≡ record old {
     pass = looked old.pass edits (ask_of speaker packet);

@@ -14,7 +14,9 @@ use Rattle.mum_router.specs.Picking.{ask_of}
 
 -- a look that saw these edits, and one offer for each who hears the packet at their state, in the order of the route. The
 -- answer counts them, and says how many edits the look saw
-pub record RoutesAt (opening : Opening) (old : RouterFacts) (speaker : SessionId) (packet : Parts) (edits : List Edit) (deliveries : List Delivery) (new : RouterFacts) (routed : Routed) : Type 0 where
+pub record RoutesAt
+    (opening : Opening) (old : RouterFacts) (speaker : SessionId) (packet : Parts)
+    (edits : List Edit) (deliveries : List Delivery) (new : RouterFacts) (routed : Routed) : Type 0 where
   pub may : MayMeet old.pass edits
   pub router : new ≡ record {
     pass = looked old.pass edits (ask_of speaker packet);

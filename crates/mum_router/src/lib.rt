@@ -6,6 +6,7 @@
 mod caches;
 pub mod crossing;
 mod hearers;
+pub mod laws;
 mod marks;
 mod offering;
 mod out;

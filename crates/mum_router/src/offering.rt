@@ -1,12 +1,12 @@
 //! The copies of a packet, each offered to the box of its slot.
 
-ghost use Rattle.std.specs.Prelude.{◌≡◌, ◌≤◌, ◌<◌, List, filter, length, map, not, slice_get, Some};
-ghost use Rattle.std.specs.List.{All, FoldsTo};
+ghost use Rattle.std.specs.Prelude.{◌≡◌, ◌≤◌, length};
+ghost use Rattle.std.specs.List.{All};
 ghost use Rattle.mum_outbox.specs.declared.queue.Offered.{Offered};
 ghost use Rattle.mum_outbox.specs.declared.parcel.VoiceParcel.{VoiceParcel};
 ghost use Rattle.mum_voice.specs.Packet.{IsPacket, plain_parts};
 ghost use Rattle.mum_router.specs.Hearers.{IsInRange};
-ghost use Rattle.mum_router.specs.Offering.{Delivers, Delivery, copies_of, full_of, is_sent, mark_of, parcel_for, was_sent};
+ghost use Rattle.mum_router.specs.Offering.{Delivers, DeliversEach, copies_of, full_of, is_sent, parcel_for};
 
 use crate::hearers::Hearer;
 use crate::marks::Marks;
@@ -75,10 +75,7 @@ pub(crate) fn deliver_each<W: Wait>(
     requires boxes { length outs.old.items ≡ SLOTS }
     ensures boxes { length outs.new.items ≡ SLOTS }
     ensures few { result ≤ length hearers.now }
-    ensures deliveries { (deliveries : List Delivery) × (map (λ delivery. delivery.hearer) deliveries ≡ hearers.now)
-        × FoldsTo (Delivers speaker (plain_parts packet.now)) outs.old.items deliveries outs.new.items
-        × (marks.new ≡ map mark_of deliveries)
-        × (result ≡ length (filter was_sent deliveries)) }
+    ensures each { DeliversEach speaker (plain_parts packet.now) hearers.now outs.old.items outs.new.items marks.new result }
 {
     marks.clear();
     let mut sent = 0;

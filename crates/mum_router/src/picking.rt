@@ -101,7 +101,9 @@ pub(crate) fn look_for<W: Wait, L: Ledger>(
 {
     let target = packet.target;
     let ask = ask_of(speaker, packet);
-    pass.look(rt, ask, &mut |state: &State| {
-        heard_at(state, speaker, target, caches, scratch, hearers, steps)
-    })
+    pass.look(
+        rt,
+        ask,
+        &mut |state: &State| { heard_at(state, speaker, target, caches, scratch, hearers, steps) },
+    )
 }

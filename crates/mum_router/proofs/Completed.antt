@@ -1,0 +1,69 @@
+-- A look, and then the offers, are a route.
+use Rattle.std.proofs.Common.{◌≡◌, ℕ, ◌+◌, ◌-◌, Bool, true, false, List, [], ◌∷◌, filter, length, not, refl, ap, subst, arith, ◌∙◌}
+use Rattle.std.specs.Prelude.{if◌then◌else◌}
+use Rattle.std.specs.List.{FoldsTo}
+use Rattle.std.proofs.lemmas.List.{length-map}
+use Rattle.mum_base.specs.declared.number.SessionId.{SessionId}
+use Rattle.mum_outbox.specs.declared.parcel.VoiceParcel.{VoiceParcel}
+use Rattle.mum_outbox.specs.Facts.{PassFacts as BoxFacts}
+use Rattle.mum_published.specs.Facts.{Opening, PassFacts}
+use Rattle.mum_record.specs.declared.journal.Marked.{Marked}
+use Rattle.mum_route.specs.Route.{Member}
+use Rattle.mum_voice.specs.Packet.{Parts}
+use Rattle.mum_router.specs.declared.caches.Caches.{Caches}
+use Rattle.mum_router.specs.declared.hearers.Hearer.{Hearer}
+use Rattle.mum_router.specs.declared.offering.Routed.{Routed}
+use Rattle.mum_router.specs.Facts.{RouterFacts}
+use Rattle.mum_router.specs.Offering.{Delivers, DeliversEach, Delivery, was_sent}
+use Rattle.mum_router.specs.Picking.{Picks}
+use Rattle.mum_router.specs.Routing.{Routes}
+
+abbrev facts : PassFacts → Caches → List Hearer → List (BoxFacts VoiceParcel) → List Marked → RouterFacts
+facts pass caches hearers outs marks = record { pass = pass; caches = caches; hearers = hearers; outs = outs; marks = marks }
+
+by_parts : (p q : PassFacts) (c d : Caches) (h k : List Hearer) (o : List (BoxFacts VoiceParcel)) (m n : List Marked)
+    → p ≡ q → c ≡ d → h ≡ k → m ≡ n → facts p c h o m ≡ facts q d k o n
+by_parts p q c d h k o m n pass caches hearers marks =
+    ap (λ (x : PassFacts). facts x c h o m) pass
+    ∙ ap (λ (x : Caches). facts q x h o m) caches
+    ∙ ap (λ (x : List Hearer). facts q d x o m) hearers
+    ∙ ap (λ (x : List Marked). facts q d k o x) marks
+
+one_of : (d : Delivery) (sent others : List Delivery) (n : ℕ) (b : Bool) → length sent + length others ≡ n
+    → length (if b then d ∷ sent else sent) + length (if not b then d ∷ others else others) ≡ n + 1
+one_of d sent others n true rest = omega (arith, rest)
+one_of d sent others n false rest = omega (arith, rest)
+
+-- each copy is sent or not
+sent_or_not : (ds : List Delivery) → length (filter was_sent ds) + length (filter (λ d. not (was_sent d)) ds) ≡ length ds
+sent_or_not [] = refl
+sent_or_not (d ∷ ds) =
+    let one = one_of d (filter was_sent ds) (filter (λ d. not (was_sent d)) ds) (length ds) (was_sent d) (sent_or_not ds) in
+    omega (arith, one)
+
+pub routes : (opening : Opening) (old mid : RouterFacts) (outs : List (BoxFacts VoiceParcel)) (marks : List Marked) (speaker : SessionId) (packet : Parts) (audience : List Member) (routed : Routed)
+    → Picks opening old speaker packet mid audience
+    → DeliversEach speaker packet mid.hearers mid.outs outs marks routed.sent
+    → routed.revision ≡ length mid.pass.known
+    → routed.full ≡ length mid.hearers - routed.sent
+    → Routes opening old speaker packet (record mid { outs = outs; marks = marks }) routed
+routes opening old mid outs marks speaker packet audience routed picks each revision full =
+    let picked = picks.1 in
+    let ds = each.0 in
+    let heard = ap (λ (r : RouterFacts). r.hearers) picked.router in
+    let all = ap length each.1 in
+    let whole = length-map ds (λ (d : Delivery). d.hearer) in
+    let parts = sent_or_not ds in
+    let sent = each.4 in (
+      picks.0,
+      ds,
+      record {
+        may = picked.may;
+        router = by_parts mid.pass _ mid.caches mid.caches mid.hearers _ outs marks _ (ap (λ (r : RouterFacts). r.pass) picked.router) refl heard each.3;
+        each = each.1 ∙ heard;
+        offers = subst (λ (os : List (BoxFacts VoiceParcel)). FoldsTo (Delivers speaker packet) os ds outs) (ap (λ (r : RouterFacts). r.outs) picked.router) each.2;
+        revision = revision ∙ ap (λ (r : RouterFacts). length r.pass.known) picked.router;
+        sent = sent;
+        full = omega (arith, full, all, whole, parts, sent);
+      },
+    )

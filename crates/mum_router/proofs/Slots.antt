@@ -1,0 +1,28 @@
+-- The slot of a session that is found.
+use Rattle.std.proofs.Common.{◌≡◌, ℕ, ◌+◌, ◌<◌, ◌≤◌, Bool, true, false, cond, List, [], ◌∷◌, Option, Some, arith}
+use Rattle.std.specs.Prelude.{find}
+use Rattle.mum_base.specs.declared.number.SessionId.{SessionId}
+use Rattle.mum_users.specs.declared.user.User.{User}
+use Rattle.mum_users.specs.Proper.{IsProper, SlotsRise}
+use Rattle.mum_users.specs.Sessions.{session_of}
+use Rattle.mum_users.specs.State.{RosterState, has_number}
+
+low_limit : (limit low : ℕ) (users : List User) → SlotsRise limit low users → low ≤ limit
+low_limit limit low [] rise = rise
+low_limit limit low (user ∷ users) rise = let rest = low_limit limit (user.slot.0 + 1) users rise.1 in let first = rise.0 in omega arith
+
+-- the first one or a later one is found
+of_found : (P : User → Type 0) (x user : User) (later : Option User) (b : Bool) → cond b (Some x) later ≡ Some user → P x → (later ≡ Some user → P user) → P user
+of_found P x user later true e first rest = let same : x ≡ user = cc in rw same at first
+of_found P x user later false e first rest = rest e
+
+found_below : (p : User → Bool) (limit low : ℕ) (users : List User) (user : User) → SlotsRise limit low users → find p users ≡ Some user → user.slot.0 < limit
+found_below p limit low [] user rise found = cc
+found_below p limit low (x ∷ users) user rise found =
+    let next = low_limit limit (x.slot.0 + 1) users rise.1 in
+    of_found (λ one. one.slot.0 < limit) x user (find p users) (p x) found (omega arith)
+    (found_below p limit (x.slot.0 + 1) users user rise.1)
+
+-- its slot is below the limit
+pub slot_below : (limit : ℕ) (roster : RosterState) (session : SessionId) (user : User) → IsProper limit roster → session_of roster session ≡ Some user → user.slot.0 < limit
+slot_below limit roster session user proper found = found_below (has_number session) limit 0 roster.sessions user proper.slots found

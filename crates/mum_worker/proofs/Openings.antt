@@ -8,7 +8,6 @@ use Rattle.mum_port.specs.Facts.{PortFacts}
 use Rattle.mum_port.specs.Handling.{Acts, HandlesKept, Routes}
 use Rattle.mum_port.specs.Steps.{Handles}
 use Rattle.mum_port.specs.declared.item.DeskItem.{DeskItem}
-use Rattle.mum_port.specs.declared.stage.Went.{Went}
 use Rattle.mum_published.specs.Facts.{Opening}
 use Rattle.mum_session.specs.Action.{action}
 use Rattle.mum_session.specs.Machine.{Machine, session_of}
@@ -31,7 +30,7 @@ module _ {V : Type 0} (routed : V → ℕ → SessionId → List ℕ → V → T
   routes_keep connection (Some session) packet old new routes = one old connection session packet new routes
   routes_keep connection None packet old new routes = same old new routes
 
-  acts_keep : (connection : ℕ) (session : Option SessionId) (act : Action) (waiting : Option DeskItem) (out : List ℕ) (old : V) (went : Went) (waiting_after : Option DeskItem) (out_after : List ℕ) (new : V)
+  acts_keep : (connection : ℕ) (session : Option SessionId) (act : Action) (waiting : Option DeskItem) (out : List ℕ) (old : V) (went : _) (waiting_after : Option DeskItem) (out_after : List ℕ) (new : V)
       → Acts routed connection session act waiting out old went waiting_after out_after new → K old new
   acts_keep connection session (Ask command) waiting out old went waiting_after out_after new acts = same old new acts.3
   acts_keep connection session (Voice packet) waiting out old went waiting_after out_after new acts = routes_keep connection session packet old new acts.3
@@ -39,14 +38,14 @@ module _ {V : Type 0} (routed : V → ℕ → SessionId → List ℕ → V → T
   acts_keep connection session Keep waiting out old went waiting_after out_after new acts = same old new acts.3
   acts_keep connection session (Ignore why) waiting out old went waiting_after out_after new acts = same old new acts.3
 
-  kept_keep : (machine : Machine) (kept : List ℕ) (waiting : Option DeskItem) (out : List ℕ) (old : V) (went : Went) (machine_after : Machine) (kept_after : List ℕ) (waiting_after : Option DeskItem) (out_after : List ℕ) (new : V)
+  kept_keep : (machine : Machine) (kept : List ℕ) (waiting : Option DeskItem) (out : List ℕ) (old : V) (went : _) (machine_after : Machine) (kept_after : List ℕ) (waiting_after : Option DeskItem) (out_after : List ℕ) (new : V)
       → HandlesKept routed machine kept waiting out old went machine_after kept_after waiting_after out_after new → K old new
   kept_keep machine kept waiting out old went machine_after kept_after waiting_after out_after new (inl (has, inl first)) =
       acts_keep machine.connection (session_of machine.stage) (action machine first.frame.kind first.frame.payload) waiting out old went waiting_after out_after new first.handled.acts
   kept_keep machine kept waiting out old went machine_after kept_after waiting_after out_after new (inl (has, inr none)) = same old new none.router_same
   kept_keep machine kept waiting out old went machine_after kept_after waiting_after out_after new (inr none) = same old new none.router_same
 
-  pub handles_keep : {L : Type 0} (port : PortFacts L) (old : V) (went : Went) (after : PortFacts L) (new : V) → Handles routed port old went after new → K old new
+  pub handles_keep : {L : Type 0} (port : PortFacts L) (old : V) (went : _) (after : PortFacts L) (new : V) → Handles routed port old went after new → K old new
   handles_keep port old went after new (inl never) = same old new never.1
   handles_keep port old went after new (inr handles) =
       kept_keep port.machine port.framer.kept port.waiting port.out old went after.machine after.framer.kept after.waiting after.out new handles.handled
@@ -75,7 +74,7 @@ module _ {L : Type 0} (counts : L → Counts) (left written : L → Option (List
       ap (λ (c : CommonFacts). c.kept.journal) steps.noted
       ∙ (closed_journal old.machine.connection steps.step.closed _
       ∙ handles_keep (RoutesPacket opening) (λ (v w : CommonFacts). w.kept.journal ≡ v.kept.journal) (λ v w e. ap (λ (c : CommonFacts). c.kept.journal) e)
-          (λ v n s b w r. routed_journal opening v n s b w r) _ _ _ _ _ steps.chain.handles)
+      (λ v n s b w r. routed_journal opening v n s b w r) _ _ _ _ _ steps.chain.handles)
 
   steps_journal : (opening : Opening) (boxes : BoxesFacts) (olds : List (PortFacts L)) (before : Shares) (news : List (PortFacts L)) (after : Shares) → Along (PortSteps counts left written is_shut opening boxes) olds before news after → after.common.kept.journal ≡ before.common.kept.journal
   steps_journal opening boxes [] before [] after along = ap (λ (s : Shares). s.common.kept.journal) along

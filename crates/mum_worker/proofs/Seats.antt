@@ -33,9 +33,9 @@ same_at : (olds news : List QueueFacts) (place : ℕ) (new : QueueFacts) → que
     → (old : QueueFacts) × (slice_get olds place ≡ Some old) × (old.queue ≡ new.queue)
 same_at olds news place new same found =
     box_of (slice_get olds place) new.queue
-        (sym (slice_get-map (λ (box : QueueFacts). box.queue) olds place)
-        ∙ (ap (λ (all : List TableId). slice_get all place) (sym same)
-        ∙ (slice_get-map (λ (box : QueueFacts). box.queue) news place ∙ ap (option_map (λ (box : QueueFacts). box.queue)) found)))
+    (sym (slice_get-map (λ (box : QueueFacts). box.queue) olds place)
+    ∙ (ap (λ (all : List TableId). slice_get all place) (sym same)
+    ∙ (slice_get-map (λ (box : QueueFacts). box.queue) news place ∙ ap (option_map (λ (box : QueueFacts). box.queue)) found)))
 
 posted_still : (olds news : List QueueFacts) (seat : Option Seat) → queues news ≡ queues olds → IsPosted olds seat → IsPosted news seat
 posted_still olds news None same posted = tt
@@ -56,14 +56,14 @@ seat_still old new seat same has = (posted_still old.posts new.posts seat same.p
 given_seat : (boxes : BoxesFacts) (end : ReplyEnd) (seat : Option Seat) → IsSeatFor boxes end seat → HasSeat boxes seat
 given_seat boxes (Joined session slot) None is = (tt, tt)
 given_seat boxes (Joined session slot) (Some seat) is = (
-    (λ queue found.
-        let there : Some queue ≡ Some is.post_box = sym found ∙ (ap (λ s. slice_get boxes.posts s.0) is.slot_is ∙ is.post_there) in
-        let same : queue ≡ is.post_box = cc there in
-        ap (λ (p : PassFacts _). p.queue) is.post ∙ ap (λ (b : QueueFacts). b.queue) (sym same)),
-    (λ queue found.
-        let there : Some queue ≡ Some is.voice_box = sym found ∙ (ap (λ s. slice_get boxes.voices s.0) is.slot_is ∙ is.voice_there) in
-        let same : queue ≡ is.voice_box = cc there in
-        ap (λ (p : PassFacts _). p.queue) is.voice ∙ ap (λ (b : QueueFacts). b.queue) (sym same)),
+  (λ queue found.
+      let there : Some queue ≡ Some is.post_box = sym found ∙ (ap (λ s. slice_get boxes.posts s.0) is.slot_is ∙ is.post_there) in
+      let same : queue ≡ is.post_box = cc there in
+      ap (λ (p : PassFacts _). p.queue) is.post ∙ ap (λ (b : QueueFacts). b.queue) (sym same)),
+  (λ queue found.
+      let there : Some queue ≡ Some is.voice_box = sym found ∙ (ap (λ s. slice_get boxes.voices s.0) is.slot_is ∙ is.voice_there) in
+      let same : queue ≡ is.voice_box = cc there in
+      ap (λ (p : PassFacts _). p.queue) is.voice ∙ ap (λ (b : QueueFacts). b.queue) (sym same)),
 )
 given_seat boxes Decided seat is = subst (HasSeat boxes) (sym is) (tt, tt)
 given_seat boxes Rejected seat is = subst (HasSeat boxes) (sym is) (tt, tt)
@@ -106,13 +106,13 @@ module _ {L : Type 0} (counts : L → Counts) (left written : L → Option (List
       let within = slice_get_within olds first.place first.old first.there in
       let has = subst (IsSeated boxes) read (All-get_or (IsSeated boxes) olds first.place first.old within all) in
       All-same (IsSeated boxes) news (set olds first.place first.new) first.others
-          (All-set (IsSeated boxes) olds first.place first.new (answers_seated boxes end wire given first.old closed first.new is has first.answers) all)
+      (All-set (IsSeated boxes) olds first.place first.new (answers_seated boxes end wire given first.old closed first.new is has first.answers) all)
 
   pub takes_all : (boxes : BoxesFacts) (number connection : ℕ) (link : L) (olds : List (PortFacts L)) (kept : RecordFacts) (news : List (PortFacts L)) (after : RecordFacts)
       → All (IsSeated boxes) olds → TakesOrTurns number connection link olds kept news after → All (IsSeated boxes) news
   takes_all boxes number connection link olds kept news after all (inl takes) =
       All-same (IsSeated boxes) news (olds ++ new_port connection number link ∷ []) takes.ports_are
-          (All-push (IsSeated boxes) olds (new_port connection number link) all (record { posted = tt; voiced = tt }))
+      (All-push (IsSeated boxes) olds (new_port connection number link) all (record { posted = tt; voiced = tt }))
   takes_all boxes number connection link olds kept news after all (inr turns) = All-same (IsSeated boxes) news olds turns.ports_same all
 
   where_seated : (boxes : BoxesFacts) (session : SessionId) (old : PortFacts L) (before : RecordFacts) (new : PortFacts L) (after : RecordFacts)
@@ -125,8 +125,8 @@ module _ {L : Type 0} (counts : L → Counts) (left written : L → Option (List
   along_seated boxes session [] before [] after all along = All-nil (IsSeated boxes)
   along_seated boxes session (old ∷ olds) before (new ∷ news) after all along =
       All-cons (IsSeated boxes) new news
-          (where_seated boxes session old before new along.0 (All-head (IsSeated boxes) old olds all) along.1)
-          (along_seated boxes session olds along.0 news after (All-tail (IsSeated boxes) old olds all) along.2)
+      (where_seated boxes session old before new along.0 (All-head (IsSeated boxes) old olds all) along.1)
+      (along_seated boxes session olds along.0 news after (All-tail (IsSeated boxes) old olds all) along.2)
   along_seated boxes session [] before (new ∷ news) after all along = absurd along
   along_seated boxes session (old ∷ olds) before [] after all along = absurd along
 
@@ -134,4 +134,4 @@ module _ {L : Type 0} (counts : L → Counts) (left written : L → Option (List
       → All (IsSeated boxes) olds → EachAlong (LagsWhereIts counts left written is_shut session) stays olds before news after → All (IsSeated boxes) news
   lags_all boxes session olds before news after all each =
       All-same (IsSeated boxes) news (filter stays each.stepped) each.left
-          (All-filter stays (IsSeated boxes) each.stepped (along_seated boxes session olds before each.stepped after all each.along))
+      (All-filter stays (IsSeated boxes) each.stepped (along_seated boxes session olds before each.stepped after all each.along))

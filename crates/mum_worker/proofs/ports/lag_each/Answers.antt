@@ -24,8 +24,8 @@ loop-done-preserved g c =
       within = omega (arith, test);
       all = all;
       some = goes_on (LagsWhereIts g.L.Link.counts g.L.Link.left g.L.Link.written g.L.Link.is_shut c.args.session) stays c.args.list.now.items
-        (without_room c.args.kept.now) (without_room c.loop-done.kept) (without_room c.lag_port.new.kept) c.loop-done.done (c.loop-done.done + 1)
-        c.loop-done.list.items c.pop_front.new.self.items c.put_back.new.list.items
-        c.in-Some.port c.lag_port.new.port within refl c.loop-done.invariant.some (search rules) c.lag_port.ensures c.put_back.ensures.items;
+          (without_room c.args.kept.now) (without_room c.loop-done.kept) (without_room c.lag_port.new.kept) c.loop-done.done (c.loop-done.done + 1)
+          c.loop-done.list.items c.pop_front.new.self.items c.put_back.new.list.items
+          c.in-Some.port c.lag_port.new.port within refl c.loop-done.invariant.some (search rules) c.lag_port.ensures c.put_back.ensures.items;
       capacity = search rules;
     }

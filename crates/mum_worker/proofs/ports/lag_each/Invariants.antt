@@ -11,7 +11,7 @@ invariant-loop-done g l = record {
   within : l.done ≤ l.count;
   all : l.count ≡ length l.fn.list.items;
   some : SomeAlong (LagsWhereIts g.L.Link.counts g.L.Link.left g.L.Link.written g.L.Link.is_shut l.session) stays
-    l.fn.list.items (without_room l.fn.kept) l.done l.list.items (without_room l.kept);
+      l.fn.list.items (without_room l.fn.kept) l.done l.list.items (without_room l.kept);
   capacity : deque_capacity l.list ≡ deque_capacity l.fn.list;
 }
 

@@ -12,8 +12,8 @@ invariant-loop-done g l = record {
   within : l.done ≤ l.count;
   all : l.count ≡ length l.fn.list.items;
   some : SomeAlong (PortSteps g.L.Link.counts g.L.Link.left g.L.Link.written g.L.Link.is_shut g.N.Naming.opening l.boxes) stays
-    l.fn.list.items (record { common = bare l.fn.common; desk = l.fn.desk; worked = l.heard })
-    l.done l.list.items (record { common = bare l.common; desk = l.desk; worked = l.worked });
+      l.fn.list.items (record { common = bare l.fn.common; desk = l.fn.desk; worked = l.heard })
+      l.done l.list.items (record { common = bare l.common; desk = l.desk; worked = l.worked });
   seated : All (IsSeated l.boxes) l.list.items;
   capacity : deque_capacity l.list ≡ deque_capacity l.fn.list;
 }

@@ -22,7 +22,8 @@ impl Model for Marks {
 
     ghost view = { λ m. m.list.items };
 
-    ghost invariant = { λ m. (vec_len m.list ≡ length m.list.items) × (SLOTS ≤ vec_capacity m.list) };
+    ghost invariant = { λ m. (vec_len m.list ≡ length m.list.items) × (SLOTS ≤ vec_capacity m.list)
+        × (length m.list.items ≤ SLOTS) };
 }
 
 impl Marks {
@@ -36,7 +37,8 @@ impl Marks {
     }
 
     pub(crate) fn as_slice(&self) -> &[Marked]
-        ensures { result.now ≡ self.now }
+        ensures all { result.now ≡ self.now }
+        ensures few { length result.now ≤ SLOTS }
     {
         self.list.as_slice()
     }

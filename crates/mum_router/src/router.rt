@@ -1,6 +1,6 @@
 //! The router of a worker.
 
-ghost use Rattle.std.specs.Prelude.{◌≡◌, [], ◌++◌, List, length, map, IfOk};
+ghost use Rattle.std.specs.Prelude.{◌≡◌, ◌≤◌, [], ◌++◌, List, length, map, IfOk};
 ghost use Rattle.mum_state.specs.Proper.{IsProper};
 ghost use Rattle.mum_published.specs.Calls.{Learnt};
 ghost use Rattle.mum_voice.specs.Packet.{IsPacket, plain_parts};
@@ -189,7 +189,8 @@ impl<N: Naming> Router<N> {
 
     /// What became of each copy of the last route, in their order.
     pub fn marks(&self) -> &[Marked]
-        ensures { result.now ≡ self.now.marks }
+        ensures all { result.now ≡ self.now.marks }
+        ensures few { length result.now ≤ SLOTS }
     {
         self.marks.as_slice()
     }

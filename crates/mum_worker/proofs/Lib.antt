@@ -1,0 +1,5 @@
+pub mod Journals
+pub mod Lists
+pub mod Openings
+pub mod Queues
+pub mod Seats

@@ -1,0 +1,116 @@
+-- Whether a journal is kept, and the number of a worker, never change.
+use Rattle.std.proofs.Common.{◌≡◌, ℕ, Bool, List, [], ◌∷◌, Option, Some, None, refl, sym, ap, ◌∙◌, inl, inr}
+use Rattle.mum_base.specs.declared.number.Cause.{Cause}
+use Rattle.mum_base.specs.declared.number.SessionId.{SessionId}
+use Rattle.mum_crew.specs.declared.role.Turn.{Turn}
+use Rattle.mum_io.specs.Counts.{Counts}
+use Rattle.mum_port.specs.Facts.{PortFacts}
+use Rattle.mum_port.specs.Handling.{Acts, HandlesKept, Routes}
+use Rattle.mum_port.specs.Steps.{Handles}
+use Rattle.mum_port.specs.declared.item.DeskItem.{DeskItem}
+use Rattle.mum_published.specs.Facts.{Opening}
+use Rattle.mum_session.specs.Action.{action}
+use Rattle.mum_session.specs.Machine.{Machine, session_of}
+use Rattle.mum_session.specs.declared.action.Action.{Action}
+use Rattle.mum_session.specs.declared.action.Action.TheVariants.{Ask, Voice, Echo, Keep, Ignore}
+use Rattle.mum_worker.specs.Along.{Along}
+use Rattle.mum_worker.specs.Bell.{Ring, Answer, Comes, Lagging, NoMore}
+use Rattle.mum_worker.specs.Boxes.{BoxesFacts}
+use Rattle.mum_worker.specs.Facts.{WorkerFacts}
+use Rattle.mum_worker.specs.Hearing.{Hears, LagsWhereIts, TakesOrTurns}
+use Rattle.mum_worker.specs.Record.{RecordFacts, after_close, after_step}
+use Rattle.mum_worker.specs.Routing.{CommonFacts, RoutesPacket}
+use Rattle.mum_worker.specs.Stepping.{PortSteps, Shares}
+use Rattle.mum_worker.specs.Turning.{Turned}
+
+-- what holds of a router that stays and of one that routes a packet holds of the handling of a frame
+module _ {V : Type 0} (routed : V → ℕ → SessionId → List ℕ → V → Type 0) (K : V → V → Type 0) (same : (old new : V) → new ≡ old → K old new)
+    (one : (old : V) (connection : ℕ) (session : SessionId) (packet : List ℕ) (new : V) → routed old connection session packet new → K old new) where
+  routes_keep : (connection : ℕ) (session : Option SessionId) (packet : List ℕ) (old new : V) → Routes routed connection session packet old new → K old new
+  routes_keep connection (Some session) packet old new routes = one old connection session packet new routes
+  routes_keep connection None packet old new routes = same old new routes
+
+  acts_keep : (connection : ℕ) (session : Option SessionId) (act : Action) (waiting : Option DeskItem) (out : List ℕ) (old : V) (went : _) (waiting_after : Option DeskItem) (out_after : List ℕ) (new : V)
+      → Acts routed connection session act waiting out old went waiting_after out_after new → K old new
+  acts_keep connection session (Ask command) waiting out old went waiting_after out_after new acts = same old new acts.3
+  acts_keep connection session (Voice packet) waiting out old went waiting_after out_after new acts = routes_keep connection session packet old new acts.3
+  acts_keep connection session (Echo wire) waiting out old went waiting_after out_after new acts = same old new acts.2
+  acts_keep connection session Keep waiting out old went waiting_after out_after new acts = same old new acts.3
+  acts_keep connection session (Ignore why) waiting out old went waiting_after out_after new acts = same old new acts.3
+
+  kept_keep : (machine : Machine) (kept : List ℕ) (waiting : Option DeskItem) (out : List ℕ) (old : V) (went : _) (machine_after : Machine) (kept_after : List ℕ) (waiting_after : Option DeskItem) (out_after : List ℕ) (new : V)
+      → HandlesKept routed machine kept waiting out old went machine_after kept_after waiting_after out_after new → K old new
+  kept_keep machine kept waiting out old went machine_after kept_after waiting_after out_after new (inl (has, inl first)) =
+      acts_keep machine.connection (session_of machine.stage) (action machine first.frame.kind first.frame.payload) waiting out old went waiting_after out_after new first.handled.acts
+  kept_keep machine kept waiting out old went machine_after kept_after waiting_after out_after new (inl (has, inr none)) = same old new none.router_same
+  kept_keep machine kept waiting out old went machine_after kept_after waiting_after out_after new (inr none) = same old new none.router_same
+
+  pub handles_keep : {L : Type 0} (port : PortFacts L) (old : V) (went : _) (after : PortFacts L) (new : V) → Handles routed port old went after new → K old new
+  handles_keep port old went after new (inl never) = same old new never.1
+  handles_keep port old went after new (inr handles) =
+      kept_keep port.machine port.framer.kept port.waiting port.out old went after.machine after.framer.kept after.waiting after.out new handles.handled
+
+closed_journal : (connection : ℕ) (closed : Option Cause) (kept : RecordFacts) → (after_close connection closed kept).journal ≡ kept.journal
+closed_journal connection None kept = refl
+closed_journal connection (Some cause) kept = refl
+
+routed_journal : (opening : Opening) (old : CommonFacts) (connection : ℕ) (speaker : SessionId) (packet : List ℕ) (new : CommonFacts) → RoutesPacket opening old connection speaker packet new → new.kept.journal ≡ old.kept.journal
+routed_journal opening old connection speaker packet new (inl drops) = ap (λ (k : RecordFacts). k.journal) drops.none_kept
+routed_journal opening old connection speaker packet new (inr routes) = ap (λ (k : RecordFacts). k.journal) routes.entry
+
+module _ {L : Type 0} (counts : L → Counts) (left written : L → Option (List ℕ)) (is_shut : L → Bool) where
+  lagged_journal : (session : SessionId) (old : PortFacts L) (before : RecordFacts) (new : PortFacts L) (after : RecordFacts) → LagsWhereIts counts left written is_shut session old before new after → after.journal ≡ before.journal
+  lagged_journal session old before new after (inl passes) = ap (λ (k : RecordFacts). k.journal) passes.kept_same
+  lagged_journal session old before new after (inr lags) = ap (λ (k : RecordFacts). k.journal) lags.noted ∙ closed_journal old.machine.connection lags.closed before
+
+  lags_journal : (session : SessionId) (olds : List (PortFacts L)) (before : RecordFacts) (news : List (PortFacts L)) (after : RecordFacts) → Along (LagsWhereIts counts left written is_shut session) olds before news after → after.journal ≡ before.journal
+  lags_journal session [] before [] after along = ap (λ (k : RecordFacts). k.journal) along
+  lags_journal session (old ∷ olds) before (new ∷ news) after along = lags_journal session olds along.0 news after along.2 ∙ lagged_journal session old before new along.0 along.1
+  lags_journal session [] before (new ∷ news) after along = absurd along
+  lags_journal session (old ∷ olds) before [] after along = absurd along
+
+  stepped_journal : (opening : Opening) (boxes : BoxesFacts) (old : PortFacts L) (before : Shares) (new : PortFacts L) (after : Shares) → PortSteps counts left written is_shut opening boxes old before new after → after.common.kept.journal ≡ before.common.kept.journal
+  stepped_journal opening boxes old before new after steps =
+      ap (λ (c : CommonFacts). c.kept.journal) steps.noted
+      ∙ (closed_journal old.machine.connection steps.step.closed _
+      ∙ handles_keep (RoutesPacket opening) (λ (v w : CommonFacts). w.kept.journal ≡ v.kept.journal) (λ v w e. ap (λ (c : CommonFacts). c.kept.journal) e)
+      (λ v n s b w r. routed_journal opening v n s b w r) _ _ _ _ _ steps.chain.handles)
+
+  steps_journal : (opening : Opening) (boxes : BoxesFacts) (olds : List (PortFacts L)) (before : Shares) (news : List (PortFacts L)) (after : Shares) → Along (PortSteps counts left written is_shut opening boxes) olds before news after → after.common.kept.journal ≡ before.common.kept.journal
+  steps_journal opening boxes [] before [] after along = ap (λ (s : Shares). s.common.kept.journal) along
+  steps_journal opening boxes (old ∷ olds) before (new ∷ news) after along = steps_journal opening boxes olds along.0 news after along.2 ∙ stepped_journal opening boxes old before new along.0 along.1
+  steps_journal opening boxes [] before (new ∷ news) after along = absurd along
+  steps_journal opening boxes (old ∷ olds) before [] after along = absurd along
+
+  takes_journal : (number connection : ℕ) (link : L) (ports : List (PortFacts L)) (kept : RecordFacts) (news : List (PortFacts L)) (after : RecordFacts) → TakesOrTurns number connection link ports kept news after → after.journal ≡ kept.journal
+  takes_journal number connection link ports kept news after (inl takes) = ap (λ (k : RecordFacts). k.journal) takes.kept_is
+  takes_journal number connection link ports kept news after (inr turns) = ap (λ (k : RecordFacts). k.journal) turns.kept_same
+
+  -- what a worker is opened with
+  pub record IsSameWorker (old new : WorkerFacts L) : Type 0 where
+    pub number : new.number ≡ old.number
+    pub journal : new.common.kept.journal ≡ old.common.kept.journal
+
+  hears_same : (ring : Option (Ring L)) (old new : WorkerFacts L) → Hears counts left written is_shut ring old new → IsSameWorker old new
+  hears_same None old new hears = record { number = ap (λ (w : WorkerFacts L). w.number) hears; journal = ap (λ (w : WorkerFacts L). w.common.kept.journal) hears }
+  hears_same (Some (Answer reply)) old new hears = record {
+    number = ap (λ (w : WorkerFacts L). w.number) hears.rest;
+    journal = ap (λ (k : RecordFacts). k.journal) hears.takes.noted ∙ closed_journal reply.connection hears.takes.closed old.common.kept;
+  }
+  hears_same (Some (Comes connection link)) old new hears = record {
+    number = ap (λ (w : WorkerFacts L). w.number) hears.rest;
+    journal = takes_journal old.number connection link old.ports old.common.kept new.ports new.common.kept hears.takes;
+  }
+  hears_same (Some (Lagging session)) old new hears = record {
+    number = ap (λ (w : WorkerFacts L). w.number) hears.rest;
+    journal = lags_journal session old.ports old.common.kept hears.each.stepped new.common.kept hears.each.along;
+  }
+  hears_same (Some NoMore) old new hears = record { number = ap (λ (w : WorkerFacts L). w.number) hears; journal = ap (λ (w : WorkerFacts L). w.common.kept.journal) hears }
+
+  pub turned_same : (opening : Opening) (old new : WorkerFacts L) (answer : Turn) → Turned counts left written is_shut opening old new answer → IsSameWorker old new
+  turned_same opening old new answer turned =
+      let heard = hears_same turned.hears.ring _ turned.between turned.hears.hears in
+      record {
+        number = ap (λ (w : WorkerFacts L). w.number) turned.steps.rest ∙ heard.number;
+        journal = steps_journal opening turned.between.boxes turned.between.ports _ turned.steps.steps.stepped _ turned.steps.steps.along ∙ heard.journal;
+      }

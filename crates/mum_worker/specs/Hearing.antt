@@ -1,0 +1,121 @@
+-- What a worker makes of what its bell carries.
+use Rattle.std.specs.Prelude.{◌≡◌, ◌≢◌, ◌⊎◌, ℕ, Bool, true, false, ◌&&◌, nat_lt, List, [], ◌∷◌, ◌++◌, length, position, slice_get, slice_set, Option, Some, None}
+use Rattle.mum_base.specs.declared.number.Cause.{Cause}
+use Rattle.mum_base.specs.declared.number.SessionId.{SessionId}
+use Rattle.mum_base.specs.declared.number.TheConstants.{CONNECTION_LIMIT}
+use Rattle.mum_base.specs.declared.reply.ReplyEnd.{ReplyEnd}
+use Rattle.mum_io.specs.Counts.{Counts}
+use Rattle.mum_port.specs.Facts.{PortFacts, new_port}
+use Rattle.mum_port.specs.Replies.{Answers, Lags}
+use Rattle.mum_port.specs.declared.seat.Seat.{Seat}
+use Rattle.mum_published.specs.Calls.{Learnt}
+use Rattle.mum_published.specs.Facts.{NoteFacts}
+use Rattle.mum_router.specs.Facts.{RouterFacts}
+use Rattle.mum_session.specs.Machine.{session_of}
+use Rattle.mum_worker.specs.Along.{EachAlong}
+use Rattle.mum_worker.specs.Bell.{ReplyFacts, Ring, Answer, Comes, Lagging, NoMore}
+use Rattle.mum_worker.specs.Boxes.{AreSameBoxes, BoxesFacts, IsSeatFor}
+use Rattle.mum_worker.specs.Facts.{WorkerFacts, is_of, stays}
+use Rattle.mum_worker.specs.Record.{RecordFacts, after_close, may_take_in, taking_in}
+
+-- a note, if one came, is learnt: no later look sees less
+abbrev pub LearnsGiven : Option NoteFacts → RouterFacts → RouterFacts → Type 0
+LearnsGiven None old new = new ≡ old
+LearnsGiven (Some note) old new = Learnt old.pass note.edits new.pass × (new ≡ record old { pass = new.pass })
+
+module _ {L : Type 0} where
+  -- there is room for a port more, and for its closing entry
+  abbrev pub has_place : List (PortFacts L) → RecordFacts → Bool
+  has_place ports kept = nat_lt (length ports) CONNECTION_LIMIT && may_take_in kept
+
+  -- a connection is taken in as the last port
+  pub record TakesIn (number connection : ℕ) (link : L) (ports : List (PortFacts L)) (kept : RecordFacts) (ports_after : List (PortFacts L)) (kept_after : RecordFacts) : Type 0 where
+    pub room : has_place ports kept ≡ true
+    pub ports_are : ports_after ≡ ports ++ new_port connection number link ∷ []
+    pub kept_is : kept_after ≡ taking_in kept
+
+  -- there is no room for it, and nothing changes
+  pub record TurnsAway (ports : List (PortFacts L)) (kept : RecordFacts) (ports_after : List (PortFacts L)) (kept_after : RecordFacts) : Type 0 where
+    pub no_room : has_place ports kept ≡ false
+    pub ports_same : ports_after ≡ ports
+    pub kept_same : kept_after ≡ kept
+
+  abbrev pub TakesOrTurns : ℕ → ℕ → L → List (PortFacts L) → RecordFacts → List (PortFacts L) → RecordFacts → Type 0
+  TakesOrTurns number connection link ports kept ports_after kept_after =
+      TakesIn number connection link ports kept ports_after kept_after ⊎ TurnsAway ports kept ports_after kept_after
+
+module _ {L : Type 0} (counts : L → Counts) (left written : L → Option (List ℕ)) (is_shut : L → Bool) where
+  -- the first port of the connection takes a reply
+  pub record FirstAnswers (connection : ℕ) (end : ReplyEnd) (wire : List ℕ) (seat : Option Seat) (olds : List (PortFacts L)) (closed : Option Cause) (news : List (PortFacts L)) : Type 0 where
+    pub place : ℕ
+    pub old : PortFacts L
+    pub new : PortFacts L
+    pub first : position (is_of connection) olds ≡ Some place
+    pub there : slice_get olds place ≡ Some old
+    pub answers : Answers counts left written is_shut end wire seat old closed new
+    pub others : news ≡ slice_set olds place new
+
+  -- no port is of the connection, and the reply is dropped
+  pub record NoneAnswers (connection : ℕ) (olds : List (PortFacts L)) (closed : Option Cause) (news : List (PortFacts L)) : Type 0 where
+    pub none : position (is_of connection) olds ≡ None
+    pub closed_none : closed ≡ None
+    pub same : news ≡ olds
+
+  abbrev pub AnswersFirst : ℕ → ReplyEnd → List ℕ → Option Seat → List (PortFacts L) → Option Cause → List (PortFacts L) → Type 0
+  AnswersFirst connection end wire seat olds closed news =
+      NoneAnswers connection olds closed news ⊎ FirstAnswers connection end wire seat olds closed news
+
+  -- a port of the session closes, unless it is closed already
+  pub record LagsPort (session : SessionId) (old : PortFacts L) (before : RecordFacts) (new : PortFacts L) (after : RecordFacts) : Type 0 where
+    pub its : session_of old.machine.stage ≡ Some session
+    pub closed : Option Cause
+    pub lags : Lags counts left written is_shut old closed new
+    pub noted : after ≡ after_close old.machine.connection closed before
+
+  -- a port of another session, or of none, stays as it is
+  pub record PassesPort (session : SessionId) (old : PortFacts L) (before : RecordFacts) (new : PortFacts L) (after : RecordFacts) : Type 0 where
+    pub another : session_of old.machine.stage ≢ Some session
+    pub same : new ≡ old
+    pub kept_same : after ≡ before
+
+  abbrev pub LagsWhereIts : SessionId → PortFacts L → RecordFacts → PortFacts L → RecordFacts → Type 0
+  LagsWhereIts session old before new after = PassesPort session old before new after ⊎ LagsPort session old before new after
+
+  -- a reply: its note is learnt first, and then the first port of its connection takes it, with a seat where it gives one
+  pub record TakesReply (reply : ReplyFacts) (router : RouterFacts) (kept : RecordFacts) (boxes : BoxesFacts) (ports : List (PortFacts L))
+      (router_after : RouterFacts) (kept_after : RecordFacts) (boxes_after : BoxesFacts) (ports_after : List (PortFacts L)) : Type 0 where
+    pub learns : LearnsGiven reply.note router router_after
+    pub seat : Option Seat
+    pub seats : IsSeatFor boxes reply.end seat
+    pub same : AreSameBoxes boxes boxes_after
+    pub closed : Option Cause
+    pub answers : AnswersFirst reply.connection reply.end reply.wire seat ports closed ports_after
+    pub noted : kept_after ≡ after_close reply.connection closed kept
+
+  pub record HearsReply (reply : ReplyFacts) (old new : WorkerFacts L) : Type 0 where
+    pub takes : TakesReply reply old.common.router old.common.kept old.boxes old.ports new.common.router new.common.kept new.boxes new.ports
+    pub rest : new ≡ record old { common = new.common; boxes = new.boxes; ports = new.ports }
+
+  -- a connection: it is taken in, where there is room
+  pub record HearsConnection (connection : ℕ) (link : L) (old new : WorkerFacts L) : Type 0 where
+    pub takes : TakesOrTurns old.number connection link old.ports old.common.kept new.ports new.common.kept
+    pub router : new.common.router ≡ old.common.router
+    pub rest : new ≡ record old { common = new.common; ports = new.ports }
+
+  -- a lag: each open port of the session closes
+  pub record HearsLag (session : SessionId) (old new : WorkerFacts L) : Type 0 where
+    pub each : EachAlong (LagsWhereIts session) stays old.ports old.common.kept new.ports new.common.kept
+    pub router : new.common.router ≡ old.common.router
+    pub rest : new ≡ record old { common = new.common; ports = new.ports }
+
+  -- what is made of an item
+  abbrev pub Heeds : Ring L → WorkerFacts L → WorkerFacts L → Type 0
+  Heeds (Answer reply) old new = HearsReply reply old new
+  Heeds (Comes connection link) old new = HearsConnection connection link old new
+  Heeds (Lagging session) old new = HearsLag session old new
+  Heeds NoMore old new = new ≡ record old { ended = true }
+
+  -- what is made of what the bell gave
+  abbrev pub Hears : Option (Ring L) → WorkerFacts L → WorkerFacts L → Type 0
+  Hears None old new = new ≡ old
+  Hears (Some ring) old new = Heeds ring old new

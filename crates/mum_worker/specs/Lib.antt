@@ -1,0 +1,10 @@
+pub mod Along
+pub mod Bell
+pub mod Boxes
+pub mod Facts
+pub mod Hearing
+pub mod Opening
+pub mod Record
+pub mod Routing
+pub mod Stepping
+pub mod Turning

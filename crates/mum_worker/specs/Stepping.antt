@@ -1,0 +1,33 @@
+-- The steps of a worker's ports, one after the other.
+use Rattle.std.specs.Prelude.{◌≡◌, ◌||◌, ℕ, Bool, List, Option}
+use Rattle.mum_io.specs.Counts.{Counts}
+use Rattle.mum_outbox.specs.Facts.{PassFacts}
+use Rattle.mum_port.specs.Facts.{PortFacts}
+use Rattle.mum_port.specs.Steps.{PortChain}
+use Rattle.mum_port.specs.Taking.{IsPosted, IsVoiced}
+use Rattle.mum_port.specs.declared.item.DeskItem.{DeskItem}
+use Rattle.mum_port.specs.declared.port.Step.{Step}
+use Rattle.mum_published.specs.Facts.{Opening}
+use Rattle.mum_worker.specs.Boxes.{BoxesFacts}
+use Rattle.mum_worker.specs.Record.{after_step}
+use Rattle.mum_worker.specs.Routing.{CommonFacts, RoutesPacket}
+
+-- what the ports of a worker change together, and whether one of them did anything so far
+pub record Shares : Type 0 where
+  pub common : CommonFacts
+  pub desk : PassFacts DeskItem
+  pub worked : Bool
+
+-- the passes of a port are of the boxes of its slot
+pub record IsSeated {L : Type 0} (boxes : BoxesFacts) (port : PortFacts L) : Type 0 where
+  pub posted : IsPosted boxes.posts port.seat
+  pub voiced : IsVoiced boxes.voices port.seat
+
+module _ {L : Type 0} (counts : L → Counts) (left written : L → Option (List ℕ)) (is_shut : L → Bool) (opening : Opening) (boxes : BoxesFacts) where
+  -- a port makes its step, and what the step came to is noted
+  pub record PortSteps (old : PortFacts L) (before : Shares) (new : PortFacts L) (after : Shares) : Type 0 where
+    pub step : Step
+    pub routed : CommonFacts
+    pub chain : PortChain counts left written is_shut (RoutesPacket opening) boxes.posts boxes.voices old before.desk before.common step new after.desk routed
+    pub noted : after.common ≡ record routed { kept = after_step old.machine.connection step routed.kept }
+    pub worked : after.worked ≡ before.worked || step.worked

@@ -1,0 +1,71 @@
+//! The boxes of all slots, from which ports take.
+
+ghost use Rattle.std.specs.Prelude.{◌≡◌, IfOk, length};
+ghost use Rattle.mum_worker.specs.Boxes.{AreSameBoxes, IsSeatFor, IsSeatIn};
+
+use mum_base::{OutOfMemory, ReplyEnd, Slot};
+use mum_outbox::{PostBox, VoiceBox};
+use mum_port::Seat;
+use std::alloc::Global;
+use std::marker::Model;
+
+/// The boxes of all slots.
+#[derive(Drop)]
+pub(crate) struct Boxes {
+    pub(crate) posts: Vec<PostBox>,
+    pub(crate) voices: Vec<VoiceBox>,
+}
+
+impl Model for Boxes {
+    ghost use Rattle.mum_worker.specs.Boxes.{BoxesFacts};
+
+    ghost Value = { BoxesFacts };
+
+    ghost view = { λ b. record { posts = b.posts.items; voices = b.voices.items } };
+}
+
+/// These boxes, and one more owner of each.
+pub(crate) fn share_each(
+    alloc: Global,
+    voices: Vec<VoiceBox>,
+) -> Result<(Vec<VoiceBox>, Vec<VoiceBox>), OutOfMemory>
+    ensures { IfOk result (λ both. (length both.0.items ≡ length voices.items) × (length both.1.items ≡ length voices.items)) }
+{
+    let mut owners = Vec::new(alloc);
+    let mut shares = Vec::new(alloc);
+    for voice in voices {
+        let mut voice = voice;
+        let share = voice.share()?;
+        owners.push(voice)?;
+        shares.push(share)?;
+    }
+    Ok((owners, shares))
+}
+
+impl Boxes {
+    // A seat in this slot, where it has boxes.
+    fn seat_in(&mut self, slot: Slot) -> Option<Seat>
+        ensures seat { IsSeatIn self.old slot result }
+        ensures same { AreSameBoxes self.old self.new }
+    {
+        let place = usize::from(slot.0);
+        if place >= self.posts.len() || place >= self.voices.len() {
+            return None;
+        }
+        let post = self.posts[place].pass();
+        let voice = self.voices[place].pass();
+        Some(Seat { slot, post, voice })
+    }
+
+    /// The seat that a reply gives.
+    pub(crate) fn seat_for(&mut self, end: ReplyEnd) -> Option<Seat>
+        ensures seat { IsSeatFor self.old end result }
+        ensures same { AreSameBoxes self.old self.new }
+    {
+        match end {
+            ReplyEnd::Joined(_, slot) => self.seat_in(slot),
+            ReplyEnd::Decided => None,
+            ReplyEnd::Rejected => None,
+        }
+    }
+}

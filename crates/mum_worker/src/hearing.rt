@@ -1,0 +1,95 @@
+//! What a worker makes of what its bell carries.
+
+ghost use Rattle.std.specs.Prelude.{◌≡◌};
+ghost use Rattle.std.specs.List.{All};
+ghost use Rattle.std.specs.Option.{ForSome};
+ghost use Rattle.mum_worker.specs.Along.{EachAlong};
+ghost use Rattle.mum_worker.specs.Bell.{reply_of};
+ghost use Rattle.mum_worker.specs.Facts.{stays};
+ghost use Rattle.mum_worker.specs.Hearing.{LagsWhereIts, LearnsGiven, TakesOrTurns, TakesReply};
+ghost use Rattle.mum_worker.specs.Record.{without_room};
+ghost use Rattle.mum_worker.specs.Stepping.{IsSeated};
+
+use crate::boxes::Boxes;
+use crate::ports::Ports;
+use crate::record::Record;
+use mum_base::SessionId;
+use mum_io::Link;
+use mum_published::{Naming, Note, Reply};
+use mum_router::Router;
+use std::alloc::Global;
+
+// Learns a note, if one came.
+fn learn_given<N: Naming>(router: &mut Router<N>, note: &Option<Note>)
+    requires { ForSome note.now (λ note. note.book ≡ N.opening.book) }
+    ensures { LearnsGiven note.now router.old router.new }
+{
+    match note {
+        Some(note) => router.learn(note),
+        None => {}
+    }
+}
+
+/// A reply: its note is learnt, and then the first port of its connection takes it.
+pub(crate) fn take_reply<L: Link, N: Naming>(
+    reply: Reply<N>,
+    alloc: Global,
+    router: &mut Router<N>,
+    kept: &mut Record,
+    boxes: &mut Boxes,
+    ports: &mut Ports<L>,
+)
+    requires { All (IsSeated boxes.old) ports.old }
+    ensures takes { TakesReply L.counts L.left L.written L.is_shut (reply_of reply)
+        router.old (without_room kept.old) boxes.old ports.old
+        router.new (without_room kept.new) boxes.new ports.new }
+    ensures seated { All (IsSeated boxes.new) ports.new }
+{
+    learn_given(router, &reply.note);
+    let Reply {
+        connection,
+        end,
+        wire,
+        ..
+    } = reply;
+    let seat = boxes.seat_for(end);
+    let closed = ports.answered(alloc, connection, end, wire, seat);
+    kept.closed(connection, closed);
+}
+
+/// A connection that comes: it is taken in, where there is room.
+pub(crate) fn take_connection<L: Link>(
+    connection: u32,
+    link: L,
+    alloc: Global,
+    number: u8,
+    kept: &mut Record,
+    boxes: &mut Boxes,
+    ports: &mut Ports<L>,
+)
+    requires { All (IsSeated boxes.old) ports.old }
+    ensures takes { TakesOrTurns number connection link ports.old (without_room kept.old) ports.new (without_room kept.new) }
+    ensures seated { All (IsSeated boxes.new) ports.new }
+    ensures boxes { boxes.new ≡ boxes.old }
+{
+    let _boxes = boxes;
+    ports.take_in(alloc, number, connection, link, kept);
+}
+
+/// A session whose connection is to close.
+pub(crate) fn take_lag<L: Link>(
+    session: SessionId,
+    alloc: Global,
+    kept: &mut Record,
+    boxes: &mut Boxes,
+    ports: &mut Ports<L>,
+)
+    requires { All (IsSeated boxes.old) ports.old }
+    ensures lags { EachAlong (LagsWhereIts L.counts L.left L.written L.is_shut session) stays
+        ports.old (without_room kept.old) ports.new (without_room kept.new) }
+    ensures seated { All (IsSeated boxes.new) ports.new }
+    ensures boxes { boxes.new ≡ boxes.old }
+{
+    let _boxes = boxes;
+    ports.lag(alloc, kept, session);
+}

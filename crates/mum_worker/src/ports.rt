@@ -1,0 +1,293 @@
+//! The ports of a worker.
+
+ghost use Rattle.std.specs.Prelude.{◌≡◌, ◌≤◌, ◌<◌, ◌++◌, ◌∷◌, [], IfOk, filter, length, position};
+ghost use Rattle.std.specs.List.{All};
+ghost use Rattle.std.specs.VecDeque.{deque_capacity, deque_len};
+ghost use Rattle.mum_worker.specs.Along.{EachAlong};
+ghost use Rattle.mum_worker.specs.Facts.{is_empty, is_of, session_at, speaker_of, stays};
+ghost use Rattle.mum_worker.specs.Hearing.{AnswersFirst, LagsWhereIts, TakesOrTurns};
+ghost use Rattle.mum_worker.specs.Record.{without_room};
+ghost use Rattle.mum_worker.specs.Routing.{bare};
+ghost use Rattle.mum_worker.specs.Stepping.{IsSeated, PortSteps};
+
+use crate::boxes::Boxes;
+use crate::common::Common;
+use crate::desk::DeskEnd;
+use crate::record::Record;
+use mum_base::{CONNECTION_LIMIT, Cause, Octets, OutOfMemory, ReplyEnd, SessionId};
+use mum_crew::Gate;
+use mum_io::Link;
+use mum_port::{Port, Seat};
+use mum_published::Naming;
+use std::alloc::Global;
+use std::collections::VecDeque;
+use std::marker::Model;
+use std::sync::Wait;
+
+/// The ports of a worker, in the order in which they were taken in, with room for as many as connections may
+/// be open at once.
+#[derive(Drop)]
+pub(crate) struct Ports<L: Link> {
+    list: VecDeque<Port<L>>,
+}
+
+impl<L: Link> Model for Ports<L> {
+    ghost use Rattle.std.specs.Prelude.{◌≤◌, List};
+    ghost use Rattle.std.specs.VecDeque.{deque_capacity};
+    ghost use Rattle.mum_base.specs.declared.number.TheConstants.{CONNECTION_LIMIT};
+    ghost use Rattle.mum_port.specs.Facts.{PortFacts};
+
+    ghost Value = { List (PortFacts L) };
+
+    ghost view = { λ p. p.list.items };
+
+    ghost invariant = { λ p. CONNECTION_LIMIT ≤ deque_capacity p.list };
+}
+
+// Puts a port back behind the others, unless it is gone.
+fn put_back<L: Link>(list: &mut VecDeque<Port<L>>, port: Port<L>)
+    requires { deque_len list.old < deque_capacity list.old }
+    ensures capacity { deque_capacity list.new ≡ deque_capacity list.old }
+    ensures items { list.new.items ≡ list.old.items ++ filter stays (port ∷ []) }
+{
+    if !port.is_gone() {
+        list.push_back_reserved(port);
+    }
+}
+
+// One port makes its step, and what the step came to is noted.
+fn step_port<L: Link, G: Gate, N: Naming, R: Wait + Copy>(
+    port: &mut Port<L>,
+    rt: &R,
+    desk: &mut DeskEnd,
+    boxes: &Boxes,
+    common: &mut Common<G, N, R>,
+    buf: &mut [u8],
+    worked: bool,
+) -> bool
+    requires seated { IsSeated boxes.now port.old }
+    requires buffer { 0 < length buf.old }
+    ensures steps { PortSteps L.counts L.left L.written L.is_shut N.opening boxes.now
+        port.old (record { common = bare common.old; desk = desk.old; worked = worked })
+        port.new (record { common = bare common.new; desk = desk.new; worked = result }) }
+    ensures seated { IsSeated boxes.now port.new }
+{
+    let connection = port.connection();
+    let alloc = common.alloc;
+    let step = port.step(
+        rt,
+        alloc,
+        &desk.desk,
+        &mut desk.pass,
+        &boxes.posts,
+        &boxes.voices,
+        common,
+        buf,
+    );
+    common.kept.stepped(connection, step);
+    worked || step.worked
+}
+
+// Each port makes its step, in their order. One that is gone then is let go.
+fn step_each<L: Link, G: Gate, N: Naming, R: Wait + Copy>(
+    list: &mut VecDeque<Port<L>>,
+    rt: &R,
+    desk: &mut DeskEnd,
+    boxes: &Boxes,
+    common: &mut Common<G, N, R>,
+    buf: &mut [u8],
+    heard: bool,
+) -> bool
+    requires seated { All (IsSeated boxes.now) list.old.items }
+    requires buffer { 0 < length buf.old }
+    ensures steps { EachAlong (PortSteps L.counts L.left L.written L.is_shut N.opening boxes.now) stays
+        list.old.items (record { common = bare common.old; desk = desk.old; worked = heard })
+        list.new.items (record { common = bare common.new; desk = desk.new; worked = result }) }
+    ensures seated { All (IsSeated boxes.now) list.new.items }
+    ensures capacity { deque_capacity list.new ≡ deque_capacity list.old }
+{
+    let count = list.len();
+    let mut worked = heard;
+    let mut done = 0;
+    while done < count {
+        let Some(mut port) = list.pop_front() else {
+            unreachable!();
+        };
+        worked = step_port(&mut port, rt, desk, boxes, common, buf, worked);
+        put_back(list, port);
+        done += 1;
+    }
+    worked
+}
+
+// Closes a port, where it is of this session and open.
+fn lag_port<L: Link>(port: &mut Port<L>, alloc: Global, kept: &mut Record, session: SessionId)
+    ensures { LagsWhereIts L.counts L.left L.written L.is_shut session port.old (without_room kept.old)
+        port.new (without_room kept.new) }
+{
+    let connection = port.connection();
+    match port.session() {
+        Some(own) if own == session => {
+            let closed = port.lag(alloc);
+            kept.closed(connection, closed);
+        }
+        _ => {}
+    }
+}
+
+// Closes each open port of this session.
+fn lag_each<L: Link>(
+    list: &mut VecDeque<Port<L>>,
+    alloc: Global,
+    kept: &mut Record,
+    session: SessionId,
+)
+    ensures lags { EachAlong (LagsWhereIts L.counts L.left L.written L.is_shut session) stays
+        list.old.items (without_room kept.old) list.new.items (without_room kept.new) }
+    ensures capacity { deque_capacity list.new ≡ deque_capacity list.old }
+{
+    let count = list.len();
+    let mut done = 0;
+    while done < count {
+        let Some(mut port) = list.pop_front() else {
+            unreachable!();
+        };
+        lag_port(&mut port, alloc, kept, session);
+        put_back(list, port);
+        done += 1;
+    }
+}
+
+// The place of the first port of a connection.
+fn place_of<L: Link>(list: &VecDeque<Port<L>>, connection: u32) -> Option<usize>
+    ensures { result ≡ position (is_of connection) list.now.items }
+{
+    list.iter().position(|port| port.connection() == connection)
+}
+
+// The session of the port at this place, where it is logged in.
+fn session_at<L: Link>(list: &VecDeque<Port<L>>, place: usize) -> Option<SessionId>
+    ensures { result ≡ session_at list.now.items place }
+{
+    match list.get(place) {
+        Some(port) => port.session(),
+        None => None,
+    }
+}
+
+// The first port of a connection takes a reply. Answers for what it closes, if it does.
+fn answer_first<L: Link>(
+    list: &mut VecDeque<Port<L>>,
+    alloc: Global,
+    connection: u32,
+    end: ReplyEnd,
+    wire: Octets,
+    seat: Option<Seat>,
+) -> Option<Cause>
+    ensures answers { AnswersFirst L.counts L.left L.written L.is_shut connection end wire seat
+        list.old.items result list.new.items }
+    ensures capacity { deque_capacity list.new ≡ deque_capacity list.old }
+{
+    match place_of(list, connection) {
+        Some(place) => list[place].answered(alloc, end, wire, seat),
+        None => {
+            drop(wire);
+            drop(seat);
+            None
+        }
+    }
+}
+
+impl<L: Link> Ports<L> {
+    /// No port, with room for all.
+    pub(crate) fn open(alloc: Global) -> Result<Ports<L>, OutOfMemory>
+        ensures { IfOk result (λ ports. ports ≡ []) }
+    {
+        Ok(Ports {
+            list: VecDeque::with_capacity(alloc, CONNECTION_LIMIT)?,
+        })
+    }
+
+    pub(crate) fn is_empty(&self) -> bool
+        ensures { result ≡ is_empty self.now }
+    {
+        self.list.is_empty()
+    }
+
+    /// The session of the first port of a connection, where it is logged in.
+    pub(crate) fn speaker(&self, connection: u32) -> Option<SessionId>
+        ensures { result ≡ speaker_of self.now connection }
+    {
+        match place_of(&self.list, connection) {
+            Some(place) => session_at(&self.list, place),
+            None => None,
+        }
+    }
+
+    /// Takes a connection in, where there is room for it and for its closing entry. Else its link is shut.
+    pub(crate) fn take_in(
+        &mut self,
+        alloc: Global,
+        number: u8,
+        connection: u32,
+        link: L,
+        kept: &mut Record,
+    )
+        ensures { TakesOrTurns number connection link self.old (without_room kept.old) self.new (without_room kept.new) }
+    {
+        if self.list.len() < CONNECTION_LIMIT && kept.may_take_in() {
+            kept.taken_in();
+            self.list
+                .push_back_reserved(Port::new(alloc, connection, number, link));
+        } else {
+            let mut link = link;
+            link.shut();
+            drop(link);
+        }
+    }
+
+    /// The first port of a connection takes a reply. Answers for what it closes, if it does.
+    pub(crate) fn answered(
+        &mut self,
+        alloc: Global,
+        connection: u32,
+        end: ReplyEnd,
+        wire: Octets,
+        seat: Option<Seat>,
+    ) -> Option<Cause>
+        ensures { AnswersFirst L.counts L.left L.written L.is_shut connection end wire seat
+            self.old result self.new }
+    {
+        answer_first(&mut self.list, alloc, connection, end, wire, seat)
+    }
+
+    /// Closes each open port of a session.
+    pub(crate) fn lag(&mut self, alloc: Global, kept: &mut Record, session: SessionId)
+        ensures { EachAlong (LagsWhereIts L.counts L.left L.written L.is_shut session) stays
+            self.old (without_room kept.old) self.new (without_room kept.new) }
+    {
+        lag_each(&mut self.list, alloc, kept, session);
+    }
+
+    /// Each port makes its step, in their order. One that is gone then is let go. Answers whether one did
+    /// anything, or something was heard before.
+    pub(crate) fn step<G: Gate, N: Naming, R: Wait + Copy>(
+        &mut self,
+        rt: &R,
+        desk: &mut DeskEnd,
+        boxes: &mut Boxes,
+        common: &mut Common<G, N, R>,
+        buf: &mut [u8],
+        heard: bool,
+    ) -> bool
+        requires seated { All (IsSeated boxes.old) self.old }
+        requires buffer { 0 < length buf.old }
+        ensures steps { EachAlong (PortSteps L.counts L.left L.written L.is_shut N.opening boxes.old) stays
+            self.old (record { common = bare common.old; desk = desk.old; worked = heard })
+            self.new (record { common = bare common.new; desk = desk.new; worked = result }) }
+        ensures seated { All (IsSeated boxes.old) self.new }
+        ensures boxes { boxes.new ≡ boxes.old }
+    {
+        step_each(&mut self.list, rt, desk, boxes, common, buf, heard)
+    }
+}

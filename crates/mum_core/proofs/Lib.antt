@@ -8,7 +8,6 @@ pub mod RunLaws
 pub mod Counts
 pub mod Lower
 pub mod Decided
-pub mod Framed
 pub mod Nexts
 pub mod Lagged
 pub mod Fitted

@@ -8,9 +8,7 @@ pub mod RunLaws
 pub mod Counts
 pub mod Lower
 pub mod Decided
-pub mod Framed
 pub mod Nexts
-pub mod Fewer
 pub mod Lagged
 pub mod Fitted
 pub mod Members

@@ -9,11 +9,12 @@ ghost use Rattle.mum_core.specs.Worker.{idle};
 
 use crate::connection::Connection;
 use crate::outbox::Outbox;
-use crate::post::{NoticeQueue, empty_posts};
+use crate::post::empty_posts;
 use crate::slot::SLOTS;
 use crate::worker::Worker;
 use mum_base::{Items, OutOfMemory, Text};
 use mum_history::{History, View, readers, state_after};
+use mum_notify::NoticeQueue;
 use mum_record::Step;
 use mum_state::Edit;
 use mum_tree::Scratch;

@@ -1,9 +1,11 @@
 //! What the core decides of the next command of a connection, and what it answers.
 
 ghost use Rattle.std.specs.Prelude.{◌≡◌, ◌<◌, IfOk, IfSome, Some, is_some, true};
+ghost use Rattle.std.specs.List.{AllByRecursion};
 ghost use Rattle.std.specs.Option.{option_map};
 ghost use Rattle.mum_rules_tree.specs.Decision.{FitsWhereAccepted};
-ghost use Rattle.mum_session.specs.Verdict.{verdict};
+ghost use Rattle.mum_notify.specs.Notices.{FitsFrame};
+ghost use Rattle.mum_session.specs.Verdict.{edits_of, verdict};
 ghost use Rattle.mum_core.specs.declared.slot.TheConstants.{SLOTS as slots};
 ghost use Rattle.mum_core.specs.Connection.{next_command, session_of};
 ghost use Rattle.mum_core.specs.Reply.{reply, seat_in, seat_of};
@@ -26,6 +28,7 @@ pub(crate) fn decide_next(
     requires { is_some (next_command connection.now) ≡ true }
     ensures verdict { IfOk result (λ decided. option_map (verdict state.now (session_of connection.now)) (next_command connection.now) ≡ Some decided) }
     ensures fits { IfOk result (FitsWhereAccepted state.now) }
+    ensures framed { IfOk result (λ decided. AllByRecursion FitsFrame (edits_of decided)) }
 {
     let session = connection.session();
     match connection.next_of_frame() {

@@ -1,6 +1,7 @@
 pub mod Bounds
 pub mod Departed
 pub mod Families
+pub mod Fewer
 pub mod OneFrame
 pub mod Pieces
 pub mod Placed

@@ -16,9 +16,11 @@ mod sync;
 mod telling;
 mod texts;
 mod users;
+mod waiting;
 mod watch;
 
 pub use fitting::fits_frame;
 pub use notice::{Notice, Notices};
 pub use sync::{PROTOCOL, sync_block};
 pub use telling::notices;
+pub use waiting::{NoticeQueue, shared};

@@ -3,3 +3,5 @@ pub mod Strangers
 pub mod Frames
 pub mod Replies
 pub mod Denials
+pub mod Channels
+pub mod Framed

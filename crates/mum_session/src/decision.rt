@@ -1,9 +1,11 @@
 //! What is decided of a command.
 
 ghost use Rattle.std.specs.Prelude.{◌≡◌, IfOk};
+ghost use Rattle.std.specs.List.{AllByRecursion};
 ghost use Rattle.mum_rules_tree.specs.Decision.{FitsWhereAccepted};
 ghost use Rattle.mum_session.specs.declared.command.Asked.TheVariants as asked;
-ghost use Rattle.mum_session.specs.Verdict.{verdict};
+ghost use Rattle.mum_notify.specs.Notices.{FitsFrame};
+ghost use Rattle.mum_session.specs.Verdict.{edits_of, verdict};
 
 use crate::command::Asked;
 use mum_base::{OutOfMemory, SessionId};
@@ -44,7 +46,7 @@ fn decide_on_users(
 }
 
 /// What is decided at a state of a command of a connection, which may have a session. An accepted edit
-/// fits the state.
+/// fits the state, and what it says itself fits a frame.
 pub fn decide(
     alloc: Global,
     state: &State,
@@ -53,6 +55,7 @@ pub fn decide(
 ) -> Result<Verdict, OutOfMemory>
     ensures verdict { IfOk result (λ decided. decided ≡ verdict state.now session command.now) }
     ensures fits { IfOk result (FitsWhereAccepted state.now) }
+    ensures framed { IfOk result (λ decided. AllByRecursion FitsFrame (edits_of decided)) }
 {
     match command {
         Asked::Tree(message) => decide_on_channels(alloc, state, session, message),

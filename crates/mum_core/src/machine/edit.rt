@@ -23,11 +23,10 @@ ghost use Rattle.mum_record.specs.Journal.{verdict_words};
 
 use super::{Core, StepFault, illegal};
 use crate::connection::{Connection, Reply, answer_at};
-use crate::post::NoticeQueue;
 use crate::reply::{decide_next, reply};
 use mum_base::{Mark, OutOfMemory, SessionId};
 use mum_history::History;
-use mum_notify::notices;
+use mum_notify::{NoticeQueue, notices};
 use mum_record::{Word, push_line};
 use mum_session::mark_of;
 use mum_state::{Edit, State, Verdict};

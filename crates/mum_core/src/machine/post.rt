@@ -9,7 +9,8 @@ ghost use Rattle.mum_core.specs.steps.Post.{forbids, does, lines};
 
 use super::{Core, StepFault, illegal};
 use crate::connection::lag_at_session;
-use crate::post::{has_room_at, put_at, shared};
+use crate::post::{has_room_at, put_at};
+use mum_notify::shared;
 use mum_record::{Word, push_line};
 
 impl Core {

@@ -1,7 +1,7 @@
 use Rattle.std.proofs.Common.{◌≡◌, ◌++◌, map}
 use Rattle.std.specs.VecDeque.Iter.{deque_iter_rest}
 use Rattle.mum_notify.specs.declared.notice.Notice.{Notice}
-use Rattle.mum_core.proofs.post.NoticeQueue.recipients.Given as goal
+use Rattle.mum_notify.proofs.waiting.NoticeQueue.recipients.Given as goal
 
 -- those so far and those to come are all of them
 abbrev pub invariant-loop-notice : goal.invariant-loop-notice

@@ -1,5 +1,5 @@
 use Rattle.std.proofs.Common.{◌≡◌, ◌-◌, length, take}
-use Rattle.mum_core.proofs.post.NoticeQueue.take_back.Given as goal
+use Rattle.mum_notify.proofs.waiting.NoticeQueue.take_back.Given as goal
 
 abbrev pub invariant-loop-taken : goal.invariant-loop-taken
 invariant-loop-taken l = l.self ≡ take (length l.initial.self - l._taken) l.initial.self

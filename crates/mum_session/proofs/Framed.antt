@@ -1,7 +1,7 @@
 -- What an accepted command itself says is told in one frame: its own message was not too long.
-use Rattle.std.proofs.Common.{◌≡◌, ℕ, ◌+◌, ◌≤◌, ◌==◌, Bool, true, false, List, [], ◌∷◌, length, map, Option, Some, None, refl, ap, subst, arith}
+use Rattle.std.proofs.Common.{◌≡◌, ℕ, ◌+◌, ◌≤◌, ◌==◌, Bool, true, false, List, [], ◌∷◌, length, map, Option, Some, None, Result, Ok, Err, IfOk, refl, ap, subst, sym, arith}
 use Rattle.std.specs.List.{AllByRecursion}
-use Rattle.std.specs.Option.{option_map, option_map_or}
+use Rattle.std.specs.Option.{option_map_or}
 use Rattle.std.proofs.lemmas.Bool.{ltb-false}
 use Rattle.mum_base.specs.declared.number.ChannelId.{ChannelId}
 use Rattle.mum_base.specs.declared.number.SessionId.{SessionId}
@@ -41,7 +41,7 @@ use Rattle.mum_notify.proofs.Bounds.{row-few, written-append}
 use Rattle.mum_session.specs.declared.command.Asked.{Asked}
 use Rattle.mum_session.specs.declared.command.Asked.TheVariants as commands
 use Rattle.mum_session.specs.Verdict.{edits_of, verdict}
-use Rattle.mum_core.proofs.Lower.{tree_holds, unless}
+use Rattle.mum_session.proofs.Channels.{tree_holds, unless}
 
 -- ---- a message takes what its fields take
 
@@ -182,9 +182,8 @@ verdict_told state (Some session) (commands.Tree message) = tree_told state sess
 verdict_told state None (commands.User message) = user_told state None message
 verdict_told state (Some session) (commands.User message) = user_told state (Some session) message
 
--- the edit that is decided of a command, if it is one
-pub decided_told : (state : StateValue) (session : Option SessionId) (next : Option Asked) (decided : Verdict) → option_map (verdict state session) next ≡ Some decided → AllByRecursion FitsFrame (edits_of decided)
-decided_told state session None decided is = cc
-decided_told state session (Some command) decided is =
-    let same : verdict state session command ≡ decided = cc in
-    subst IsTold same (verdict_told state session command)
+-- what is decided, where memory is there, is the verdict
+pub framed_so : {E : Type 0} (state : StateValue) (session : Option SessionId) (command : Asked) (answer : Result Verdict E)
+    → IfOk answer (λ decided. decided ≡ verdict state session command) → IfOk answer (λ decided. AllByRecursion FitsFrame (edits_of decided))
+framed_so state session command (Ok decided) is = subst IsTold (sym is) (verdict_told state session command)
+framed_so state session command (Err error) is = tt

@@ -1,7 +1,7 @@
 use Rattle.std.proofs.Common.{◌∙◌, ◌-◌, List, ap, length, take}
 use Rattle.mum_notify.specs.declared.notice.Notice.{Notice}
-use Rattle.mum_core.proofs.Fewer.{take-fewer}
-use Rattle.mum_core.proofs.post.NoticeQueue.take_back.Goals as goal
+use Rattle.mum_notify.proofs.Fewer.{take-fewer}
+use Rattle.mum_notify.proofs.waiting.NoticeQueue.take_back.Goals as goal
 
 pub loop-taken-preserved : goal.loop-taken-preserved
 loop-taken-preserved c =

@@ -1,0 +1,4 @@
+pub mod Links
+pub mod Machines
+pub mod Seats
+pub mod Wires

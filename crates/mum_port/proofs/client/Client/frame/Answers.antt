@@ -1,0 +1,8 @@
+use Rattle.std.proofs.Common.{◌∙◌}
+use Rattle.mum_port.proofs.Machines.{frame_keeps_numbers}
+use Rattle.mum_port.proofs.client.Client.frame.Goals as goal
+
+pub invariant_of-self : goal.invariant_of-self
+invariant_of-self c =
+    let kept = frame_keeps_numbers c.frame.result c.self.inside.session c.frame.new.self c.args.frame.kind c.args.frame.payload c.frame.ensures.after c.frame.ensures.err in
+    (kept.0 ∙ c.self.invariant.0, kept.1 ∙ c.self.invariant.1)

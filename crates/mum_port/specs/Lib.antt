@@ -1,0 +1,10 @@
+pub mod Client
+pub mod Facts
+pub mod Handling
+pub mod Linking
+pub mod Outgoing
+pub mod Putting
+pub mod Replies
+pub mod Stage
+pub mod Steps
+pub mod Taking

@@ -1,0 +1,62 @@
+-- What a port does on its link.
+use Rattle.std.specs.Prelude.{◌≡◌, ℕ, ◌<◌, Bool, IsTrue, List, [], ◌++◌, length, Option}
+use Rattle.mum_base.specs.declared.number.Cause.TheVariants.{End, LinkFault, FrameTooLong, Rejected, Kicked, Lagged, Memory}
+use Rattle.mum_io.specs.Counts.{Counts, NoneFalls, Rose}
+use Rattle.mum_io.specs.Link.{Appends, Consumes, IsAtEnd, Keeps}
+use Rattle.mum_port.specs.declared.stage.Went.{Went}
+use Rattle.mum_port.specs.declared.stage.Went.TheVariants.{NotDue, Stalled, Worked, Closes}
+
+-- how a read ended: what it took and what was lost of it for memory, the counts, and what was left to be read
+abbrev pub ReadEnded : Went → List ℕ → List ℕ → Counts → Counts → Option (List ℕ) → Type 0
+ReadEnded NotDue took lost old new left = ⊥
+ReadEnded Stalled took lost old new left = (took ≡ []) × (lost ≡ []) × Rose old.stalls new.stalls
+ReadEnded Worked took lost old new left = (0 < length took) × (lost ≡ [])
+ReadEnded (Closes End) took lost old new left = (took ≡ []) × (lost ≡ []) × Rose old.ends new.ends × IsAtEnd left
+ReadEnded (Closes LinkFault) took lost old new left = (took ≡ []) × (lost ≡ []) × Rose old.faults new.faults
+ReadEnded (Closes Memory) took lost old new left = 0 < length took
+ReadEnded (Closes FrameTooLong) took lost old new left = ⊥
+ReadEnded (Closes Rejected) took lost old new left = ⊥
+ReadEnded (Closes Kicked) took lost old new left = ⊥
+ReadEnded (Closes Lagged) took lost old new left = ⊥
+
+-- how a write ended: what it wrote, and the counts
+abbrev pub WriteEnded : Went → List ℕ → Counts → Counts → Type 0
+WriteEnded NotDue wrote old new = ⊥
+WriteEnded Stalled wrote old new = (wrote ≡ []) × Rose old.stalls new.stalls
+WriteEnded Worked wrote old new = 0 < length wrote
+WriteEnded (Closes End) wrote old new = ⊥
+WriteEnded (Closes LinkFault) wrote old new = (wrote ≡ []) × Rose old.faults new.faults
+WriteEnded (Closes FrameTooLong) wrote old new = ⊥
+WriteEnded (Closes Rejected) wrote old new = ⊥
+WriteEnded (Closes Kicked) wrote old new = ⊥
+WriteEnded (Closes Lagged) wrote old new = ⊥
+WriteEnded (Closes Memory) wrote old new = ⊥
+
+module _ {L : Type 0} (counts : L → Counts) (left written : L → Option (List ℕ)) (is_shut : L → Bool) where
+  -- a read: the bytes that it took stand after those that were kept, but for what was lost for memory
+  pub record ReadsLink (old : L) (kept : List ℕ) (went : Went) (new : L) (kept_after : List ℕ) : Type 0 where
+    pub took : List ℕ
+    pub lost : List ℕ
+    pub kept_are : kept ++ took ≡ kept_after ++ lost
+    pub consumed : Consumes (left old) (left new) took
+    pub written_same : Keeps (written old) (written new)
+    pub none_falls : NoneFalls (counts old) (counts new)
+    pub shut_same : is_shut new ≡ is_shut old
+    pub ended : ReadEnded went took lost (counts old) (counts new) (left old)
+
+  -- a write: the first bytes of those that were to be written were, and the others are to be
+  pub record WritesLink (old : L) (out : List ℕ) (went : Went) (new : L) (out_after : List ℕ) : Type 0 where
+    pub wrote : List ℕ
+    pub bytes : out ≡ wrote ++ out_after
+    pub appended : Appends (written old) (written new) wrote
+    pub left_same : Keeps (left old) (left new)
+    pub none_falls : NoneFalls (counts old) (counts new)
+    pub shut_same : is_shut new ≡ is_shut old
+    pub ended : WriteEnded went wrote (counts old) (counts new)
+
+  -- the link is shut, and nothing else of it changes
+  pub record ShutsLink (old new : L) : Type 0 where
+    pub shut : IsTrue (is_shut new)
+    pub counts_same : counts new ≡ counts old
+    pub left_same : Keeps (left old) (left new)
+    pub written_same : Keeps (written old) (written new)

@@ -1,0 +1,55 @@
+-- What a reply of the control owner, and a lag, leave of a port.
+use Rattle.std.specs.Prelude.{◌≡◌, ◌⊎◌, ℕ, Bool, true, false, List, ◌++◌, Option, Some, None}
+use Rattle.mum_base.specs.declared.number.Cause.{Cause}
+use Rattle.mum_base.specs.declared.number.Cause.TheVariants as causes
+use Rattle.mum_base.specs.declared.reply.ReplyEnd.{ReplyEnd}
+use Rattle.mum_base.specs.declared.reply.ReplyEnd.TheVariants.{Joined, Decided, Rejected}
+use Rattle.mum_io.specs.Counts.{Counts}
+use Rattle.mum_session.specs.Machine.{answered}
+use Rattle.mum_port.specs.Facts.{PortFacts}
+use Rattle.mum_port.specs.Stage.{is_closed, stage_after_reply}
+use Rattle.mum_port.specs.Steps.{ClosesFor}
+use Rattle.mum_port.specs.declared.seat.Seat.{Seat}
+
+-- a login that was accepted gives a seat, or none where its slot has no boxes
+abbrev pub seat_after : ReplyEnd → Option Seat → Option Seat → Option Seat
+seat_after (Joined session slot) given seat = given
+seat_after Decided given seat = seat
+seat_after Rejected given seat = seat
+
+-- an open port that took a reply, before its bytes are written
+abbrev pub with_reply : {L : Type 0} → ReplyEnd → PortFacts L → PortFacts L
+with_reply end port = record port { machine = answered end port.machine }
+
+module _ {L : Type 0} (counts : L → Counts) (left written : L → Option (List ℕ)) (is_shut : L → Bool) where
+  -- a port that is closed already stays as it is
+  pub record StaysClosed (old : PortFacts L) (closed : Option Cause) (new : PortFacts L) : Type 0 where
+    pub was_closed : is_closed old.stage ≡ true
+    pub so : closed ≡ None
+    pub same : new ≡ old
+
+  -- an open one ends its wait, and is to write the bytes after all else
+  pub record TakesReply (end : ReplyEnd) (wire : List ℕ) (seat : Option Seat) (old : PortFacts L) (closed : Option Cause) (new : PortFacts L) : Type 0 where
+    pub was_open : is_closed old.stage ≡ false
+    pub so : closed ≡ None
+    pub rest : new ≡ record (with_reply end old) {
+      out = old.out ++ wire;
+      seat = seat_after end seat old.seat;
+      stage = stage_after_reply end old.stage;
+    }
+
+  -- or closes, since there is no memory for the bytes
+  pub record ClosesAtReply (end : ReplyEnd) (old : PortFacts L) (closed : Option Cause) (new : PortFacts L) : Type 0 where
+    pub was_open : is_closed old.stage ≡ false
+    pub so : closed ≡ Some causes.Memory
+    pub closes : ClosesFor counts left written is_shut causes.Memory (with_reply end old) new
+
+  abbrev pub Answers : ReplyEnd → List ℕ → Option Seat → PortFacts L → Option Cause → PortFacts L → Type 0
+  Answers end wire seat old closed new =
+      StaysClosed old closed new ⊎ (TakesReply end wire seat old closed new ⊎ ClosesAtReply end old closed new)
+
+  -- an open port closes at a lag, and a closed one stays as it is
+  abbrev pub Lags : PortFacts L → Option Cause → PortFacts L → Type 0
+  Lags old closed new =
+      StaysClosed old closed new
+      ⊎ ((is_closed old.stage ≡ false) × (closed ≡ Some causes.Lagged) × ClosesFor counts left written is_shut causes.Lagged old new)

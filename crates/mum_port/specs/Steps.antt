@@ -1,0 +1,169 @@
+-- What each part of a port's step does, and the whole step as a chain of them.
+use Rattle.std.specs.Prelude.{◌≡◌, ◌⊎◌, ◌==◌, ◌||◌, ◌+◌, ℕ, Bool, true, false, IsTrue, is_some, List, [], ◌∷◌, length, Option, Some, None, if◌then◌else◌}
+use Rattle.std.specs.List.{list_any}
+use Rattle.mum_base.specs.declared.number.Cause.{Cause}
+use Rattle.mum_base.specs.declared.number.SessionId.{SessionId}
+use Rattle.mum_io.specs.Counts.{Counts}
+use Rattle.mum_outbox.specs.Facts.{PassFacts, QueueFacts}
+use Rattle.mum_port.specs.Facts.{MayRead, PortFacts, due_item, empty_framer, may_handle, may_write, stage_after_put, taking_session}
+use Rattle.mum_port.specs.Handling.{HandlesKept}
+use Rattle.mum_port.specs.Linking.{ReadsLink, ShutsLink, WritesLink}
+use Rattle.mum_port.specs.Putting.{with_offered, with_refused}
+use Rattle.mum_port.specs.Stage.{cause_of, closed_for, has_worked, is_closed, settled_where, stage_by}
+use Rattle.mum_port.specs.Taking.{Collects, Drains, foreign_count, has_taken}
+use Rattle.mum_port.specs.declared.item.DeskItem.{DeskItem}
+use Rattle.mum_port.specs.declared.outbound.Taking.{Taking}
+use Rattle.mum_port.specs.declared.outbound.Taking.TheVariants as taking
+use Rattle.mum_port.specs.declared.port.Step.{Step}
+use Rattle.mum_port.specs.declared.stage.Stage.{Stage}
+use Rattle.mum_port.specs.declared.stage.Went.{Went}
+use Rattle.mum_port.specs.declared.stage.Went.TheVariants.{NotDue}
+
+-- ---- the desk
+
+-- what an offer that was not accepted leaves of the pass: a full desk is counted, where something was due
+abbrev pub desk_refused : Option DeskItem → PassFacts DeskItem → PassFacts DeskItem
+desk_refused None desk = desk
+desk_refused (Some item) desk = with_refused desk
+
+module _ {L : Type 0} where
+  -- what was due is on the desk: what waited waits no more, or the farewell goes on
+  pub record PutsItem (old : PortFacts L) (desk : PassFacts DeskItem) (put : Bool) (new : PortFacts L) (after : PassFacts DeskItem) : Type 0 where
+    pub item : DeskItem
+    pub due : due_item old ≡ Some item
+    pub so : put ≡ true
+    pub offered : after ≡ with_offered desk item
+    pub left : new ≡ record old { waiting = None; stage = stage_after_put old.waiting old.stage }
+
+  -- nothing was due, or the desk was full
+  pub record PutsNothing (old : PortFacts L) (desk : PassFacts DeskItem) (put : Bool) (new : PortFacts L) (after : PassFacts DeskItem) : Type 0 where
+    pub so : put ≡ false
+    pub refused : after ≡ desk_refused (due_item old) desk
+    pub same : new ≡ old
+
+  abbrev pub Puts : PortFacts L → PassFacts DeskItem → Bool → PortFacts L → PassFacts DeskItem → Type 0
+  Puts old desk put new after = PutsItem old desk put new after ⊎ PutsNothing old desk put new after
+
+-- ---- the link
+
+-- the stage of a port that keeps these bytes to be written: one that ends closes once it keeps none
+abbrev pub settled : List ℕ → Stage → Stage
+settled out stage = settled_where (length out == 0) stage
+
+module _ {L : Type 0} where
+  -- a part of the step that the port might not do: it did nothing
+  pub record IsNotDue (may : Type 0) (old : PortFacts L) (went : Went) (new : PortFacts L) : Type 0 where
+    pub forbidden : ¬ may
+    pub so : went ≡ NotDue
+    pub same : new ≡ old
+
+  -- it might not look at its boxes, and took nothing
+  pub record TakesNothing (old : PortFacts L) (took : Taking) (new : PortFacts L) : Type 0 where
+    pub forbidden : taking_session old ≡ None
+    pub so : took ≡ taking.NotDue
+    pub same : new ≡ old
+
+  -- one take from the post box
+  pub record CollectsOne (posts : List QueueFacts) (old : PortFacts L) (took : Taking) (new : PortFacts L) : Type 0 where
+    pub session : SessionId
+    pub allowed : taking_session old ≡ Some session
+    pub taken : Collects posts session old.seat old.stage took new.seat new.out new.stage
+    pub left : new ≡ record old { seat = new.seat; out = new.out; stage = new.stage }
+
+  abbrev pub CollectsPost : List QueueFacts → PortFacts L → Taking → PortFacts L → Type 0
+  CollectsPost posts old took new = TakesNothing old took new ⊎ CollectsOne posts old took new
+
+  -- one take from the voice box
+  pub record DrainsOne (voices : List QueueFacts) (old : PortFacts L) (took : Taking) (new : PortFacts L) : Type 0 where
+    pub session : SessionId
+    pub allowed : taking_session old ≡ Some session
+    pub taken : Drains voices session old.seat took new.seat new.out
+    pub left : new ≡ record old { seat = new.seat; out = new.out }
+
+  abbrev pub DrainsVoice : List QueueFacts → PortFacts L → Taking → PortFacts L → Type 0
+  DrainsVoice voices old took new = TakesNothing old took new ⊎ DrainsOne voices old took new
+
+  -- a frame was looked for, where one might be handled
+  pub record HandlesOne {V : Type 0} (routed : V → ℕ → SessionId → List ℕ → V → Type 0) (old : PortFacts L) (router : V) (went : Went) (new : PortFacts L) (router_after : V) : Type 0 where
+    pub allowed : IsTrue (may_handle old)
+    pub handled : HandlesKept routed old.machine old.framer.kept old.waiting old.out router went new.machine new.framer.kept new.waiting new.out router_after
+    pub left : new ≡ record old { machine = new.machine; framer = new.framer; waiting = new.waiting; out = new.out; stage = stage_by went old.stage }
+
+  abbrev pub Handles : {V : Type 0} → (V → ℕ → SessionId → List ℕ → V → Type 0) → PortFacts L → V → Went → PortFacts L → V → Type 0
+  Handles routed old router went new router_after =
+      (IsNotDue (IsTrue (may_handle old)) old went new × (router_after ≡ router)) ⊎ HandlesOne routed old router went new router_after
+
+module _ {L : Type 0} (counts : L → Counts) (left written : L → Option (List ℕ)) (is_shut : L → Bool) where
+  -- a read was made
+  pub record ReadsOnce (old : PortFacts L) (went : Went) (new : PortFacts L) : Type 0 where
+    pub allowed : MayRead old
+    pub read : ReadsLink counts left written is_shut old.link old.framer.kept went new.link new.framer.kept
+    pub rest : new ≡ record old { link = new.link; framer = new.framer; stage = stage_by went old.stage }
+
+  abbrev pub Reads : PortFacts L → Went → PortFacts L → Type 0
+  Reads old went new = IsNotDue (MayRead old) old went new ⊎ ReadsOnce old went new
+
+  -- a write was made
+  pub record WritesOnce (old : PortFacts L) (went : Went) (new : PortFacts L) : Type 0 where
+    pub allowed : IsTrue (may_write old)
+    pub wrote : WritesLink counts left written is_shut old.link old.out went new.link new.out
+    pub rest : new ≡ record old { link = new.link; out = new.out; stage = stage_by went old.stage }
+
+  abbrev pub Writes : PortFacts L → Went → PortFacts L → Type 0
+  Writes old went new = IsNotDue (IsTrue (may_write old)) old went new ⊎ WritesOnce old went new
+
+  -- the port closes: its link is shut, and the memory of what it keeps is given back
+  pub record ClosesFor (cause : Cause) (old new : PortFacts L) : Type 0 where
+    pub shuts : ShutsLink counts left written is_shut old.link new.link
+    pub rest : new ≡ record old { link = new.link; framer = empty_framer; out = []; stage = closed_for cause }
+
+  -- the port closed in this step
+  pub record ClosesNow (was_closed : Bool) (old : PortFacts L) (closed : Option Cause) (new : PortFacts L) : Type 0 where
+    pub cause : Cause
+    pub was_open : was_closed ≡ false
+    pub by : cause_of (settled old.out old.stage) ≡ Some cause
+    pub so : closed ≡ Some cause
+    pub closes : ClosesFor cause old new
+
+  -- it did not
+  pub record StaysAsItIs (was_closed : Bool) (old : PortFacts L) (closed : Option Cause) (new : PortFacts L) : Type 0 where
+    pub why : (was_closed ≡ true) ⊎ (cause_of (settled old.out old.stage) ≡ None)
+    pub so : closed ≡ None
+    pub same : new ≡ old
+
+  abbrev pub Settles : Bool → PortFacts L → Option Cause → PortFacts L → Type 0
+  Settles was_closed old closed new = StaysAsItIs was_closed old closed new ⊎ ClosesNow was_closed old closed new
+
+-- what the parts of a step came to together: it worked where one did, and each parcel for another session is stale
+abbrev pub step_of : Bool → List Went → Taking → Taking → Option Cause → Step
+step_of put went posted heard closed = record {
+  worked = put || (list_any has_worked went || (has_taken posted || (has_taken heard || is_some closed)));
+  stale = foreign_count posted + foreign_count heard;
+  closed = closed;
+}
+
+module _ {L V : Type 0} (counts : L → Counts) (left written : L → Option (List ℕ)) (is_shut : L → Bool) (routed : V → ℕ → SessionId → List ℕ → V → Type 0) where
+  -- a step as the chain of its parts, with the port between them
+  pub record PortChain (posts voices : List QueueFacts) (old : PortFacts L) (desk : PassFacts DeskItem) (router : V) (step : Step)
+      (new : PortFacts L) (desk_after : PassFacts DeskItem) (router_after : V) : Type 0 where
+    pub put : Bool
+    pub read : Went
+    pub handled : Went
+    pub posted : Taking
+    pub heard : Taking
+    pub wrote : Went
+    pub closed : Option Cause
+    pub after_put : PortFacts L
+    pub after_read : PortFacts L
+    pub after_handle : PortFacts L
+    pub after_post : PortFacts L
+    pub after_voice : PortFacts L
+    pub after_write : PortFacts L
+    pub puts : Puts old desk put after_put desk_after
+    pub reads : Reads counts left written is_shut after_put read after_read
+    pub handles : Handles routed after_read router handled after_handle router_after
+    pub collects : CollectsPost posts after_handle posted after_post
+    pub drains : DrainsVoice voices after_post heard after_voice
+    pub writes : Writes counts left written is_shut after_voice wrote after_write
+    pub settles : Settles counts left written is_shut (is_closed old.stage) after_write closed new
+    pub came_to : step ≡ step_of put (read ∷ handled ∷ wrote ∷ []) posted heard closed

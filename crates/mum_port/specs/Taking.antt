@@ -1,0 +1,113 @@
+-- What a port takes from the boxes of its slot.
+use Rattle.std.specs.Prelude.{◌≡◌, ◌≢◌, ◌⊎◌, ℕ, Bool, true, false, List, [], slice_get, Option, Some, None, if◌then◌else◌}
+use Rattle.mum_base.specs.declared.number.Cause.TheVariants.{Kicked}
+use Rattle.mum_base.specs.declared.number.SessionId.{SessionId}
+use Rattle.mum_frame.specs.declared.kind.TheConstants.{UDP_TUNNEL}
+use Rattle.mum_frame.specs.Frame.{spelling_of}
+use Rattle.mum_outbox.specs.Calls.{Takes}
+use Rattle.mum_outbox.specs.Facts.{PassFacts, QueueFacts}
+use Rattle.mum_outbox.specs.declared.parcel.PostParcel.{PostParcel}
+use Rattle.mum_outbox.specs.declared.parcel.TheConstants.{POST_CAPACITY, VOICE_CAPACITY}
+use Rattle.mum_outbox.specs.declared.parcel.VoiceParcel.{VoiceParcel}
+use Rattle.mum_port.specs.declared.outbound.Taking.{Taking}
+use Rattle.mum_port.specs.declared.outbound.Taking.TheVariants.{NotDue, Nothing, Own, Foreign}
+use Rattle.mum_port.specs.declared.seat.Seat.{Seat}
+use Rattle.mum_port.specs.declared.stage.Stage.{Stage}
+use Rattle.mum_port.specs.declared.stage.Stage.TheVariants.{Ending}
+
+abbrev pub has_taken : Taking → Bool
+has_taken NotDue = false
+has_taken Nothing = false
+has_taken Own = true
+has_taken Foreign = true
+
+abbrev pub foreign_count : Taking → ℕ
+foreign_count NotDue = 0
+foreign_count Nothing = 0
+foreign_count Own = 0
+foreign_count Foreign = 1
+
+-- the pass of the seat is one of the post box of its slot, where there is such a box
+abbrev pub IsPassOfPost : List QueueFacts → Seat → Type 0
+IsPassOfPost posts seat = (queue : QueueFacts) → slice_get posts seat.slot.0 ≡ Some queue → seat.post.queue ≡ queue.queue
+
+abbrev pub IsPassOfVoice : List QueueFacts → Seat → Type 0
+IsPassOfVoice voices seat = (queue : QueueFacts) → slice_get voices seat.slot.0 ≡ Some queue → seat.voice.queue ≡ queue.queue
+
+-- so is that of a port, where it has a seat
+abbrev pub IsPosted : List QueueFacts → Option Seat → Type 0
+IsPosted posts None = Unit {0}
+IsPosted posts (Some seat) = IsPassOfPost posts seat
+
+abbrev pub IsVoiced : List QueueFacts → Option Seat → Type 0
+IsVoiced voices None = Unit {0}
+IsVoiced voices (Some seat) = IsPassOfVoice voices seat
+
+-- after the last parcel of its session a port ends, as one that was kicked
+abbrev pub stage_after_post : Bool → Stage → Stage
+stage_after_post last stage = if last then Ending Kicked else stage
+
+-- a parcel of the post box is to be written, where it is for the session, and else it is dropped
+abbrev pub PostsParcel : PostParcel → SessionId → Taking → List ℕ → Stage → Stage → Type 0
+PostsParcel parcel session NotDue out stage stage_after = ⊥
+PostsParcel parcel session Nothing out stage stage_after = ⊥
+PostsParcel parcel session Own out stage stage_after = (parcel.to ≡ session) × (out ≡ parcel.bytes) × (stage_after ≡ stage_after_post parcel.last stage)
+PostsParcel parcel session Foreign out stage stage_after = (parcel.to ≢ session) × (out ≡ []) × (stage_after ≡ stage)
+
+-- a parcel of the voice box is to be written as a frame of type 1, where it is for the session, and else it is dropped
+abbrev pub HearsParcel : VoiceParcel → SessionId → Taking → List ℕ → Type 0
+HearsParcel parcel session NotDue out = ⊥
+HearsParcel parcel session Nothing out = ⊥
+HearsParcel parcel session Own out = (parcel.to ≡ session) × (out ≡ spelling_of UDP_TUNNEL parcel.bytes.items)
+HearsParcel parcel session Foreign out = (parcel.to ≢ session) × (out ≡ [])
+
+-- what became of what the post box gave
+abbrev pub PostsTaken : Option PostParcel → SessionId → Taking → List ℕ → Stage → Stage → Type 0
+PostsTaken None session took out stage stage_after = (took ≡ Nothing) × (out ≡ []) × (stage_after ≡ stage)
+PostsTaken (Some parcel) session took out stage stage_after = PostsParcel parcel session took out stage stage_after
+
+abbrev pub HearsTaken : Option VoiceParcel → SessionId → Taking → List ℕ → Type 0
+HearsTaken None session took out = (took ≡ Nothing) × (out ≡ [])
+HearsTaken (Some parcel) session took out = HearsParcel parcel session took out
+
+-- one take from the post box of the seat
+pub record TakesPost (session : SessionId) (seat : Seat) (stage : Stage) (took : Taking) (seat_after : Seat) (out : List ℕ) (stage_after : Stage) : Type 0 where
+  pub pass : PassFacts PostParcel
+  pub parcel : Option PostParcel
+  pub after : seat_after ≡ record seat { post = pass }
+  pub takes : Takes POST_CAPACITY seat.post parcel pass
+  pub posted : PostsTaken parcel session took out stage stage_after
+
+pub record TakesVoice (session : SessionId) (seat : Seat) (took : Taking) (seat_after : Seat) (out : List ℕ) : Type 0 where
+  pub pass : PassFacts VoiceParcel
+  pub parcel : Option VoiceParcel
+  pub after : seat_after ≡ record seat { voice = pass }
+  pub takes : Takes VOICE_CAPACITY seat.voice parcel pass
+  pub heard : HearsTaken parcel session took out
+
+-- nothing was taken, since there is no box of the slot
+pub record FindsNoBox (boxes : List QueueFacts) (seat : Seat) (took : Taking) (seat_after : Seat) (out : List ℕ) : Type 0 where
+  pub no_box : slice_get boxes seat.slot.0 ≡ None
+  pub not_due : took ≡ NotDue
+  pub seat_same : seat_after ≡ seat
+  pub out_same : out ≡ []
+
+abbrev pub SeatCollects : List QueueFacts → SessionId → Seat → Stage → Taking → Seat → List ℕ → Stage → Type 0
+SeatCollects posts session seat stage took seat_after out stage_after =
+    (FindsNoBox posts seat took seat_after out × (stage_after ≡ stage)) ⊎ TakesPost session seat stage took seat_after out stage_after
+
+abbrev pub SeatDrains : List QueueFacts → SessionId → Seat → Taking → Seat → List ℕ → Type 0
+SeatDrains voices session seat took seat_after out = FindsNoBox voices seat took seat_after out ⊎ TakesVoice session seat took seat_after out
+
+-- a port takes from the boxes of its seat, and nothing where it has none
+abbrev pub Collects : List QueueFacts → SessionId → Option Seat → Stage → Taking → Option Seat → List ℕ → Stage → Type 0
+Collects posts session None stage took None out stage_after = (took ≡ NotDue) × (out ≡ []) × (stage_after ≡ stage)
+Collects posts session None stage took (Some after) out stage_after = ⊥
+Collects posts session (Some seat) stage took None out stage_after = ⊥
+Collects posts session (Some seat) stage took (Some after) out stage_after = SeatCollects posts session seat stage took after out stage_after
+
+abbrev pub Drains : List QueueFacts → SessionId → Option Seat → Taking → Option Seat → List ℕ → Type 0
+Drains voices session None took None out = (took ≡ NotDue) × (out ≡ [])
+Drains voices session None took (Some after) out = ⊥
+Drains voices session (Some seat) took None out = ⊥
+Drains voices session (Some seat) took (Some after) out = SeatDrains voices session seat took after out

@@ -1,0 +1,135 @@
+//! What a port reads, and what it makes of the frames that it keeps.
+
+ghost use Rattle.std.specs.Prelude.{◌≡◌, ◌<◌, ℕ, Bool, false, length};
+ghost use Rattle.mum_frame.specs.Frame.{HasFrame};
+ghost use Rattle.mum_session.specs.Machine.{session_of};
+ghost use Rattle.mum_port.specs.Handling.{Acts, HandlesKept, HandlesWhole, TakesFrame};
+ghost use Rattle.mum_port.specs.Linking.{ReadsLink};
+
+use crate::client::Client;
+use crate::item::DeskItem;
+use crate::outgoing::Outgoing;
+use crate::router::VoiceRouter;
+use crate::stage::Went;
+use mum_base::{Cause, SessionId};
+use mum_frame::{Frame, Framer, Kept};
+use mum_io::{Link, PollRead};
+use mum_session::Action;
+use std::alloc::Global;
+
+/// Reads once, and keeps what came.
+pub(crate) fn read<L: Link>(link: &mut L, framer: &mut Framer, buf: &mut [u8]) -> Went
+    requires { 0 < length buf.old }
+    ensures { ReadsLink L.counts L.left L.written L.is_shut link.old framer.old.kept result
+        link.new framer.new.kept }
+{
+    match link.poll_read(buf) {
+        PollRead::Got(count) => match framer.feed(&buf[..count]) {
+            Ok(()) => Went::Worked,
+            Err(_) => Went::Closes(Cause::Memory),
+        },
+        PollRead::End => Went::Closes(Cause::End),
+        PollRead::NotYet => Went::Stalled,
+        PollRead::Failed => Went::Closes(Cause::LinkFault),
+    }
+}
+
+// What a frame asks for. A command waits for the desk, a packet goes to the router, and an echo is
+// written after all else.
+fn act<V: VoiceRouter>(
+    action: Action,
+    connection: u32,
+    session: Option<SessionId>,
+    waiting: &mut Option<DeskItem>,
+    out: &mut Outgoing,
+    router: &mut V,
+) -> Went
+    ensures { Acts V.routed connection session action waiting.old out.old router.old result
+        waiting.new out.new router.new }
+{
+    match action {
+        Action::Ask(command) => {
+            drop(waiting.replace(DeskItem::Command(command)));
+            Went::Worked
+        }
+        Action::Voice(packet) => match session {
+            Some(speaker) => {
+                router.route(connection, speaker, packet);
+                Went::Worked
+            }
+            None => {
+                drop(packet);
+                Went::Worked
+            }
+        },
+        Action::Echo(wire) => match out.push(wire) {
+            Ok(()) => Went::Worked,
+            Err(_) => Went::Closes(Cause::Memory),
+        },
+        Action::Keep => Went::Worked,
+        Action::Ignore { .. } => Went::Worked,
+    }
+}
+
+// Gives a frame to the machine, and does what it asks for.
+fn take_frame<V: VoiceRouter>(
+    alloc: Global,
+    client: &mut Client,
+    frame: Frame,
+    waiting: &mut Option<DeskItem>,
+    out: &mut Outgoing,
+    router: &mut V,
+) -> Went
+    requires { client.old.awaits ≡ false }
+    ensures { TakesFrame V.routed client.old frame waiting.old out.old router.old result
+        client.new waiting.new out.new router.new }
+{
+    let connection = client.connection();
+    let session = client.session();
+    match client.frame(alloc, frame) {
+        Ok(action) => act(action, connection, session, waiting, out, router),
+        Err(_) => Went::Closes(Cause::Memory),
+    }
+}
+
+// Handles the whole frame that is kept. Where no frame comes, there was no memory for it.
+fn handle_whole<V: VoiceRouter>(
+    alloc: Global,
+    client: &mut Client,
+    framer: &mut Framer,
+    waiting: &mut Option<DeskItem>,
+    out: &mut Outgoing,
+    router: &mut V,
+) -> Went
+    requires { client.old.awaits ≡ false }
+    ensures { HandlesWhole V.routed client.old framer.old.kept waiting.old out.old router.old result
+        client.new framer.new.kept waiting.new out.new router.new }
+{
+    if router.reserve().is_err() {
+        return Went::Closes(Cause::Memory);
+    }
+    match framer.next() {
+        Ok(Some(frame)) => take_frame(alloc, client, frame, waiting, out, router),
+        _ => Went::Closes(Cause::Memory),
+    }
+}
+
+/// Handles the first frame that is kept, if one is whole.
+pub(crate) fn handle<V: VoiceRouter>(
+    alloc: Global,
+    client: &mut Client,
+    framer: &mut Framer,
+    waiting: &mut Option<DeskItem>,
+    out: &mut Outgoing,
+    router: &mut V,
+) -> Went
+    requires { client.old.awaits ≡ false }
+    ensures { HandlesKept V.routed client.old framer.old.kept waiting.old out.old router.old result
+        client.new framer.new.kept waiting.new out.new router.new }
+{
+    match framer.kept() {
+        Kept::Nothing => Went::Stalled,
+        Kept::TooLong => Went::Closes(Cause::FrameTooLong),
+        Kept::Whole => handle_whole(alloc, client, framer, waiting, out, router),
+    }
+}

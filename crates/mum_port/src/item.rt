@@ -1,0 +1,12 @@
+//! What ports put on the desk of the control owner.
+
+use mum_session::Command;
+
+/// What the desk of the control owner takes.
+#[derive(Drop)]
+pub enum DeskItem {
+    /// A command of a connection, to be decided.
+    Command(Command),
+    /// The port of this connection is gone. Nothing of it follows.
+    Closed { connection: u32 },
+}

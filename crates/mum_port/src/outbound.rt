@@ -1,0 +1,172 @@
+//! What a port takes from its boxes, and what it writes.
+
+ghost use Rattle.std.specs.Prelude.{◌≡◌, ◌<◌, ◌≤◌, [], length};
+ghost use Rattle.mum_port.specs.Linking.{WritesLink};
+ghost use Rattle.mum_port.specs.Taking.{Collects, Drains, HearsParcel, IsPassOfPost, IsPassOfVoice, IsPosted, IsVoiced, PostsParcel, SeatCollects, SeatDrains, foreign_count, has_taken};
+
+use crate::outgoing::Outgoing;
+use crate::seat::Seat;
+use crate::stage::{Stage, Went};
+use mum_base::{Cause, SessionId};
+use mum_io::{Link, PollWrite};
+use mum_outbox::{PostBox, PostParcel, VoiceBox, VoiceParcel};
+use std::sync::Wait;
+
+/// What a look into a box came to.
+#[derive(Clone, Copy)]
+pub(crate) enum Taking {
+    /// The box was not looked into.
+    NotDue,
+    /// It held nothing.
+    Nothing,
+    /// A parcel for the session of the port.
+    Own,
+    /// A parcel for another session, which is dropped.
+    Foreign,
+}
+
+impl Taking {
+    /// Whether a parcel was taken.
+    pub(crate) fn took(self) -> bool
+        ensures { result ≡ has_taken self }
+    {
+        matches!(self, Taking::Own | Taking::Foreign)
+    }
+
+    /// How many parcels for another session were taken.
+    pub(crate) fn stale(self) -> u32
+        ensures count { result ≡ foreign_count self }
+        ensures one { result ≤ 1 }
+    {
+        match self {
+            Taking::Foreign => 1,
+            _ => 0,
+        }
+    }
+}
+
+// A parcel that was taken from the post box is written, where it is for this session. After the last one
+// the port ends.
+fn post(parcel: PostParcel, session: SessionId, out: &mut Outgoing, stage: &mut Stage) -> Taking
+    requires { out.old ≡ [] }
+    ensures { PostsParcel parcel session result out.new stage.old stage.new }
+{
+    let PostParcel { to, bytes, last } = parcel;
+    if to != session {
+        drop(bytes);
+        return Taking::Foreign;
+    }
+    out.hold(bytes);
+    if last {
+        *stage = Stage::Ending(Cause::Kicked);
+    }
+    Taking::Own
+}
+
+// A parcel that was taken from the voice box is written as a frame, where it is for this session.
+fn hear(parcel: &VoiceParcel, session: SessionId, out: &mut Outgoing) -> Taking
+    requires { out.old ≡ [] }
+    ensures { HearsParcel parcel.now session result out.new }
+{
+    if parcel.to != session {
+        return Taking::Foreign;
+    }
+    out.hold_voice(parcel.bytes.as_slice());
+    Taking::Own
+}
+
+// Takes one parcel from the post box of the seat's slot, where there is one.
+fn take_post<R: Wait>(
+    rt: &R,
+    posts: &[PostBox],
+    session: SessionId,
+    seat: &mut Seat,
+    out: &mut Outgoing,
+    stage: &mut Stage,
+) -> Taking
+    requires empty { out.old ≡ [] }
+    requires queue { IsPassOfPost posts.now seat.old }
+    ensures { SeatCollects posts.now session seat.old stage.old result seat.new out.new stage.new }
+{
+    let Some(queue) = posts.get(usize::from(seat.slot.0)) else {
+        return Taking::NotDue;
+    };
+    match queue.take_as(rt, &mut seat.post) {
+        None => Taking::Nothing,
+        Some(parcel) => post(parcel, session, out, stage),
+    }
+}
+
+// Takes one parcel from the voice box of the seat's slot, where there is one.
+fn take_voice<R: Wait>(
+    rt: &R,
+    voices: &[VoiceBox],
+    session: SessionId,
+    seat: &mut Seat,
+    out: &mut Outgoing,
+) -> Taking
+    requires empty { out.old ≡ [] }
+    requires queue { IsPassOfVoice voices.now seat.old }
+    ensures { SeatDrains voices.now session seat.old result seat.new out.new }
+{
+    let Some(queue) = voices.get(usize::from(seat.slot.0)) else {
+        return Taking::NotDue;
+    };
+    match queue.take_as(rt, &mut seat.voice) {
+        None => Taking::Nothing,
+        Some(parcel) => hear(&parcel, session, out),
+    }
+}
+
+/// Takes one parcel from its post box, where it has one.
+pub(crate) fn collect<R: Wait>(
+    rt: &R,
+    posts: &[PostBox],
+    session: SessionId,
+    seat: &mut Option<Seat>,
+    out: &mut Outgoing,
+    stage: &mut Stage,
+) -> Taking
+    requires empty { out.old ≡ [] }
+    requires queue { IsPosted posts.now seat.old }
+    ensures { Collects posts.now session seat.old stage.old result seat.new out.new stage.new }
+{
+    let Some(mut held) = seat.take() else {
+        return Taking::NotDue;
+    };
+    let took = take_post(rt, posts, session, &mut held, out, stage);
+    drop(seat.replace(held));
+    took
+}
+
+/// Takes one parcel from its voice box, where it has one.
+pub(crate) fn drain<R: Wait>(
+    rt: &R,
+    voices: &[VoiceBox],
+    session: SessionId,
+    seat: &mut Option<Seat>,
+    out: &mut Outgoing,
+) -> Taking
+    requires empty { out.old ≡ [] }
+    requires queue { IsVoiced voices.now seat.old }
+    ensures { Drains voices.now session seat.old result seat.new out.new }
+{
+    let Some(mut held) = seat.take() else {
+        return Taking::NotDue;
+    };
+    let took = take_voice(rt, voices, session, &mut held, out);
+    drop(seat.replace(held));
+    took
+}
+
+/// Writes once.
+pub(crate) fn write<L: Link>(link: &mut L, out: &mut Outgoing) -> Went
+    requires { 0 < length out.old }
+    ensures { WritesLink L.counts L.left L.written L.is_shut link.old out.old result link.new out.new }
+{
+    match out.write_to(link) {
+        PollWrite::Took(_) => Went::Worked,
+        PollWrite::NotYet => Went::Stalled,
+        PollWrite::Failed => Went::Closes(Cause::LinkFault),
+    }
+}

@@ -1,0 +1,377 @@
+//! A connection of a worker.
+
+ghost use Rattle.std.specs.Prelude.{◌≡◌, ◌<◌, ◌==◌, ◌↔◌, IsTrue, [], length};
+ghost use Rattle.mum_port.specs.Facts.{MayRead, PortFacts, may_handle, new_port, next_word, taking_session};
+ghost use Rattle.mum_port.specs.Stage.{is_closed, is_gone};
+ghost use Rattle.mum_port.specs.Replies.{Answers, Lags, seat_after};
+ghost use Rattle.mum_port.specs.Steps.{ClosesFor, CollectsPost, DrainsVoice, Handles, PortChain, Puts, Reads, Settles, Writes, step_of};
+ghost use Rattle.mum_port.specs.Taking.{IsPosted, IsVoiced};
+ghost use Rattle.mum_session.specs.Machine.{session_of};
+
+use crate::client::Client;
+use crate::desk::{put_waiting, put_word};
+use crate::inbound::{handle, read};
+use crate::item::DeskItem;
+use crate::outbound::{Taking, collect, drain, write};
+use crate::outgoing::Outgoing;
+use crate::router::VoiceRouter;
+use crate::seat::Seat;
+use crate::stage::{Farewell, Stage, Went, closed};
+use mum_base::{Cause, Octets, ReplyEnd, SessionId};
+use mum_frame::{Framer, Kept};
+use mum_io::Link;
+use mum_outbox::{BoxPass, Desk, PostBox, VoiceBox};
+use std::alloc::Global;
+use std::marker::Model;
+use std::mem::replace;
+use std::sync::Wait;
+
+/// A port that keeps more unwritten bytes than these reads nothing more. So it keeps at most these and one
+/// frame more.
+pub const UNWRITTEN_LIMIT: usize = 65_536;
+
+/// What a step of a port came to.
+#[derive(Clone, Copy, Debug)]
+pub struct Step {
+    /// Whether it did anything.
+    pub worked: bool,
+    /// How many parcels it took for other sessions.
+    pub stale: u32,
+    /// For what it closed in this step, if it did.
+    pub closed: Option<Cause>,
+}
+
+/// A connection that was taken in: its link, the machine of its frames, and what it keeps of both ways.
+#[derive(Drop)]
+pub struct Port<L: Link> {
+    link: L,
+    client: Client,
+    framer: Framer,
+    waiting: Option<DeskItem>,
+    out: Outgoing,
+    seat: Option<Seat>,
+    stage: Stage,
+}
+
+impl<L: Link> Model for Port<L> {
+    ghost use Rattle.mum_port.specs.Facts.{PortFacts};
+
+    ghost Value = { PortFacts L };
+
+    ghost view = { λ p. record {
+      link = p.link;
+      machine = p.client;
+      framer = p.framer;
+      waiting = p.waiting;
+      out = p.out;
+      seat = p.seat;
+      stage = p.stage;
+    } };
+}
+
+impl<L: Link> Port<L> {
+    /// A connection that was taken in, by its number and that of its worker. It takes no memory.
+    pub fn new(alloc: Global, connection: u32, worker: u8, link: L) -> Port<L>
+        ensures { result ≡ new_port connection worker link }
+    {
+        Port {
+            link,
+            client: Client::new(connection, worker),
+            framer: Framer::new(alloc),
+            waiting: None,
+            out: Outgoing::new(alloc),
+            seat: None,
+            stage: Stage::Live,
+        }
+    }
+
+    /// The number of the connection.
+    pub fn connection(&self) -> u32
+        ensures { result ≡ self.now.machine.connection }
+    {
+        self.client.connection()
+    }
+
+    /// The session of the connection, where it is logged in.
+    pub fn session(&self) -> Option<SessionId>
+        ensures { result ≡ session_of self.now.machine.stage }
+    {
+        self.client.session()
+    }
+
+    /// Whether all that it owed the desk is there. It is let go then.
+    pub fn is_gone(&self) -> bool
+        ensures { result ≡ is_gone self.now.stage }
+    {
+        self.stage.is_gone()
+    }
+
+    // Whether it closed, in this step or before.
+    fn is_closed(&self) -> bool
+        ensures { result ≡ is_closed self.now.stage }
+    {
+        self.stage.is_closed()
+    }
+
+    // It might handle a frame.
+    fn may_handle(&self) -> bool
+        ensures { result ≡ may_handle self.now }
+    {
+        self.stage.is_live() && !self.client.awaits() && self.waiting.is_none()
+    }
+
+    // It might handle a frame, keeps none, and has little to write.
+    fn may_read(&self) -> bool
+        ensures { IsTrue result ↔ MayRead self.now }
+    {
+        self.may_handle()
+            && matches!(self.framer.kept(), Kept::Nothing)
+            && self.out.length() <= UNWRITTEN_LIMIT
+    }
+
+    // What it owes the desk next, once it is closed.
+    fn next_word(&self) -> Option<DeskItem>
+        ensures { result ≡ next_word self.now.machine self.now.stage }
+    {
+        match self.stage {
+            Stage::Closed {
+                farewell: Farewell::Leave,
+                ..
+            } => Some(DeskItem::Command(self.client.leave())),
+            Stage::Closed {
+                farewell: Farewell::LastWord,
+                ..
+            } => Some(DeskItem::Closed {
+                connection: self.client.connection(),
+            }),
+            _ => None,
+        }
+    }
+
+    // Puts what waits on the desk, or the next word of the farewell.
+    fn put<R: Wait>(&mut self, rt: &R, desk: &Desk<DeskItem>, pass: &mut BoxPass<DeskItem>) -> bool
+        requires { pass.old.queue ≡ desk.now.queue }
+        ensures { Puts self.old pass.old result self.new pass.new }
+    {
+        if self.waiting.is_some() {
+            return put_waiting(rt, desk, pass, &mut self.waiting);
+        }
+        match self.next_word() {
+            Some(word) => put_word(rt, desk, pass, word, &mut self.stage),
+            None => false,
+        }
+    }
+
+    // Reads, where it may.
+    fn read(&mut self, buf: &mut [u8]) -> Went
+        requires { 0 < length buf.old }
+        ensures { Reads L.counts L.left L.written L.is_shut self.old result self.new }
+    {
+        if !self.may_read() {
+            return Went::NotDue;
+        }
+        let went = read(&mut self.link, &mut self.framer, buf);
+        self.stage = self.stage.by(went);
+        went
+    }
+
+    // Handles the first frame that it keeps, where it may.
+    fn handle<V: VoiceRouter>(&mut self, alloc: Global, router: &mut V) -> Went
+        ensures { Handles V.routed self.old router.old result self.new router.new }
+    {
+        if !self.may_handle() {
+            return Went::NotDue;
+        }
+        let went = handle(
+            alloc,
+            &mut self.client,
+            &mut self.framer,
+            &mut self.waiting,
+            &mut self.out,
+            router,
+        );
+        self.stage = self.stage.by(went);
+        went
+    }
+
+    // Takes from its post box, where it may.
+    fn collect<R: Wait>(&mut self, rt: &R, posts: &[PostBox]) -> Taking
+        requires { IsPosted posts.now self.old.seat }
+        ensures { CollectsPost posts.now self.old result self.new }
+    {
+        let Some(session) = self.taking_session() else {
+            return Taking::NotDue;
+        };
+        collect(
+            rt,
+            posts,
+            session,
+            &mut self.seat,
+            &mut self.out,
+            &mut self.stage,
+        )
+    }
+
+    // Takes from its voice box, where it may.
+    fn drain<R: Wait>(&mut self, rt: &R, voices: &[VoiceBox]) -> Taking
+        requires { IsVoiced voices.now self.old.seat }
+        ensures { DrainsVoice voices.now self.old result self.new }
+    {
+        let Some(session) = self.taking_session() else {
+            return Taking::NotDue;
+        };
+        drain(rt, voices, session, &mut self.seat, &mut self.out)
+    }
+
+    // Its session, where it may look at its boxes.
+    fn taking_session(&self) -> Option<SessionId>
+        ensures { result ≡ taking_session self.now }
+    {
+        if self.stage.is_live() && self.out.is_empty() {
+            self.client.session()
+        } else {
+            None
+        }
+    }
+
+    // Writes, where it may.
+    fn write(&mut self) -> Went
+        ensures { Writes L.counts L.left L.written L.is_shut self.old result self.new }
+    {
+        if self.stage.is_closed() || self.out.is_empty() {
+            return Went::NotDue;
+        }
+        let went = write(&mut self.link, &mut self.out);
+        self.stage = self.stage.by(went);
+        went
+    }
+
+    // Closes for a cause: shuts its link, and gives the memory of what it keeps back.
+    fn close(&mut self, alloc: Global, cause: Cause)
+        ensures { ClosesFor L.counts L.left L.written L.is_shut cause self.old self.new }
+    {
+        self.stage = closed(cause);
+        self.link.shut();
+        drop(replace(&mut self.framer, Framer::new(alloc)));
+        drop(replace(&mut self.out, Outgoing::new(alloc)));
+    }
+
+    // Closes a port that ends and has written all, or that met a cause in this step.
+    fn settle(&mut self, alloc: Global, was_closed: bool) -> Option<Cause>
+        ensures { Settles L.counts L.left L.written L.is_shut was_closed self.old result self.new }
+    {
+        if was_closed {
+            return None;
+        }
+        match self.stage.settled(self.out.is_empty()) {
+            Stage::Closed { cause, .. } => {
+                self.close(alloc, cause);
+                Some(cause)
+            }
+            _ => None,
+        }
+    }
+
+    /// The control owner answered: how the wait ends, the bytes that the connection is sent, and with a
+    /// session its seat, where there are boxes of its slot. Answers for what the port closes, if it does:
+    /// for `Memory`, where there is none for the bytes. A closed port drops all.
+    pub fn answered(
+        &mut self,
+        alloc: Global,
+        end: ReplyEnd,
+        wire: Octets,
+        seat: Option<Seat>,
+    ) -> Option<Cause>
+        ensures { Answers L.counts L.left L.written L.is_shut end wire seat self.old result self.new }
+    {
+        if self.stage.is_closed() {
+            drop(wire);
+            drop(seat);
+            return None;
+        }
+        self.client.answered(end);
+        if self.out.push(wire).is_err() {
+            drop(seat);
+            self.close(alloc, Cause::Memory);
+            return Some(Cause::Memory);
+        }
+        sit(&mut self.seat, end, seat);
+        self.stage = self.stage.answered(end);
+        None
+    }
+
+    /// A box of its session was full, or a login waits for its slot: it closes, unless it is closed already,
+    /// and drops what it did not write. Answers for what it closes, if it does.
+    pub fn lag(&mut self, alloc: Global) -> Option<Cause>
+        ensures { Lags L.counts L.left L.written L.is_shut self.old result self.new }
+    {
+        if self.stage.is_closed() {
+            return None;
+        }
+        self.close(alloc, Cause::Lagged);
+        Some(Cause::Lagged)
+    }
+
+    /// One step: it puts on the desk what waits, or the next word of its farewell; reads; handles a frame that
+    /// it keeps; takes from the post box and from the voice box of its slot; writes; and closes, where it is to.
+    /// It does each at most once, and where it may.
+    pub fn step<V: VoiceRouter, R: Wait>(
+        &mut self,
+        rt: &R,
+        alloc: Global,
+        desk: &Desk<DeskItem>,
+        pass: &mut BoxPass<DeskItem>,
+        posts: &[PostBox],
+        voices: &[VoiceBox],
+        router: &mut V,
+        buf: &mut [u8],
+    ) -> Step
+        requires desk { pass.old.queue ≡ desk.now.queue }
+        requires posts { IsPosted posts.now self.old.seat }
+        requires voices { IsVoiced voices.now self.old.seat }
+        requires buffer { 0 < length buf.old }
+        ensures chain { PortChain L.counts L.left L.written L.is_shut V.routed posts.now voices.now
+            self.old pass.old router.old result self.new pass.new router.new }
+        ensures desk { pass.new.queue ≡ desk.now.queue }
+        ensures posts { IsPosted posts.now self.new.seat }
+        ensures voices { IsVoiced voices.now self.new.seat }
+    {
+        let was_closed = self.is_closed();
+        let put = self.put(rt, desk, pass);
+        let read = self.read(buf);
+        let handled = self.handle(alloc, router);
+        let posted = self.collect(rt, posts);
+        let heard = self.drain(rt, voices);
+        let wrote = self.write();
+        let closed = self.settle(alloc, was_closed);
+        Step::of(put, [read, handled, wrote], posted, heard, closed)
+    }
+}
+
+// The seat after a reply: a login that was accepted gives one, or none where its slot has no boxes.
+fn sit(seat: &mut Option<Seat>, end: ReplyEnd, given: Option<Seat>)
+    ensures { seat.new ≡ seat_after end given seat.old }
+{
+    match end {
+        ReplyEnd::Joined(_, _) => drop(replace(seat, given)),
+        ReplyEnd::Decided => drop(given),
+        ReplyEnd::Rejected => drop(given),
+    }
+}
+
+impl Step {
+    // What the parts of a step came to.
+    fn of(put: bool, went: [Went; 3], posted: Taking, heard: Taking, closed: Option<Cause>) -> Step
+        ensures { result ≡ step_of put went posted heard closed }
+    {
+        let part = went.iter().any(|part| part.worked());
+        let post = posted.took();
+        let voice = heard.took();
+        let close = closed.is_some();
+        Step {
+            worked: put || part || post || voice || close,
+            stale: posted.stale() + heard.stale(),
+            closed,
+        }
+    }
+}

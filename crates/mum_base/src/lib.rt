@@ -11,7 +11,9 @@ pub mod steps;
 
 pub use items::{Items, Octets, OutOfMemory, Text};
 pub use name::{NameFault, check_name, check_text};
-pub use number::{AccountId, Cause, ChannelId, PLACES, SLOTS, SessionId, Slot};
+pub use number::{
+    AccountId, CONNECTION_LIMIT, Cause, ChannelId, PLACES, SLOTS, SessionId, Slot,
+};
 pub use perm::{Perm, permission_bits};
 pub use reply::{Mark, ReplyEnd};
 pub use steps::Steps;

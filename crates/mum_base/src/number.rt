@@ -6,6 +6,9 @@ pub const SLOTS: usize = 128;
 /// The most channels that any server may have at once, with the root: places are below it.
 pub const PLACES: usize = 1024;
 
+/// The most connections that may be open at once.
+pub const CONNECTION_LIMIT: usize = 256;
+
 /// The number of a session. Numbers are given in order from 1 and never given again; 0 is no
 /// session's.
 #[derive(Clone, Copy, Debug, Default, PartialEq, Eq, PartialOrd, Ord, Hash)]

@@ -1,0 +1,17 @@
+//! The owner: it takes connections from the door and hands them to the workers, gives the commands that lie on
+//! the desk to the control owner, and answers by the bells of the workers.
+#![tactic(auto)]
+
+mod bells;
+pub mod crossing;
+mod desk;
+mod doorway;
+mod entry;
+mod guests;
+mod kept;
+mod logins;
+mod owner;
+mod scribe;
+
+pub use desk::PENDING_LIMIT;
+pub use owner::{Owner, OwnerEnd};

@@ -1,0 +1,4 @@
+mod Rows
+mod Telling
+mod Opening
+mod Desks

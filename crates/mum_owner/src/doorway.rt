@@ -1,6 +1,12 @@
 //! The door, and whether it is asked on.
 
-use mum_io::{Accept, Door};
+ghost use Rattle.std.specs.Prelude.{◌≡◌, true, false};
+ghost use Rattle.mum_io.specs.Door.{AcceptCounts, given_after};
+ghost use Rattle.mum_owner.specs.Asking.{failed_by, new_doorway, stopped_by};
+
+use crate::entrance::Entrance;
+use mum_io::Accept;
+use std::marker::Model;
 
 /// The door, and how it stopped, if it did.
 #[derive(Drop)]
@@ -10,8 +16,42 @@ pub(crate) struct Doorway<D: Drop> {
     failed: bool,
 }
 
-impl<D: Door> Doorway<D> {
-    pub(crate) fn open(door: D) -> Doorway<D> {
+impl<D: Drop> Model for Doorway<D> {
+    ghost use Rattle.mum_owner.specs.Facts.{DoorwayFacts};
+
+    ghost Value = { DoorwayFacts D };
+
+    ghost view = { λ d. record { door = d.door; stopped = d.stopped; failed = d.failed } };
+}
+
+// Whether the door ended or failed by this answer.
+fn stops<L>(answer: &Accept<L>) -> bool
+    ensures { result ≡ stopped_by answer.now false }
+{
+    match answer {
+        Accept::Conn(_) => false,
+        Accept::NotYet => false,
+        Accept::End => true,
+        Accept::Failed => true,
+    }
+}
+
+// Whether the door failed by this answer.
+fn fails<L>(answer: &Accept<L>) -> bool
+    ensures { result ≡ failed_by answer.now false }
+{
+    match answer {
+        Accept::Conn(_) => false,
+        Accept::NotYet => false,
+        Accept::End => false,
+        Accept::Failed => true,
+    }
+}
+
+impl<D: Entrance> Doorway<D> {
+    pub(crate) fn open(door: D) -> Doorway<D>
+        ensures { result ≡ new_doorway door }
+    {
         Doorway {
             door,
             stopped: false,
@@ -20,26 +60,32 @@ impl<D: Door> Doorway<D> {
     }
 
     /// Whether it ended or failed.
-    pub(crate) fn is_stopped(&self) -> bool {
+    pub(crate) fn is_stopped(&self) -> bool
+        ensures { result ≡ self.now.stopped }
+    {
         self.stopped
     }
 
-    /// Asks the door once.
-    pub(crate) fn ask(&mut self) -> Accept<D::Conn> {
-        let answer = self.door.poll_accept();
-        match answer {
-            Accept::End => self.stopped = true,
-            Accept::Failed => {
-                self.stopped = true;
-                self.failed = true;
-            }
-            _ => {}
-        }
+    /// Asks the door once. It is not asked again once it ended or failed.
+    pub(crate) fn ask(&mut self) -> Accept<D::Peer>
+        requires { self.old.stopped ≡ false }
+        ensures counts { AcceptCounts result (D.counts self.old.door) (D.counts self.new.door) }
+        ensures given { D.given self.new.door ≡ given_after result (D.given self.old.door) }
+        ensures stopped { self.new.stopped ≡ stopped_by result false }
+        ensures failed { self.new.failed ≡ failed_by result self.old.failed }
+    {
+        let answer = self.door.accept();
+        let (stops, fails) = (stops(&answer), fails(&answer));
+        self.stopped = stops;
+        self.failed = self.failed || fails;
         answer
     }
 
     /// The door, and whether it failed.
-    pub(crate) fn close(self) -> (D, bool) {
+    pub(crate) fn close(self) -> (D, bool)
+        ensures door { result.0 ≡ self.door }
+        ensures failed { result.1 ≡ self.failed }
+    {
         let Doorway {
             door,
             stopped: _,

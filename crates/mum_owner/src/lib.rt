@@ -6,6 +6,7 @@ mod bells;
 pub mod crossing;
 mod desk;
 mod doorway;
+pub mod entrance;
 mod entry;
 mod guests;
 mod kept;
@@ -14,4 +15,6 @@ mod owner;
 mod scribe;
 
 pub use desk::PENDING_LIMIT;
-pub use owner::{Owner, OwnerEnd};
+pub use entrance::Entrance;
+pub use guests::Guest;
+pub use owner::{Owner, OwnerEnd, OwnerOpening};

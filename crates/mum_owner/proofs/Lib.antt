@@ -2,3 +2,4 @@ mod Rows
 mod Telling
 mod Opening
 mod Desks
+mod Counting

@@ -9,3 +9,4 @@ pub mod Offering
 pub mod Serving
 pub mod Turned
 pub mod Opened
+pub mod Counted

@@ -3,6 +3,7 @@
 ghost use Rattle.std.specs.Prelude.{◌≡◌, ◌↔◌, ◌<◌, ◌+◌, ◌||◌, [], None, Some, IfErr, IfOk, IsTrue, length, replicate};
 ghost use Rattle.mum_base.specs.declared.number.TheConstants.{CONNECTION_LIMIT};
 ghost use Rattle.mum_control.specs.Commanded.{current};
+ghost use Rattle.mum_published.specs.Calls.{appended};
 ghost use Rattle.mum_outbox.specs.Calls.{IsNewPass};
 ghost use Rattle.mum_owner.specs.Guests.{entered, has_room, joined_by, lagging, no_guests};
 ghost use Rattle.mum_owner.specs.Opened.{IsOpened, opening_of};
@@ -81,6 +82,7 @@ pub struct Owner<'a, D: Entrance, N: Naming, R: Wait + Copy> {
 }
 
 impl<'a, D: Entrance, N: Naming, R: Wait + Copy> Model for Owner<'a, D, N, R> {
+    ghost use Rattle.mum_owner.specs.Counted.{HasCounted};
     ghost use Rattle.mum_owner.specs.Facts.{OwnerFacts};
 
     ghost Value = { OwnerFacts D };
@@ -96,6 +98,8 @@ impl<'a, D: Entrance, N: Naming, R: Wait + Copy> Model for Owner<'a, D, N, R> {
       scribe = o.scribe;
       is_ending = o.is_ending;
     } };
+
+    ghost invariant = { λ o. HasCounted o.control o.scribe };
 }
 
 // What an owner keeps room in.
@@ -184,6 +188,8 @@ impl<'a, D: Entrance, N: Naming, R: Wait + Copy> Owner<'a, D, N, R> {
         connections: u32,
         journal: bool,
     ) -> Result<Owner<'a, D, N, R>, D>
+        requires opening { control.publisher.opening ≡ N.opening }
+        requires fresh { appended control.publisher ≡ [] }
         requires connections { 0 < connections }
         requires bells { 0 < length bells.items }
         ensures owner { IfOk result (IsOpened control.entry door connections journal (length bells.items)) }
@@ -582,7 +588,7 @@ impl<'a, D: Entrance, N: Naming, R: Wait + Copy> Owner<'a, D, N, R> {
     pub fn finish(self) -> OwnerEnd<D>
         ensures door { result.door ≡ self.entry.doorway.door }
         ensures connections { result.connections ≡ self.entry.guests.given }
-        ensures accepted { result.accepted ≡ self.entry.scribe.accepted }
+        ensures accepted { result.accepted ≡ length (appended self.entry.control.publisher) }
         ensures state { result.state ≡ current self.entry.control }
         ensures entries { result.entries.items ≡ self.entry.scribe.entries }
         ensures no_memory { result.no_memory ≡ self.entry.scribe.no_memory }

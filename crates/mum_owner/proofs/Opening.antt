@@ -1,6 +1,6 @@
 -- What an owner was opened with stays, over each part of a turn.
-use Rattle.std.proofs.Common.{◌≡◌, ◌∙◌, ℕ, ◌+◌, Bool, true, false, cond, List, [], ◌∷◌, Option, Some, None, refl, ap, sym, subst, inl, inr}
-use Rattle.std.specs.Prelude.{◌⊎◌, ◌↔◌, ◌&&◌, IsTrue, filter, is_none, is_some, nat_lt, length}
+use Rattle.std.proofs.Common.{◌≡◌, ◌∙◌, ℕ, ◌+◌, Bool, true, false, cond, Option, Some, None, refl, ap, sym, subst, inl, inr}
+use Rattle.std.specs.Prelude.{◌↔◌, ◌&&◌, IsTrue, filter, is_none, nat_lt, length}
 use Rattle.std.specs.List.{list_any}
 use Rattle.mum_base.specs.declared.reply.ReplyEnd.{ReplyEnd}
 use Rattle.mum_base.specs.declared.reply.ReplyEnd.TheVariants.{Joined, Decided, Rejected}
@@ -17,9 +17,9 @@ use Rattle.mum_port.specs.declared.item.DeskItem.{DeskItem}
 use Rattle.mum_port.specs.declared.item.DeskItem.TheVariants as items
 use Rattle.mum_session.specs.declared.command.Command.{Command}
 use Rattle.mum_owner.specs.Facts.{GuestsFacts, OwnerFacts}
-use Rattle.mum_owner.specs.Guests.{joined_by, lagging, left, is_not_of, is_of}
-use Rattle.mum_owner.specs.Serving.{GivesWaiting, GoesWhere, IsGiven, LeaveIsGiven, LeavesWhere, PendsWhere, Receives, ReceivesBy, ReceivesItem, ServesDesk, ServesWhere, TakesItem, TakesWhere, may_go}
-use Rattle.mum_owner.specs.Turned.{Asks, AsksWhere, LagsFor, LagsOnce, Offered, OwnerTurned, PostsNotice, PostsOne, PostsWhere, Presses, PressesWhere, Publishes, PublishesBy, PublishesWhere, ended, guests_by, has_ended, is_over, lagged_by, lagged_for, turn_of}
+use Rattle.mum_owner.specs.Guests.{joined_by, lagging, is_not_of, is_of}
+use Rattle.mum_owner.specs.Serving.{GivesWaiting, GoesWhere, IsGiven, LeaveIsGiven, LeavesWhere, PendsWhere, ReceivesBy, ReceivesItem, ServesWhere, TakesItem, TakesWhere, may_go}
+use Rattle.mum_owner.specs.Turned.{AsksWhere, LagsFor, LagsOnce, Offered, OwnerTurned, PostsOne, PostsWhere, PressesWhere, PublishesBy, PublishesWhere, guests_by, has_ended, is_over, lagged_by, lagged_for, turn_of}
 use Rattle.mum_owner.specs.declared.desk.TheConstants.{PENDING_LIMIT}
 use Rattle.mum_owner.specs.declared.guests.Guest.{Guest}
 

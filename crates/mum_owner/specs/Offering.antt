@@ -1,5 +1,5 @@
 -- What is done with what is kept for the bells.
-use Rattle.std.specs.Prelude.{◌≡◌, ℕ, ◌||◌, Bool, List}
+use Rattle.std.specs.Prelude.{◌≡◌, ◌||◌, Bool, List}
 use Rattle.mum_owner.specs.Bell.{SideFacts}
 use Rattle.mum_owner.specs.Bell.Put.{Answer, Handed, Lagging}
 use Rattle.mum_owner.specs.Facts.{KeptFacts}

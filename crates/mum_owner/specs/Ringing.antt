@@ -29,7 +29,7 @@ Tells side took after = TellsBy side.is_told side took after
 
 -- ---- the bell of a worker
 
--- the number of the worker to whom a connection belongs, of so many
+-- the number of the worker to whom a connection belongs, where there are this many
 abbrev pub worker_of : ℕ → ℕ → ℕ
 worker_of zero workers = 0
 worker_of (suc before) workers = before % workers

@@ -1,5 +1,5 @@
 -- What an owner does with the desk.
-use Rattle.std.specs.Prelude.{◌≡◌, ◌⊎◌, ℕ, ◌&&◌, nat_lt, not, Bool, true, false, List, [], ◌∷◌, ◌++◌, find, length, is_none, is_some, Option, Some, None, if◌then◌else◌}
+use Rattle.std.specs.Prelude.{◌≡◌, ◌⊎◌, ℕ, ◌&&◌, nat_lt, Bool, true, false, List, [], ◌∷◌, ◌++◌, find, length, is_none, is_some, Option, Some, None, if◌then◌else◌}
 use Rattle.mum_base.specs.declared.number.SessionId.{SessionId}
 use Rattle.mum_base.specs.declared.number.Slot.{Slot}
 use Rattle.mum_base.specs.declared.number.TheConstants.{CONNECTION_LIMIT}
@@ -17,7 +17,7 @@ use Rattle.mum_rules_user.specs.declared.message.UserMessage.TheVariants.{Leave}
 use Rattle.mum_session.specs.declared.command.Asked.TheVariants.{User}
 use Rattle.mum_session.specs.declared.command.Command.{Command}
 use Rattle.mum_state.specs.State.{StateValue}
-use Rattle.mum_owner.specs.Facts.{DeskFacts, GuestsFacts, KeptFacts, OwnerFacts, ScribeFacts}
+use Rattle.mum_owner.specs.Facts.{KeptFacts, OwnerFacts, ScribeFacts}
 use Rattle.mum_owner.specs.Guests.{is_gone_from, joined_by, left, session_of}
 use Rattle.mum_owner.specs.Waiting.{are_none}
 use Rattle.mum_owner.specs.Written.{is_leave, is_login, prepared, recorded, refused}

@@ -1,5 +1,5 @@
 -- The turn of an owner, as the chain of its parts.
-use Rattle.std.specs.Prelude.{◌≡◌, ◌⊎◌, ◌+◌, ◌==◌, ◌&&◌, ◌||◌, ℕ, not, Bool, true, false, length, is_some, is_none, Option, Some, None, if◌then◌else◌}
+use Rattle.std.specs.Prelude.{◌≡◌, ◌+◌, ◌==◌, ◌&&◌, ◌||◌, ℕ, not, Bool, true, false, length, is_some, is_none, Option, Some, None, if◌then◌else◌}
 use Rattle.mum_base.specs.declared.number.SessionId.{SessionId}
 use Rattle.mum_control.specs.Facts.{ControlFacts}
 use Rattle.mum_control.specs.Posting.{PostsNext}

@@ -1,5 +1,5 @@
 -- Logins that wait.
-use Rattle.std.specs.Prelude.{ℕ, ◌==◌, Bool, List, length}
+use Rattle.std.specs.Prelude.{◌==◌, Bool, List, length}
 use Rattle.mum_session.specs.declared.command.Command.{Command}
 
 abbrev pub are_none : List Command → Bool

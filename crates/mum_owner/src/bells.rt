@@ -139,7 +139,7 @@ fn sides_of<L: Drop, N: Naming>(
     Ok(sides)
 }
 
-// The number of the worker to whom a connection belongs, of so many.
+// The number of the worker to whom a connection belongs, where there are this many.
 fn worker_of(connection: u32, workers: usize) -> usize
     requires { 0 < workers }
     ensures number { result ≡ worker_of connection workers }

@@ -1,4 +1,4 @@
-use Rattle.std.proofs.Common.{◌≡◌, ◌∙◌, Bool, ap}
+use Rattle.std.proofs.Common.{◌∙◌, Bool, ap}
 use Rattle.mum_owner.specs.Turned.{has_ended, turn_of}
 use Rattle.mum_owner.proofs.owner.Owner.work.Goals as goal
 

@@ -1,0 +1,5 @@
+mod Rows
+mod Telling
+mod Opening
+mod Desks
+mod Counting

@@ -1,0 +1,7 @@
+use Rattle.std.proofs.Common.{◌≡◌, drop}
+use Rattle.std.specs.Prelude.{find}
+use Rattle.mum_owner.specs.Guests.{is_of}
+use Rattle.mum_owner.proofs.guests.guest_of.Given as goal
+
+abbrev pub invariant-loop-guest : goal.invariant-loop-guest
+invariant-loop-guest l = find (is_of l.connection) l.rows ≡ find (is_of l.connection) (drop l.guest-index l.rows)

@@ -1,0 +1,8 @@
+use Rattle.std.proofs.Common.{◌∙◌, ap, sym}
+use Rattle.mum_owner.specs.Facts.{OwnerFacts}
+use Rattle.mum_owner.proofs.Desks.{none_may_go}
+use Rattle.mum_owner.proofs.owner.Owner.give_waiting.Goals as goal
+
+pub unreachable-requires : goal.unreachable-requires
+unreachable-requires g c =
+    none_may_go c.args.self.now (ap (λ (o : OwnerFacts g.row.D.Denot). o.logins) (sym c.self.view_is) ∙ c.in-None.ensures.0) c.requires

@@ -1,0 +1,56 @@
+-- What contracts see of the parts of an owner, as plain data.
+use Rattle.std.specs.Prelude.{ℕ, Bool, List, Option}
+use Rattle.mum_control.specs.Facts.{ControlFacts, ReplyFacts}
+use Rattle.mum_outbox.specs.Facts.{PassFacts}
+use Rattle.mum_port.specs.declared.item.DeskItem.{DeskItem}
+use Rattle.mum_record.specs.declared.journal.ControlEntry.{ControlEntry}
+use Rattle.mum_session.specs.declared.command.Command.{Command}
+use Rattle.mum_owner.specs.Bell.{SideFacts}
+use Rattle.mum_owner.specs.declared.guests.Guest.{Guest}
+use Rattle.mum_owner.specs.declared.kept.Lag.{Lag}
+use Rattle.mum_owner.specs.declared.entry.Draft.{Draft}
+
+-- the open connections by their numbers, how many were given and have closed, and how many are given in all
+pub record GuestsFacts : Type 0 where
+  pub rows : List Guest
+  pub given : ℕ
+  pub closed : ℕ
+  pub limit : ℕ
+
+-- the door, whether it ended or failed, and whether it failed
+pub record DoorwayFacts (D : Type 0) : Type 0 where
+  pub door : D
+  pub stopped : Bool
+  pub failed : Bool
+
+-- what waits for a bell: a reply, a lag item, and a connection by its number
+pub record KeptFacts : Type 0 where
+  pub reply : Option ReplyFacts
+  pub lag : Option Lag
+  pub coming : Option ℕ
+
+-- what was taken from the desk, and the connection whose leave is to be tried again
+pub record DeskFacts : Type 0 where
+  pub pass : PassFacts DeskItem
+  pub leave : Option ℕ
+
+-- whether a journal was asked for, what is prepared of its next entry, its entries, how many edits were accepted, and
+-- whether memory ran out
+pub record ScribeFacts : Type 0 where
+  pub is_asked : Bool
+  pub draft : Option Draft
+  pub entries : List ControlEntry
+  pub accepted : ℕ
+  pub no_memory : Bool
+
+pub record OwnerFacts (D : Type 0) : Type 0 where
+  pub control : ControlFacts
+  pub doorway : DoorwayFacts D
+  pub guests : GuestsFacts
+  pub bells : List SideFacts
+  pub kept : KeptFacts
+  pub desk : DeskFacts
+  -- those that wait for their slot, in the order in which they came
+  pub logins : List Command
+  pub scribe : ScribeFacts
+  pub is_ending : Bool

@@ -1,0 +1,27 @@
+-- What an owner is opened with.
+use Rattle.std.specs.Prelude.{◌≡◌, ℕ, Bool, false, [], replicate, None}
+use Rattle.mum_control.specs.Facts.{ControlFacts}
+use Rattle.mum_state.specs.State.{StateValue}
+use Rattle.mum_owner.specs.Asking.{new_doorway}
+use Rattle.mum_owner.specs.Bell.{new_side}
+use Rattle.mum_owner.specs.Facts.{OwnerFacts}
+use Rattle.mum_owner.specs.Guests.{no_guests}
+use Rattle.mum_owner.specs.declared.owner.OwnerOpening.{OwnerOpening}
+
+abbrev pub opening_of : StateValue → ℕ → Bool → OwnerOpening
+opening_of state connections journal = record { connections = connections; journal = journal; state = state }
+
+-- the owner is new: it has the control owner and the door, keeps nothing, and its bells took nothing from it
+abbrev pub IsOpened : {D : Type 0} → ControlFacts → D → ℕ → Bool → ℕ → OwnerFacts D → Type 0
+IsOpened control door connections journal workers owner =
+    owner ≡ record {
+      control = control;
+      doorway = new_doorway door;
+      guests = no_guests connections;
+      bells = replicate workers new_side;
+      kept = record { reply = None; lag = None; coming = None };
+      desk = record { pass = owner.desk.pass; leave = None };
+      logins = [];
+      scribe = record { is_asked = journal; draft = None; entries = []; accepted = 0; no_memory = false };
+      is_ending = false;
+    }

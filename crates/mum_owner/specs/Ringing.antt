@@ -1,0 +1,72 @@
+-- What is put into the bells of the workers.
+use Rattle.std.specs.Prelude.{◌≡◌, ℕ, zero, suc, ◌%◌, ◌||◌, Bool, true, false, List, [], ◌∷◌, ◌++◌, length, slice_get, slice_set, Option, Some, None}
+use Rattle.std.specs.List.{list_all}
+use Rattle.mum_outbox.specs.Calls.{one_more}
+use Rattle.mum_owner.specs.Bell.{Put, SideFacts}
+use Rattle.mum_owner.specs.Bell.Put.{NoMore}
+
+-- ---- one bell
+
+abbrev pub with_put : Put → SideFacts → SideFacts
+with_put item side = record side { put = side.put ++ item ∷ [] }
+
+-- it was found full once more
+abbrev pub with_full : SideFacts → SideFacts
+with_full side = record side { full = one_more side.full }
+
+-- it took that no more connections come
+abbrev pub with_end : SideFacts → SideFacts
+with_end side = record side { put = side.put ++ NoMore ∷ []; is_told = true }
+
+abbrev pub TellsBy : Bool → SideFacts → Bool → SideFacts → Type 0
+TellsBy true side took after = (took ≡ false) × (after ≡ side)
+TellsBy false side true after = after ≡ with_end side
+TellsBy false side false after = after ≡ with_full side
+
+-- the bell is offered once that no more connections come, unless it took that before
+abbrev pub Tells : SideFacts → Bool → SideFacts → Type 0
+Tells side took after = TellsBy side.is_told side took after
+
+-- ---- the bell of a worker
+
+-- the number of the worker to whom a connection belongs, where there are this many
+abbrev pub worker_of : ℕ → ℕ → ℕ
+worker_of zero workers = 0
+worker_of (suc before) workers = before % workers
+
+abbrev pub with_found : {A : Type 0} → List A → ℕ → (A → A) → Option A → List A
+with_found xs place change None = xs
+with_found xs place change (Some x) = slice_set xs place (change x)
+
+abbrev pub changed_at : {A : Type 0} → ℕ → (A → A) → List A → List A
+changed_at place change xs = with_found xs place change (slice_get xs place)
+
+-- the bell of the connection's worker is changed so
+abbrev pub at_worker : ℕ → (SideFacts → SideFacts) → List SideFacts → List SideFacts
+at_worker connection change bells = changed_at (worker_of connection (length bells)) change bells
+
+-- what is kept for the worker of a connection is offered once to its bell, and is kept on where that is full
+abbrev pub OffersOne : {A : Type 0} → (A → ℕ) → (A → Put) → List SideFacts → Option A → Bool → List SideFacts → Option A → Type 0
+OffersOne connection item bells None took after kept = (took ≡ false) × (after ≡ bells) × (kept ≡ None)
+OffersOne connection item bells (Some one) true after kept =
+    (after ≡ at_worker (connection one) (with_put (item one)) bells) × (kept ≡ None)
+OffersOne connection item bells (Some one) false after kept =
+    (after ≡ at_worker (connection one) with_full bells) × (kept ≡ Some one)
+
+-- ---- each bell
+
+-- each bell is offered once that no more connections come, unless it took that before; whether one took it now
+abbrev pub TellsEach : List SideFacts → Bool → List SideFacts → Type 0
+TellsEach [] took [] = took ≡ false
+TellsEach (side ∷ sides) took (after ∷ afters) =
+    (one : Bool) × (rest : Bool) × Tells side one after × TellsEach sides rest afters × (took ≡ (one || rest))
+TellsEach sides took afters = ⊥
+
+-- the same, where it is so
+abbrev pub TellsWhere : Bool → List SideFacts → Bool → List SideFacts → Type 0
+TellsWhere true bells took after = TellsEach bells took after
+TellsWhere false bells took after = (took ≡ false) × (after ≡ bells)
+
+-- each bell took that no more connections come
+abbrev pub are_told : List SideFacts → Bool
+are_told bells = list_all (λ side. side.is_told) bells

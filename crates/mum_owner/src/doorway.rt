@@ -1,0 +1,96 @@
+//! The door, and whether it is asked on.
+
+ghost use Rattle.std.specs.Prelude.{◌≡◌, true, false};
+ghost use Rattle.mum_io.specs.Door.{AcceptCounts, given_after};
+ghost use Rattle.mum_owner.specs.Asking.{failed_by, new_doorway, stopped_by};
+
+use crate::entrance::Entrance;
+use mum_io::Accept;
+use std::marker::Model;
+
+/// The door, and how it stopped, if it did.
+#[derive(Drop)]
+pub(crate) struct Doorway<D: Drop> {
+    door: D,
+    stopped: bool,
+    failed: bool,
+}
+
+impl<D: Drop> Model for Doorway<D> {
+    ghost use Rattle.mum_owner.specs.Facts.{DoorwayFacts};
+
+    ghost Value = { DoorwayFacts D };
+
+    ghost view = { λ d. record { door = d.door; stopped = d.stopped; failed = d.failed } };
+}
+
+// Whether the door ended or failed by this answer.
+fn stops<L>(answer: &Accept<L>) -> bool
+    ensures { result ≡ stopped_by answer.now false }
+{
+    match answer {
+        Accept::Conn(_) => false,
+        Accept::NotYet => false,
+        Accept::End => true,
+        Accept::Failed => true,
+    }
+}
+
+// Whether the door failed by this answer.
+fn fails<L>(answer: &Accept<L>) -> bool
+    ensures { result ≡ failed_by answer.now false }
+{
+    match answer {
+        Accept::Conn(_) => false,
+        Accept::NotYet => false,
+        Accept::End => false,
+        Accept::Failed => true,
+    }
+}
+
+impl<D: Entrance> Doorway<D> {
+    pub(crate) fn open(door: D) -> Doorway<D>
+        ensures { result ≡ new_doorway door }
+    {
+        Doorway {
+            door,
+            stopped: false,
+            failed: false,
+        }
+    }
+
+    /// Whether it ended or failed.
+    pub(crate) fn is_stopped(&self) -> bool
+        ensures { result ≡ self.now.stopped }
+    {
+        self.stopped
+    }
+
+    /// Asks the door once. It is not asked again once it ended or failed.
+    pub(crate) fn ask(&mut self) -> Accept<D::Peer>
+        requires { self.old.stopped ≡ false }
+        ensures counts { AcceptCounts result (D.counts self.old.door) (D.counts self.new.door) }
+        ensures given { D.given self.new.door ≡ given_after result (D.given self.old.door) }
+        ensures stopped { self.new.stopped ≡ stopped_by result false }
+        ensures failed { self.new.failed ≡ failed_by result self.old.failed }
+    {
+        let answer = self.door.accept();
+        let (stops, fails) = (stops(&answer), fails(&answer));
+        self.stopped = stops;
+        self.failed = self.failed || fails;
+        answer
+    }
+
+    /// The door, and whether it failed.
+    pub(crate) fn close(self) -> (D, bool)
+        ensures door { result.0 ≡ self.door }
+        ensures failed { result.1 ≡ self.failed }
+    {
+        let Doorway {
+            door,
+            stopped: _,
+            failed,
+        } = self;
+        (door, failed)
+    }
+}

@@ -1,0 +1,20 @@
+//! The owner: it takes connections from the door and hands them to the workers, gives the commands that lie on
+//! the desk to the control owner, and answers by the bells of the workers.
+#![tactic(auto)]
+
+mod bells;
+pub mod crossing;
+mod desk;
+mod doorway;
+pub mod entrance;
+mod entry;
+mod guests;
+mod kept;
+mod logins;
+mod owner;
+mod scribe;
+
+pub use desk::PENDING_LIMIT;
+pub use entrance::Entrance;
+pub use guests::Guest;
+pub use owner::{Owner, OwnerEnd, OwnerOpening};

@@ -1,0 +1,647 @@
+//! The owner.
+
+ghost use Rattle.std.specs.Prelude.{◌≡◌, ◌↔◌, ◌<◌, ◌+◌, ◌||◌, [], None, Some, IfErr, IfOk, IsTrue, length, replicate};
+ghost use Rattle.mum_base.specs.declared.number.TheConstants.{CONNECTION_LIMIT};
+ghost use Rattle.mum_control.specs.Commanded.{current};
+ghost use Rattle.mum_published.specs.Calls.{appended};
+ghost use Rattle.mum_outbox.specs.Calls.{IsNewPass};
+ghost use Rattle.mum_owner.specs.Guests.{entered, has_room, joined_by, lagging, no_guests};
+ghost use Rattle.mum_owner.specs.Opened.{IsOpened, opening_of};
+ghost use Rattle.mum_owner.specs.Serving.{EmptiesFor, GivesWaiting, GoesWhere, IsGiven, LeaveIsGiven, Receives, ReceivesItem, ServesDesk, TakesItem, blocker, leave_kept, leave_of, may_go, must_wait, refusal};
+ghost use Rattle.mum_owner.specs.Bell.{new_side, plain_reply};
+ghost use Rattle.mum_owner.specs.Turned.{Asks, LagsFor, Offered, OwnerTurned, PostsNotice, Presses, Publishes, ended, has_ended, is_not_to_ask, is_over, lagged_for, turn_of, with_lag};
+
+use crate::bells::Bells;
+use crate::desk::{DeskSide, PENDING_LIMIT};
+use crate::doorway::Doorway;
+use crate::entrance::Entrance;
+use crate::guests::{Guest, Guests};
+use crate::kept::{Kept, Lag};
+use crate::logins::{Logins, is_leave, is_login};
+use crate::scribe::Scribe;
+use mum_base::{Octets, OutOfMemory, ReplyEnd, SessionId};
+use mum_control::{Control, Posted};
+use mum_crew::{Role, Turn};
+use mum_io::Accept;
+use mum_outbox::{Bell, Desk};
+use mum_port::DeskItem;
+use mum_published::{BellItem, Naming, Reply};
+use mum_record::ControlEntry;
+use mum_rules_user::UserMessage;
+use mum_session::{Asked, Command};
+use mum_state::State;
+use std::alloc::Global;
+use std::marker::Model;
+use std::mem::drop;
+use std::sync::Wait;
+
+/// What an owner leaves.
+#[derive(Drop)]
+pub struct OwnerEnd<D: Drop> {
+    pub door: D,
+    /// How many connections the door gave.
+    pub connections: u32,
+    /// How many edits were accepted.
+    pub accepted: u64,
+    /// The state after them.
+    pub state: State,
+    /// The commands that were decided, in their order, where a journal was asked for.
+    pub entries: Vec<ControlEntry>,
+    /// A command was dropped, a leave was tried again, or a reply went without its note.
+    pub no_memory: bool,
+    pub door_failed: bool,
+}
+
+/// What an owner was opened with: how many connections are given in all, whether a journal is kept, and the
+/// state at which the server began.
+#[derive(Drop)]
+pub struct OwnerOpening {
+    pub connections: u32,
+    pub journal: bool,
+    pub state: State,
+}
+
+/// The role that takes connections from the door, gives the commands of the desk to the control owner, and
+/// answers by the bells of the workers. Connections are numbered from 1 in the order of their giving;
+/// connection n belongs to worker (n - 1) modulo the number of workers, and the number 0, which none gets, to
+/// worker 0.
+#[derive(Drop)]
+pub struct Owner<'a, D: Entrance, N: Naming, R: Wait + Copy> {
+    rt: R,
+    alloc: Global,
+    control: Control<'a, N>,
+    doorway: Doorway<D>,
+    guests: Guests,
+    bells: Bells<D::Peer, N>,
+    kept: Kept<D::Peer, N>,
+    desk: DeskSide,
+    logins: Logins,
+    scribe: Scribe,
+    // No more connections come, which each bell is to be told.
+    is_ending: bool,
+}
+
+impl<'a, D: Entrance, N: Naming, R: Wait + Copy> Model for Owner<'a, D, N, R> {
+    ghost use Rattle.mum_owner.specs.Counted.{HasCounted};
+    ghost use Rattle.mum_owner.specs.Facts.{OwnerFacts};
+
+    ghost Value = { OwnerFacts D };
+
+    ghost view = { λ o. record {
+      control = o.control;
+      doorway = o.doorway;
+      guests = o.guests;
+      bells = o.bells;
+      kept = o.kept;
+      desk = o.desk;
+      logins = o.logins;
+      scribe = o.scribe;
+      is_ending = o.is_ending;
+    } };
+
+    ghost invariant = { λ o. HasCounted o.control o.scribe };
+}
+
+// What an owner keeps room in.
+fn rooms_of<L: Drop, N: Naming>(
+    alloc: Global,
+    bells: Vec<Bell<BellItem<L, N>>>,
+    connections: u32,
+) -> Result<(Guests, Bells<L, N>, Logins), OutOfMemory>
+    requires { 0 < length bells.items }
+    ensures guests { IfOk result (λ rooms. rooms.0 ≡ no_guests connections) }
+    ensures bells { IfOk result (λ rooms. rooms.1 ≡ replicate (length bells.items) new_side) }
+    ensures logins { IfOk result (λ rooms. rooms.2 ≡ []) }
+{
+    let bells = Bells::open(alloc, bells)?;
+    let guests = Guests::open(alloc, connections)?;
+    let logins = Logins::open(alloc)?;
+    Ok((guests, bells, logins))
+}
+
+// The leave of a connection, which has this session.
+fn leave_of(connection: u32, session: Option<SessionId>) -> Command
+    ensures { result ≡ leave_of connection session }
+{
+    Command {
+        connection,
+        worker: 0,
+        session,
+        what: Asked::User(UserMessage::Leave),
+    }
+}
+
+// Memory ran out before a command was decided.
+fn refusal<N: Naming>(alloc: Global, connection: u32) -> Reply<N>
+    ensures { plain_reply result ≡ refusal connection }
+{
+    Reply::new(
+        connection,
+        ReplyEnd::Decided,
+        None,
+        Octets::from_vec(Vec::new(alloc)),
+        true,
+    )
+}
+
+// What a turn came to.
+fn turn_of(has_ended: bool, worked: bool) -> Turn
+    ensures { result ≡ turn_of has_ended worked }
+{
+    if has_ended {
+        Turn::Done
+    } else if worked {
+        Turn::Worked
+    } else {
+        Turn::Idle
+    }
+}
+
+// The connection gets the seat of an accepted login.
+fn seat(guests: &mut Guests, end: ReplyEnd, connection: u32)
+    ensures { guests.new ≡ joined_by end connection guests.old }
+{
+    if let ReplyEnd::Joined(session, slot) = end {
+        guests.join(connection, session, slot);
+    }
+}
+
+// The box of a session's slot is emptied, where it is in the state: its port is closed, and takes nothing more.
+fn empty_for<N: Naming, R: Wait>(rt: &R, control: &mut Control<'_, N>, session: Option<SessionId>)
+    ensures { EmptiesFor control.old session control.new }
+{
+    if let Some(session) = session {
+        control.empty_post(rt, session);
+    }
+}
+
+impl<'a, D: Entrance, N: Naming, R: Wait + Copy> Owner<'a, D, N, R> {
+    /// Takes the memory for what it keeps of as many connections as may be open at once. At most `connections`
+    /// are taken from the door. Where memory runs out, the door comes back.
+    pub fn open(
+        rt: R,
+        alloc: Global,
+        control: Control<'a, N>,
+        desk: Desk<DeskItem>,
+        bells: Vec<Bell<BellItem<D::Peer, N>>>,
+        door: D,
+        connections: u32,
+        journal: bool,
+    ) -> Result<Owner<'a, D, N, R>, D>
+        requires opening { control.publisher.opening ≡ N.opening }
+        requires fresh { appended control.publisher ≡ [] }
+        requires connections { 0 < connections }
+        requires bells { 0 < length bells.items }
+        ensures owner { IfOk result (IsOpened control.entry door connections journal (length bells.items)) }
+        ensures desk { IfOk result (λ owner. IsNewPass desk owner.desk.pass) }
+        ensures door { IfErr result (λ back. back ≡ door) }
+    {
+        let (guests, bells, logins) = match rooms_of(alloc, bells, connections) {
+            Ok(rooms) => rooms,
+            Err(_) => {
+                drop(control);
+                drop(desk);
+                return Err(door);
+            }
+        };
+        Ok(Owner {
+            rt,
+            alloc,
+            control,
+            doorway: Doorway::open(door),
+            guests,
+            bells,
+            kept: Kept::nothing(),
+            desk: DeskSide::open(desk),
+            logins,
+            scribe: Scribe::open(alloc, journal),
+            is_ending: false,
+        })
+    }
+
+    // Offers each item that is kept to its bell.
+    fn offer_kept(&mut self) -> bool
+        ensures { Offered self.old result self.new }
+    {
+        self.kept.offer(&self.rt, &mut self.bells, self.is_ending)
+    }
+
+    // The connection for which the next login waits.
+    fn blocker(&self) -> Option<Guest>
+        ensures { result ≡ blocker self.now }
+    {
+        match self.control.next_slot() {
+            Some(slot) => self.guests.gone_from(&self.control, slot),
+            None => None,
+        }
+    }
+
+    // Makes a lag item.
+    fn make_lag(&mut self, connection: u32, session: SessionId)
+        ensures { self.new ≡ with_lag connection session self.old }
+    {
+        self.guests.note_lag(connection);
+        self.kept.keep_lag(Lag {
+            connection,
+            session,
+        });
+    }
+
+    // Gives a command to the control owner, and keeps the reply.
+    fn give(&mut self, command: Command)
+        ensures { IsGiven self.old command self.new }
+    {
+        let connection = command.connection;
+        match self.scribe.prepare(&command) {
+            Ok(()) => {
+                let reply = self.control.command(&self.rt, command);
+                let mark = self.control.mark();
+                self.scribe.settle(connection, mark, reply.no_memory);
+                seat(&mut self.guests, reply.end, connection);
+                self.kept.keep_reply(reply);
+            }
+            Err(_) => {
+                drop(command);
+                self.scribe.refuse();
+                self.kept.keep_reply(refusal(self.alloc, connection));
+            }
+        }
+    }
+
+    // Gives the leave of a connection, with the session that is kept for it. Where memory runs out, it is kept.
+    fn give_leave(&mut self, connection: u32) -> bool
+        ensures { LeaveIsGiven self.old connection result self.new }
+    {
+        let session = self.guests.session_of(connection);
+        let command = leave_of(connection, session);
+        if self.scribe.prepare(&command).is_err() {
+            drop(command);
+            self.scribe.refuse();
+            self.desk.keep(Some(connection));
+            return false;
+        }
+        empty_for(&self.rt, &mut self.control, session);
+        let reply = self.control.command(&self.rt, command);
+        let mark = self.control.mark();
+        self.scribe.settle(connection, mark, reply.no_memory);
+        self.keep_leave(connection, mark.is_some(), reply)
+    }
+
+    // Keeps the reply to a leave that was decided, or the leave.
+    fn keep_leave(&mut self, connection: u32, decided: bool, reply: Reply<N>) -> bool
+        ensures { (result ≡ decided) × (self.new ≡ leave_kept connection decided (plain_reply reply) self.old) }
+    {
+        if decided {
+            self.desk.keep(None);
+            self.kept.keep_reply(reply);
+        } else {
+            drop(reply);
+            self.desk.keep(Some(connection));
+        }
+        decided
+    }
+
+    // A command came from the desk.
+    fn receive(&mut self, command: Command)
+        requires { length self.old.logins < CONNECTION_LIMIT }
+        ensures { Receives self.old command self.new }
+    {
+        if is_leave(&command.what) {
+            let connection = command.connection;
+            drop(command);
+            self.give_leave(connection);
+        } else if is_login(&command) && self.must_wait() {
+            self.logins.wait(command);
+        } else {
+            self.give(command);
+        }
+    }
+
+    // Whether a login that comes now waits.
+    fn must_wait(&self) -> bool
+        ensures { result ≡ must_wait self.now }
+    {
+        if self.logins.are_none() {
+            self.blocker().is_some()
+        } else {
+            true
+        }
+    }
+
+    // Whether a login that waits may go now.
+    fn may_go(&self) -> bool
+        ensures { result ≡ may_go self.now }
+    {
+        if self.logins.are_none() {
+            false
+        } else {
+            self.blocker().is_none()
+        }
+    }
+
+    // Takes an item from the desk.
+    fn take_item(&mut self) -> bool
+        requires { length self.old.logins < CONNECTION_LIMIT }
+        ensures { TakesItem self.old result self.new }
+    {
+        let item = self.desk.take(&self.rt);
+        self.receive_item(item)
+    }
+
+    // What came from the desk, if something did.
+    fn receive_item(&mut self, item: Option<DeskItem>) -> bool
+        requires { length self.old.logins < CONNECTION_LIMIT }
+        ensures { ReceivesItem self.old item result self.new }
+    {
+        match item {
+            Some(item) => self.receive_one(item),
+            None => false,
+        }
+    }
+
+    // An item came from the desk.
+    fn receive_one(&mut self, item: DeskItem) -> bool
+        requires { length self.old.logins < CONNECTION_LIMIT }
+        ensures { ReceivesItem self.old (Some item) result self.new }
+    {
+        match item {
+            DeskItem::Closed { connection } => {
+                self.guests.leave(connection);
+                true
+            }
+            DeskItem::Command(command) => {
+                self.receive(command);
+                true
+            }
+        }
+    }
+
+    // Gives the first login that waits.
+    fn give_waiting(&mut self) -> bool
+        requires { IsTrue (may_go self.old) }
+        ensures { GivesWaiting self.old result self.new }
+    {
+        match self.logins.next() {
+            Some(login) => {
+                self.give(login);
+                true
+            }
+            None => unreachable!(),
+        }
+    }
+
+    // Gives a login that waited, if it may go; or else takes an item from the desk, where one more login may
+    // wait.
+    fn take_next(&mut self) -> bool
+        ensures { GoesWhere (may_go self.old) self.old result self.new }
+    {
+        if self.may_go() {
+            return self.give_waiting();
+        }
+        if self.logins.have_room() {
+            self.take_item()
+        } else {
+            false
+        }
+    }
+
+    // Gives a kept leave again, or a login that waited, or takes an item from the desk.
+    fn serve_desk(&mut self) -> bool
+        ensures { ServesDesk self.old result self.new }
+    {
+        if self.kept.has_reply() {
+            return false;
+        }
+        match self.desk.leave() {
+            Some(connection) => self.give_leave(connection),
+            None => {
+                if PENDING_LIMIT < self.control.pending() {
+                    false
+                } else {
+                    self.take_next()
+                }
+            }
+        }
+    }
+
+    // Makes a lag item for this connection, unless one was made.
+    fn lag_for(&mut self, guest: Option<Guest>) -> bool
+        ensures { LagsFor self.old guest result self.new }
+    {
+        let Some(guest) = guest else {
+            return false;
+        };
+        let Some(session) = guest.session else {
+            return false;
+        };
+        if guest.lagged {
+            return false;
+        }
+        self.make_lag(guest.connection, session);
+        true
+    }
+
+    // Where a login waits, makes a lag item for the connection for which it does.
+    fn press(&mut self) -> bool
+        ensures { Presses self.old result self.new }
+    {
+        if self.logins.are_none() || self.kept.has_lag() {
+            return false;
+        }
+        let guest = self.blocker();
+        self.lag_for(guest)
+    }
+
+    // Publishes what a command could not.
+    fn publish(&mut self) -> bool
+        ensures { Publishes self.old result self.new }
+    {
+        if self.control.unpublished() == 0 {
+            return false;
+        }
+        match self.control.publish(&self.rt) {
+            Ok(note) => {
+                drop(note);
+                true
+            }
+            Err(_) => false,
+        }
+    }
+
+    // Makes a lag item for the connection of a session that lags, unless one was made.
+    fn note_lagged(&mut self, session: SessionId)
+        ensures { self.new ≡ lagged_for (lagging session self.old.guests.rows) session self.old }
+    {
+        if let Some(connection) = self.guests.lagging(session) {
+            self.make_lag(connection, session);
+        }
+    }
+
+    // Posts the first notice that is pending.
+    fn post(&mut self) -> bool
+        ensures { PostsNotice self.old result self.new }
+    {
+        if self.kept.has_lag() {
+            return false;
+        }
+        match self.control.post_next(&self.rt) {
+            Posted::None => false,
+            Posted::Posted(_) => true,
+            Posted::Lagged(session) => {
+                self.note_lagged(session);
+                true
+            }
+        }
+    }
+
+    // Whether no more connections come.
+    fn is_over(&self) -> bool
+        ensures { result ≡ is_over self.now }
+    {
+        self.doorway.is_stopped() || self.guests.are_all_given()
+    }
+
+    // Whether the door is not to be asked.
+    fn is_not_to_ask(&self) -> bool
+        ensures { result ≡ is_not_to_ask self.now }
+    {
+        self.kept.has_coming() || (self.is_over() || !self.guests.has_room())
+    }
+
+    // A connection came.
+    fn take_in(&mut self, link: D::Peer)
+        requires { IsTrue (has_room self.old.guests) }
+        ensures { self.new ≡ record self.old {
+          guests = entered self.old.guests;
+          kept = record self.old.kept { coming = Some (self.old.guests.given + 1) };
+        } }
+    {
+        let connection = self.guests.enter();
+        self.kept.keep_coming(connection, link);
+    }
+
+    // Asks the door, where it may.
+    fn ask_door(&mut self) -> bool
+        ensures { Asks D.Peer D.counts D.given self.old result self.new }
+    {
+        if self.is_not_to_ask() {
+            return false;
+        }
+        match self.doorway.ask() {
+            Accept::Conn(link) => {
+                self.take_in(link);
+                true
+            }
+            Accept::NotYet => false,
+            Accept::End => true,
+            Accept::Failed => true,
+        }
+    }
+
+    // Where no more connections come and each was handed over, the bells are told from the next turn on.
+    fn end(&mut self)
+        ensures { self.new ≡ ended self.old }
+    {
+        if self.is_over() && !self.kept.has_coming() {
+            self.is_ending = true;
+        }
+    }
+
+    // Whether no more connections come, each has closed, and each bell was told.
+    fn has_ended(&self) -> bool
+        ensures { result ≡ has_ended self.now }
+    {
+        self.is_over() && (self.guests.have_all_left() && self.bells.are_told())
+    }
+
+    /// One turn. It offers each item that it keeps to its bell; gives a kept leave again, or a login that
+    /// waited, or takes an item from the desk; publishes what is not published; posts a notice; asks the door;
+    /// and, where no more connections come, has that told to each worker. It does each at most once, and where
+    /// it may. What it was opened with stays, and it is done exactly where no more connections come, a `Closed`
+    /// was taken for each, and each bell took that no more come.
+    pub fn turn(&mut self) -> Turn
+        ensures turned { OwnerTurned D.Peer D.counts D.given self.old result self.new }
+        ensures opening { opening_of N.opening.state self.new.guests.limit self.new.scribe.is_asked
+            ≡ opening_of N.opening.state self.old.guests.limit self.old.scribe.is_asked }
+        ensures ended { (result ≡ Turn.Done) ↔ IsTrue (has_ended self.new) }
+    {
+        self.work()
+    }
+
+    // The parts of a turn, in their order.
+    fn work(&mut self) -> Turn
+        ensures { OwnerTurned D.Peer D.counts D.given self.old result self.new }
+    {
+        let offered = self.offer_kept();
+        let served = self.serve_desk();
+        let pressed = self.press();
+        let published = self.publish();
+        let posted = self.post();
+        let came = self.ask_door();
+        self.end();
+        let has_ended = self.has_ended();
+        let worked = any_of(offered, served, pressed, published, posted, came);
+        turn_of(has_ended, worked)
+    }
+
+    /// The door, the totals, the state after all accepted edits, and the entries of the journal.
+    pub fn finish(self) -> OwnerEnd<D>
+        ensures door { result.door ≡ self.entry.doorway.door }
+        ensures connections { result.connections ≡ self.entry.guests.given }
+        ensures accepted { result.accepted ≡ length (appended self.entry.control.publisher) }
+        ensures state { result.state ≡ current self.entry.control }
+        ensures entries { result.entries.items ≡ self.entry.scribe.entries }
+        ensures no_memory { result.no_memory ≡ self.entry.scribe.no_memory }
+        ensures door_failed { result.door_failed ≡ self.entry.doorway.failed }
+    {
+        let Owner {
+            rt: _,
+            alloc: _,
+            control,
+            doorway,
+            guests,
+            bells,
+            kept,
+            desk,
+            logins,
+            scribe,
+            is_ending: _,
+        } = self;
+        let connections = guests.given();
+        drop(guests);
+        drop(bells);
+        drop(kept);
+        drop(desk);
+        drop(logins);
+        let (door, door_failed) = doorway.close();
+        let (accepted, entries, no_memory) = scribe.close();
+        OwnerEnd {
+            door,
+            connections,
+            accepted,
+            state: control.into_state(),
+            entries,
+            no_memory,
+            door_failed,
+        }
+    }
+}
+
+// Whether one of them holds.
+fn any_of(a: bool, b: bool, c: bool, d: bool, e: bool, f: bool) -> bool
+    ensures { result ≡ (a || (b || (c || (d || (e || f))))) }
+{
+    a || (b || (c || (d || (e || f))))
+}
+
+impl<'a, D: Entrance, N: Naming, R: Wait + Copy> Role for Owner<'a, D, N, R> {
+    type Opening = OwnerOpening;
+
+    ghost opening = { λ owner. opening_of N.opening.state owner.guests.limit owner.scribe.is_asked };
+
+    ghost has_ended = { has_ended };
+
+    fn turn(&mut self) -> Turn {
+        Owner::turn(self)
+    }
+}

@@ -1,5 +1,5 @@
 -- The passes of a port that made its step are of the boxes of its slot.
-use Rattle.std.proofs.Common.{List, subst, sym}
+use Rattle.std.proofs.Common.{List, subst}
 use Rattle.mum_outbox.specs.Facts.{QueueFacts}
 use Rattle.mum_port.specs.Taking.{IsPosted, IsVoiced}
 use Rattle.mum_worker.specs.Boxes.{BoxesFacts}
@@ -8,9 +8,9 @@ use Rattle.mum_worker.proofs.ports.step_port.Goals as goal
 pub returns-clause-seated : goal.returns-clause-seated
 returns-clause-seated g c = record {
   posted =
-      subst (λ (boxes : BoxesFacts). IsPosted boxes.posts c.step-step.new.self.seat) (sym c.boxes.view_is)
+      subst (λ (boxes : BoxesFacts). IsPosted boxes.posts c.step-step.new.self.seat) c.boxes.view_is
       (subst (λ (posts : List QueueFacts). IsPosted posts c.step-step.new.self.seat) c.deref.ensures.value c.step-step.ensures.posts);
   voiced =
-      subst (λ (boxes : BoxesFacts). IsVoiced boxes.voices c.step-step.new.self.seat) (sym c.boxes.view_is)
+      subst (λ (boxes : BoxesFacts). IsVoiced boxes.voices c.step-step.new.self.seat) c.boxes.view_is
       (subst (λ (voices : List QueueFacts). IsVoiced voices c.step-step.new.self.seat) c.deref-2.ensures.value c.step-step.ensures.voices);
 }

@@ -3,8 +3,6 @@
 #![tactic(auto)]
 
 #[cfg(test)]
-mod control;
-#[cfg(test)]
 mod outbox;
 #[cfg(test)]
 mod outside;

@@ -83,7 +83,7 @@ edits_fit document none =
     (ap (λ (s : StateValue). length s.tree.channels) led.is)
     two.0 three.0 three.1)
 
-said_of_value : (text : List ℕ) (value : Data) → value_of text ≡ Some value → fault_of text ≡ None → object_fault_of value ≡ None
+pub said_of_value : (text : List ℕ) (value : Data) → value_of text ≡ Some value → fault_of text ≡ None → object_fault_of value ≡ None
 unfolding fault_of
 said_of_value text value is none =
     sym (ap (λ (found : Option Data). option_map_or object_fault_of found None) is)

@@ -10,3 +10,4 @@ pub mod MetChannels
 pub mod FitChannels
 pub mod FitLinks
 pub mod FitDocument
+pub mod FewWorkers

@@ -199,11 +199,12 @@ fn read_value(alloc: Global, text: &[u8]) -> Result<Value, BadConfig>
 }
 
 /// Reads the JSON document from which a server starts, or finds its first fault. Its edits fit one
-/// after the other from the empty state. The keys, and the order in which they are looked at, are in
+/// after the other from the empty state, and its workers are 1 to 8. The keys, and the order in which they are looked at, are in
 /// `docs/FORMATS.md`. Where a key comes twice the last one counts.
 pub fn read_config(alloc: Global, text: &[u8]) -> Result<Config, BadConfig>
     ensures reads { ReadsText text.now result }
     ensures fits { IfOk result (λ config. IsTrue (all_fit empty_state config.edits)) }
+    ensures workers { IfOk result (λ config. (1 ≤ config.workers) × (config.workers ≤ 8)) }
 {
     if text.len() > DOCUMENT_LIMIT {
         return Err(fault_at(alloc, ConfigFault::Limit, "document"));

@@ -6,6 +6,7 @@ use Rattle.serde_json.specs.View.{view}
 use Rattle.mum_config.specs.Document.{fault_of}
 use Rattle.mum_config.proofs.Documents.{text_read}
 use Rattle.mum_document.proofs.First.{first, later}
+use Rattle.mum_config.proofs.FewWorkers.{text_workers}
 use Rattle.mum_config.proofs.FitDocument.{text_fits}
 use Rattle.mum_config.proofs.config.read_config.Goals as goal
 
@@ -31,4 +32,10 @@ pub returns-clause-fits : goal.returns-clause-fits
 returns-clause-fits c =
     let short : nat_lt 65536 (length c.args.text.now) ≡ false = grind (arith, nat_tests) in
     text_fits c.args.text.now c.read_document.result
+    (text_read c.args.text.now (view c.in_ok-document.document) c.read_document.result short c.in_ok-document.ensures c.read_document.ensures)
+
+pub returns-clause-workers : goal.returns-clause-workers
+returns-clause-workers c =
+    let short : nat_lt 65536 (length c.args.text.now) ≡ false = grind (arith, nat_tests) in
+    text_workers c.args.text.now c.read_document.result
     (text_read c.args.text.now (view c.in_ok-document.document) c.read_document.result short c.in_ok-document.ensures c.read_document.ensures)

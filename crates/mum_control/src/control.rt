@@ -433,9 +433,10 @@ impl<'a, N: Naming> Control<'a, N> {
         empty_at(rt, &mut self.posts, place);
     }
 
-    /// The state after all accepted edits.
+    /// The state after all accepted edits. They are of the `open` that the control owner is named for.
     pub fn into_state(self) -> State
-        ensures { result ≡ current self.entry }
+        ensures state { result ≡ current self.entry }
+        ensures opening { self.entry.publisher.opening ≡ N.opening }
     {
         let Control {
             publisher: _,

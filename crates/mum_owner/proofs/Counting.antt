@@ -1,4 +1,4 @@
--- How many edits were accepted, over a command.
+-- How many edits were accepted and how many connections were given, over a command.
 use Rattle.std.proofs.Common.{◌≡◌, ◌∙◌, ℕ, ◌+◌, Bool, List, [], ◌∷◌, ◌++◌, length, Option, Some, None, Result, Ok, Err, OnOk, OnErr, ap, sym, inl, inr, arith, length-append}
 use Rattle.mum_base.specs.declared.number.SessionId.{SessionId}
 use Rattle.mum_base.specs.declared.number.Slot.{Slot}
@@ -17,8 +17,12 @@ use Rattle.mum_session.specs.declared.command.Command.{Command}
 use Rattle.mum_control.specs.Commanded.{Commanded, Decides, Publishes, current, with_edit}
 use Rattle.mum_control.specs.Facts.{ControlFacts, ReplyFacts}
 use Rattle.mum_base.specs.declared.reply.Mark.{Mark}
-use Rattle.mum_owner.specs.Counted.{HasCounted}
-use Rattle.mum_owner.specs.Facts.{ScribeFacts}
+use Rattle.mum_base.specs.declared.reply.ReplyEnd.{ReplyEnd}
+use Rattle.mum_owner.specs.Counted.{HasCounted, HasGiven}
+use Rattle.mum_owner.specs.Doors.{given_after_all}
+use Rattle.mum_owner.specs.Facts.{GuestsFacts, ScribeFacts}
+use Rattle.mum_owner.specs.Guests.{joined_by}
+use Rattle.mum_owner.proofs.Steps.{joined_given}
 use Rattle.mum_owner.specs.declared.entry.Draft.{Draft}
 use Rattle.mum_owner.specs.Written.{accepted_by, recorded}
 
@@ -85,3 +89,11 @@ pub prepared_count : {A E : Type 0} (answer : Result A E) (scribe after : Scribe
     → OnOk answer (after ≡ record scribe { draft = draft }) → OnErr answer (after ≡ record scribe { draft = None }) → after.accepted ≡ scribe.accepted
 prepared_count (Ok done) scribe after draft ok err = ap (λ (s : ScribeFacts). s.accepted) ok
 prepared_count (Err error) scribe after draft ok err = ap (λ (s : ScribeFacts). s.accepted) err
+
+-- ---- the connections
+
+-- the seat of an accepted login gives no connection
+pub seated_count : (end : ReplyEnd) (connection : ℕ) (guests after : GuestsFacts) (before now : ℕ) → HasGiven before guests now
+    → after ≡ joined_by end connection guests → HasGiven before after now
+seated_count end connection guests after before now given is =
+    given ∙ sym (ap (λ (n : ℕ). given_after_all before n) (ap (λ (g : GuestsFacts). g.given) is ∙ joined_given end connection guests))

@@ -3,3 +3,9 @@ mod Telling
 mod Opening
 mod Desks
 mod Counting
+mod Lagging
+mod Steps
+mod Once
+mod Putting
+mod Handing
+mod Giving

@@ -2,11 +2,13 @@ pub mod Bell
 pub mod Facts
 pub mod Guests
 pub mod Asking
+pub mod Doors
 pub mod Ringing
 pub mod Waiting
 pub mod Written
 pub mod Offering
 pub mod Serving
 pub mod Turned
+pub mod Laws
 pub mod Opened
 pub mod Counted

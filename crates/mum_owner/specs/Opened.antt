@@ -7,9 +7,11 @@ use Rattle.mum_owner.specs.Bell.{new_side}
 use Rattle.mum_owner.specs.Facts.{OwnerFacts}
 use Rattle.mum_owner.specs.Guests.{no_guests}
 use Rattle.mum_owner.specs.declared.owner.OwnerOpening.{OwnerOpening}
+use Rattle.mum_owner.specs.declared.serving.DoorOpening.{DoorOpening}
 
-abbrev pub opening_of : StateValue → ℕ → Bool → OwnerOpening
-opening_of state connections journal = record { connections = connections; journal = journal; state = state }
+abbrev pub opening_of : StateValue → DoorOpening → ℕ → Bool → OwnerOpening
+opening_of state door connections journal =
+    record { connections = connections; journal = journal; state = state; door = door }
 
 -- the owner is new: it has the control owner and the door, keeps nothing, and its bells took nothing from it
 abbrev pub IsOpened : {D : Type 0} → ControlFacts → D → ℕ → Bool → ℕ → OwnerFacts D → Type 0

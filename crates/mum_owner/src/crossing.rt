@@ -2,15 +2,15 @@
 //! cross.
 
 use crate::owner::Owner;
+use crate::serving::Serving;
 use mum_io::Door;
-use mum_published::Naming;
 use std::sync::Wait;
 
 fn crosses<T: Send>(value: T) -> T {
     value
 }
 
-pub fn owner_crosses<'a, D: Door + Send, N: Naming + Send, R: Wait + Copy + Send>(
+pub fn owner_crosses<'a, D: Door + Send, N: Serving + Send, R: Wait + Copy + Send>(
     owner: Owner<'a, D, N, R>,
 ) -> Owner<'a, D, N, R> {
     crosses(owner)

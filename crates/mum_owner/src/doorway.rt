@@ -3,25 +3,31 @@
 ghost use Rattle.std.specs.Prelude.{◌≡◌, true, false};
 ghost use Rattle.mum_io.specs.Door.{AcceptCounts, given_after};
 ghost use Rattle.mum_owner.specs.Asking.{failed_by, new_doorway, stopped_by};
+ghost use Rattle.mum_owner.specs.Doors.{IsSince};
 
 use crate::entrance::Entrance;
+use crate::serving::Serving;
 use mum_io::Accept;
-use std::marker::Model;
+use std::marker::{Model, PhantomData};
 
-/// The door, and how it stopped, if it did.
+/// The door, and how it stopped, if it did, since the owner was opened.
 #[derive(Drop)]
-pub(crate) struct Doorway<D: Drop> {
+pub(crate) struct Doorway<D: Entrance, N: Serving> {
     door: D,
     stopped: bool,
     failed: bool,
+    of: PhantomData<N>,
 }
 
-impl<D: Drop> Model for Doorway<D> {
+impl<D: Entrance, N: Serving> Model for Doorway<D, N> {
+    ghost use Rattle.mum_owner.specs.Doors.{IsSince};
     ghost use Rattle.mum_owner.specs.Facts.{DoorwayFacts};
 
     ghost Value = { DoorwayFacts D };
 
     ghost view = { λ d. record { door = d.door; stopped = d.stopped; failed = d.failed } };
+
+    ghost invariant = { λ d. IsSince N.door (D.counts d.door) (D.opened_at d.door) d.stopped d.failed };
 }
 
 // Whether the door ended or failed by this answer.
@@ -48,14 +54,17 @@ fn fails<L>(answer: &Accept<L>) -> bool
     }
 }
 
-impl<D: Entrance> Doorway<D> {
-    pub(crate) fn open(door: D) -> Doorway<D>
+impl<D: Entrance, N: Serving> Doorway<D, N> {
+    pub(crate) fn open(door: D) -> Doorway<D, N>
+        requires counts { D.counts door ≡ N.door.counts }
+        requires address { D.opened_at door ≡ N.door.opened_at }
         ensures { result ≡ new_doorway door }
     {
         Doorway {
             door,
             stopped: false,
             failed: false,
+            of: PhantomData,
         }
     }
 
@@ -85,11 +94,13 @@ impl<D: Entrance> Doorway<D> {
     pub(crate) fn close(self) -> (D, bool)
         ensures door { result.0 ≡ self.door }
         ensures failed { result.1 ≡ self.failed }
+        ensures since { IsSince N.door (D.counts result.0) (D.opened_at result.0) self.stopped result.1 }
     {
         let Doorway {
             door,
             stopped: _,
             failed,
+            of: _,
         } = self;
         (door, failed)
     }

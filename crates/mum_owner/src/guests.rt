@@ -1,6 +1,6 @@
 //! The connections that are open.
 
-ghost use Rattle.std.specs.Prelude.{◌≡◌, ◌+◌, ◌<◌, ◌==◌, map, filter, find, IfOk, IsTrue};
+ghost use Rattle.std.specs.Prelude.{◌≡◌, ◌+◌, ◌<◌, ◌≤◌, ◌==◌, map, filter, find, IfOk, IsTrue};
 ghost use Rattle.std.specs.List.{list_any};
 ghost use Rattle.std.specs.Option.{option_copied};
 ghost use Rattle.std.specs.Vec.{vec_capacity};
@@ -212,7 +212,8 @@ impl Guests {
 
     /// How many were given.
     pub(crate) fn given(&self) -> u32
-        ensures { result ≡ self.now.given }
+        ensures given { result ≡ self.now.given }
+        ensures within { result ≤ self.now.limit }
     {
         self.given
     }

@@ -10,11 +10,14 @@ pub mod entrance;
 mod entry;
 mod guests;
 mod kept;
+pub mod laws;
 mod logins;
 mod owner;
 mod scribe;
+pub mod serving;
 
 pub use desk::PENDING_LIMIT;
 pub use entrance::Entrance;
 pub use guests::Guest;
 pub use owner::{Owner, OwnerEnd, OwnerOpening};
+pub use serving::{DoorOpening, Serving};

@@ -3,8 +3,10 @@
 ghost use Rattle.std.specs.Prelude.{◌≡◌, ◌↔◌, ◌<◌, ◌+◌, ◌||◌, [], None, Some, IfErr, IfOk, IsTrue, length, replicate};
 ghost use Rattle.mum_base.specs.declared.number.TheConstants.{CONNECTION_LIMIT};
 ghost use Rattle.mum_control.specs.Commanded.{current};
+ghost use Rattle.mum_io.specs.Counts.{NoneFalls, Rose};
 ghost use Rattle.mum_published.specs.Calls.{appended};
 ghost use Rattle.mum_outbox.specs.Calls.{IsNewPass};
+ghost use Rattle.mum_owner.specs.Doors.{NoMoreCome, given_after_all};
 ghost use Rattle.mum_owner.specs.Guests.{entered, has_room, joined_by, lagging, no_guests};
 ghost use Rattle.mum_owner.specs.Opened.{IsOpened, opening_of};
 ghost use Rattle.mum_owner.specs.Serving.{EmptiesFor, GivesWaiting, GoesWhere, IsGiven, LeaveIsGiven, Receives, ReceivesItem, ServesDesk, TakesItem, blocker, leave_kept, leave_of, may_go, must_wait, refusal};
@@ -19,6 +21,7 @@ use crate::guests::{Guest, Guests};
 use crate::kept::{Kept, Lag};
 use crate::logins::{Logins, is_leave, is_login};
 use crate::scribe::Scribe;
+use crate::serving::{DoorOpening, Serving};
 use mum_base::{Octets, OutOfMemory, ReplyEnd, SessionId};
 use mum_control::{Control, Posted};
 use mum_crew::{Role, Turn};
@@ -52,13 +55,14 @@ pub struct OwnerEnd<D: Drop> {
     pub door_failed: bool,
 }
 
-/// What an owner was opened with: how many connections are given in all, whether a journal is kept, and the
-/// state at which the server began.
+/// What an owner was opened with: how many connections are given in all, whether a journal is kept, the state at
+/// which the server began, and what the door had counted.
 #[derive(Drop)]
 pub struct OwnerOpening {
     pub connections: u32,
     pub journal: bool,
     pub state: State,
+    pub door: DoorOpening,
 }
 
 /// The role that takes connections from the door, gives the commands of the desk to the control owner, and
@@ -66,11 +70,11 @@ pub struct OwnerOpening {
 /// connection n belongs to worker (n - 1) modulo the number of workers, and the number 0, which none gets, to
 /// worker 0.
 #[derive(Drop)]
-pub struct Owner<'a, D: Entrance, N: Naming, R: Wait + Copy> {
+pub struct Owner<'a, D: Entrance, N: Serving, R: Wait + Copy> {
     rt: R,
     alloc: Global,
     control: Control<'a, N>,
-    doorway: Doorway<D>,
+    doorway: Doorway<D, N>,
     guests: Guests,
     bells: Bells<D::Peer, N>,
     kept: Kept<D::Peer, N>,
@@ -81,8 +85,8 @@ pub struct Owner<'a, D: Entrance, N: Naming, R: Wait + Copy> {
     is_ending: bool,
 }
 
-impl<'a, D: Entrance, N: Naming, R: Wait + Copy> Model for Owner<'a, D, N, R> {
-    ghost use Rattle.mum_owner.specs.Counted.{HasCounted};
+impl<'a, D: Entrance, N: Serving, R: Wait + Copy> Model for Owner<'a, D, N, R> {
+    ghost use Rattle.mum_owner.specs.Counted.{HasCounted, HasGiven};
     ghost use Rattle.mum_owner.specs.Facts.{OwnerFacts};
 
     ghost Value = { OwnerFacts D };
@@ -99,7 +103,7 @@ impl<'a, D: Entrance, N: Naming, R: Wait + Copy> Model for Owner<'a, D, N, R> {
       is_ending = o.is_ending;
     } };
 
-    ghost invariant = { λ o. HasCounted o.control o.scribe };
+    ghost invariant = { λ o. HasCounted o.control o.scribe × HasGiven N.door.given o.guests (D.given o.doorway.door) };
 }
 
 // What an owner keeps room in.
@@ -175,7 +179,17 @@ fn empty_for<N: Naming, R: Wait>(rt: &R, control: &mut Control<'_, N>, session: 
     }
 }
 
-impl<'a, D: Entrance, N: Naming, R: Wait + Copy> Owner<'a, D, N, R> {
+// A connection came. It is the next one, and is kept.
+fn take_in<L: Drop, N: Naming>(guests: &mut Guests, kept: &mut Kept<L, N>, link: L)
+    requires { IsTrue (has_room guests.old) }
+    ensures guests { guests.new ≡ entered guests.old }
+    ensures kept { kept.new ≡ record kept.old { coming = Some (guests.old.given + 1) } }
+{
+    let connection = guests.enter();
+    kept.keep_coming(connection, link);
+}
+
+impl<'a, D: Entrance, N: Serving, R: Wait + Copy> Owner<'a, D, N, R> {
     /// Takes the memory for what it keeps of as many connections as may be open at once. At most `connections`
     /// are taken from the door. Where memory runs out, the door comes back.
     pub fn open(
@@ -190,6 +204,7 @@ impl<'a, D: Entrance, N: Naming, R: Wait + Copy> Owner<'a, D, N, R> {
     ) -> Result<Owner<'a, D, N, R>, D>
         requires opening { control.publisher.opening ≡ N.opening }
         requires fresh { appended control.publisher ≡ [] }
+        requires door { record { counts = D.counts door; given = D.given door; opened_at = D.opened_at door } ≡ N.door }
         requires connections { 0 < connections }
         requires bells { 0 < length bells.items }
         ensures owner { IfOk result (IsOpened control.entry door connections journal (length bells.items)) }
@@ -508,18 +523,6 @@ impl<'a, D: Entrance, N: Naming, R: Wait + Copy> Owner<'a, D, N, R> {
         self.kept.has_coming() || (self.is_over() || !self.guests.has_room())
     }
 
-    // A connection came.
-    fn take_in(&mut self, link: D::Peer)
-        requires { IsTrue (has_room self.old.guests) }
-        ensures { self.new ≡ record self.old {
-          guests = entered self.old.guests;
-          kept = record self.old.kept { coming = Some (self.old.guests.given + 1) };
-        } }
-    {
-        let connection = self.guests.enter();
-        self.kept.keep_coming(connection, link);
-    }
-
     // Asks the door, where it may.
     fn ask_door(&mut self) -> bool
         ensures { Asks D.Peer D.counts D.given self.old result self.new }
@@ -529,7 +532,7 @@ impl<'a, D: Entrance, N: Naming, R: Wait + Copy> Owner<'a, D, N, R> {
         }
         match self.doorway.ask() {
             Accept::Conn(link) => {
-                self.take_in(link);
+                take_in(&mut self.guests, &mut self.kept, link);
                 true
             }
             Accept::NotYet => false,
@@ -561,8 +564,8 @@ impl<'a, D: Entrance, N: Naming, R: Wait + Copy> Owner<'a, D, N, R> {
     /// was taken for each, and each bell took that no more come.
     pub fn turn(&mut self) -> Turn
         ensures turned { OwnerTurned D.Peer D.counts D.given self.old result self.new }
-        ensures opening { opening_of N.opening.state self.new.guests.limit self.new.scribe.is_asked
-            ≡ opening_of N.opening.state self.old.guests.limit self.old.scribe.is_asked }
+        ensures opening { opening_of N.opening.state N.door self.new.guests.limit self.new.scribe.is_asked
+            ≡ opening_of N.opening.state N.door self.old.guests.limit self.old.scribe.is_asked }
         ensures ended { (result ≡ Turn.Done) ↔ IsTrue (has_ended self.new) }
     {
         self.work()
@@ -590,9 +593,16 @@ impl<'a, D: Entrance, N: Naming, R: Wait + Copy> Owner<'a, D, N, R> {
         ensures connections { result.connections ≡ self.entry.guests.given }
         ensures accepted { result.accepted ≡ length (appended self.entry.control.publisher) }
         ensures state { result.state ≡ current self.entry.control }
+        ensures opening { self.entry.control.publisher.opening ≡ N.opening }
         ensures entries { result.entries.items ≡ self.entry.scribe.entries }
         ensures no_memory { result.no_memory ≡ self.entry.scribe.no_memory }
         ensures door_failed { result.door_failed ≡ self.entry.doorway.failed }
+        ensures failed { IsTrue result.door_failed → Rose N.door.counts.faults (D.counts result.door).faults }
+        ensures counts { NoneFalls N.door.counts (D.counts result.door) }
+        ensures address { D.opened_at result.door ≡ N.door.opened_at }
+        ensures given { D.given result.door ≡ given_after_all N.door.given result.connections }
+        ensures over { IsTrue (has_ended self.entry)
+            → NoMoreCome result.connections self.entry.guests.limit N.door.counts (D.counts result.door) }
     {
         let Owner {
             rt: _,
@@ -634,10 +644,10 @@ fn any_of(a: bool, b: bool, c: bool, d: bool, e: bool, f: bool) -> bool
     a || (b || (c || (d || (e || f))))
 }
 
-impl<'a, D: Entrance, N: Naming, R: Wait + Copy> Role for Owner<'a, D, N, R> {
+impl<'a, D: Entrance, N: Serving, R: Wait + Copy> Role for Owner<'a, D, N, R> {
     type Opening = OwnerOpening;
 
-    ghost opening = { λ owner. opening_of N.opening.state owner.guests.limit owner.scribe.is_asked };
+    ghost opening = { λ owner. opening_of N.opening.state N.door owner.guests.limit owner.scribe.is_asked };
 
     ghost has_ended = { has_ended };
 

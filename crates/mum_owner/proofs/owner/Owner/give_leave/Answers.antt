@@ -8,6 +8,9 @@ invariant_of-self-2 g c =
     let r = c.command-reply.result in
     let reply : ReplyFacts = record { connection = r.connection; end = r.end; note = r.note; wire = r.wire; no_memory = r.no_memory } in
     let same = emptied_count c.self.inside.control c.session_of-session.result c.empty_for.new.control c.empty_for.ensures in
+    let edits =
     given_count c.empty_for.new.control c.leave_of-command.result reply c.command-reply.new.self c.self.inside.scribe c.prepare.new.self c.settle.new.self
-    c.mark-mark.result c.args.connection r.no_memory (c.self.invariant ∙ sym same) c.command-reply.ensures
+    c.mark-mark.result c.args.connection r.no_memory (c.self.invariant.0 ∙ sym same) c.command-reply.ensures
     (prepared_count c.prepare.result c.self.inside.scribe c.prepare.new.self _ c.prepare.ensures.ok c.prepare.ensures.err) c.mark-mark.ensures c.settle.ensures
+    in
+    (edits, c.self.invariant.1)

@@ -1,0 +1,174 @@
+-- The turns of an owner, one after another, and what came of them.
+use Rattle.std.specs.Prelude.{◌≡◌, ◌==◌, ◌&&◌, ℕ, zero, suc, nat_lt, Bool, true, false, not, List, [], ◌∷◌, ◌++◌, length, map, slice_get, is_some, Option, Some, None}
+use Rattle.mum_base.specs.declared.number.TheConstants.{CONNECTION_LIMIT}
+use Rattle.mum_control.specs.Facts.{ReplyFacts}
+use Rattle.mum_crew.specs.declared.role.Turn.{Turn}
+use Rattle.mum_io.specs.Counts.{Counts}
+use Rattle.mum_port.specs.declared.item.DeskItem.{DeskItem}
+use Rattle.mum_port.specs.declared.item.DeskItem.TheVariants as items
+use Rattle.mum_session.specs.declared.command.Command.{Command}
+use Rattle.mum_owner.specs.Bell.{Put, SideFacts}
+use Rattle.mum_owner.specs.Bell.Put.{Answer, Handed, Lagging, NoMore}
+use Rattle.mum_owner.specs.Facts.{DeskFacts, OwnerFacts}
+use Rattle.mum_owner.specs.Ringing.{worker_of}
+use Rattle.mum_owner.specs.Serving.{GoesWhere, LeavesWhere, PendsWhere, ReceivesBy, ReceivesItem, ServesDesk, ServesWhere, TakesWhere, may_go, must_wait, with_pass}
+use Rattle.mum_owner.specs.Turned.{OwnerTurned}
+use Rattle.mum_owner.specs.Written.{is_leave, is_login}
+use Rattle.mum_owner.specs.declared.desk.TheConstants.{PENDING_LIMIT}
+use Rattle.mum_owner.specs.declared.kept.Lag.{Lag}
+
+-- ---- one bell
+
+abbrev pub puts_of : Option SideFacts → List Put
+puts_of None = []
+puts_of (Some side) = side.put
+
+-- what was put into the bell of the worker of this number, in order
+abbrev pub puts_at : ℕ → List SideFacts → List Put
+puts_at place bells = puts_of (slice_get bells place)
+
+-- the connection that was handed over, if one was
+abbrev pub handed : Put → Option ℕ
+handed (Answer reply) = None
+handed (Handed connection) = Some connection
+handed (Lagging session) = None
+handed NoMore = None
+
+-- the reply, if it is one
+abbrev pub answered : Put → Option ReplyFacts
+answered (Answer reply) = Some reply
+answered (Handed connection) = None
+answered (Lagging session) = None
+answered NoMore = None
+
+-- ---- whom an item is for
+
+-- the connection is of the worker of this number, of so many
+abbrev pub is_of_worker : ℕ → ℕ → ℕ → Bool
+is_of_worker place workers connection = worker_of connection workers == place
+
+abbrev pub listed : {X : Type 0} → Option X → List X
+listed None = []
+listed (Some x) = x ∷ []
+
+-- the numbers of so many connections, in the order of their giving
+abbrev pub numbers : ℕ → List ℕ
+numbers zero = []
+numbers (suc given) = numbers given ++ suc given ∷ []
+
+-- ---- the desk
+
+-- all that was taken from it, in order
+abbrev pub items_taken : DeskFacts → List DeskItem
+items_taken desk = map (λ tagged. tagged.item) desk.pass.taken
+
+abbrev pub command_unless : Bool → Command → Option Command
+command_unless true command = None
+command_unless false command = Some command
+
+-- the command, if it is one and no leave
+abbrev pub command_in : DeskItem → Option Command
+command_in (items.Closed connection) = None
+command_in (items.Command command) = command_unless (is_leave command.what) command
+
+abbrev pub leave_where : Bool → ℕ → Option ℕ
+leave_where true connection = Some connection
+leave_where false connection = None
+
+-- the connection of a leave, if it is one
+abbrev pub leave_in : DeskItem → Option ℕ
+leave_in (items.Closed connection) = None
+leave_in (items.Command command) = leave_where (is_leave command.what) command.connection
+
+abbrev pub is_no_login : Command → Bool
+is_no_login command = not (is_login command)
+
+-- what was settled of the desk: a command that was given to the control owner, or answered since memory ran out before it
+-- was decided; and the connection of a leave that was decided
+pub record Settled : Type 0 where
+  pub commands : List Command
+  pub leaves : List ℕ
+
+abbrev pub nothing : Settled
+nothing = record { commands = []; leaves = [] }
+
+abbrev pub one_command : Command → Settled
+one_command command = record { commands = command ∷ []; leaves = [] }
+
+-- a leave that was decided, or is to be tried again
+abbrev pub one_leave : Bool → ℕ → Settled
+one_leave decided connection = record { commands = []; leaves = listed (leave_where decided connection) }
+
+module _ {D : Type 0} where
+  abbrev pub settled_by : (leave waits : Bool) (old : OwnerFacts D) (command : Command) (new : OwnerFacts D) → ReceivesBy leave waits old command new → Settled
+  settled_by true waits old command new received = one_leave received.0 command.connection
+  settled_by false true old command new received = nothing
+  settled_by false false old command new received = one_command command
+
+  abbrev pub settled_of : (old : OwnerFacts D) (item : Option DeskItem) (worked : Bool) (new : OwnerFacts D) → ReceivesItem old item worked new → Settled
+  settled_of old None worked new received = nothing
+  settled_of old (Some (items.Closed connection)) worked new received = nothing
+  settled_of old (Some (items.Command command)) worked new received =
+      settled_by (is_leave command.what) (is_login command && must_wait old) old command new received.1
+
+  abbrev pub settled_taking : (b : Bool) (old : OwnerFacts D) (worked : Bool) (new : OwnerFacts D) → TakesWhere b old worked new → Settled
+  settled_taking true old worked new takes = settled_of (with_pass takes.pass old) takes.item worked new takes.received
+  settled_taking false old worked new rests = nothing
+
+  abbrev pub settled_going : (b : Bool) (old : OwnerFacts D) (worked : Bool) (new : OwnerFacts D) → GoesWhere b old worked new → Settled
+  settled_going true old worked new gives = one_command gives.login
+  settled_going false old worked new takes = settled_taking (nat_lt (length old.logins) CONNECTION_LIMIT) old worked new takes
+
+  abbrev pub settled_pending : (b : Bool) (old : OwnerFacts D) (worked : Bool) (new : OwnerFacts D) → PendsWhere b old worked new → Settled
+  settled_pending true old worked new rests = nothing
+  settled_pending false old worked new goes = settled_going (may_go old) old worked new goes
+
+  abbrev pub settled_leaving : (leave : Option ℕ) (old : OwnerFacts D) (worked : Bool) (new : OwnerFacts D) → LeavesWhere leave old worked new → Settled
+  settled_leaving (Some connection) old worked new given = one_leave worked connection
+  settled_leaving None old worked new pends = settled_pending (nat_lt PENDING_LIMIT (length old.control.pending)) old worked new pends
+
+  abbrev pub settled_where : (b : Bool) (old : OwnerFacts D) (worked : Bool) (new : OwnerFacts D) → ServesWhere b old worked new → Settled
+  settled_where true old worked new rests = nothing
+  settled_where false old worked new leaves = settled_leaving old.desk.leave old worked new leaves
+
+  -- what a turn settled
+  abbrev pub settled : (old : OwnerFacts D) (worked : Bool) (new : OwnerFacts D) → ServesDesk old worked new → Settled
+  settled old worked new serves = settled_where (is_some old.kept.reply) old worked new serves
+
+-- ---- the turns
+
+-- what is kept now, where nothing was kept before
+abbrev pub made : {X : Type 0} → Option X → Option X → List X
+made None after = listed after
+made (Some before) after = []
+
+module _ {D : Type 0} (L : Type 0) (counts : D → Counts) (given : D → ℕ) where
+  -- the turns, one after another, lead from this owner to that
+  abbrev pub TurnsTo : OwnerFacts D → List Turn → OwnerFacts D → Type 0
+  TurnsTo old [] new = new ≡ old
+  TurnsTo old (turn ∷ turns) new = (mid : OwnerFacts D) × OwnerTurned L counts given old turn mid × TurnsTo mid turns new
+
+  -- the replies to what was taken from the desk, in the order in which they were made
+  abbrev pub replies_made : (old : OwnerFacts D) (turns : List Turn) (new : OwnerFacts D) → TurnsTo old turns new → List ReplyFacts
+  replies_made old [] new all = []
+  replies_made old (turn ∷ turns) new all =
+      made all.1.after_offers.kept.reply all.1.after_desk.kept.reply ++ replies_made all.0 turns new all.2
+
+  -- the lag items, in the order in which they were made
+  abbrev pub lags_made : (old : OwnerFacts D) (turns : List Turn) (new : OwnerFacts D) → TurnsTo old turns new → List Lag
+  lags_made old [] new all = []
+  lags_made old (turn ∷ turns) new all =
+      made all.1.after_desk.kept.lag all.1.after_press.kept.lag
+      ++ (made all.1.after_publish.kept.lag all.1.after_post.kept.lag ++ lags_made all.0 turns new all.2)
+
+  -- the commands that were given to the control owner, or answered for want of memory, in order; leaves apart
+  abbrev pub commands_given : (old : OwnerFacts D) (turns : List Turn) (new : OwnerFacts D) → TurnsTo old turns new → List Command
+  commands_given old [] new all = []
+  commands_given old (turn ∷ turns) new all =
+      (settled all.1.after_offers all.1.served all.1.after_desk all.1.serves).commands ++ commands_given all.0 turns new all.2
+
+  -- the connections whose leave was decided, in order
+  abbrev pub leaves_decided : (old : OwnerFacts D) (turns : List Turn) (new : OwnerFacts D) → TurnsTo old turns new → List ℕ
+  leaves_decided old [] new all = []
+  leaves_decided old (turn ∷ turns) new all =
+      (settled all.1.after_offers all.1.served all.1.after_desk all.1.serves).leaves ++ leaves_decided all.0 turns new all.2

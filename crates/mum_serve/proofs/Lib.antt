@@ -1,0 +1,3 @@
+mod Leading
+mod Ended
+mod Refused

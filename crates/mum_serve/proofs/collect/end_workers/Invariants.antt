@@ -1,0 +1,10 @@
+use Rattle.std.proofs.Common.{◌≡◌, length}
+use Rattle.std.specs.Vec.Iter.{into_iter_items, into_iter_len}
+use Rattle.mum_serve.specs.Roles.{AreWorkers, with_workers, workers_in}
+use Rattle.mum_serve.specs.Totals.{nothing}
+use Rattle.mum_serve.proofs.collect.end_workers.Given as goal
+
+abbrev pub invariant-loop-role : goal.invariant-loop-role
+invariant-loop-role g l =
+    (AreWorkers (into_iter_items l.role-iterator) × with_workers (workers_in (into_iter_items l.role-iterator)) l.totals ≡ with_workers (workers_in l.fn.workers.items) nothing)
+    × (into_iter_len l.role-iterator ≡ length (into_iter_items l.role-iterator))

@@ -1,0 +1,29 @@
+-- What the crew gives back is what it was given, and has run where the crew did.
+use Rattle.std.proofs.Common.{◌∙◌, subst}
+use Rattle.mum_crew.specs.Crew.{RunCounts}
+use Rattle.mum_crew.specs.declared.crew.CrewEnd.{CrewEnd}
+use Rattle.mum_serve.proofs.Ended.{has_run, led_back}
+use Rattle.mum_serve.proofs.server.run.Goals as goal
+
+pub collect-door-requires-after_bounds : goal.collect-door-requires-after_bounds
+collect-door-requires-after_bounds g c κs within =
+    let run = c.run-run in
+    led_back g.N.Naming.opening.state g.N.Serving.door run.result.end run.result.roles.items c.in-Ok.roles.items run.ensures.openings run.ensures.refused run.ensures.no_memory c.in-Ok.ensures.led
+
+pub returns-in-Ran-clause-counts : goal.returns-in-Ran-clause-counts
+returns-in-Ran-clause-counts g c =
+    subst (λ (end : CrewEnd). RunCounts end (g.C.Crew.counts c.args.crew.now) (g.C.Crew.counts c.run-run.new.self)) c.in-Ran.is c.run-run.ensures.counts
+
+pub returns-in-Refused-clause-counts : goal.returns-in-Refused-clause-counts
+returns-in-Refused-clause-counts g c =
+    subst (λ (end : CrewEnd). RunCounts end (g.C.Crew.counts c.args.crew.now) (g.C.Crew.counts c.run-run.new.self)) c.in-Refused.is c.run-run.ensures.counts
+
+pub returns-in-NoMemory-clause-counts : goal.returns-in-NoMemory-clause-counts
+returns-in-NoMemory-clause-counts g c =
+    subst (λ (end : CrewEnd). RunCounts end (g.C.Crew.counts c.args.crew.now) (g.C.Crew.counts c.run-run.new.self)) c.in-NoMemory.is c.run-run.ensures.counts
+
+pub returns-in-Ran-clause-runs : goal.returns-in-Ran-clause-runs
+returns-in-Ran-clause-runs g c =
+    let run = c.run-run in
+    has_run g.D.Door.counts g.D.Door.given g.D.Door.opened_at g.N.Naming.opening.state g.N.Serving.door c.args.connections c.args.workers run.result.roles.items _ _ _ _
+    (run.ensures.openings c.in-Ran.is ∙ c.in-Ok.ensures.openings) (run.ensures.ended c.in-Ran.is) c.collect-door.ensures

@@ -1,0 +1,44 @@
+-- One worker more takes the next pass and the next ends.
+use Rattle.std.proofs.Common.{◌≡◌, ◌+◌, ◌∷◌, List, length, ap, subst, map, arith}
+use Rattle.std.specs.List.{All}
+use Rattle.std.specs.Vec.Iter.{into_iter_items}
+use Rattle.std.proofs.lemmas.List.Elements.{All-head, All-rest}
+use Rattle.mum_published.specs.Calls.{IsFresh}
+use Rattle.mum_serve.specs.Queues.{HasBoxes}
+use Rattle.mum_serve.specs.Roles.{opening_of}
+use Rattle.mum_serve.proofs.Leading.{goes_on}
+use Rattle.mum_serve.proofs.start.push_workers.Goals as goal
+
+pub push_worker-requires-clause-pass : goal.push_worker-requires-clause-pass
+push_worker-requires-clause-pass g c κs within =
+    All-head (IsFresh g.N.Naming.opening) c.in-Some-Some.pass (into_iter_items c.next.new.self)
+    (subst (All (IsFresh g.N.Naming.opening)) c.in-Some-Some.ensures.cases.0 c.workers.invariant.4)
+
+pub push_worker-requires-clause-boxes : goal.push_worker-requires-clause-boxes
+push_worker-requires-clause-boxes g c κs within =
+    All-head HasBoxes c.in-Some-Some.ends (into_iter_items c.next-in-workers.new.self)
+    (subst (All HasBoxes) c.in-Some-Some.ensures'.cases.0 c.workers.invariant.5)
+
+pub workers-preserved : goal.workers-preserved
+workers-preserved g c =
+    let was = c.workers.invariant in
+    let passes = c.in-Some-Some.ensures.cases in
+    let ends = c.in-Some-Some.ensures'.cases in
+    let fewer_passes = ap length passes.0 in
+    let fewer_ends = ap length ends.0 in
+    let pass_count = was.0 in
+    let end_count = was.1 in
+    let pass_len = was.2 in
+    let end_len = was.3 in
+    let pass_gone = passes.1 in
+    let end_gone = ends.1 in
+    let view = map (opening_of g.N.Naming.opening.state g.N.Serving.door) in (
+      omega (arith, fewer_passes, pass_count),
+      omega (arith, fewer_ends, end_count),
+      omega (arith, pass_len, pass_gone, fewer_passes),
+      omega (arith, end_len, end_gone, fewer_ends),
+      All-rest (IsFresh g.N.Naming.opening) c.in-Some-Some.pass (into_iter_items c.next.new.self) (into_iter_items c.workers.passes) passes.0 was.4,
+      All-rest HasBoxes c.in-Some-Some.ends (into_iter_items c.next-in-workers.new.self) (into_iter_items c.workers.shared) ends.0 was.5,
+      c.push_worker.ensures.led,
+      goes_on (view c.args.roles.now.items) (view c.workers.roles.items) (view c.push_worker.new.roles.items) c.workers.number was.7 c.in_ok-push_worker.ensures.pushed,
+    )

@@ -1,0 +1,5 @@
+pub mod Queues
+pub mod Totals
+pub mod Roles
+pub mod Serving
+pub mod Program

@@ -1,0 +1,96 @@
+-- The roles of a server: with what they were opened, and what they came to.
+use Rattle.std.specs.Prelude.{◌≡◌, ⊤, ℕ, zero, suc, ◌+◌, ◌||◌, Bool, true, false, List, [], ◌∷◌, length, map, Option}
+use Rattle.std.specs.List.{AllByRecursion}
+use Rattle.mum_io.specs.Counts.{Counts, NoneFalls, Rose}
+use Rattle.mum_owner.specs.Doors.{NoMoreCome, given_after_all}
+use Rattle.mum_owner.specs.Facts.{OwnerFacts}
+use Rattle.mum_owner.specs.Opened.{opening_of as owner_opening}
+use Rattle.mum_owner.specs.Turned.{has_ended as owner_has_ended}
+use Rattle.mum_owner.specs.declared.serving.DoorOpening.{DoorOpening}
+use Rattle.mum_published.specs.Calls.{appended}
+use Rattle.mum_state.specs.State.{StateValue}
+use Rattle.mum_worker.specs.Facts.{WorkerFacts, is_done}
+use Rattle.mum_worker.specs.declared.role.WorkerOpening.{WorkerOpening}
+use Rattle.mum_serve.specs.Totals.{nothing, totals_of, with_worker}
+use Rattle.mum_serve.specs.declared.roles.RoleOpening.{RoleOpening}
+use Rattle.mum_serve.specs.declared.roles.RoleOpening.TheVariants as openings
+use Rattle.mum_serve.specs.declared.roles.Roles.{Roles}
+use Rattle.mum_serve.specs.declared.roles.Roles.TheVariants as roles
+use Rattle.mum_serve.specs.declared.totals.Totals.{Totals}
+use Rattle.mum_serve.specs.declared.totals.WorkerTotals.{WorkerTotals}
+
+-- ---- how they begin
+
+-- so many workers, numbered from this one on, none of which keeps a journal
+abbrev pub worker_openings : ℕ → ℕ → List WorkerOpening
+worker_openings number zero = []
+worker_openings number (suc count) = record { number = number; journal = false } ∷ worker_openings (number + 1) count
+
+-- the owner of this many connections, and so many workers behind it: from a state on, over a door that had counted this,
+-- and without a journal
+abbrev pub role_openings : StateValue → DoorOpening → ℕ → ℕ → List RoleOpening
+role_openings state door connections workers =
+    openings.Owner (owner_opening state door connections false) ∷ map openings.Worker (worker_openings 0 workers)
+
+abbrev pub worker_opening : {L : Type 0} → WorkerFacts L → WorkerOpening
+worker_opening worker = record { number = worker.number; journal = worker.common.kept.journal }
+
+module _ {D G N R L : Type 0} where
+  -- with what it was opened, where the published state began at this one and the door had counted this
+  abbrev pub opening_of : StateValue → DoorOpening → Roles D G N R L → RoleOpening
+  opening_of state door (roles.Owner owner) =
+      openings.Owner (owner_opening state door owner.guests.limit owner.scribe.is_asked)
+  opening_of state door (roles.Worker worker) = openings.Worker (worker_opening worker)
+
+  -- it has nothing more to do
+  abbrev pub has_ended : Roles D G N R L → Bool
+  has_ended (roles.Owner owner) = owner_has_ended owner
+  has_ended (roles.Worker worker) = is_done worker
+
+  -- all are workers
+  abbrev pub AreWorkers : List (Roles D G N R L) → Type 0
+  AreWorkers [] = ⊤
+  AreWorkers (roles.Owner owner ∷ others) = ⊥
+  AreWorkers (roles.Worker worker ∷ others) = AreWorkers others
+
+  -- the first is the owner, and the others are workers
+  abbrev pub AreLed : List (Roles D G N R L) → Type 0
+  AreLed [] = ⊥
+  AreLed (roles.Owner owner ∷ others) = AreWorkers others
+  AreLed (roles.Worker worker ∷ others) = ⊥
+
+  -- the workers among these
+  abbrev pub workers_in : List (Roles D G N R L) → List (WorkerFacts L)
+  workers_in [] = []
+  workers_in (roles.Owner owner ∷ others) = workers_in others
+  workers_in (roles.Worker worker ∷ others) = worker ∷ workers_in others
+
+-- ---- how they end
+
+-- what these workers came to is added
+abbrev pub with_workers : {L : Type 0} → List (WorkerFacts L) → WorkerTotals → WorkerTotals
+with_workers [] totals = totals
+with_workers (worker ∷ others) totals = with_workers others (with_worker worker totals)
+
+module _ {D L : Type 0} (counts : D → Counts) (given : D → ℕ) (opened_at : D → Option (List ℕ)) where
+  -- what a server of this owner and these workers came to: its totals, whether memory ran out in a role, whether the door
+  -- failed, which it counted, and the door, at the address at which it was opened. Where the owner has ended, as many
+  -- connections were given as there were to be, or the door ended or failed
+  pub record CameTo (state : StateValue) (opening : DoorOpening) (owner : OwnerFacts D) (workers : List (WorkerFacts L)) (totals : Totals) (no_memory door_failed : Bool) (door : D) : Type 0 where
+    pub began : owner.control.publisher.opening.state ≡ state
+    pub sums : totals ≡ totals_of owner.guests.given (length (appended owner.control.publisher)) (with_workers workers nothing)
+    pub memory : no_memory ≡ (owner.scribe.no_memory || (with_workers workers nothing).no_memory)
+    pub counted : NoneFalls opening.counts (counts door)
+    pub failed : door_failed ≡ true → Rose opening.counts.faults (counts door).faults
+    pub gave : given door ≡ given_after_all opening.given owner.guests.given
+    pub address : opened_at door ≡ opening.opened_at
+    pub over : owner_has_ended owner ≡ true → NoMoreCome owner.guests.given owner.guests.limit opening.counts (counts door)
+
+module _ {D G N R L : Type 0} (counts : D → Counts) (given : D → ℕ) (opened_at : D → Option (List ℕ)) where
+  -- the roles are an owner and workers, and this is what they came to
+  pub record Collects (state : StateValue) (opening : DoorOpening) (all : List (Roles D G N R L)) (totals : Totals) (no_memory door_failed : Bool) (door : D) : Type 0 where
+    pub owner : OwnerFacts D
+    pub others : List (Roles D G N R L)
+    pub are : all ≡ roles.Owner owner ∷ others
+    pub workers : AreWorkers others
+    pub came : CameTo counts given opened_at state opening owner (workers_in others) totals no_memory door_failed door

@@ -1,0 +1,146 @@
+//! The queues between the roles of a server.
+
+ghost use Rattle.std.specs.Prelude.{◌≡◌, ◌+◌, ◌<◌, IfOk, OnOk, length};
+ghost use Rattle.std.specs.List.{All};
+ghost use Rattle.mum_base.specs.declared.number.TheConstants.{SLOTS};
+ghost use Rattle.mum_serve.specs.Queues.{AreFor, HasBoxes};
+
+use mum_base::{OutOfMemory, SLOTS};
+use mum_outbox::{Bell, Desk, PostBox, Queue, VoiceBox};
+use mum_published::{BellItem, Naming};
+use mum_worker::{DeskItem, Shared};
+use std::alloc::Global;
+
+/// Owners of all queues: what the owner of the connections and the control owner hold, and what each worker does.
+#[derive(Drop)]
+pub struct Queues<L, N: Naming> {
+    /// The post box of each slot.
+    pub posts: Vec<PostBox>,
+    pub desk: Desk<DeskItem>,
+    /// The bell of each worker.
+    pub bells: Vec<Bell<BellItem<L, N>>>,
+    /// What each worker shares.
+    pub shared: Vec<Shared<L, N>>,
+}
+
+// A box for each slot.
+fn boxes<I: Drop, const CAPACITY: usize>(
+    alloc: Global,
+) -> Result<Vec<Queue<I, CAPACITY>>, OutOfMemory>
+    requires { 0 < CAPACITY }
+    ensures { IfOk result (λ boxes. length boxes.items ≡ SLOTS) }
+{
+    let mut boxes = Vec::new(alloc);
+    'boxes: for _slot in 0..SLOTS {
+        boxes.push(Queue::new(alloc)?)?;
+    }
+    Ok(boxes)
+}
+
+// These boxes, and one more owner of each.
+fn share_each<I: Drop, const CAPACITY: usize>(
+    alloc: Global,
+    boxes: Vec<Queue<I, CAPACITY>>,
+) -> Result<(Vec<Queue<I, CAPACITY>>, Vec<Queue<I, CAPACITY>>), OutOfMemory>
+    ensures { IfOk result (λ both. (length both.0.items ≡ length boxes.items) × (length both.1.items ≡ length boxes.items)) }
+{
+    let mut owners = Vec::new(alloc);
+    let mut shares = Vec::new(alloc);
+    for queue in boxes {
+        let mut queue = queue;
+        let share = queue.share()?;
+        owners.push(queue)?;
+        shares.push(share)?;
+    }
+    Ok((owners, shares))
+}
+
+// The ends of the queues while workers get theirs: a box of each kind for each slot, and the desk.
+#[derive(Drop)]
+struct Ends {
+    voices: Vec<VoiceBox>,
+    posts: Vec<PostBox>,
+    desk: Desk<DeskItem>,
+}
+
+// What one worker shares, over this bell.
+fn share<L: Drop, N: Naming>(
+    alloc: Global,
+    ends: Ends,
+    bell: Bell<BellItem<L, N>>,
+) -> Result<(Ends, Shared<L, N>), OutOfMemory>
+    requires voices { length ends.voices.items ≡ SLOTS }
+    requires posts { length ends.posts.items ≡ SLOTS }
+    ensures voices { IfOk result (λ both. length both.0.voices.items ≡ SLOTS) }
+    ensures posts { IfOk result (λ both. length both.0.posts.items ≡ SLOTS) }
+    ensures boxes { IfOk result (λ both. HasBoxes both.1) }
+{
+    let Ends {
+        voices,
+        posts,
+        desk,
+    } = ends;
+    let mut desk = desk;
+    let (voices, voice) = share_each(alloc, voices)?;
+    let (posts, post) = share_each(alloc, posts)?;
+    let shared = Shared {
+        voice,
+        posts: post,
+        desk: desk.share()?,
+        bell,
+    };
+    let ends = Ends {
+        voices,
+        posts,
+        desk,
+    };
+    Ok((ends, shared))
+}
+
+// One bell more, and what its worker shares.
+fn add_worker<L: Drop, N: Naming>(
+    alloc: Global,
+    ends: Ends,
+    bells: &mut Vec<Bell<BellItem<L, N>>>,
+    shared: &mut Vec<Shared<L, N>>,
+) -> Result<Ends, OutOfMemory>
+    requires voices { length ends.voices.items ≡ SLOTS }
+    requires posts { length ends.posts.items ≡ SLOTS }
+    requires boxes { All HasBoxes shared.old.items }
+    ensures voices { IfOk result (λ ends. length ends.voices.items ≡ SLOTS) }
+    ensures posts { IfOk result (λ ends. length ends.posts.items ≡ SLOTS) }
+    ensures boxes { All HasBoxes shared.new.items }
+    ensures bells { OnOk result (length bells.new.items ≡ length bells.old.items + 1) }
+    ensures shared { OnOk result (length shared.new.items ≡ length shared.old.items + 1) }
+{
+    let mut bell = Bell::new(alloc)?;
+    let (ends, one) = share(alloc, ends, bell.share()?)?;
+    bells.push(bell)?;
+    shared.push(one)?;
+    Ok(ends)
+}
+
+impl<L: Drop, N: Naming> Queues<L, N> {
+    /// Empty queues for this many workers: two boxes for each slot, a desk, and a bell for each worker.
+    pub(crate) fn new(alloc: Global, workers: usize) -> Result<Queues<L, N>, OutOfMemory>
+        ensures { IfOk result (AreFor workers) }
+    {
+        let mut ends = Ends {
+            voices: boxes(alloc)?,
+            posts: boxes(alloc)?,
+            desk: Desk::new(alloc)?,
+        };
+        let mut bells = Vec::new(alloc);
+        let mut shared = Vec::new(alloc);
+        'workers: for _worker in 0..workers {
+            ends = add_worker(alloc, ends, &mut bells, &mut shared)?;
+        }
+        let Ends { posts, desk, .. } = ends;
+        Ok(Queues {
+            posts,
+            desk,
+            bells,
+            shared,
+        })
+    }
+}

@@ -1,0 +1,267 @@
+//! A server from its configuration to its totals.
+
+ghost use Rattle.std.specs.Prelude.{◌≡◌, ◌<◌, ◌≤◌, [], IfOk, IsTrue, Some, is_some, length, true};
+ghost use Rattle.std.specs.List.{All};
+ghost use Rattle.mum_published.specs.Calls.{IsFresh, appended, latest};
+ghost use Rattle.mum_serve.specs.Serving.{Runs, RunsCounted, Serves, ServesOver, opening_at};
+ghost use Rattle.mum_state.specs.After.{after, all_fit};
+ghost use Rattle.mum_state.specs.Proper.{IsProper};
+ghost use Rattle.mum_state.specs.State.{empty_state};
+
+use crate::collect::{Collected, collect};
+use crate::start::roles;
+use crate::totals::Totals;
+use mum_base::OutOfMemory;
+use mum_config::Config;
+use mum_crew::{Crew, CrewEnd};
+use mum_history::state_after;
+use mum_io::{Door, DoorOpen};
+use mum_owner::Serving;
+use mum_published::{Pass, Publisher, open};
+use mum_state::State;
+use std::alloc::Global;
+use std::marker::Brand;
+use std::mem::drop;
+use std::sync::Wait;
+
+/// What a server came to.
+#[derive(Clone, Copy, Debug)]
+pub enum Served {
+    /// All connections were served to their ends.
+    Whole {
+        totals: Totals,
+        /// Memory ran out on the way.
+        no_memory: bool,
+        /// The door failed on the way.
+        door_failed: bool,
+    },
+    /// The door did not open.
+    DoorFault,
+    /// The crew did not start.
+    CrewFault,
+    /// There was no memory to start.
+    OutOfMemory,
+}
+
+// Runs all roles, over a door that is open, and takes it back.
+fn run<N: Serving + Send, R: Wait + Copy + Send, D: Door + Send, C: Crew>(
+    rt: &R,
+    alloc: Global,
+    publisher: &mut Publisher,
+    state: State,
+    workers: u8,
+    passes: Vec<Pass>,
+    door: D,
+    crew: &mut C,
+    connections: u32,
+) -> (Served, D)
+    requires opening { publisher.old.opening ≡ N.opening }
+    requires state { state ≡ latest publisher.old }
+    requires fresh { appended publisher.old ≡ [] }
+    requires pending { publisher.old.pending ≡ [] }
+    requires proper { IsProper N.opening.state }
+    requires passes { All (IsFresh N.opening) passes.items }
+    requires one_each { length passes.items ≡ workers }
+    requires some { 0 < workers }
+    requires door { record { counts = D.counts door; given = D.given door; opened_at = D.opened_at door } ≡ N.door }
+    requires connections { 0 < connections }
+    ensures counts { RunsCounted result.0 (C.counts crew.old) (C.counts crew.new) }
+    ensures runs { Runs D.Conn D.counts D.given D.opened_at N.opening.state N.door connections workers result.0 result.1 }
+{
+    let roles = match roles::<D, N, R>(
+        rt,
+        alloc,
+        publisher,
+        state,
+        workers,
+        passes,
+        door,
+        connections,
+    ) {
+        Ok(roles) => roles,
+        Err(door) => return (Served::OutOfMemory, door),
+    };
+    let run = crew.run(alloc, roles);
+    let Collected {
+        door,
+        totals,
+        no_memory,
+        door_failed,
+    } = collect(run.roles);
+    let whole = Served::Whole {
+        totals,
+        no_memory,
+        door_failed,
+    };
+    match run.end {
+        CrewEnd::Ran => (whole, door),
+        CrewEnd::Refused => (Served::CrewFault, door),
+        CrewEnd::NoMemory => (Served::OutOfMemory, door),
+    }
+}
+
+// The state that a configuration describes, twice.
+fn states(alloc: Global, config: &Config) -> Result<(State, State), OutOfMemory>
+    requires { IsTrue (all_fit empty_state config.now.edits) }
+    ensures { IfOk result (λ states. (states.0 ≡ after config.now.edits) × (states.1 ≡ after config.now.edits)) }
+{
+    let state = state_after(alloc, config.edits.as_slice())?;
+    match state.copy(alloc) {
+        Ok(copy) => Ok((state, copy)),
+        Err(error) => {
+            drop(state);
+            Err(error)
+        }
+    }
+}
+
+// Serves over what was opened at a state, and over a door that is open.
+fn run_opened<R: Wait + Copy + Send, D: Door + Send, C: Crew>(
+    rt: &R,
+    alloc: Global,
+    publisher: &mut Publisher,
+    state: State,
+    workers: u8,
+    passes: Vec<Pass>,
+    door: D,
+    crew: &mut C,
+    connections: u32,
+) -> (Served, D)
+    requires state { state ≡ latest publisher.old }
+    requires fresh { appended publisher.old ≡ [] }
+    requires pending { publisher.old.pending ≡ [] }
+    requires proper { IsProper publisher.old.opening.state }
+    requires passes { All (IsFresh publisher.old.opening) passes.items }
+    requires one_each { length passes.items ≡ workers }
+    requires some { 0 < workers }
+    requires connections { 0 < connections }
+    ensures counts { RunsCounted result.0 (C.counts crew.old) (C.counts crew.new) }
+    ensures runs { Runs D.Conn D.counts D.given D.opened_at publisher.old.opening.state
+        (opening_at D.counts D.given D.opened_at door) connections workers result.0 result.1 }
+{
+    run::<Brand, R, D, C>(
+        rt,
+        alloc,
+        publisher,
+        state,
+        workers,
+        passes,
+        door,
+        crew,
+        connections,
+    )
+}
+
+// Serves at an address, over what was opened at a state.
+fn serve_at<R: Wait + Copy + Send, D: Door + Send, C: Crew>(
+    rt: &R,
+    alloc: Global,
+    publisher: &mut Publisher,
+    state: State,
+    workers: u8,
+    passes: Vec<Pass>,
+    address: &str,
+    door: D,
+    crew: &mut C,
+    connections: u32,
+) -> (Served, D)
+    requires state { state ≡ latest publisher.old }
+    requires fresh { appended publisher.old ≡ [] }
+    requires pending { publisher.old.pending ≡ [] }
+    requires proper { IsProper publisher.old.opening.state }
+    requires passes { All (IsFresh publisher.old.opening) passes.items }
+    requires one_each { length passes.items ≡ workers }
+    requires some { 0 < workers }
+    requires connections { 0 < connections }
+    ensures counts { RunsCounted result.0 (C.counts crew.old) (C.counts crew.new) }
+    ensures serves { Serves D.Conn D.counts D.given D.opened_at address.now publisher.old.opening.state connections workers
+        door result.0 result.1 }
+{
+    let mut door = door;
+    if door.open(address) == DoorOpen::Failed {
+        drop(state);
+        drop(passes);
+        return (Served::DoorFault, door);
+    }
+    run_opened(
+        rt,
+        alloc,
+        publisher,
+        state,
+        workers,
+        passes,
+        door,
+        crew,
+        connections,
+    )
+}
+
+// Serves over a door that is not open yet.
+fn serve_over<R: Wait + Copy + Send, D: Door + Send, C: Crew>(
+    rt: &R,
+    alloc: Global,
+    config: &Config,
+    address: &str,
+    connections: u32,
+    door: D,
+    crew: &mut C,
+) -> (Served, D)
+    requires fits { IsTrue (all_fit empty_state config.now.edits) }
+    requires workers { (0 < config.now.workers) × (config.now.workers ≤ 10) }
+    requires connections { 0 < connections }
+    ensures counts { RunsCounted result.0 (C.counts crew.old) (C.counts crew.new) }
+    ensures serves { Serves D.Conn D.counts D.given D.opened_at address.now (after config.now.edits) connections config.now.workers
+        door result.0 result.1 }
+{
+    let Ok((state, copy)) = states(alloc, config) else {
+        return (Served::OutOfMemory, door);
+    };
+    let (mut publisher, passes) = match open(rt, alloc, copy, config.workers) {
+        Ok(begun) => begun,
+        Err(_) => {
+            drop(state);
+            return (Served::OutOfMemory, door);
+        }
+    };
+    let served = serve_at(
+        rt,
+        alloc,
+        &mut publisher,
+        state,
+        config.workers,
+        passes,
+        address,
+        door,
+        crew,
+        connections,
+    );
+    publisher.finish(rt);
+    served
+}
+
+/// Serves the connections that come to a door: this many, or fewer where the door ends or fails. It returns when
+/// all are closed. The door is back at every return.
+pub fn serve<R: Wait + Copy + Send, D: Door + Send, C: Crew>(
+    rt: &R,
+    alloc: Global,
+    config: &Config,
+    address: &str,
+    connections: u32,
+    door: &mut Option<D>,
+    crew: &mut C,
+) -> Served
+    requires fits { IsTrue (all_fit empty_state config.now.edits) }
+    requires workers { (0 < config.now.workers) × (config.now.workers ≤ 10) }
+    requires door { is_some door.old ≡ true }
+    requires connections { 0 < connections }
+    ensures counts { RunsCounted result (C.counts crew.old) (C.counts crew.new) }
+    ensures serves { ServesOver D.Conn D.counts D.given D.opened_at address.now (after config.now.edits) connections
+        config.now.workers door.old result door.new }
+{
+    let Some(taken) = door.take() else {
+        unreachable!()
+    };
+    let (served, back) = serve_over(rt, alloc, config, address, connections, taken, crew);
+    *door = Some(back);
+    served
+}

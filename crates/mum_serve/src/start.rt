@@ -1,0 +1,204 @@
+//! The roles of a server before their first turn.
+
+ghost use Rattle.std.specs.Prelude.{◌≡◌, ◌<◌, ◌++◌, ◌∷◌, [], IfOk, OnOk, false, length, map, vec_capacity};
+ghost use Rattle.std.specs.List.{All};
+ghost use Rattle.mum_published.specs.Calls.{IsFresh, appended, latest};
+ghost use Rattle.mum_serve.specs.Queues.{HasBoxes};
+ghost use Rattle.mum_serve.specs.Roles.{AreLed, opening_of, role_openings, worker_openings};
+ghost use Rattle.mum_serve.specs.declared.roles.RoleOpening.TheVariants as openings;
+ghost use Rattle.mum_state.specs.Proper.{IsProper};
+
+use crate::collect::{Collected, collect};
+use crate::queues::Queues;
+use crate::roles::Roles;
+use mum_base::OutOfMemory;
+use mum_control::Control;
+use mum_crew::FreeGate;
+use mum_io::Door;
+use mum_outbox::{Bell, Desk};
+use mum_owner::{Owner, Serving};
+use mum_published::{BellItem, Pass, Publisher};
+use mum_state::State;
+use mum_worker::{DeskItem, Shared, Worker};
+use std::alloc::Global;
+use std::mem::drop;
+use std::sync::Wait;
+
+// The control owner, the queues of the other roles, and room for all roles.
+#[derive(Drop)]
+struct Parts<'a, D: Door + Send, N: Serving, R: Wait + Copy + Send> {
+    control: Control<'a, N>,
+    desk: Desk<DeskItem>,
+    bells: Vec<Bell<BellItem<D::Conn, N>>>,
+    shared: Vec<Shared<D::Conn, N>>,
+    roles: Vec<Roles<'a, D, FreeGate, N, R>>,
+}
+
+fn make_parts<'a, D: Door + Send, N: Serving, R: Wait + Copy + Send>(
+    alloc: Global,
+    publisher: &'a mut Publisher,
+    state: State,
+    workers: usize,
+) -> Result<Parts<'a, D, N, R>, OutOfMemory>
+    requires opening { publisher.old.opening ≡ N.opening }
+    requires state { state ≡ latest publisher.old }
+    requires pending { publisher.old.pending ≡ [] }
+    ensures control { IfOk result (λ parts. parts.control.publisher ≡ publisher.old) }
+    ensures bells { IfOk result (λ parts. length parts.bells.items ≡ workers) }
+    ensures shared { IfOk result (λ parts. length parts.shared.items ≡ workers) }
+    ensures boxes { IfOk result (λ parts. All HasBoxes parts.shared.items) }
+    ensures nobody { IfOk result (λ parts. parts.roles.items ≡ []) }
+    ensures room { IfOk result (λ parts. 0 < vec_capacity parts.roles) }
+{
+    let roles = Vec::with_capacity(alloc, workers.saturating_add(1))?;
+    let Queues {
+        posts,
+        desk,
+        bells,
+        shared,
+    } = Queues::new(alloc, workers)?;
+    let control = Control::open(alloc, state, publisher, posts)?;
+    Ok(Parts {
+        control,
+        desk,
+        bells,
+        shared,
+        roles,
+    })
+}
+
+// The owner of the connections, as the first of the roles, for which there is room. Where memory runs out, the
+// door comes back.
+fn lead<'a, D: Door + Send, N: Serving, R: Wait + Copy + Send>(
+    rt: &R,
+    alloc: Global,
+    control: Control<'a, N>,
+    desk: Desk<DeskItem>,
+    bells: Vec<Bell<BellItem<D::Conn, N>>>,
+    door: D,
+    connections: u32,
+    roles: &mut Vec<Roles<'a, D, FreeGate, N, R>>,
+) -> Result<(), D>
+    requires opening { control.publisher.opening ≡ N.opening }
+    requires fresh { appended control.publisher ≡ [] }
+    requires bells { 0 < length bells.items }
+    requires door { record { counts = D.counts door; given = D.given door; opened_at = D.opened_at door } ≡ N.door }
+    requires connections { 0 < connections }
+    requires nobody { roles.old.items ≡ [] }
+    requires room { 0 < vec_capacity roles.old }
+    ensures led { OnOk result (AreLed roles.new.items) }
+    ensures openings { OnOk result (map (opening_of N.opening.state N.door) roles.new.items
+        ≡ role_openings N.opening.state N.door connections 0) }
+{
+    let owner = Owner::open(*rt, alloc, control, desk, bells, door, connections, false)?;
+    roles.push_reserved(Roles::Owner(owner));
+    Ok(())
+}
+
+// One worker more, of this number.
+fn push_worker<'a, D: Door + Send, N: Serving, R: Wait + Copy + Send>(
+    rt: &R,
+    alloc: Global,
+    number: u8,
+    pass: Pass,
+    ends: Shared<D::Conn, N>,
+    roles: &mut Vec<Roles<'a, D, FreeGate, N, R>>,
+) -> Result<(), OutOfMemory>
+    requires proper { IsProper N.opening.state }
+    requires pass { IsFresh N.opening pass }
+    requires boxes { HasBoxes ends }
+    requires led { AreLed roles.old.items }
+    ensures led { AreLed roles.new.items }
+    ensures pushed { OnOk result (map (opening_of N.opening.state N.door) roles.new.items
+        ≡ map (opening_of N.opening.state N.door) roles.old.items ++ openings.Worker (record { number = number; journal = false }) ∷ []) }
+{
+    let worker = Worker::open(*rt, alloc, number, pass, ends, FreeGate, None)?;
+    roles.push(Roles::Worker(worker))?;
+    Ok(())
+}
+
+// A worker for each pass, in the order of their numbers, behind the owner.
+fn push_workers<'a, D: Door + Send, N: Serving, R: Wait + Copy + Send>(
+    rt: &R,
+    alloc: Global,
+    workers: u8,
+    passes: Vec<Pass>,
+    shared: Vec<Shared<D::Conn, N>>,
+    roles: &mut Vec<Roles<'a, D, FreeGate, N, R>>,
+) -> Result<(), OutOfMemory>
+    requires proper { IsProper N.opening.state }
+    requires passes { All (IsFresh N.opening) passes.items }
+    requires one_each { length passes.items ≡ workers }
+    requires boxes { All HasBoxes shared.items }
+    requires shared { length shared.items ≡ workers }
+    requires led { AreLed roles.old.items }
+    ensures led { AreLed roles.new.items }
+    ensures pushed { OnOk result (map (opening_of N.opening.state N.door) roles.new.items
+        ≡ map (opening_of N.opening.state N.door) roles.old.items ++ map openings.Worker (worker_openings 0 workers)) }
+{
+    let mut passes = passes.into_iter();
+    let mut shared = shared.into_iter();
+    'workers: for number in 0..workers {
+        let (Some(pass), Some(ends)) = (passes.next(), shared.next()) else {
+            unreachable!()
+        };
+        push_worker::<D, N, R>(rt, alloc, number, pass, ends, roles)?;
+    }
+    Ok(())
+}
+
+/// All roles of a server over a publisher and the passes of its workers: the owner first, and then the workers in
+/// the order of their numbers. Where memory runs out, the door comes back.
+pub(crate) fn roles<'a, D: Door + Send, N: Serving, R: Wait + Copy + Send>(
+    rt: &R,
+    alloc: Global,
+    publisher: &'a mut Publisher,
+    state: State,
+    workers: u8,
+    passes: Vec<Pass>,
+    door: D,
+    connections: u32,
+) -> Result<Vec<Roles<'a, D, FreeGate, N, R>>, D>
+    requires opening { publisher.old.opening ≡ N.opening }
+    requires state { state ≡ latest publisher.old }
+    requires fresh { appended publisher.old ≡ [] }
+    requires pending { publisher.old.pending ≡ [] }
+    requires proper { IsProper N.opening.state }
+    requires passes { All (IsFresh N.opening) passes.items }
+    requires one_each { length passes.items ≡ workers }
+    requires some { 0 < workers }
+    requires door { record { counts = D.counts door; given = D.given door; opened_at = D.opened_at door } ≡ N.door }
+    requires connections { 0 < connections }
+    ensures led { IfOk result (λ roles. AreLed roles.items) }
+    ensures openings { IfOk result (λ roles. map (opening_of N.opening.state N.door) roles.items
+        ≡ role_openings N.opening.state N.door connections workers) }
+{
+    let Ok(parts) = make_parts::<D, N, R>(alloc, publisher, state, usize::from(workers)) else {
+        drop(passes);
+        return Err(door);
+    };
+    let Parts {
+        control,
+        desk,
+        bells,
+        shared,
+        mut roles,
+    } = parts;
+    lead(
+        rt,
+        alloc,
+        control,
+        desk,
+        bells,
+        door,
+        connections,
+        &mut roles,
+    )?;
+    match push_workers::<D, N, R>(rt, alloc, workers, passes, shared, &mut roles) {
+        Ok(()) => Ok(roles),
+        Err(_) => {
+            let Collected { door, .. } = collect(roles);
+            Err(door)
+        }
+    }
+}

@@ -14,3 +14,4 @@ pub mod Asking
 pub mod Takings
 pub mod Turns
 pub mod Alike
+mod ServeWords

@@ -7,3 +7,5 @@ pub mod Draws
 pub mod Acts
 pub mod Exercise
 pub mod Program
+pub mod Serve
+pub mod Plain

@@ -1,14 +1,17 @@
 //! What the words of the command line ask for.
 
-ghost use Rattle.std.specs.Prelude.{◌≡◌, ◌↔◌, ◌∷◌, [], ℕ, IsTrue, MatchOption, codes, map, string_bytes};
-ghost use Rattle.mum_server.specs.Command.{Asks, IsExercise, replay_words};
+ghost use Rattle.std.specs.Prelude.{◌≡◌, ◌↔◌, ◌<◌, ◌∷◌, [], ℕ, IfSome, IsTrue, List, MatchOption, codes, map, string_bytes};
+ghost use Rattle.mum_server.specs.Command.{Asks, AsksServe, BeginsWithServe, IsExercise, IsServe, replay_words};
 
 use mum_record::number_within;
 
 /// The most rounds of an exercise.
 pub const ROUNDS_LIMIT: u64 = 200_000;
 
-/// What the program is to do.
+/// The most connections of a run that serves.
+pub const CONNECTIONS_LIMIT: u64 = 1_000_000;
+
+/// What the program is to do, where it does not serve.
 #[derive(Clone, Copy)]
 pub enum Command {
     /// Run the recording that the input is, and write its transcript.
@@ -59,4 +62,44 @@ pub fn command_of(words: &[String]) -> Option<Command>
     }
     let (seed, rounds) = exercise_in(words)?;
     Some(Command::Exercise { seed, rounds })
+}
+
+/// Whether the words ask to serve, or try to.
+pub(crate) fn begins_with_serve(words: &[String]) -> bool
+    ensures { IsTrue result ↔ BeginsWithServe (map string_bytes words.now) }
+{
+    match words {
+        [name, ..] => is_word(name.as_str(), "serve"),
+        [] => false,
+    }
+}
+
+// The address and the number of connections that these three words ask for, if they ask to serve.
+fn serve_of<'a>(name: &str, address: &'a str, number: &str) -> Option<(&'a str, u32)>
+    ensures asked { AsksServe name.now address.now number.now result }
+    ensures some { IfSome result (λ asked. 0 < asked.1) }
+    ensures limit { CONNECTIONS_LIMIT ≡ 1000000 }
+{
+    if !is_word(name, "serve") {
+        return None;
+    }
+    if address.is_empty() {
+        return None;
+    }
+    let connections = number_within(1, CONNECTIONS_LIMIT, number)?;
+    Some((address, connections as u32))
+}
+
+/// The address and the number of connections of a run that serves, where the words ask for one.
+pub(crate) fn serve_in(words: &[String]) -> Option<(&str, u32)>
+    ensures asked { MatchOption result
+        ((address : List ℕ) → (connections : ℕ) →
+        IsServe (map string_bytes words.now) address connections → ⊥)
+        (λ asked. IsServe (map string_bytes words.now) asked.0.now asked.1) }
+    ensures some { IfSome result (λ asked. 0 < asked.1) }
+{
+    let [name, address, number] = words else {
+        return None;
+    };
+    serve_of(name.as_str(), address.as_str(), number.as_str())
 }

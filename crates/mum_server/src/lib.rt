@@ -12,8 +12,10 @@ mod opening;
 mod program;
 mod replay;
 mod tally;
+mod top;
 
 pub use draws::{Act, Draws, Round, USERS};
 pub use exercise::{DOCUMENT, WORKERS, generate};
-pub use program::{murmur, out_of_memory};
+pub use program::{out_of_memory, run_plain};
 pub use replay::{INPUT_LIMIT, LINE_LIMIT, limits};
+pub use top::murmur;

@@ -18,7 +18,7 @@ use crate::replay::{INPUT_LIMIT, replay};
 use mum_io::{ReadFault, Sink, Source, read_up_to, write_all};
 use std::alloc::Global;
 
-const USAGE_LINE: &str =
+pub(crate) const USAGE_LINE: &str =
     "usage: murmur replay | audit | exercise SEED STEPS | serve ADDRESS SESSIONS [journal]\n";
 
 /// Reads the recording, and writes its transcript.
@@ -63,7 +63,7 @@ fn run<I: Source, O: Sink>(alloc: Global, command: Command, input: &mut I, outpu
 }
 
 /// Writes a line to the error stream, as far as that takes it.
-fn say<E: Sink>(errors: &mut E, line: &str)
+pub(crate) fn say<E: Sink>(errors: &mut E, line: &str)
     ensures { Tells line.now (E.written errors.old) (E.written errors.new) (Rose (E.faults errors.old) (E.faults errors.new)) }
 {
     let _ = write_all(errors, line.as_bytes());
@@ -91,7 +91,7 @@ fn report_fault<E: Sink>(alloc: Global, n: u64, fault: &LineFault, errors: &mut 
 }
 
 /// Says how the run ended, and gives its status. Only the line of a fault takes memory.
-fn report<E: Sink>(alloc: Global, end: &End, errors: &mut E) -> u8
+pub(crate) fn report<E: Sink>(alloc: Global, end: &End, errors: &mut E) -> u8
     ensures { Reports end.now result (E.written errors.old) (E.written errors.new) (Rose (E.faults errors.old) (E.faults errors.new)) }
 {
     match end {
@@ -112,11 +112,11 @@ fn report<E: Sink>(alloc: Global, end: &End, errors: &mut E) -> u8
     }
 }
 
-/// The program. `replay` reads a recording from the input and writes its transcript to the output;
-/// `exercise SEED STEPS` runs a session that is drawn from a seed, and writes one line of what came of it.
-/// What goes wrong is said in one line on the error stream, and the exit status tells it. Other words are
+/// The program without `serve`. `replay` reads a recording from the input and writes its transcript to the
+/// output; `exercise SEED STEPS` runs a session that is drawn from a seed, and writes one line of what came of
+/// it. What goes wrong is said in one line on the error stream, and the exit status tells it. Other words are
 /// answered by the usage line.
-pub fn murmur<I: Source, O: Sink, E: Sink>(
+pub fn run_plain<I: Source, O: Sink, E: Sink>(
     alloc: Global,
     words: &[String],
     input: &mut I,

@@ -2,7 +2,7 @@
 
 use mum_base::Octets;
 use mum_io::{MemSink, MemSource};
-use mum_server::murmur;
+use mum_server::run_plain;
 use std::alloc::Global;
 use std::test::Fail;
 
@@ -19,7 +19,7 @@ fn ran(alloc: Global, spelled: &str, read: u64, write: u64) -> Result<(u8, Octet
     let mut source = MemSource::new(bytes, Vec::from_slice(alloc, &[read])?);
     let mut output = MemSink::new(alloc, Vec::from_slice(alloc, &[write])?);
     let mut errors = MemSink::new(alloc, Vec::new(alloc));
-    let status = murmur(alloc, &words, &mut source, &mut output, &mut errors);
+    let status = run_plain(alloc, &words, &mut source, &mut output, &mut errors);
     let written = Octets::of(alloc, output.bytes())?;
     let said = Octets::of(alloc, errors.bytes())?;
     Ok((status, written, said))

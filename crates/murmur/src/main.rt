@@ -1,13 +1,17 @@
-//! The server's program: it hands its words and the standard streams to the server, whose answer is the
+//! The server's program: it hands its words, the standard streams and the machine to the server, whose answer is the
 //! exit status.
 #![tactic(auto)]
 
+use mum_edge::Machine;
 use mum_io::{Input, Output};
 use mum_server::{murmur, out_of_memory};
 use std::io::ErrorKind;
 use std::process::ExitCode;
 use std::rt::Env;
 use std::{env, io};
+
+/// How many roles follow the workers.
+const LATER_ROLES: usize = 0;
 
 /// The words of the command line, without the program's name. A word that is not UTF-8 is an error of
 /// the kind `InvalidData`.
@@ -27,8 +31,20 @@ fn main(rt: HostRuntime) -> ExitCode {
             Vec::new(rt.alloc())
         }
     };
-    let mut input = Input::new(rt.stdin());
-    let mut output = Output::new(rt.stdout());
-    let status = murmur(rt.alloc(), &words, &mut input, &mut output, &mut errors);
+    // without memory or descriptors there is no door and no crew
+    let Ok(Machine { mut crew, door, .. }) = Machine::open(rt, rt.alloc(), LATER_ROLES) else {
+        return ExitCode::from(out_of_memory(&mut errors));
+    };
+    let mut door = Some(door);
+    let status = murmur(
+        &rt,
+        rt.alloc(),
+        &words,
+        &mut Input::new(rt.stdin()),
+        &mut Output::new(rt.stdout()),
+        &mut errors,
+        &mut door,
+        &mut crew,
+    );
     ExitCode::from(status)
 }

@@ -2,7 +2,7 @@
 use Rattle.std.specs.Prelude.{map, string_bytes}
 use Rattle.mum_io.specs.Outside.{Rose}
 use Rattle.mum_server.proofs.Reported.{asks_that, exercise_answered, replay_answered, replay_said}
-use Rattle.mum_server.proofs.program.murmur.Goals as goal
+use Rattle.mum_server.proofs.program.run_plain.Goals as goal
 
 pub returns-clause-replay : goal.returns-clause-replay
 returns-clause-replay g c = λ asked.

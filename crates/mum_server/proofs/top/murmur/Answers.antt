@@ -1,0 +1,29 @@
+-- What is answered of a run without `serve` is what such a run answers.
+use Rattle.std.proofs.Common.{refl}
+use Rattle.mum_server.proofs.top.murmur.Goals as goal
+
+pub returns-then-not-begins_with_serve-clause-plain : goal.returns-then-not-begins_with_serve-clause-plain
+returns-then-not-begins_with_serve-clause-plain g c = λ never.
+    let plain = c.run_plain.ensures in (
+      record {
+        replay = plain.replay;
+        says = plain.says;
+        exercise = plain.exercise;
+        exercise_says = plain.exercise_says;
+        read_fault = plain.read_fault;
+        write_fault = plain.write_fault;
+        no_other_read = plain.no_other_read;
+        no_other_write = plain.no_other_write;
+        usage = plain.usage;
+        usage_alone = plain.usage_alone;
+        status_is = plain.status;
+        read_line = plain.read_line;
+        write_line = plain.write_line;
+        memory_line = plain.memory_line;
+      },
+      refl,
+      refl,
+    )
+
+pub returns-in_default-clause-serves : goal.returns-in_default-clause-serves
+returns-in_default-clause-serves g c = λ address connections asks. absurd (c.in_default.ensures.asked address connections asks)

@@ -1,0 +1,111 @@
+//! The program's call with all its words.
+
+ghost use Rattle.std.specs.Prelude.{◌≡◌, ◌⊎◌, ℕ, List, is_some, map, string_bytes, true};
+ghost use Rattle.mum_io.specs.Outside.{Rose};
+ghost use Rattle.mum_server.specs.Command.{BeginsWithServe, IsServe};
+ghost use Rattle.mum_server.specs.Plain.{RunsPlainly};
+ghost use Rattle.mum_server.specs.Program.{Reports, Tells, usage_line};
+ghost use Rattle.mum_server.specs.Serve.{DoorFailed, RunsServer, ServerReports};
+
+use crate::command::{begins_with_serve, serve_in};
+use crate::end::{End, LineFault};
+use crate::program::{USAGE_LINE, report, run_plain, say};
+use mum_crew::Crew;
+use mum_io::{Door, Sink, Source};
+use mum_serve::{ServerEnd, run_server};
+use std::alloc::Global;
+use std::sync::Wait;
+
+const DOOR_FAULT_LINE: &str = "murmur: 8 DoorFault\n";
+
+const CREW_FAULT_LINE: &str = "murmur: 9 CrewFault\n";
+
+/// The number of the line that a configuration is.
+const CONFIG_LINE: u64 = 1;
+
+// Says this line, and gives this status.
+fn say_status<E: Sink>(errors: &mut E, line: &str, status: u8) -> u8
+    ensures status { result ≡ status }
+    ensures says { Tells line.now (E.written errors.old) (E.written errors.new) (Rose (E.faults errors.old) (E.faults errors.new)) }
+{
+    say(errors, line);
+    status
+}
+
+// Says how a run that served ended, and gives its status.
+fn report_server<E: Sink>(alloc: Global, end: ServerEnd, errors: &mut E) -> u8
+    ensures { ServerReports end result (E.written errors.old) (E.written errors.new) (Rose (E.faults errors.old) (E.faults errors.new)) }
+{
+    match end {
+        ServerEnd::Finished => report(alloc, &End::Finished, errors),
+        ServerEnd::BadConfig { cause, key } => {
+            let end = End::faulty(CONFIG_LINE, LineFault::BadConfig { cause, key });
+            report(alloc, &end, errors)
+        }
+        ServerEnd::ReadFault => report(alloc, &End::ReadFault, errors),
+        ServerEnd::WriteFault => report(alloc, &End::WriteFault, errors),
+        ServerEnd::DoorFault => say_status(errors, DOOR_FAULT_LINE, 8),
+        ServerEnd::CrewFault => say_status(errors, CREW_FAULT_LINE, 9),
+        ServerEnd::OutOfMemory => report(alloc, &End::OutOfMemory, errors),
+    }
+}
+
+/// The program. `serve ADDRESS SESSIONS` reads a configuration from the input, opens the door at the address,
+/// serves that many connections, and writes a line of totals when all are closed. Other words are those of
+/// `run_plain`. The door is back at every return.
+pub fn murmur<R: Wait + Copy + Send, I: Source, O: Sink, E: Sink, D: Door + Send, C: Crew>(
+    rt: &R,
+    alloc: Global,
+    words: &[String],
+    input: &mut I,
+    output: &mut O,
+    errors: &mut E,
+    door: &mut Option<D>,
+    crew: &mut C,
+) -> u8
+    requires { is_some door.old ≡ true }
+    // Words without `serve` are run without the door and the crew.
+    ensures plain { (BeginsWithServe (map string_bytes words.now) → ⊥) → RunsPlainly (map string_bytes words.now)
+        (record { left = I.left input.old; faults = I.faults input.old })
+        (record { left = I.left input.new; faults = I.faults input.new })
+        (record { written = O.written output.old; faults = O.faults output.old })
+        (record { written = O.written output.new; faults = O.faults output.new })
+        (record { written = E.written errors.old; faults = E.faults errors.old })
+        (record { written = E.written errors.new; faults = E.faults errors.new })
+        (input.new ≡ input.old) (output.new ≡ output.old) result × (door.new ≡ door.old) × (crew.new ≡ crew.old) }
+    // `serve` with an address and a number of connections runs a server.
+    ensures serves { (address : List ℕ) → (connections : ℕ) → IsServe (map string_bytes words.now) address connections →
+        RunsServer D.Conn D.counts D.given D.opened_at address connections
+        (record { left = I.left input.old; faults = I.faults input.old })
+        (record { left = I.left input.new; faults = I.faults input.new })
+        (record { written = O.written output.old; faults = O.faults output.old })
+        (record { written = O.written output.new; faults = O.faults output.new })
+        (record { written = E.written errors.old; faults = E.faults errors.old })
+        (record { written = E.written errors.new; faults = E.faults errors.new })
+        door.old door.new (C.counts crew.old) (C.counts crew.new) result }
+    // Other words that begin with `serve` are no command.
+    ensures usage { BeginsWithServe (map string_bytes words.now) →
+        ((address : List ℕ) → (connections : ℕ) → IsServe (map string_bytes words.now) address connections → ⊥) →
+        (result ≡ 1) × (input.new ≡ input.old) × (output.new ≡ output.old) × (door.new ≡ door.old) × (crew.new ≡ crew.old)
+        × Tells usage_line (E.written errors.old) (E.written errors.new) (Rose (E.faults errors.old) (E.faults errors.new)) }
+    // The door is back.
+    ensures door { is_some door.new ≡ true }
+    // Each fault has its cause in this call.
+    ensures read_fault { result ≡ 3 → Rose (I.faults input.old) (I.faults input.new) }
+    ensures write_fault { result ≡ 4 → Rose (O.faults output.old) (O.faults output.new) }
+    ensures door_fault { result ≡ 8 → DoorFailed D.counts door.old door.new }
+    ensures crew_fault { result ≡ 9 → Rose (C.counts crew.old).refused (C.counts crew.new).refused }
+    // A server that ended well was run by the crew.
+    ensures served { result ≡ 0 → (BeginsWithServe (map string_bytes words.now) → ⊥)
+        ⊎ Rose (C.counts crew.old).runs (C.counts crew.new).runs }
+{
+    if !begins_with_serve(words) {
+        return run_plain(alloc, words, input, output, errors);
+    }
+    let Some((address, connections)) = serve_in(words) else {
+        say(errors, USAGE_LINE);
+        return 1;
+    };
+    let end = run_server(rt, alloc, address, connections, input, output, door, crew);
+    report_server(alloc, end, errors)
+}

@@ -1,0 +1,316 @@
+-- What turns do to what a router knows, asked and offered.
+use Rattle.std.proofs.Common.{◌≡◌, ◌≢◌, ◌==◌, ◌∙◌, ℕ, zero, suc, Bool, true, false, true≢false, List, [], ◌∷◌, ◌++◌, map, Option, Some, None, refl, ap, sym, subst, inl, inr, arith, append_assoc}
+use Rattle.std.specs.Prelude.{slice_get, slice_set, All}
+use Rattle.std.specs.List.{AllPairs, FoldsTo, cons_option, filter_map, flat_map}
+use Rattle.std.proofs.lemmas.Bool.{eq-eqb, eqb-true}
+use Rattle.std.proofs.lemmas.Grind.{flat_map-append}
+use Rattle.std.proofs.lemmas.List.{append-nil, map-append}
+use Rattle.std.proofs.lemmas.List.Elements.{All-append, All-cons, All-head, All-nil, filter_map-append}
+use Rattle.std.proofs.lemmas.List.Kept.{AllPairs-cons}
+use mathlib.Core.List.{IsPrefix}
+use Rattle.mum_base.specs.declared.number.SessionId.{SessionId}
+use Rattle.mum_crew.specs.declared.role.Turn.{Turn}
+use Rattle.mum_io.specs.Counts.{Counts}
+use Rattle.mum_outbox.specs.Calls.{Offers}
+use Rattle.mum_outbox.specs.Facts.{PassFacts as BoxFacts}
+use Rattle.mum_outbox.specs.declared.parcel.TheConstants.{VOICE_CAPACITY}
+use Rattle.mum_outbox.specs.declared.parcel.VoiceParcel.{VoiceParcel}
+use Rattle.mum_outbox.specs.declared.queue.Offered.{Offered}
+use Rattle.mum_outbox.specs.declared.queue.Offered.TheVariants.{Sent, Full}
+use Rattle.mum_port.specs.Facts.{PortFacts}
+use Rattle.mum_port.specs.Handling.{Acts, HandlesKept, Routes as PortRoutes}
+use Rattle.mum_port.specs.Steps.{Handles}
+use Rattle.mum_port.specs.declared.item.DeskItem.{DeskItem}
+use Rattle.mum_published.specs.Facts.{NoteFacts, Opening, PassFacts}
+use Rattle.mum_published.proofs.Prefixes.{prefix_self, prefix_trans}
+use Rattle.mum_router.specs.Facts.{RouterFacts}
+use Rattle.mum_router.specs.Offering.{Delivers, Delivery, Outs, parcel_for}
+use Rattle.mum_router.specs.Routing.{RoutesAt}
+use Rattle.mum_router.specs.declared.offering.Routed.{Routed}
+use Rattle.mum_session.specs.Action.{action}
+use Rattle.mum_session.specs.Machine.{Machine, session_of}
+use Rattle.mum_session.specs.declared.action.Action.{Action}
+use Rattle.mum_session.specs.declared.action.Action.TheVariants.{Ask, Voice, Echo, Keep, Ignore}
+use Rattle.mum_state.specs.declared.edit.Edit.{Edit}
+use Rattle.mum_voice.specs.Packet.{Parts}
+use Rattle.mum_worker.specs.Along.{Along}
+use Rattle.mum_worker.specs.Bell.{ReplyFacts, Ring, Answer, Comes, Lagging, NoMore}
+use Rattle.mum_worker.specs.Boxes.{BoxesFacts}
+use Rattle.mum_worker.specs.Facts.{WorkerFacts}
+use Rattle.mum_worker.specs.Hearing.{Hears, LearnsGiven}
+use Rattle.mum_worker.specs.Routing.{CommonFacts, RoutesPacket}
+use Rattle.mum_worker.specs.Stepping.{PortSteps, Shares}
+use Rattle.mum_worker.specs.Turning.{Turned, shares_of}
+use Rattle.mum_worker_laws.specs.Laws.{Follows, Look, Moment, Told, Looked, SeesFrom, TurnsTo, ask_made, copies_at, copies_made, copy_for, edits_of, edits_told, history, if_sent, if_there, look_acted, look_handled, look_in, look_kept, look_made, look_of_session, look_stepped, looks_along, looks_in, moments_of, offered_in, told_by}
+
+-- ---- the copies of one packet
+
+set_same : {X : Type 0} (xs : List X) (i : ℕ) (old x : X) → slice_get xs i ≡ Some old → slice_get (slice_set xs i x) i ≡ Some x
+set_same [] zero old x there = absurd (cc there)
+set_same [] (suc i) old x there = absurd (cc there)
+set_same (y ∷ xs) zero old x there = refl
+set_same (y ∷ xs) (suc i) old x there = set_same xs i old x there
+
+set_other : {X : Type 0} (xs : List X) (i k : ℕ) (x : X) → k ≢ i → slice_get (slice_set xs i x) k ≡ slice_get xs k
+set_other [] i k x apart = refl
+set_other (y ∷ xs) zero zero x apart = absurd (apart refl)
+set_other (y ∷ xs) zero (suc k) x apart = refl
+set_other (y ∷ xs) (suc i) zero x apart = refl
+set_other (y ∷ xs) (suc i) (suc k) x apart = set_other xs i k x (λ same. apart (ap (λ (n : ℕ). suc n) same))
+
+offered_one : (answer : Offered VoiceParcel) (parcel : VoiceParcel) (old new : BoxFacts VoiceParcel) → Offers VOICE_CAPACITY old parcel answer new
+    → new.offered ≡ old.offered ++ cons_option (if_sent answer parcel) []
+offered_one Sent parcel old new offers = ap (λ (p : BoxFacts VoiceParcel). p.offered) offers
+offered_one (Full back) parcel old new offers = ap (λ (p : BoxFacts VoiceParcel). p.offered) offers.1 ∙ sym (append-nil old.offered)
+
+-- the box of its slot
+own_box : (speaker : SessionId) (packet : Parts) (outs : Outs) (d : Delivery) (after : Outs) → Delivers speaker packet outs d after
+    → copies_at d.hearer.slot.0 after ≡ copies_at d.hearer.slot.0 outs ++ cons_option (if_sent d.answer (parcel_for speaker packet d.hearer)) []
+own_box speaker packet outs d after delivers =
+    ap (λ (os : Outs). offered_in (slice_get os d.hearer.slot.0)) delivers.others
+    ∙ (ap (λ (o : Option (BoxFacts VoiceParcel)). offered_in o) (set_same outs d.hearer.slot.0 delivers.old delivers.new delivers.box)
+    ∙ (offered_one d.answer (parcel_for speaker packet d.hearer) delivers.old delivers.new delivers.offers
+    ∙ ap (λ (o : Option (BoxFacts VoiceParcel)). offered_in o ++ cons_option (if_sent d.answer (parcel_for speaker packet d.hearer)) []) (sym delivers.box)))
+
+delivered_where : (b : Bool) (slot : ℕ) (speaker : SessionId) (packet : Parts) (outs : Outs) (d : Delivery) (after : Outs) → (d.hearer.slot.0 == slot) ≡ b → Delivers speaker packet outs d after
+    → copies_at slot after ≡ copies_at slot outs ++ cons_option (if_there b d.answer (parcel_for speaker packet d.hearer)) []
+delivered_where true slot speaker packet outs d after is delivers =
+    subst (λ (k : ℕ). copies_at k after ≡ copies_at k outs ++ cons_option (if_sent d.answer (parcel_for speaker packet d.hearer)) [])
+    (eqb-true d.hearer.slot.0 slot is) (own_box speaker packet outs d after delivers)
+delivered_where false slot speaker packet outs d after is delivers =
+    ap (λ (os : Outs). offered_in (slice_get os slot)) delivers.others
+    ∙ (ap (λ (o : Option (BoxFacts VoiceParcel)). offered_in o) (set_other outs d.hearer.slot.0 slot delivers.new (λ same. true≢false (sym (eq-eqb d.hearer.slot.0 slot (sym same)) ∙ is)))
+    ∙ sym (append-nil (copies_at slot outs)))
+
+onto : {X : Type 0} (one : Option X) (before after : List X) → (before ++ cons_option one []) ++ after ≡ before ++ cons_option one after
+onto None before after = ap (λ l. l ++ after) (append-nil before)
+onto (Some x) before after = append_assoc before (x ∷ []) after
+
+delivered : (slot : ℕ) (speaker : SessionId) (packet : Parts) (ds : List Delivery) (outs after : Outs) → FoldsTo (Delivers speaker packet) outs ds after
+    → copies_at slot after ≡ copies_at slot outs ++ filter_map (copy_for slot speaker packet) ds
+delivered slot speaker packet [] outs after done =
+    ap (λ (os : Outs). copies_at slot os) (sym done) ∙ sym (append-nil (copies_at slot outs))
+delivered slot speaker packet (d ∷ ds) outs after done =
+    delivered slot speaker packet ds done.0 after done.2
+    ∙ (ap (λ (l : List VoiceParcel). l ++ filter_map (copy_for slot speaker packet) ds) (delivered_where (d.hearer.slot.0 == slot) slot speaker packet outs d done.0 refl done.1)
+    ∙ onto (copy_for slot speaker packet d) (copies_at slot outs) (filter_map (copy_for slot speaker packet) ds))
+
+-- ---- lists
+
+all_on : {X : Type 0} (P Q : X → Type 0) → ((x : X) → P x → Q x) → (xs : List X) → All P xs → All Q xs
+all_on P Q so xs all k d within = so _ (all k d within)
+
+pairs_nil : {X : Type 0} (R : X → X → Type 0) → AllPairs R []
+pairs_nil R i j d below within = absurd (omega (arith, within))
+
+pairs_head : {X : Type 0} (R : X → X → Type 0) (x : X) (xs : List X) → AllPairs R (x ∷ xs) → All (R x) xs
+pairs_head R x xs pairs k d within = pairs 0 (suc k) d (omega arith) (omega (arith, within))
+
+pairs_tail : {X : Type 0} (R : X → X → Type 0) (x : X) (xs : List X) → AllPairs R (x ∷ xs) → AllPairs R xs
+pairs_tail R x xs pairs i j d below within = pairs (suc i) (suc j) d (omega (arith, below)) (omega (arith, within))
+
+all_tail : {X : Type 0} (P : X → Type 0) (x : X) (xs : List X) → All P (x ∷ xs) → All P xs
+all_tail P x xs all k d within = all (suc k) d (omega (arith, within))
+
+pairs_join : {X : Type 0} (R : X → X → Type 0) (P Q : X → Type 0) → ((x y : X) → P x → Q y → R x y)
+    → (xs ys : List X) → AllPairs R xs → All P xs → AllPairs R ys → All Q ys → AllPairs R (xs ++ ys)
+pairs_join R P Q both [] ys pairs all others rest = others
+pairs_join R P Q both (x ∷ xs) ys pairs all others rest =
+    AllPairs-cons R x (xs ++ ys)
+    (All-append (R x) xs ys (pairs_head R x xs pairs) (all_on Q (R x) (λ y q. both x y (All-head P x xs all) q) ys rest))
+    (pairs_join R P Q both xs ys (pairs_tail R x xs pairs) (all_tail P x xs all) others rest)
+
+-- ---- what a router knows, asked and offered
+
+abbrev IsKnown : List Edit → Moment → Type 0
+IsKnown known moment = IsPrefix (edits_of moment) known
+
+-- these moments lead from this router to that
+pub record Goes (old new : RouterFacts) (moments : List Moment) : Type 0 where
+  pub asks : new.pass.asks ≡ old.pass.asks ++ map ask_made (looks_in moments)
+  pub knows : IsPrefix old.pass.known new.pass.known
+  pub within : All (IsKnown new.pass.known) moments
+  pub beyond : All (SeesFrom old.pass.known) moments
+  pub pairs : AllPairs Follows moments
+  pub copies : (slot : ℕ) → copies_at slot new.outs ≡ copies_at slot old.outs ++ flat_map (copies_made slot) (looks_in moments)
+
+stays : (old new : RouterFacts) → new ≡ old → Goes old new []
+stays old new same = record {
+  asks = ap (λ (r : RouterFacts). r.pass.asks) same ∙ sym (append-nil old.pass.asks);
+  knows = subst (λ (r : RouterFacts). IsPrefix old.pass.known r.pass.known) (sym same) (prefix_self old.pass.known);
+  within = All-nil (IsKnown new.pass.known);
+  beyond = All-nil (SeesFrom old.pass.known);
+  pairs = pairs_nil Follows;
+  copies = λ slot. ap (λ (r : RouterFacts). copies_at slot r.outs) same ∙ sym (append-nil (copies_at slot old.outs));
+}
+
+one_pair : (moment : Moment) → AllPairs Follows (moment ∷ [])
+one_pair moment = AllPairs-cons Follows moment [] (All-nil (Follows moment)) (pairs_nil Follows)
+
+-- ---- a reply
+
+pub record Learns (edits : List Edit) (old new : RouterFacts) : Type 0 where
+  pub asks : new.pass.asks ≡ old.pass.asks
+  pub outs : new.outs ≡ old.outs
+  pub mine : IsPrefix old.pass.known new.pass.known
+  pub its : IsPrefix edits new.pass.known
+
+learnt : (note : Option NoteFacts) (old new : RouterFacts) → LearnsGiven note old new → Learns (edits_told note) old new
+learnt None old new same = record {
+  asks = ap (λ (r : RouterFacts). r.pass.asks) same;
+  outs = ap (λ (r : RouterFacts). r.outs) same;
+  mine = subst (λ (r : RouterFacts). IsPrefix old.pass.known r.pass.known) (sym same) (prefix_self old.pass.known);
+  its = (new.pass.known, refl);
+}
+learnt (Some note) old new learns = record {
+  asks = ap (λ (p : PassFacts). p.asks) learns.0.same;
+  outs = ap (λ (r : RouterFacts). r.outs) learns.1;
+  mine = learns.0.mine;
+  its = learns.0.its;
+}
+
+told : (reply : ReplyFacts) (old new : RouterFacts) → LearnsGiven reply.note old new → Goes old new (Told reply ∷ [])
+told reply old new learns =
+    let facts = learnt reply.note old new learns in record {
+      asks = facts.asks ∙ sym (append-nil old.pass.asks);
+      knows = facts.mine;
+      within = All-cons (IsKnown new.pass.known) (Told reply) [] facts.its (All-nil (IsKnown new.pass.known));
+      beyond = All-cons (SeesFrom old.pass.known) (Told reply) [] tt (All-nil (SeesFrom old.pass.known));
+      pairs = one_pair (Told reply);
+      copies = λ slot. ap (λ (os : Outs). copies_at slot os) facts.outs ∙ sym (append-nil (copies_at slot old.outs));
+    }
+
+-- ---- a look
+
+saw : (opening : Opening) (connection : ℕ) (old : RouterFacts) (speaker : SessionId) (packet : Parts) (edits : List Edit) (deliveries : List Delivery) (new : RouterFacts) (routed : Routed)
+    → RoutesAt opening old speaker packet edits deliveries new routed
+    → Goes old new (Looked (record { connection = connection; speaker = speaker; packet = packet; edits = edits; deliveries = deliveries }) ∷ [])
+saw opening connection old speaker packet edits deliveries new routed routes =
+    let look : Look = record { connection = connection; speaker = speaker; packet = packet; edits = edits; deliveries = deliveries } in
+    let known : new.pass.known ≡ edits = ap (λ (r : RouterFacts). r.pass.known) routes.router in record {
+      asks = ap (λ (r : RouterFacts). r.pass.asks) routes.router;
+      knows = subst (λ (l : List Edit). IsPrefix old.pass.known l) (sym known) routes.may.known;
+      within = All-cons (IsKnown new.pass.known) (Looked look) [] (subst (λ (l : List Edit). IsPrefix edits l) (sym known) (prefix_self edits)) (All-nil (IsKnown new.pass.known));
+      beyond = All-cons (SeesFrom old.pass.known) (Looked look) [] routes.may.known (All-nil (SeesFrom old.pass.known));
+      pairs = one_pair (Looked look);
+      copies = λ slot. delivered slot speaker packet deliveries old.outs new.outs routes.offers
+          ∙ ap (λ (l : List VoiceParcel). copies_at slot old.outs ++ l) (sym (append-nil (copies_made slot look)));
+    }
+
+-- ---- one thing after another
+
+sees_more : (some more : List Edit) → IsPrefix some more → (moment : Moment) → SeesFrom more moment → SeesFrom some moment
+sees_more some more front (Told reply) sees = tt
+sees_more some more front (Looked look) sees = prefix_trans some more look.edits front sees
+
+asks_join : (ms ns : List Moment) → map ask_made (looks_in (ms ++ ns)) ≡ map ask_made (looks_in ms) ++ map ask_made (looks_in ns)
+asks_join ms ns = ap (λ (l : List Look). map ask_made l) (filter_map-append look_in ms ns) ∙ map-append ask_made (looks_in ms) (looks_in ns)
+
+copies_join : (slot : ℕ) (ms ns : List Moment) → flat_map (copies_made slot) (looks_in (ms ++ ns)) ≡ flat_map (copies_made slot) (looks_in ms) ++ flat_map (copies_made slot) (looks_in ns)
+copies_join slot ms ns = ap (λ (l : List Look). flat_map (copies_made slot) l) (filter_map-append look_in ms ns) ∙ flat_map-append (copies_made slot) (looks_in ms) (looks_in ns)
+
+chained : {X : Type 0} (a b c ms ns both : List X) → b ≡ a ++ ms → c ≡ b ++ ns → both ≡ ms ++ ns → c ≡ a ++ both
+chained a b c ms ns both one other joined =
+    other ∙ (ap (λ l. l ++ ns) one ∙ (append_assoc a ms ns ∙ ap (λ l. a ++ l) (sym joined)))
+
+goes_on : (old mid new : RouterFacts) (ms ns : List Moment) → Goes old mid ms → Goes mid new ns → Goes old new (ms ++ ns)
+goes_on old mid new ms ns one other = record {
+  asks = chained old.pass.asks mid.pass.asks new.pass.asks (map ask_made (looks_in ms)) (map ask_made (looks_in ns)) (map ask_made (looks_in (ms ++ ns))) one.asks other.asks (asks_join ms ns);
+  knows = prefix_trans old.pass.known mid.pass.known new.pass.known one.knows other.knows;
+  within = All-append (IsKnown new.pass.known) ms ns
+      (all_on (IsKnown mid.pass.known) (IsKnown new.pass.known) (λ m known. prefix_trans (edits_of m) mid.pass.known new.pass.known known other.knows) ms one.within) other.within;
+  beyond = All-append (SeesFrom old.pass.known) ms ns one.beyond
+      (all_on (SeesFrom mid.pass.known) (SeesFrom old.pass.known) (sees_more old.pass.known mid.pass.known one.knows) ns other.beyond);
+  pairs = pairs_join Follows (IsKnown mid.pass.known) (SeesFrom mid.pass.known) (λ m n known sees. sees_more (edits_of m) mid.pass.known known n sees)
+      ms ns one.pairs one.within other.pairs other.beyond;
+  copies = λ slot. chained (copies_at slot old.outs) (copies_at slot mid.outs) (copies_at slot new.outs) (flat_map (copies_made slot) (looks_in ms)) (flat_map (copies_made slot) (looks_in ns)) (flat_map (copies_made slot) (looks_in (ms ++ ns)))
+      (one.copies slot) (other.copies slot) (copies_join slot ms ns);
+}
+
+-- ---- the step of a port
+
+module _ (opening : Opening) where
+  go_made : (old : CommonFacts) (connection : ℕ) (speaker : SessionId) (bytes : List ℕ) (new : CommonFacts) (routes : RoutesPacket opening old connection speaker bytes new)
+      → Goes old.router new.router (look_made opening old connection speaker bytes new routes)
+  go_made old connection speaker bytes new (inl drops) = stays old.router new.router drops.not_one.same
+  go_made old connection speaker bytes new (inr keeps) =
+      saw opening connection old.router speaker keeps.once.parts keeps.once.routes.0 keeps.once.routes.1 new.router keeps.routed keeps.once.routes.2
+
+  same_common : (old new : CommonFacts) → new ≡ old → Goes old.router new.router []
+  same_common old new same = stays old.router new.router (ap (λ (c : CommonFacts). c.router) same)
+
+  go_session : (old : CommonFacts) (connection : ℕ) (session : Option SessionId) (bytes : List ℕ) (new : CommonFacts) (routes : PortRoutes (RoutesPacket opening) connection session bytes old new)
+      → Goes old.router new.router (look_of_session opening old connection session bytes new routes)
+  go_session old connection None bytes new same = same_common old new same
+  go_session old connection (Some speaker) bytes new routes = go_made old connection speaker bytes new routes
+
+  go_acted : (connection : ℕ) (session : Option SessionId) (asked : Action) (waiting : Option DeskItem) (out : List ℕ) (old : CommonFacts) (went : _) (waiting_after : Option DeskItem) (out_after : List ℕ) (new : CommonFacts)
+      (acts : Acts (RoutesPacket opening) connection session asked waiting out old went waiting_after out_after new)
+      → Goes old.router new.router (look_acted opening connection session asked waiting out old went waiting_after out_after new acts)
+  go_acted connection session (Ask command) waiting out old went waiting_after out_after new acts = same_common old new acts.3
+  go_acted connection session (Voice packet) waiting out old went waiting_after out_after new acts = go_session old connection session packet new acts.3
+  go_acted connection session (Echo wire) waiting out old went waiting_after out_after new acts = same_common old new acts.2
+  go_acted connection session Keep waiting out old went waiting_after out_after new acts = same_common old new acts.3
+  go_acted connection session (Ignore why) waiting out old went waiting_after out_after new acts = same_common old new acts.3
+
+  go_kept : (machine : Machine) (kept : List ℕ) (waiting : Option DeskItem) (out : List ℕ) (old : CommonFacts) (went : _) (machine_after : Machine) (kept_after : List ℕ) (waiting_after : Option DeskItem) (out_after : List ℕ) (new : CommonFacts)
+      (handles : HandlesKept (RoutesPacket opening) machine kept waiting out old went machine_after kept_after waiting_after out_after new)
+      → Goes old.router new.router (look_kept opening machine kept waiting out old went machine_after kept_after waiting_after out_after new handles)
+  go_kept machine kept waiting out old went machine_after kept_after waiting_after out_after new (inl (has, inl first)) =
+      go_acted machine.connection (session_of machine.stage) (action machine first.frame.kind first.frame.payload) waiting out old went waiting_after out_after new first.handled.acts
+  go_kept machine kept waiting out old went machine_after kept_after waiting_after out_after new (inl (has, inr lacks)) = same_common old new lacks.router_same
+  go_kept machine kept waiting out old went machine_after kept_after waiting_after out_after new (inr none) = same_common old new none.router_same
+
+  module _ {L : Type 0} where
+    go_handled : (old : PortFacts L) (router : CommonFacts) (went : _) (new : PortFacts L) (after : CommonFacts) (handles : Handles (RoutesPacket opening) old router went new after)
+        → Goes router.router after.router (look_handled opening old router went new after handles)
+    go_handled old router went new after (inl none) = same_common router after none.1
+    go_handled old router went new after (inr one) =
+        go_kept old.machine old.framer.kept old.waiting old.out router went new.machine new.framer.kept new.waiting new.out after one.handled
+
+  module _ {L : Type 0} (counts : L → Counts) (left written : L → Option (List ℕ)) (is_shut : L → Bool) where
+    go_stepped : (boxes : BoxesFacts) (old : PortFacts L) (before : Shares) (new : PortFacts L) (after : Shares) (steps : PortSteps counts left written is_shut opening boxes old before new after)
+        → Goes before.common.router after.common.router (look_stepped opening counts left written is_shut boxes old before new after steps)
+    go_stepped boxes old before new after steps =
+        subst (λ (r : RouterFacts). Goes before.common.router r (look_stepped opening counts left written is_shut boxes old before new after steps))
+        (sym (ap (λ (c : CommonFacts). c.router) steps.noted))
+        (go_handled steps.chain.after_read before.common steps.chain.handled steps.chain.after_handle steps.routed steps.chain.handles)
+
+    go_along : (boxes : BoxesFacts) (olds : List (PortFacts L)) (before : Shares) (news : List (PortFacts L)) (after : Shares) (along : Along (PortSteps counts left written is_shut opening boxes) olds before news after)
+        → Goes before.common.router after.common.router (looks_along opening counts left written is_shut boxes olds before news after along)
+    go_along boxes [] before [] after same = same_common before.common after.common (ap (λ (s : Shares). s.common) same)
+    go_along boxes [] before (new ∷ news) after none = absurd none
+    go_along boxes (old ∷ olds) before [] after none = absurd none
+    go_along boxes (old ∷ olds) before (new ∷ news) after (between, step, rest) =
+        goes_on before.common.router between.common.router after.common.router
+        (look_stepped opening counts left written is_shut boxes old before new between step)
+        (looks_along opening counts left written is_shut boxes olds between news after rest)
+        (go_stepped boxes old before new between step)
+        (go_along boxes olds between news after rest)
+
+    -- ---- the bell, and the turns
+
+    go_heard : (ring : Option (Ring L)) (old new : WorkerFacts L) → Hears counts left written is_shut ring old new → Goes old.common.router new.common.router (told_by ring)
+    go_heard None old new same = same_common old.common new.common (ap (λ (w : WorkerFacts L). w.common) same)
+    go_heard (Some (Answer reply)) old new hears = told reply old.common.router new.common.router hears.takes.learns
+    go_heard (Some (Comes connection link)) old new hears = stays old.common.router new.common.router hears.router
+    go_heard (Some (Lagging session)) old new hears = stays old.common.router new.common.router hears.router
+    go_heard (Some NoMore) old new same = same_common old.common new.common (ap (λ (w : WorkerFacts L). w.common) same)
+
+    go_turn : (old new : WorkerFacts L) (turn : Turn) (turned : Turned counts left written is_shut opening old new turn)
+        → Goes old.common.router new.common.router (moments_of counts left written is_shut opening old new turn turned)
+    go_turn old new turn turned =
+        goes_on old.common.router turned.between.common.router new.common.router
+        (told_by turned.hears.ring)
+        (looks_along opening counts left written is_shut turned.between.boxes turned.between.ports (shares_of turned.between turned.heard) turned.steps.steps.stepped (shares_of new turned.worked) turned.steps.steps.along)
+        (go_heard turned.hears.ring (record old { bell = turned.hears.bell }) turned.between turned.hears.hears)
+        (go_along turned.between.boxes turned.between.ports (shares_of turned.between turned.heard) turned.steps.steps.stepped (shares_of new turned.worked) turned.steps.steps.along)
+
+    pub go_turns : (old : WorkerFacts L) (turns : List Turn) (new : WorkerFacts L) (all : TurnsTo counts left written is_shut opening old turns new)
+        → Goes old.common.router new.common.router (history counts left written is_shut opening old turns new all)
+    go_turns old [] new same = same_common old.common new.common (ap (λ (w : WorkerFacts L). w.common) same)
+    go_turns old (turn ∷ turns) new (mid, turned, rest) =
+        goes_on old.common.router mid.common.router new.common.router
+        (moments_of counts left written is_shut opening old mid turn turned)
+        (history counts left written is_shut opening mid turns new rest)
+        (go_turn old mid turn turned) (go_turns mid turns new rest)

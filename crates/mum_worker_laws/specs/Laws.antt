@@ -1,0 +1,192 @@
+-- The turns of a worker, one after another, and what came of them.
+use Rattle.std.specs.Prelude.{◌≡◌, ◌==◌, ⊤, ℕ, Bool, true, false, List, [], ◌∷◌, ◌++◌, slice_get, Option, Some, None}
+use mathlib.Core.Logic.{inl, inr}
+use Rattle.std.specs.List.{filter_map}
+use mathlib.Core.List.{IsPrefix}
+use Rattle.mum_base.specs.declared.number.SessionId.{SessionId}
+use Rattle.mum_crew.specs.declared.role.Turn.{Turn}
+use Rattle.mum_io.specs.Counts.{Counts}
+use Rattle.mum_outbox.specs.Facts.{PassFacts}
+use Rattle.mum_outbox.specs.declared.parcel.VoiceParcel.{VoiceParcel}
+use Rattle.mum_outbox.specs.declared.queue.Offered.{Offered}
+use Rattle.mum_outbox.specs.declared.queue.Offered.TheVariants.{Sent, Full}
+use Rattle.mum_port.specs.Facts.{PortFacts}
+use Rattle.mum_port.specs.Handling.{Acts, HandlesKept, Routes as PortRoutes}
+use Rattle.mum_port.specs.Steps.{Handles}
+use Rattle.mum_port.specs.declared.item.DeskItem.{DeskItem}
+use Rattle.mum_published.specs.Calls.{ask_at}
+use Rattle.mum_published.specs.Facts.{NoteFacts, Opening}
+use Rattle.mum_published.specs.declared.rule.AskAt.{AskAt}
+use Rattle.mum_router.specs.Offering.{Delivery, Outs, parcel_for}
+use Rattle.mum_router.specs.Picking.{ask_of}
+use Rattle.mum_session.specs.Machine.{Machine, session_of}
+use Rattle.mum_session.specs.Action.{action}
+use Rattle.mum_session.specs.declared.action.Action.{Action}
+use Rattle.mum_session.specs.declared.action.Action.TheVariants.{Ask, Voice, Echo, Keep, Ignore}
+use Rattle.mum_state.specs.declared.edit.Edit.{Edit}
+use Rattle.mum_voice.specs.Packet.{Parts}
+use Rattle.mum_worker.specs.Along.{Along}
+use Rattle.mum_worker.specs.Bell.{ReplyFacts, Ring, Answer, Comes, Lagging, NoMore}
+use Rattle.mum_worker.specs.Boxes.{BoxesFacts}
+use Rattle.mum_worker.specs.Facts.{WorkerFacts}
+use Rattle.mum_worker.specs.Routing.{CommonFacts, RoutesPacket}
+use Rattle.mum_worker.specs.Stepping.{PortSteps, Shares}
+use Rattle.mum_worker.specs.Turning.{Turned, shares_of}
+
+-- ---- what happens
+
+-- a packet that was routed: whose it was, what it was, the edits that its look saw, and the copies that were offered
+pub record Look : Type 0 where
+  pub connection : ℕ
+  pub speaker : SessionId
+  pub packet : Parts
+  pub edits : List Edit
+  pub deliveries : List Delivery
+
+-- a reply that was heard, or a packet that was routed
+pub data Moment : Type 0 where
+  Told : ReplyFacts → Moment
+  Looked : Look → Moment
+
+abbrev pub look_in : Moment → Option Look
+look_in (Told reply) = None
+look_in (Looked look) = Some look
+
+-- the packets that were routed, in order
+abbrev pub looks_in : List Moment → List Look
+looks_in moments = filter_map look_in moments
+
+-- what a look asks, at the revision of the edits that it saw
+abbrev pub ask_made : Look → AskAt
+ask_made look = ask_at look.edits (ask_of look.speaker look.packet)
+
+-- ---- what is known
+
+abbrev pub edits_told : Option NoteFacts → List Edit
+edits_told None = []
+edits_told (Some note) = note.edits
+
+-- the edits of which a reply tells, or that a look saw
+abbrev pub edits_of : Moment → List Edit
+edits_of (Told reply) = edits_told reply.note
+edits_of (Looked look) = look.edits
+
+-- a look sees a list that begins with these
+abbrev pub SeesFrom : List Edit → Moment → Type 0
+SeesFrom edits (Told reply) = ⊤
+SeesFrom edits (Looked look) = IsPrefix edits look.edits
+
+-- what was told or seen before begins what a look sees
+abbrev pub Follows : Moment → Moment → Type 0
+Follows before after = SeesFrom (edits_of before) after
+
+-- ---- the copies
+
+abbrev pub offered_in : Option (PassFacts VoiceParcel) → List VoiceParcel
+offered_in None = []
+offered_in (Some pass) = pass.offered
+
+-- the copies that were sent to the voice box of a slot, in order
+abbrev pub copies_at : ℕ → Outs → List VoiceParcel
+copies_at slot outs = offered_in (slice_get outs slot)
+
+abbrev pub if_sent : Offered VoiceParcel → VoiceParcel → Option VoiceParcel
+if_sent Sent parcel = Some parcel
+if_sent (Full back) parcel = None
+
+abbrev pub if_there : Bool → Offered VoiceParcel → VoiceParcel → Option VoiceParcel
+if_there true answer parcel = if_sent answer parcel
+if_there false answer parcel = None
+
+-- the copy, where it is for this slot and was sent
+abbrev pub copy_for : ℕ → SessionId → Parts → Delivery → Option VoiceParcel
+copy_for slot speaker packet delivery =
+    if_there (delivery.hearer.slot.0 == slot) delivery.answer (parcel_for speaker packet delivery.hearer)
+
+-- the copies of a packet that were sent to this slot
+abbrev pub copies_made : ℕ → Look → List VoiceParcel
+copies_made slot look = filter_map (copy_for slot look.speaker look.packet) look.deliveries
+
+-- ---- a step
+
+module _ (opening : Opening) where
+  abbrev pub look_made : (old : CommonFacts) (connection : ℕ) (speaker : SessionId) (bytes : List ℕ) (new : CommonFacts) → RoutesPacket opening old connection speaker bytes new → List Moment
+  look_made old connection speaker bytes new (inl drops) = []
+  look_made old connection speaker bytes new (inr keeps) = Looked (record {
+    connection = connection;
+    speaker = speaker;
+    packet = keeps.once.parts;
+    edits = keeps.once.routes.0;
+    deliveries = keeps.once.routes.1;
+  }) ∷ []
+
+  abbrev pub look_of_session : (old : CommonFacts) (connection : ℕ) (session : Option SessionId) (bytes : List ℕ) (new : CommonFacts) → PortRoutes (RoutesPacket opening) connection session bytes old new → List Moment
+  look_of_session old connection None bytes new same = []
+  look_of_session old connection (Some speaker) bytes new routes = look_made old connection speaker bytes new routes
+
+  -- the packet of a frame that was handled
+  abbrev pub look_acted : (connection : ℕ) (session : Option SessionId) (asked : Action) (waiting : Option DeskItem) (out : List ℕ) (old : CommonFacts) (went : _) (waiting_after : Option DeskItem) (out_after : List ℕ) (new : CommonFacts)
+      → Acts (RoutesPacket opening) connection session asked waiting out old went waiting_after out_after new → List Moment
+  look_acted connection session (Ask command) waiting out old went waiting_after out_after new acts = []
+  look_acted connection session (Voice packet) waiting out old went waiting_after out_after new acts = look_of_session old connection session packet new acts.3
+  look_acted connection session (Echo wire) waiting out old went waiting_after out_after new acts = []
+  look_acted connection session Keep waiting out old went waiting_after out_after new acts = []
+  look_acted connection session (Ignore why) waiting out old went waiting_after out_after new acts = []
+
+  abbrev pub look_kept : (machine : Machine) (kept : List ℕ) (waiting : Option DeskItem) (out : List ℕ) (old : CommonFacts) (went : _) (machine_after : Machine) (kept_after : List ℕ) (waiting_after : Option DeskItem) (out_after : List ℕ) (new : CommonFacts)
+      → HandlesKept (RoutesPacket opening) machine kept waiting out old went machine_after kept_after waiting_after out_after new → List Moment
+  look_kept machine kept waiting out old went machine_after kept_after waiting_after out_after new (inl (has, inl first)) =
+      look_acted machine.connection (session_of machine.stage) (action machine first.frame.kind first.frame.payload) waiting out old went waiting_after out_after new first.handled.acts
+  look_kept machine kept waiting out old went machine_after kept_after waiting_after out_after new (inl (has, inr lacks)) = []
+  look_kept machine kept waiting out old went machine_after kept_after waiting_after out_after new (inr none) = []
+
+  module _ {L : Type 0} where
+    abbrev pub look_handled : (old : PortFacts L) (router : CommonFacts) (went : _) (new : PortFacts L) (after : CommonFacts) → Handles (RoutesPacket opening) old router went new after → List Moment
+    look_handled old router went new after (inl none) = []
+    look_handled old router went new after (inr one) =
+        look_kept old.machine old.framer.kept old.waiting old.out router went new.machine new.framer.kept new.waiting new.out after one.handled
+
+  module _ {L : Type 0} (counts : L → Counts) (left written : L → Option (List ℕ)) (is_shut : L → Bool) where
+    -- the packet that the step of a port routed, if it did
+    abbrev pub look_stepped : (boxes : BoxesFacts) (old : PortFacts L) (before : Shares) (new : PortFacts L) (after : Shares) → PortSteps counts left written is_shut opening boxes old before new after → List Moment
+    look_stepped boxes old before new after steps =
+        look_handled steps.chain.after_read before.common steps.chain.handled steps.chain.after_handle steps.routed steps.chain.handles
+
+    -- the packets that ports routed, one after the other
+    abbrev pub looks_along : (boxes : BoxesFacts) (olds : List (PortFacts L)) (before : Shares) (news : List (PortFacts L)) (after : Shares) → Along (PortSteps counts left written is_shut opening boxes) olds before news after → List Moment
+    looks_along boxes [] before [] after none = []
+    looks_along boxes [] before (new ∷ news) after none = []
+    looks_along boxes (old ∷ olds) before [] after none = []
+    looks_along boxes (old ∷ olds) before (new ∷ news) after along =
+        look_stepped boxes old before new along.0 along.1 ++ looks_along boxes olds along.0 news after along.2
+
+-- ---- the turns
+
+abbrev pub told_of : {L : Type 0} → Ring L → List Moment
+told_of (Answer reply) = Told reply ∷ []
+told_of (Comes connection link) = []
+told_of (Lagging session) = []
+told_of NoMore = []
+
+-- the reply that a turn heard, if it did
+abbrev pub told_by : {L : Type 0} → Option (Ring L) → List Moment
+told_by None = []
+told_by (Some ring) = told_of ring
+
+module _ {L : Type 0} (counts : L → Counts) (left written : L → Option (List ℕ)) (is_shut : L → Bool) (opening : Opening) where
+  -- the turns, one after another, lead from this worker to that
+  abbrev pub TurnsTo : WorkerFacts L → List Turn → WorkerFacts L → Type 0
+  TurnsTo old [] new = new ≡ old
+  TurnsTo old (turn ∷ turns) new = (mid : WorkerFacts L) × Turned counts left written is_shut opening old mid turn × TurnsTo mid turns new
+
+  -- what a turn heard and routed, in order
+  abbrev pub moments_of : (old new : WorkerFacts L) (turn : Turn) → Turned counts left written is_shut opening old new turn → List Moment
+  moments_of old new turn turned =
+      told_by turned.hears.ring
+      ++ looks_along opening counts left written is_shut turned.between.boxes turned.between.ports (shares_of turned.between turned.heard)
+      turned.steps.steps.stepped (shares_of new turned.worked) turned.steps.steps.along
+
+  -- the replies that the turns heard, and the packets that they routed, in order
+  abbrev pub history : (old : WorkerFacts L) (turns : List Turn) (new : WorkerFacts L) → TurnsTo old turns new → List Moment
+  history old [] new all = []
+  history old (turn ∷ turns) new all = moments_of old all.0 turn all.1 ++ history all.0 turns new all.2

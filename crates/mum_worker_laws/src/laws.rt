@@ -1,0 +1,48 @@
+//! What holds of a worker whatever its turns are, from its opening on, over any links and any gate. These
+//! functions do nothing: each contract is a theorem.
+
+ghost use Rattle.std.specs.Prelude.{◌≡◌, ◌++◌, ℕ, Bool, List, Option, map};
+ghost use Rattle.std.specs.List.{All, AllPairs, flat_map};
+ghost use Rattle.mum_crew.specs.declared.role.Turn.{Turn};
+ghost use Rattle.mum_published.specs.Facts.{Opening, PassFacts};
+ghost use Rattle.mum_worker.specs.Facts.{WorkerFacts};
+ghost use Rattle.mum_worker.specs.Opening.{HasOpened};
+ghost use Rattle.mum_worker_laws.specs.Laws.{Follows, SeesFrom, TurnsTo, ask_made, copies_at, copies_made, history, looks_in};
+
+use mum_io::Link;
+
+/// Each look is of one packet of one port, and no packet is routed without one: what was asked is what the packets
+/// ask that the turns routed, in order.
+pub fn looks_are_asks<L: Link>()
+    ensures { (opening : Opening) (number : ℕ) (pass : PassFacts) (journal : Option ℕ)
+        (opened worker : WorkerFacts L) (turns : List Turn) → HasOpened number pass journal opened →
+        (all : TurnsTo L.counts L.left L.written L.is_shut opening opened turns worker) →
+        worker.common.router.pass.asks
+        ≡ pass.asks ++ map ask_made (looks_in (history L.counts L.left L.written L.is_shut opening opened turns worker all)) }
+{}
+
+/// What a look saw and what a reply told is never lost: each later packet is routed at a list of edits that begins
+/// with it. So revisions never fall, and the packet that follows a reply sees all of which the reply tells.
+pub fn later_looks_see_more<L: Link>()
+    ensures follows { (opening : Opening) (number : ℕ) (pass : PassFacts) (journal : Option ℕ)
+        (opened worker : WorkerFacts L) (turns : List Turn) → HasOpened number pass journal opened →
+        (all : TurnsTo L.counts L.left L.written L.is_shut opening opened turns worker) →
+        AllPairs Follows (history L.counts L.left L.written L.is_shut opening opened turns worker all) }
+    // What the pass knew as the worker opened begins each list.
+    ensures known { (opening : Opening) (number : ℕ) (pass : PassFacts) (journal : Option ℕ)
+        (opened worker : WorkerFacts L) (turns : List Turn) → HasOpened number pass journal opened →
+        (all : TurnsTo L.counts L.left L.written L.is_shut opening opened turns worker) →
+        All (SeesFrom pass.known) (history L.counts L.left L.written L.is_shut opening opened turns worker all) }
+{}
+
+/// Copies are offered to a box in the order of the looks: what was sent to the voice box of a slot is, in order, the
+/// copies for this slot of the packets that the turns routed.
+pub fn copies_keep_their_order<L: Link>()
+    ensures { (opening : Opening) (number : ℕ) (pass : PassFacts) (journal : Option ℕ)
+        (opened worker : WorkerFacts L) (turns : List Turn) (slot : ℕ) → HasOpened number pass journal opened →
+        (all : TurnsTo L.counts L.left L.written L.is_shut opening opened turns worker) →
+        copies_at slot worker.common.router.outs
+        ≡ copies_at slot opened.common.router.outs
+        ++ flat_map (copies_made slot)
+        (looks_in (history L.counts L.left L.written L.is_shut opening opened turns worker all)) }
+{}

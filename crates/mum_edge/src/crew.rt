@@ -5,10 +5,12 @@ ghost use Rattle.std.specs.Prelude.{◌≡◌};
 use crate::board::Board;
 use crate::entrance::Post;
 use crate::hub::{Hub, THREAD_LIMIT};
+use crate::life::Life;
 use crate::station::{SocketStation, WAKER};
 use mio::{Events, Poll, Token, Waker};
 use mum_crew::{Crew, CrewEnd, Plan, RunTally};
 use std::alloc::Global;
+use std::io::Eprint;
 use std::net::Net;
 use std::sync::{Arc, Wait};
 use std::thread::Threads;
@@ -27,6 +29,7 @@ pub struct ThreadCrew<X> {
     spare: Vec<SocketStation<X>>,
     later_roles: usize,
     tally: RunTally,
+    life: Life<X>,
 }
 
 /// How many threads a crew has on this machine: the owner's, and one for each two processors.
@@ -46,6 +49,7 @@ impl<X: Net + Clock + Copy> ThreadCrew<X> {
         hub: Arc<Hub>,
         threads: usize,
         later_roles: usize,
+        life: Life<X>,
     ) -> io::Result<ThreadCrew<X>> {
         Ok(ThreadCrew {
             rt,
@@ -54,6 +58,7 @@ impl<X: Net + Clock + Copy> ThreadCrew<X> {
             hub,
             later_roles,
             tally: RunTally::new(),
+            life,
         })
     }
 
@@ -74,6 +79,15 @@ impl<X> ThreadCrew<X> {
     /// How many rounds worked although their thread slept to the end: wakes that were missed.
     pub fn late_rounds(&self) -> u64 {
         self.hub.late_rounds()
+    }
+}
+
+impl<X: Eprint> ThreadCrew<X> {
+    fn report_late(&self) {
+        let times = self.hub.late_rounds();
+        if times > 0 {
+            self.life.overslept(times);
+        }
     }
 }
 
@@ -128,7 +142,7 @@ fn move_last<X: Drop>(
     }
 }
 
-impl<X: Net + Wait + Threads + Clock + Copy + Sync + Send> Crew for ThreadCrew<X> {
+impl<X: Net + Wait + Threads + Clock + Eprint + Copy + Sync + Send> Crew for ThreadCrew<X> {
     type Runtime = X;
 
     type Station = SocketStation<X>;
@@ -155,6 +169,7 @@ impl<X: Net + Wait + Threads + Clock + Copy + Sync + Send> Crew for ThreadCrew<X
     {
         match plan {
             Plan::Threads { stations, .. } => {
+                self.report_late();
                 drop(std::mem::replace(&mut self.stations, stations));
                 move_last(&mut self.spare, &mut self.stations, 0);
             }

@@ -35,12 +35,14 @@ const ARRIVALS: usize = 256;
 
 const ATTEMPTS: usize = 16;
 
-/// A connection that came, with its slot and the address of its peer.
+/// A connection that came, with its slot and the address of its peer. One that a relay opened for itself is not for a
+/// client.
 #[derive(Drop)]
 struct Arrival {
     stream: Stream,
     slot: usize,
     address: Ipv6Addr,
+    is_for_client: bool,
 }
 
 /// A connection whose header has not come whole.
@@ -224,6 +226,7 @@ impl<X: Net + Files + Eprint + Copy> Entrance<X> {
                 stream,
                 slot,
                 address,
+                is_for_client: true,
             }),
             None => {
                 self.hub.free_slot(slot);
@@ -289,8 +292,13 @@ impl<X: Net + Files + Eprint + Copy> Entrance<X> {
                 Header::Refused => self.refuse(place),
                 Header::Whole(address) => {
                     let arrival = self.take_waiting(place)?;
+                    let is_for_client = address.is_some();
                     let address = address.unwrap_or(arrival.address);
-                    let arrival = Arrival { address, ..arrival };
+                    let arrival = Arrival {
+                        address,
+                        is_for_client,
+                        ..arrival
+                    };
                     if let Some(link) = self.admit(arrival, connection) {
                         return Some(link);
                     }
@@ -350,6 +358,7 @@ impl<X: Net + Files + Eprint + Copy> Entrance<X> {
             mut stream,
             slot,
             address,
+            is_for_client,
         } = arrival;
         let Some(post) = self.posts.get(self.hub.thread_of(connection)) else {
             return Err(io::Error::from(ErrorKind::NotFound));
@@ -363,7 +372,13 @@ impl<X: Net + Files + Eprint + Copy> Entrance<X> {
         self.hub.set(slot, READABLE);
         stream.register(&registry, slot)?;
         board.open_link();
+        hub.note_opened();
         let opened = self.now();
+        let life = if is_for_client {
+            self.life
+        } else {
+            self.life.silent()
+        };
         let wire = Wire {
             stream,
             hub,
@@ -379,7 +394,7 @@ impl<X: Net + Files + Eprint + Copy> Entrance<X> {
             bytes_read: 0,
             bytes_written: 0,
         };
-        Ok(SocketLink::new(wire, address, self.life, connection, opened))
+        Ok(SocketLink::new(wire, address, life, connection, opened))
     }
 }
 

@@ -27,6 +27,7 @@ pub struct Hub {
     slots: Vec<AtomicU32>,
     sleepers: AtomicU64,
     owner_turns: AtomicU64,
+    links_opened: AtomicU64,
     links_shut: AtomicU64,
     late_rounds: AtomicU64,
     is_door_ready: AtomicBool,
@@ -49,6 +50,7 @@ impl Hub {
             slots,
             sleepers: AtomicU64::new(0),
             owner_turns: AtomicU64::new(0),
+            links_opened: AtomicU64::new(0),
             links_shut: AtomicU64::new(0),
             late_rounds: AtomicU64::new(0),
             is_door_ready: AtomicBool::new(false),
@@ -124,6 +126,15 @@ impl Hub {
     /// How many rounds the owner worked in.
     pub fn owner_turns(&self) -> u64 {
         self.owner_turns.load(Ordering::SeqCst)
+    }
+
+    pub fn note_opened(&self) {
+        self.links_opened.fetch_add(1, Ordering::SeqCst);
+    }
+
+    /// Whether a link is open.
+    pub fn has_links(&self) -> bool {
+        self.links_opened.load(Ordering::SeqCst) != self.links_shut.load(Ordering::SeqCst)
     }
 
     pub fn note_shut(&self) {

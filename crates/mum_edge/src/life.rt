@@ -24,6 +24,14 @@ impl<X: Eprint> Life<X> {
         }
     }
 
+    /// The same with lines about faults alone.
+    pub fn silent(self) -> Life<X> {
+        Life {
+            has_signs: false,
+            ..self
+        }
+    }
+
     // The whole line goes out in one piece, since several threads write.
     fn write(&self, line: Result<String, AllocError>) {
         if let Ok(line) = line {
@@ -60,6 +68,11 @@ impl<X: Eprint> Life<X> {
                 "murmur: a connection without a PROXY header was closed, {refused} until now\n"
             ));
         }
+    }
+
+    /// Threads slept this many times although there was work for them: wakes were missed.
+    pub fn overslept(&self, times: u64) {
+        self.write(format!(in self.alloc; "murmur: threads overslept {times} times\n"));
     }
 
     pub fn is_no_address(&self, text: &str) {

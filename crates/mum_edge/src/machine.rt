@@ -64,7 +64,7 @@ impl<X: AllocGlobal + Net + Files + Env + Eprint + Threads + Clock + Copy> Machi
         life: Life<X>,
     ) -> io::Result<Machine<X>> {
         let hub = Arc::new(alloc, Hub::new(alloc)?)?;
-        let crew = ThreadCrew::new(rt, alloc, hub.clone()?, threads, later_roles)?;
+        let crew = ThreadCrew::new(rt, alloc, hub.clone()?, threads, later_roles, life)?;
         let posts = crew.posts(alloc)?;
         Ok(Machine {
             crew,

@@ -96,9 +96,10 @@ impl Used {
         self.thousandths = self.thousandths.saturating_sub(returned);
     }
 
-    // Whether there is room for one more frame.
-    fn has_room(&self) -> bool {
-        self.thousandths.saturating_add(FRAME) <= u64::from(self.rate.at_once).saturating_mul(FRAME)
+    // How many frames there is room for.
+    fn room(&self) -> u64 {
+        let at_once = u64::from(self.rate.at_once).saturating_mul(FRAME);
+        at_once.saturating_sub(self.thousandths) / FRAME
     }
 }
 
@@ -150,6 +151,12 @@ impl Frames {
         }
     }
 
+    // The least length of what is left of a payload and of so many frames behind it.
+    fn length_of(&self, frames: u64) -> usize {
+        let headers = frames.saturating_mul(HEADER_LENGTH as u64);
+        usize::try_from(self.payload_left.saturating_add(headers)).unwrap_or(usize::MAX)
+    }
+
     fn pass_payload(&mut self, most: usize) -> Front
         ensures { result.length ≤ most }
     {
@@ -189,16 +196,17 @@ impl Meter {
         }
     }
 
-    /// Whether more may be read at this time.
-    pub fn may_read(&mut self, milliseconds: u64) -> bool {
+    /// How many bytes may be read at this time, so that no more frames begin in them than there is room for.
+    pub fn allowance(&mut self, milliseconds: u64) -> usize {
         if !self.is_limited {
-            return true;
+            return usize::MAX;
         }
         let passed = milliseconds.saturating_sub(self.milliseconds);
         self.milliseconds = self.milliseconds.max(milliseconds);
         self.messages.give_back(passed);
         self.voice.give_back(passed);
-        self.messages.has_room() && self.voice.has_room()
+        self.frames
+            .length_of(self.messages.room().min(self.voice.room()))
     }
 
     /// Counts the frames that begin in what was read. How many there are.

@@ -12,10 +12,13 @@ use std::time::{Clock, Duration, Instant};
 /// The token of the waker, behind that of the door.
 pub const WAKER: usize = DOOR + 1;
 
-/// The longest sleep, and that of a thread with a link that has to wait until time has passed, in milliseconds.
+/// The longest sleep in milliseconds: while a link is open, where one has to wait until time has passed, and while
+/// none is open.
 const SLEEP: u64 = 1000;
 
 const SHORT_SLEEP: u64 = 50;
+
+const LONG_SLEEP: u64 = 600_000;
 
 /// A poll of its own, and the wakers of all threads.
 #[derive(Drop)]
@@ -52,6 +55,17 @@ impl<X: Clock> SocketStation<X> {
         match self.start.elapsed(&self.rt) {
             Ok(passed) => u64::try_from(passed.as_millis()).unwrap_or(u64::MAX),
             Err(_) => self.board.milliseconds(),
+        }
+    }
+
+    // How long the thread may sleep, in milliseconds.
+    fn sleep(&self) -> u64 {
+        if self.board.is_slowed() {
+            SHORT_SLEEP
+        } else if self.hub.has_links() {
+            SLEEP
+        } else {
+            LONG_SLEEP
         }
     }
 
@@ -121,12 +135,7 @@ impl<X: Clock + Send + Drop> Station for SocketStation<X> {
 
     fn look(&mut self, may_sleep: bool) -> Look {
         let is_slowed = self.board.is_slowed();
-        let wait = match (may_sleep, is_slowed) {
-            (false, _) => 0,
-            (true, true) => SHORT_SLEEP,
-            (true, false) => SLEEP,
-        };
-        let wait = Duration::from_millis(wait);
+        let wait = Duration::from_millis(if may_sleep { self.sleep() } else { 0 });
         if self.poll.poll(&mut self.events, Some(wait)).is_err() {
             return Look::Woken;
         }
@@ -134,9 +143,10 @@ impl<X: Clock + Send + Drop> Station for SocketStation<X> {
         if ready > 1 {
             self.board.hold();
         }
-        if ready > 0 {
+        // a link that had to wait may be read now
+        if ready > 0 || is_slowed {
             Look::Ready
-        } else if is_slowed || !self.events.is_empty() {
+        } else if !self.events.is_empty() {
             Look::Woken
         } else {
             Look::Nothing

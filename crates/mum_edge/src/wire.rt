@@ -55,11 +55,13 @@ impl Wire {
         if !self.hub.has(self.slot, READABLE) {
             return PollRead::NotYet;
         }
-        if !self.meter.may_read(self.board.milliseconds()) {
+        let allowance = self.meter.allowance(self.board.milliseconds());
+        if allowance == 0 {
             self.board.slow_down();
             return PollRead::NotYet;
         }
-        self.read_stream(buf)
+        let length = buf.len().min(allowance);
+        self.read_stream(&mut buf[..length])
     }
 
     // The flag is left where there may be more: the system reports no change of that.

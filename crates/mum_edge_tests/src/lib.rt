@@ -7,3 +7,5 @@ mod addresses;
 mod echo;
 #[cfg(test)]
 mod lines;
+#[cfg(test)]
+mod paces;

@@ -1,0 +1,296 @@
+//! `mum_control`: a session whose box is full, and an edit whose publish runs out of memory.
+
+ghost use Rattle.std.specs.Prelude.{◌≡◌, [], IfOk, length};
+ghost use Rattle.mum_base.specs.declared.number.TheConstants.{SLOTS as slots};
+ghost use Rattle.mum_published.specs.Calls.{latest};
+
+use mum_base::{Mark, Octets, OutOfMemory, SLOTS, SessionId, Slot, Text};
+use mum_control::{Control, Posted};
+use mum_fields::Message;
+use mum_msg_state::Authenticate;
+use mum_outbox::{Offered, POST_CAPACITY, PostBox, PostParcel};
+use mum_published::{Naming, Publisher, open};
+use mum_rules_user::UserMessage;
+use mum_session::{Asked, Command};
+use mum_state::State;
+use std::alloc::Global;
+use std::marker::Brand;
+use std::mem::drop;
+use std::sync::Wait;
+use std::test::Fail;
+
+/// The version of the client of the login: 1.5.0.
+const VERSION: u32 = 0x1_0500;
+
+/// A box for each slot, and another owner of the first one.
+fn boxes_of(alloc: Global) -> Result<(Vec<PostBox>, PostBox), OutOfMemory>
+    ensures { IfOk result (λ made. length made.0.items ≡ slots) }
+{
+    let mut first = PostBox::new(alloc)?;
+    let own = first.share()?;
+    let mut boxes = Vec::new(alloc);
+    boxes.push(first)?;
+    for _slot in 1..SLOTS {
+        boxes.push(PostBox::new(alloc)?)?;
+    }
+    Ok((boxes, own))
+}
+
+/// Fills a box with parcels for nobody, and gives their number.
+fn fill<R: Wait>(rt: &R, alloc: Global, queue: PostBox) -> usize {
+    let mut queue = queue;
+    let mut pass = queue.pass();
+    for count in 0..POST_CAPACITY + 1 {
+        let parcel = PostParcel {
+            to: SessionId(0),
+            bytes: Octets::from_vec(Vec::new(alloc)),
+            last: false,
+        };
+        if let Offered::Full(_) = queue.offer_as(rt, &mut pass, parcel) {
+            return count;
+        }
+    }
+    POST_CAPACITY + 1
+}
+
+/// The login of a user who has no session yet.
+fn login(alloc: Global) -> Result<Command, OutOfMemory> {
+    let mut message = Authenticate::new(alloc);
+    message.username = Some(Text::of(alloc, "anna")?);
+    Ok(Command {
+        connection: 7,
+        worker: 0,
+        session: None,
+        what: Asked::User(UserMessage::Join(message, Some(VERSION))),
+    })
+}
+
+/// Where an accepted edit was published.
+#[derive(Clone, Copy, Debug, PartialEq)]
+enum Published {
+    /// The reply has the note.
+    AtOnce,
+    /// Memory ran out after the edit was appended, and the note of the next publish has it.
+    Later,
+    /// Memory ran out before, and the command was dropped whole.
+    Never,
+    /// None of these.
+    Wrong,
+}
+
+/// What became of a login, and of the first notices to its session, whose box was full.
+#[derive(Clone, Copy, Debug, PartialEq)]
+struct Seen {
+    published: Published,
+    /// The next slot, after the login.
+    next: Option<Slot>,
+    /// What became of the first notice, and who lags then.
+    first: Posted,
+    lagged: Option<SessionId>,
+    /// What became of the second one, once the box was emptied.
+    second: Posted,
+}
+
+/// Publishes again, and gives the revision of the note.
+fn publish_again<N: Naming, R: Wait>(rt: &R, control: &mut Control<'_, N>) -> Option<u64> {
+    match control.publish(rt) {
+        Ok(note) => Some(note.revision()),
+        Err(_) => None,
+    }
+}
+
+/// Where the edit of the last command was published, whose reply had a note of this revision, or none.
+fn publication<N: Naming, R: Wait>(
+    rt: &R,
+    control: &mut Control<'_, N>,
+    noted: Option<u64>,
+    no_memory: bool,
+) -> Published {
+    let waiting = control.unpublished();
+    match (control.mark(), noted) {
+        (Some(Mark::Accepted { revision }), Some(noted)) => {
+            let is_right = noted == revision && !no_memory && waiting == 0;
+            if is_right {
+                Published::AtOnce
+            } else {
+                Published::Wrong
+            }
+        }
+        (Some(Mark::Accepted { revision }), None) => {
+            let again = publish_again(rt, control);
+            let is_right = no_memory
+                && waiting == 1
+                && again == Some(revision)
+                && control.unpublished() == 0;
+            if is_right {
+                Published::Later
+            } else {
+                Published::Wrong
+            }
+        }
+        (None, None) => {
+            let is_right = no_memory
+                && waiting == 0
+                && control.pending() == 0
+                && !control.is_there(SessionId(1));
+            if is_right {
+                Published::Never
+            } else {
+                Published::Wrong
+            }
+        }
+        _ => Published::Wrong,
+    }
+}
+
+/// Gives a command. Where its edit was published.
+fn command<N: Naming, R: Wait>(
+    rt: &R,
+    control: &mut Control<'_, N>,
+    command: Command,
+) -> Published {
+    let reply = control.command(rt, command);
+    let no_memory = reply.no_memory;
+    let noted = match &reply.note {
+        Some(note) => Some(note.revision()),
+        None => None,
+    };
+    drop(reply);
+    publication(rt, control, noted, no_memory)
+}
+
+/// A user logs in, whose box is full. It is emptied after the first notice.
+fn see<N: Naming, R: Wait>(rt: &R, control: &mut Control<'_, N>, login: Command) -> Seen {
+    let published = command(rt, control, login);
+    let next = control.next_slot();
+    let first = control.post_next(rt);
+    let lagged = control.lagged().first().copied();
+    control.empty_post(rt, SessionId(1));
+    let second = control.post_next(rt);
+    Seen {
+        published,
+        next,
+        first,
+        lagged,
+        second,
+    }
+}
+
+/// The same at a control owner that is opened for it.
+fn open_and_see<N: Naming, R: Wait>(
+    rt: &R,
+    alloc: Global,
+    publisher: &mut Publisher,
+    state: State,
+    boxes: Vec<PostBox>,
+    login: Command,
+) -> Option<Seen>
+    requires opening { publisher.old.opening ≡ N.opening }
+    requires state { state ≡ latest publisher.old }
+    requires pending { publisher.old.pending ≡ [] }
+    requires boxes { length boxes.items ≡ slots }
+{
+    match Control::<N>::open(alloc, state, publisher, boxes) {
+        Ok(mut control) => {
+            let seen = see(rt, &mut control, login);
+            drop(control);
+            Some(seen)
+        }
+        Err(_) => {
+            drop(login);
+            None
+        }
+    }
+}
+
+/// The same, with the opening of this publisher.
+fn see_at<R: Wait>(
+    rt: &R,
+    alloc: Global,
+    publisher: &mut Publisher,
+    state: State,
+    boxes: Vec<PostBox>,
+    login: Command,
+) -> Option<Seen>
+    requires state { state ≡ latest publisher.old }
+    requires pending { publisher.old.pending ≡ [] }
+    requires boxes { length boxes.items ≡ slots }
+{
+    open_and_see::<Brand, R>(rt, alloc, publisher, state, boxes, login)
+}
+
+/// A publisher of an empty state, and that state.
+fn begin<R: Wait>(rt: &R, alloc: Global) -> Result<(Publisher, State), OutOfMemory>
+    ensures state { IfOk result (λ begun. begun.1 ≡ latest begun.0) }
+    ensures pending { IfOk result (λ begun. begun.0.pending ≡ []) }
+{
+    let twin = State::empty(alloc)?;
+    let state = match twin.copy(alloc) {
+        Ok(state) => state,
+        Err(error) => {
+            drop(twin);
+            return Err(error);
+        }
+    };
+    match open(rt, alloc, state, 1) {
+        Ok((publisher, _passes)) => Ok((publisher, twin)),
+        Err(error) => {
+            drop(twin);
+            Err(error)
+        }
+    }
+}
+
+/// What becomes of a login at an empty state.
+fn seen_by<R: Wait>(rt: &R, alloc: Global, boxes: Vec<PostBox>, login: Command) -> Option<Seen>
+    requires { length boxes.items ≡ slots }
+{
+    match begin(rt, alloc) {
+        Ok((mut publisher, state)) => {
+            let seen = see_at(rt, alloc, &mut publisher, state, boxes, login);
+            publisher.finish(rt);
+            seen
+        }
+        Err(_) => {
+            drop(boxes);
+            drop(login);
+            None
+        }
+    }
+}
+
+/// How many parcels the box took before, and what became of the login; none where memory ran out before it.
+fn log_in<R: Wait>(rt: &R, alloc: Global) -> Result<(usize, Option<Seen>), OutOfMemory> {
+    let login = login(alloc)?;
+    let (boxes, own) = boxes_of(alloc)?;
+    let filled = fill(rt, alloc, own);
+    Ok((filled, seen_by(rt, alloc, boxes, login)))
+}
+
+#[test]
+fn a_session_whose_box_is_full_lags(rt: HostRuntime) -> Result<(), Fail> {
+    let session = SessionId(1);
+    let expected = Seen {
+        published: Published::AtOnce,
+        next: Some(Slot(1)),
+        first: Posted::Lagged(session),
+        lagged: Some(session),
+        second: Posted::Posted(session),
+    };
+    assert_eq!(rt; log_in(&rt, rt.alloc())?, (POST_CAPACITY, Some(expected)));
+    Ok(())
+}
+
+// It passes only where no allocation is refused. `rt try --test --fail-alloc N` refuses the Nth, and the error says what
+// came of it.
+#[test]
+fn an_edit_whose_publish_was_refused_is_in_the_next_note(rt: HostRuntime) -> Result<(), Fail> {
+    let (_filled, seen) = log_in(&rt, rt.alloc())?;
+    let published = seen.ok_or("refused before the login")?.published;
+    assert_ne!(rt; published, Published::Wrong);
+    match published {
+        Published::Later => Err(Fail::from("refused after the edit was appended")),
+        Published::Never => Err(Fail::from("refused before the edit was appended")),
+        _ => Ok(()),
+    }
+}

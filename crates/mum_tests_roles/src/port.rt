@@ -1,0 +1,294 @@
+//! `mum_port`: a client that reads nothing, half a frame that comes a byte at a time, and a lag behind the last
+//! parcel.
+
+ghost use Rattle.std.specs.Prelude.{◌≡◌, [], IfOk, None, replicate};
+ghost use Rattle.mum_port.specs.Taking.{IsPosted, IsVoiced};
+
+use mum_base::{Cause, Octets, OutOfMemory, ReplyEnd, SessionId, Slot};
+use mum_io::{Link, PollRead, PollWrite, Tally};
+use mum_outbox::{BoxPass, Desk, PostBox, PostParcel, VoiceBox};
+use mum_port::{DeskItem, Port, Seat, VoiceRouter};
+use std::alloc::Global;
+use std::sync::Wait;
+use std::test::Fail;
+
+/// A Ping without a timestamp, whose answer has six bytes, and a PermissionQuery of the root.
+const ASKS: [u8; 14] = [0, 3, 0, 0, 0, 0, 0, 20, 0, 0, 0, 2, 8, 0];
+
+/// How many bytes the answer to a PermissionQuery has here.
+const ANSWER: usize = 13;
+
+/// How many bytes of half a frame come. Its length is 8,355,711: the bytes 127, 127 and 127 behind a 0.
+const HALF: u32 = 8_000_000;
+
+/// What a client sends.
+#[derive(Clone, Copy, Debug)]
+enum Sends {
+    Nothing,
+    /// A Ping and a PermissionQuery at each read, without end.
+    Asks,
+    /// A byte at each read, this many, and then the end. The first bytes are a type and a length.
+    Half(u32),
+}
+
+/// A link that takes nothing that is written.
+#[derive(Drop)]
+struct Deaf {
+    sends: Sends,
+    tally: Tally,
+    is_shut: bool,
+}
+
+fn deaf_link(sends: Sends) -> Deaf {
+    Deaf {
+        sends,
+        tally: Tally::new(),
+        is_shut: false,
+    }
+}
+
+impl Link for Deaf {
+    ghost counts = { λ l. l.tally };
+
+    ghost left = { λ _. None };
+
+    ghost written = { λ _. None };
+
+    ghost address = { λ _. replicate 16 0 };
+
+    ghost is_shut = { λ l. l.is_shut };
+
+    fn poll_read(&mut self, buf: &mut [u8]) -> PollRead {
+        match self.sends {
+            Sends::Nothing => {
+                self.tally.count_stall();
+                PollRead::NotYet
+            }
+            Sends::Asks => {
+                let count = buf.len().min(ASKS.len());
+                buf[..count].copy_from_slice(&ASKS[..count]);
+                PollRead::Got(count)
+            }
+            Sends::Half(0) => {
+                self.tally.count_end();
+                PollRead::End
+            }
+            Sends::Half(left) => {
+                self.sends = Sends::Half(left - 1);
+                buf[0] = if left > HALF - 3 { 0 } else { 127 };
+                PollRead::Got(1)
+            }
+        }
+    }
+
+    fn poll_write(&mut self, _piece: &[u8]) -> PollWrite {
+        self.tally.count_stall();
+        PollWrite::NotYet
+    }
+
+    fn shut(&mut self) {
+        self.is_shut = true;
+    }
+
+    fn address(&self) -> [u8; 16] {
+        [0; 16]
+    }
+}
+
+/// Packets that are dropped.
+#[derive(Drop)]
+struct Nowhere;
+
+impl VoiceRouter for Nowhere {
+    ghost use Rattle.std.specs.Prelude.{true, ⊤};
+
+    ghost has_room = { λ _. true };
+
+    ghost without_room = { λ r. r };
+
+    ghost routed = { λ _ _ _ _ _. ⊤ };
+
+    fn reserve(&mut self) -> Result<(), OutOfMemory> {
+        Ok(())
+    }
+
+    fn route(&mut self, _connection: u32, _speaker: SessionId, packet: Octets) {
+        drop(packet);
+    }
+}
+
+/// What became of a port.
+#[derive(Clone, Copy, Debug, PartialEq)]
+struct Seen {
+    /// How many steps worked.
+    worked: u32,
+    /// How many commands came to the desk. Each was answered.
+    asked: u32,
+    /// For what the port closed.
+    closed: Option<Cause>,
+}
+
+/// Takes an item from the desk, and answers it where it is a command. How many there were.
+fn answer<R: Wait>(
+    rt: &R,
+    alloc: Global,
+    port: &mut Port<Deaf>,
+    desk: &Desk<DeskItem>,
+    pass: &mut BoxPass<DeskItem>,
+) -> Result<u32, OutOfMemory>
+    requires desk { pass.old.queue ≡ desk.now.queue }
+    requires posts { IsPosted [] port.old.seat }
+    requires voices { IsVoiced [] port.old.seat }
+    ensures desk { pass.new.queue ≡ desk.now.queue }
+    ensures posts { IsPosted [] port.new.seat }
+    ensures voices { IsVoiced [] port.new.seat }
+{
+    let Some(item) = desk.take_as(rt, pass) else {
+        return Ok(0);
+    };
+    let is_command = matches!(item, DeskItem::Command(_));
+    drop(item);
+    if !is_command {
+        return Ok(0);
+    }
+    let wire = Octets::from_vec(vec![in alloc; 0; ANSWER]?);
+    port.answered(alloc, ReplyEnd::Decided, wire, None);
+    Ok(1)
+}
+
+/// Gives a port, whose slot has no boxes, its steps until one does nothing.
+fn run<R: Wait>(
+    rt: &R,
+    alloc: Global,
+    port: &mut Port<Deaf>,
+    desk: &Desk<DeskItem>,
+    pass: &mut BoxPass<DeskItem>,
+) -> Result<Seen, OutOfMemory>
+    requires desk { pass.old.queue ≡ desk.now.queue }
+    requires posts { IsPosted [] port.old.seat }
+    requires voices { IsVoiced [] port.old.seat }
+{
+    let mut router = Nowhere;
+    let mut buf = [0; 64];
+    let mut seen = Seen {
+        worked: 0,
+        asked: 0,
+        closed: None,
+    };
+    for count in 0..u32::MAX {
+        let step = port.step(rt, alloc, desk, pass, &[], &[], &mut router, &mut buf);
+        seen.worked = count;
+        seen.closed = seen.closed.or(step.closed);
+        if !step.worked {
+            break;
+        }
+        seen.asked = seen
+            .asked
+            .saturating_add(answer(rt, alloc, port, desk, pass)?);
+    }
+    Ok(seen)
+}
+
+/// What becomes of a port whose client is logged in, and sends this. Whether nothing is left of it.
+fn seen_of<R: Wait>(rt: &R, alloc: Global, sends: Sends) -> Result<(Seen, bool), OutOfMemory> {
+    let mut desk = Desk::<DeskItem>::new(alloc)?;
+    let mut pass = desk.pass();
+    let mut port = Port::new(alloc, 1, 0, deaf_link(sends));
+    let joined = ReplyEnd::Joined(SessionId(5), Slot(0));
+    let nothing = Octets::from_vec(Vec::new(alloc));
+    port.answered(alloc, joined, nothing, None);
+    let seen = run(rt, alloc, &mut port, &desk, &mut pass)?;
+    Ok((seen, port.is_gone()))
+}
+
+#[test]
+fn a_client_that_reads_nothing_is_answered_up_to_a_bound(rt: HostRuntime) -> Result<(), Fail> {
+    let seen = seen_of(&rt, rt.alloc(), Sends::Asks)?;
+    // 3,449 times two answers are 65,531 bytes, and one more Ping is handled; each time a Ping and a query are
+    // handled, and a command is put
+    let expected = Seen {
+        worked: 3 * 3449 + 1,
+        asked: 3449,
+        closed: None,
+    };
+    assert_eq!(rt; seen, (expected, false));
+    Ok(())
+}
+
+#[test]
+fn half_a_frame_may_come_a_byte_at_a_time(rt: HostRuntime) -> Result<(), Fail> {
+    let seen = seen_of(&rt, rt.alloc(), Sends::Half(HALF))?;
+    // a step for each byte, one for the end, and two for what is left to say
+    let expected = Seen {
+        worked: HALF + 3,
+        asked: 1,
+        closed: Some(Cause::End),
+    };
+    assert_eq!(rt; seen, (expected, true));
+    Ok(())
+}
+
+/// A post box with one parcel, which is the last one of its session; a voice box; and a seat at both.
+fn last_parcel<R: Wait>(rt: &R, alloc: Global) -> Result<(PostBox, VoiceBox, Seat), OutOfMemory>
+    ensures posts { IfOk result (λ made. made.2.post.queue ≡ made.0.queue) }
+    ensures voices { IfOk result (λ made. made.2.voice.queue ≡ made.1.queue) }
+    ensures slot { IfOk result (λ made. made.2.slot.0 ≡ 0) }
+{
+    let mut post = PostBox::new(alloc)?;
+    let mut voice = VoiceBox::new(alloc)?;
+    let mut offers = post.pass();
+    let parcel = PostParcel {
+        to: SessionId(5),
+        bytes: Octets::from_vec(vec![in alloc; 0; ANSWER]?),
+        last: true,
+    };
+    let _sent = post.offer_as(rt, &mut offers, parcel);
+    let seat = Seat {
+        slot: Slot(0),
+        post: post.pass(),
+        voice: voice.pass(),
+    };
+    Ok((post, voice, seat))
+}
+
+/// A port takes the last parcel of its session, which its link does not take, and then lags twice. Whether the step
+/// worked, and for what it closed: in the step, and at the lags.
+fn lag_behind<R: Wait>(
+    rt: &R,
+    alloc: Global,
+    post: PostBox,
+    voice: VoiceBox,
+    seat: Seat,
+) -> Result<(bool, [Option<Cause>; 3]), OutOfMemory>
+    requires post { seat.post.queue ≡ post.queue }
+    requires voice { seat.voice.queue ≡ voice.queue }
+    requires slot { seat.slot.0 ≡ 0 }
+{
+    let mut desk = Desk::<DeskItem>::new(alloc)?;
+    let mut pass = desk.pass();
+    let mut port = Port::new(alloc, 1, 0, deaf_link(Sends::Nothing));
+    let joined = ReplyEnd::Joined(SessionId(5), Slot(0));
+    let nothing = Octets::from_vec(Vec::new(alloc));
+    port.answered(alloc, joined, nothing, Some(seat));
+    let mut buf = [0; 64];
+    let step = port.step(
+        rt,
+        alloc,
+        &desk,
+        &mut pass,
+        &[post],
+        &[voice],
+        &mut Nowhere,
+        &mut buf,
+    );
+    Ok((step.worked, [step.closed, port.lag(alloc), port.lag(alloc)]))
+}
+
+#[test]
+fn a_lag_closes_a_port_that_keeps_its_last_parcel(rt: HostRuntime) -> Result<(), Fail> {
+    let alloc: Global = rt.alloc();
+    let (post, voice, seat) = last_parcel(&rt, alloc)?;
+    let seen = lag_behind(&rt, alloc, post, voice, seat)?;
+    assert_eq!(rt; seen, (true, [None, Some(Cause::Lagged), None]));
+    Ok(())
+}

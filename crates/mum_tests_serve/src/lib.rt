@@ -1,0 +1,24 @@
+//! Tests of the program's call as it serves, over doors, links and crews in memory. They know the call, what it reads
+//! and writes, and the protocol.
+#![tactic(auto)]
+
+#[cfg(test)]
+mod client;
+#[cfg(test)]
+mod ear;
+#[cfg(test)]
+mod kicks;
+#[cfg(test)]
+mod lags;
+#[cfg(test)]
+mod lobby;
+#[cfg(test)]
+mod logins;
+#[cfg(test)]
+mod mutes;
+#[cfg(test)]
+mod room;
+#[cfg(test)]
+mod run;
+#[cfg(test)]
+mod talk;

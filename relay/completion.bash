@@ -1,0 +1,41 @@
+# Completion of murmur's words for bash: /usr/share/bash-completion/completions/murmur. zsh takes it too, after
+# `autoload -U +X bashcompinit && bashcompinit`.
+
+_murmur() {
+    # words as they are typed, not cut at ':'
+    local line=${COMP_LINE:0:COMP_POINT}
+    local -a words
+    read -r -a words <<< "$line"
+    case $line in *[[:space:]]) words+=("") ;; esac
+    local count=${#words[@]}
+    local word=${words[count - 1]}
+    local -a answers=()
+
+    if [ "$count" = 2 ]; then
+        mapfile -t answers < <(compgen -W "replay exercise serve" -- "$word")
+    elif [ "$count" = 3 ] && [ "${words[1]}" = serve ]; then
+        case $word in
+        unix:* | proxy:unix:*)
+            local prefix=${word%%unix:*}unix: path
+            while IFS= read -r path; do
+                [ -d "$path" ] && path=$path/
+                answers+=("$prefix$path")
+            done < <(compgen -f -- "${word#"$prefix"}")
+            ;;
+        proxy:*) mapfile -t answers < <(compgen -W "proxy:unix: proxy:127.0.0.1:64738" -- "$word") ;;
+        *) mapfile -t answers < <(compgen -W "proxy: unix: 127.0.0.1:64738 [::1]:64738" -- "$word") ;;
+        esac
+        # no space after what goes on
+        case ${answers[*]} in *: | */) compopt -o nospace 2> /dev/null ;; esac
+    elif [ "$count" = 4 ] && [ "${words[1]}" = serve ]; then
+        mapfile -t answers < <(compgen -W "1000 100000" -- "$word")
+    fi
+
+    # bash replaces only what stands behind the last ':'
+    local cut=
+    case $COMP_WORDBREAKS in *:*) case $word in *:*) cut=${word%:*}: ;; esac ;; esac
+    COMPREPLY=()
+    local answer
+    for answer in "${answers[@]}"; do COMPREPLY+=("${answer#"$cut"}"); done
+}
+complete -F _murmur murmur

@@ -1,5 +1,5 @@
 """Frames, fields and messages of the Mumble protocol, and the names of their numbers (Mumble.proto 1.4)."""
-import re
+import unicodedata
 from dataclasses import dataclass, field
 
 VERSION, VOICE, LOGIN, PING, REJECT, SYNC = 0, 1, 2, 3, 4, 5
@@ -281,6 +281,10 @@ def permissions_text(bits):
     return " ".join(words)
 
 
+# the categories of Unicode for what is not seen: controls, formats, surrogates, none, and ends of lines and paragraphs
+FORM = ("Cc", "Cf", "Cs", "Cn", "Zl", "Zp")
+
+
 def printable(text):
-    """A text without control characters, each of which becomes a question mark."""
-    return re.sub(r"[\x00-\x1f\x7f-\x9f\ufffe\uffff]", "?", text)
+    """A text on one line as it is: what controls its form, or is no character, becomes a question mark."""
+    return "".join("?" if unicodedata.category(one) in FORM else one for one in text)

@@ -1,1 +1,10 @@
 """Draws recordings: their story, its rows, and the picture of them."""
+from .rows import gathered
+from .story import story_of
+from .svg import picture
+
+
+def picture_of(recording, transcript, pings):
+    """The picture of a recording and its transcript, as lines of text, with its Pings or without."""
+    story = story_of(recording, transcript, pings)
+    return picture(story.names, gathered(story.rows))

@@ -38,7 +38,7 @@ class Known:
         elif kind == mumble.USER_REMOVE:
             self.leaves(message.get("session"), revision)
         elif kind == mumble.VOICE_TARGET:
-            self.targets.setdefault((session, message.get("id")), []).append((revision, bool(message.get("targets"))))
+            self.targets.setdefault((session, message.get("id")), []).append((revision, message.get("targets") or []))
 
     def told(self, session, kind, message):
         """A notice for a session."""
@@ -84,20 +84,28 @@ class Known:
         """Why nobody hears a session, in words, as far as the recording shows it; else nothing."""
         state = self.state(session, revision)
         if session not in self.here(revision):
-            return f"{self.user(session)} {'left' if self.came.get(session, 0) <= revision else 'is not there yet'}"
+            came = session in self.came and self.came[session] <= revision
+            return f"{self.user(session)} left" if came else f"{self.user(session)} is not there at revision {revision}"
         for flag, words in (("mute", "is muted"), ("self_mute", "muted itself"), ("suppress", "is suppressed")):
             if state[flag]:
                 return f"{self.user(session)} {words}"
         if target == 0:
             return self.why_no_talk(session, state["channel_id"], revision)
-        if target != LOOPBACK and not self.is_set(session, target, revision):
-            return f"voice target {target} is not set"
-        return ""
+        return "" if target == LOOPBACK else self.why_no_whisper(session, target, revision)
 
-    def is_set(self, session, target, revision):
-        """Whether a voice target has items at a revision."""
+    def why_no_whisper(self, session, target, revision):
+        """Why nobody hears who speaks to a voice target."""
         sets = [items for at, items in self.targets.get((session, target), []) if at <= revision]
-        return bool(sets) and sets[-1]
+        if not sets or not sets[-1]:
+            return f"voice target {target} is not set"
+        groups = dict.fromkeys(item.get("group") for item in sets[-1])
+        if all(groups):
+            return "it is for the group " + " and ".join(groups)
+        if any("channel_id" in item for item in sets[-1]):
+            return ""
+        named = {one for item in sets[-1] for one in item.get("session", [])} - {session}
+        there = sorted(named.intersection(self.here(revision)))
+        return self.why_deaf(there, revision) if there else "nobody whom it names is here"
 
     def why_no_talk(self, session, channel, revision):
         """Why nobody hears who talks in a channel."""
@@ -109,10 +117,14 @@ class Known:
             return "nobody else is here"
         if not beside:
             return "nobody else is in the channel"
-        states = [self.state(one, revision) for one in beside]
-        if all(state["deaf"] or state["self_deaf"] for state in states):
-            return ", ".join(map(self.user, beside)) + (" is deaf" if len(beside) == 1 else " are deaf")
-        return ""
+        return self.why_deaf(beside, revision)
+
+    def why_deaf(self, sessions, revision):
+        """Which sessions are deaf, where all of them are and there are some; else nothing."""
+        states = [self.state(one, revision) for one in sessions]
+        if not states or not all(state["deaf"] or state["self_deaf"] for state in states):
+            return ""
+        return ", ".join(map(self.user, sessions)) + (" is deaf" if len(sessions) == 1 else " are deaf")
 
 
 def change(state, message):

@@ -83,6 +83,8 @@ class Story:
         row.outcome = self.verdict_text(told)
         if told[0] in ("lacks", "refused", "rejected"):
             row.look = "denied"
+        if told[0] == "rejected":
+            self.names[connection - 1] = f"({message.get('username', '')})"
         if told[0] == "accepted":
             self.accepted(connection, kind, message, int(told[2]))
 

@@ -5,7 +5,7 @@ ghost use Rattle.std.specs.Prelude.{◌≡◌, IfOk};
 use mum_base::{OutOfMemory, Text};
 use std::alloc::Global;
 
-/// The most bytes a second that a client may send, where no configuration says otherwise.
+/// The most bits a second that a client may send, where no configuration says otherwise.
 pub const DEFAULT_BANDWIDTH: u32 = 72_000;
 
 /// The settings of a server.

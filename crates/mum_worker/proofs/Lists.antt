@@ -1,6 +1,6 @@
 -- Elements that make their steps one after the other.
-use Rattle.std.proofs.Common.{◌≡◌, ℕ, zero, suc, ◌+◌, ◌<◌, ◌≤◌, Bool, List, [], ◌∷◌, ◌++◌, length, take, drop, filter, refl, sym, ap, subst, ◌∙◌, arith, append_assoc}
-use Rattle.std.proofs.lemmas.List.{append-nil}
+use Rattle.std.proofs.Common.{◌≡◌, ℕ, zero, suc, ◌+◌, ◌<◌, Bool, true, false, if◌then◌else◌, ◌||◌, not, List, [], ◌∷◌, ◌++◌, length, take, drop, filter, get_or, set, refl, sym, ap, subst, ◌∙◌, arith, append_assoc}
+use Rattle.std.proofs.lemmas.List.{append-nil, drop_more, drop-set-lt, take_more_set}
 use Rattle.std.proofs.lemmas.List.Elements.{filter-append}
 use Rattle.mum_worker.specs.Along.{Along, EachAlong, SomeAlong}
 
@@ -23,6 +23,22 @@ whole [] (suc k) e = (refl, refl)
 whole (x ∷ xs) zero e = absurd (omega (arith, e))
 whole (x ∷ xs) (suc k) e = let next = whole xs k (omega (arith, e)) in (ap (λ l. x ∷ l) next.0, next.1)
 
+neither : (a b : Bool) → (a || not b) ≡ false → (a ≡ false) × (b ≡ true)
+neither false true e = (refl, refl)
+neither false false e = absurd (cc e)
+neither true b e = absurd (cc e)
+
+-- one more of a list from which nothing is to be left out
+pub all_stay_on : {P : Type 0} (stays : P → Bool) (now : List P) (k : ℕ) (new : P) (gone gone_on : Bool) → k < length now
+    → (gone ≡ false → filter stays (take k now) ≡ take k now) → gone_on ≡ gone || not (stays new)
+    → gone_on ≡ false → filter stays (take (k + 1) (set now k new)) ≡ take (k + 1) (set now k new)
+all_stay_on stays now k new gone gone_on within before is e =
+    let none = neither gone (stays new) (sym is ∙ e) in
+    let one : filter stays (new ∷ []) ≡ new ∷ [] = ap (λ b. if b then new ∷ [] else []) none.1 in
+    subst (λ l. filter stays l ≡ l) (sym (take_more_set now k new within))
+    (filter-append stays (take k now) (new ∷ [])
+    ∙ (ap (λ l. l ++ filter stays (new ∷ [])) (before none.0) ∙ ap (λ l. take k now ++ l) one))
+
 module _ {P C : Type 0} (step : P → C → P → C → Type 0) where
   along_on : (olds mids : List P) (c m after : C) (old new : P)
       → Along step olds c mids m → step old m new after
@@ -31,6 +47,21 @@ module _ {P C : Type 0} (step : P → C → P → C → Type 0) where
   along_on (o ∷ olds) (n ∷ mids) c m after old new along one = (along.0, along.1, along_on olds mids along.0 m after old new along.2 one)
   along_on [] (n ∷ mids) c m after old new along one = absurd along
   along_on (o ∷ olds) [] c m after old new along one = absurd along
+
+  -- one more that makes its step where it lies
+  pub along_more : (olds now : List P) (c m after : C) (k : ℕ) (old new : P)
+      → k < length now → drop k now ≡ drop k olds → Along step (take k olds) c (take k now) m
+      → old ≡ get_or now k old → step old m new after
+      → Along step (take (k + 1) olds) c (take (k + 1) (set now k new)) after × (drop (k + 1) (set now k new) ≡ drop (k + 1) olds)
+  along_more olds now c m after k old new within same along is one =
+      let there : drop k olds ≡ old ∷ drop (k + 1) now = sym same ∙ (drop_more now k old within ∙ ap (λ x. x ∷ drop (k + 1) now) (sym is)) in
+      let on = take_on olds k old (drop (k + 1) now) there in
+      let next : k + 1 ≡ suc k = omega arith in
+      let each = along_on (take k olds) (take k now) c m after old new along one in
+      let mids = subst (λ (l : List P). Along step (take k olds ++ old ∷ []) c l after) (sym (take_more_set now k new within)) each in (
+        subst (λ (l : List P). Along step l c (take (k + 1) (set now k new)) after) (sym (ap (λ n. take n olds) next ∙ on.0)) mids,
+        drop-set-lt (k + 1) now k new (omega arith) ∙ sym (ap (λ n. drop n olds) next ∙ on.1),
+      )
 
   module _ (stays : P → Bool) where
     pub starts : (olds : List P) (c : C) → SomeAlong step stays olds c 0 olds c

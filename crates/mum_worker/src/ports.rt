@@ -1,9 +1,9 @@
 //! The ports of a worker.
 
-ghost use Rattle.std.specs.Prelude.{◌≡◌, ◌≤◌, ◌<◌, ◌++◌, ◌∷◌, [], IfOk, filter, length, position};
+ghost use Rattle.std.specs.Prelude.{◌≡◌, ◌≤◌, ◌<◌, ◌||◌, ◌++◌, ◌∷◌, [], IfOk, false, filter, length, not, position};
 ghost use Rattle.std.specs.List.{All};
 ghost use Rattle.std.specs.VecDeque.{deque_capacity, deque_len};
-ghost use Rattle.mum_worker.specs.Along.{EachAlong};
+ghost use Rattle.mum_worker.specs.Along.{Along, EachAlong};
 ghost use Rattle.mum_worker.specs.Facts.{is_empty, is_of, session_at, speaker_of, stays};
 ghost use Rattle.mum_worker.specs.Hearing.{AnswersFirst, LagsWhereIts, TakesOrTurns};
 ghost use Rattle.mum_worker.specs.Record.{without_room};
@@ -88,7 +88,56 @@ fn step_port<L: Link, G: Gate, N: Naming, R: Wait + Copy>(
     worked || step.worked
 }
 
-// Each port makes its step, in their order. One that is gone then is let go.
+// Whether one was gone before, or this one is.
+fn is_gone_too<L: Link>(gone: bool, port: &Port<L>) -> bool
+    ensures { result ≡ (gone || not (stays port.now)) }
+{
+    gone || port.is_gone()
+}
+
+// Each port makes its step where it lies, in their order. Answers whether one did anything, or something was
+// heard before, and whether one is gone then.
+fn step_all<L: Link, G: Gate, N: Naming, R: Wait + Copy>(
+    list: &mut VecDeque<Port<L>>,
+    rt: &R,
+    desk: &mut DeskEnd,
+    boxes: &Boxes,
+    common: &mut Common<G, N, R>,
+    buf: &mut [u8],
+    heard: bool,
+) -> (bool, bool)
+    requires seated { All (IsSeated boxes.now) list.old.items }
+    requires buffer { 0 < length buf.old }
+    ensures steps { Along (PortSteps L.counts L.left L.written L.is_shut N.opening boxes.now)
+        list.old.items (record { common = bare common.old; desk = desk.old; worked = heard })
+        list.new.items (record { common = bare common.new; desk = desk.new; worked = result.0 }) }
+    ensures staying { result.1 ≡ false → filter stays list.new.items ≡ list.new.items }
+    ensures seated { All (IsSeated boxes.now) list.new.items }
+    ensures capacity { deque_capacity list.new ≡ deque_capacity list.old }
+{
+    let count = list.len();
+    let mut worked = heard;
+    let mut gone = false;
+    let mut done = 0;
+    while done < count {
+        let port = &mut list[done];
+        worked = step_port(port, rt, desk, boxes, common, buf, worked);
+        gone = is_gone_too(gone, port);
+        done += 1;
+    }
+    (worked, gone)
+}
+
+// Lets go of the ports that are gone. The others keep their order.
+fn let_go<L: Link>(list: &mut VecDeque<Port<L>>)
+    ensures items { list.new.items ≡ filter stays list.old.items }
+    ensures capacity { deque_capacity list.new ≡ deque_capacity list.old }
+{
+    list.retain(|port| !port.is_gone());
+}
+
+// Each port makes its step, in their order. One that is gone then is let go. A port is large, and none is moved
+// while all stay.
 fn step_each<L: Link, G: Gate, N: Naming, R: Wait + Copy>(
     list: &mut VecDeque<Port<L>>,
     rt: &R,
@@ -106,17 +155,11 @@ fn step_each<L: Link, G: Gate, N: Naming, R: Wait + Copy>(
     ensures seated { All (IsSeated boxes.now) list.new.items }
     ensures capacity { deque_capacity list.new ≡ deque_capacity list.old }
 {
-    let count = list.len();
-    let mut worked = heard;
-    let mut done = 0;
-    while done < count {
-        let Some(mut port) = list.pop_front() else {
-            unreachable!();
-        };
-        worked = step_port(&mut port, rt, desk, boxes, common, buf, worked);
-        put_back(list, port);
-        done += 1;
+    let (worked, gone) = step_all(list, rt, desk, boxes, common, buf, heard);
+    if !gone {
+        return worked;
     }
+    let_go(list);
     worked
 }
 

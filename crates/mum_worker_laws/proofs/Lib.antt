@@ -1,1 +1,11 @@
+mod Causing
+mod Changing
+mod Counts
+mod Ending
 mod Going
+mod Growing
+mod Lasting
+mod LinkEnds
+mod Own
+mod Speaking
+mod Waiting

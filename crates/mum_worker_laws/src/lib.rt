@@ -2,4 +2,6 @@
 //! theorem.
 #![tactic(auto)]
 
+pub mod answers;
 pub mod laws;
+pub mod ports;

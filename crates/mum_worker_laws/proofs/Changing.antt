@@ -1,0 +1,331 @@
+-- What one event makes of the life of a port.
+use Rattle.std.proofs.Common.{◌≡◌, ◌==◌, ◌∙◌, ℕ, Bool, true, false, true≢false, cond, not, IsTrue, List, [], ◌∷◌, ◌++◌, Option, Some, None, refl, ap, sym, subst, inl, inr, append_assoc}
+use Rattle.std.specs.List.{AllByRecursion as Each, filter_map}
+use Rattle.std.proofs.lemmas.Bool.{eqb-true}
+use Rattle.std.proofs.lemmas.List.{append-nil}
+use Rattle.mum_base.specs.declared.number.Cause.{Cause}
+use Rattle.mum_base.specs.declared.number.SessionId.{SessionId}
+use Rattle.mum_base.specs.declared.reply.ReplyEnd.{ReplyEnd}
+use Rattle.mum_frame.specs.declared.frame.Frame.{Frame}
+use Rattle.mum_io.specs.Counts.{Counts}
+use Rattle.mum_outbox.specs.Facts.{PassFacts}
+use Rattle.mum_port.specs.Did.{PortDid, action_of, desk_after_put, machine_after, port_after_put, waiting_after_put}
+use Rattle.mum_port.specs.Facts.{PortFacts, due_item}
+use Rattle.mum_port.specs.Life.{Event, Happens, Lives, Steps, and_frame, and_item, frames_handled, items_put, lagged, replied, stepped}
+use Rattle.mum_port.specs.Replies.{Answers, Lags}
+use Rattle.mum_port.specs.Stage.{is_live}
+use Rattle.mum_port.specs.declared.item.DeskItem.{DeskItem}
+use Rattle.mum_port.specs.declared.seat.Seat.{Seat}
+use Rattle.mum_port.proofs.Closing.{and-left}
+use Rattle.mum_port.proofs.Idle.{and-right}
+use Rattle.mum_port.proofs.Course.{did_of}
+use Rattle.mum_port.proofs.Turned.{turned}
+use Rattle.mum_published.specs.Facts.{Opening}
+use Rattle.mum_session.specs.Machine.{Machine}
+use Rattle.mum_worker.specs.Bell.{ReplyFacts}
+use Rattle.mum_worker.specs.Boxes.{BoxesFacts}
+use Rattle.mum_worker.specs.Facts.{is_of}
+use Rattle.mum_worker.specs.Hearing.{LagsWhereIts}
+use Rattle.mum_worker.specs.Record.{RecordFacts}
+use Rattle.mum_worker.specs.Routing.{RoutesPacket}
+use Rattle.mum_worker.specs.Stepping.{PortSteps, Shares}
+use Rattle.mum_worker_laws.specs.Laws.{Moment, Told, look_stepped}
+use Rattle.mum_worker_laws.specs.Lives.{IsLife, IsNoReplyTo, Life, Said, is_item_of, items_of, packets_said, put_by, routed_of, said_by}
+use Rattle.mum_worker_laws.proofs.Counts.{nothing_either}
+use Rattle.mum_worker_laws.proofs.Speaking.{step_said}
+use Rattle.mum_worker_laws.proofs.Own.{OwnItem, asked-own, connection-machine_after, due-own, item-of, put-own}
+
+-- ---- one event more
+
+and_item-onto : (item : Option DeskItem) (xs ys : List DeskItem) → and_item item (xs ++ ys) ≡ and_item item xs ++ ys
+and_item-onto None xs ys = refl
+and_item-onto (Some item) xs ys = refl
+
+items_put-append : (events more : List Event) → items_put (events ++ more) ≡ items_put events ++ items_put more
+items_put-append [] more = refl
+items_put-append (stepped machine did ∷ events) more =
+    ap (λ (l : List DeskItem). and_item did.put l) (items_put-append events more) ∙ and_item-onto did.put (items_put events) (items_put more)
+items_put-append (replied wire closed ∷ events) more = items_put-append events more
+items_put-append (lagged closed ∷ events) more = items_put-append events more
+
+and_frame-onto : (frame : Option Frame) (xs ys : List Frame) → and_frame frame (xs ++ ys) ≡ and_frame frame xs ++ ys
+and_frame-onto None xs ys = refl
+and_frame-onto (Some frame) xs ys = refl
+
+pub frames-append : (events more : List Event) → frames_handled (events ++ more) ≡ frames_handled events ++ frames_handled more
+frames-append [] more = refl
+frames-append (stepped machine did ∷ events) more =
+    ap (λ (l : List Frame). and_frame did.handled l) (frames-append events more) ∙ and_frame-onto did.handled (frames_handled events) (frames_handled more)
+frames-append (replied wire closed ∷ events) more = frames-append events more
+frames-append (lagged closed ∷ events) more = frames-append events more
+
+module _ {L V : Type 0} (counts : L → Counts) (left written : L → Option (List ℕ)) (is_shut : L → Bool) (routed : V → ℕ → SessionId → List ℕ → V → Type 0) where
+  lives_more : (old : PortFacts L) (events : List Event) (mid : PortFacts L) (event : Event) (new : PortFacts L) → Lives counts left written is_shut routed old events mid
+      → Happens counts left written is_shut routed mid event new → Lives counts left written is_shut routed old (events ++ event ∷ []) new
+  lives_more old [] mid event new same happens =
+      (new, subst (λ (p : PortFacts L). Happens counts left written is_shut routed p event new) same happens, refl)
+  lives_more old (first ∷ events) mid event new (next, happened, lives) happens =
+      (next, happened, lives_more next events mid event new lives happens)
+
+said-append : (events more : List Event) → packets_said (events ++ more) ≡ packets_said events ++ packets_said more
+said-append [] more = refl
+said-append (stepped machine did ∷ events) more =
+    ap (λ (l : List Said). said_by machine (action_of machine did.handled) ++ l) (said-append events more)
+    ∙ sym (append_assoc (said_by machine (action_of machine did.handled)) (packets_said events) (packets_said more))
+said-append (replied wire closed ∷ events) more = said-append events more
+said-append (lagged closed ∷ events) more = said-append events more
+
+-- ---- a life
+
+module _ {L : Type 0} where
+  -- its connection stays, and it waits for the desk with items of that connection
+  pub record IsOwn (life : Life L) : Type 0 where
+    pub number : life.last.machine.connection ≡ life.first.machine.connection
+    pub waits : OwnItem life.last.machine.connection life.last.waiting
+
+  pub record Still (connection : ℕ) (life : Life L) : Type 0 where
+    pub of_it : life.last.machine.connection ≡ connection
+    pub awaits : life.last.machine.awaits ≡ true
+    pub nothing : frames_handled life.events ≡ []
+
+  -- a port of the connection that awaited a reply at first does so still, and handled nothing
+  abbrev pub Waits : ℕ → Life L → Type 0
+  Waits connection life = life.first.machine.connection ≡ connection → IsTrue life.first.machine.awaits → Still connection life
+
+module _ {L : Type 0} (counts : L → Counts) (left written : L → Option (List ℕ)) (is_shut : L → Bool) (opening : Opening) where
+  -- a life goes on, with what was heard meanwhile, and what its port put on the desk
+  pub record Changes (told : List Moment) (put : List DeskItem) (old new : Life L) : Type 0 where
+    pub first : new.first ≡ old.first
+    pub lived : IsLife counts left written is_shut opening old → IsLife counts left written is_shut opening new
+    pub owned : IsOwn old → IsOwn new
+    pub puts : put_by new ≡ put_by old ++ put
+    pub its : IsOwn old → (connection : ℕ) (b : Bool) → (old.first.machine.connection == connection) ≡ b → items_of connection put ≡ cond b put []
+    pub since : List Said
+    pub says : packets_said new.events ≡ packets_said old.events ++ since
+    pub heard : IsOwn old → (connection : ℕ) (b : Bool) → (old.first.machine.connection == connection) ≡ b → filter_map (routed_of connection) told ≡ cond b since []
+    pub waits : (connection : ℕ) → Each (IsNoReplyTo connection) told → Waits connection old → Waits connection new
+
+  pub unchanged : (life : Life L) → Changes [] [] life life
+  unchanged life = record {
+    first = refl;
+    lived = λ lives. lives;
+    owned = λ own. own;
+    puts = sym (append-nil (put_by life));
+    its = λ own connection b is. nothing_either b;
+    since = [];
+    says = sym (append-nil (packets_said life.events));
+    heard = λ own connection b is. nothing_either b;
+    waits = λ connection spared waits. waits;
+  }
+
+  -- the life of this port goes on to that port, beside what the desk was offered
+  pub record One (told : List Moment) (life : Life L) (before : List DeskItem) (new : PortFacts L) (after : List DeskItem) : Type 0 where
+    pub put : List DeskItem
+    pub now : Life L
+    pub changes : Changes told put life now
+    pub last_is : now.last ≡ new
+    pub desk : after ≡ before ++ put
+
+  -- ---- a step
+
+  offered_more : (put due : Option DeskItem) (desk after : PassFacts DeskItem) → after ≡ desk_after_put put due desk → after.offered ≡ desk.offered ++ and_item put []
+  offered_more (Some item) due desk after is = ap (λ (p : PassFacts DeskItem). p.offered) is
+  offered_more None None desk after is = ap (λ (p : PassFacts DeskItem). p.offered) is ∙ sym (append-nil desk.offered)
+  offered_more None (Some item) desk after is = ap (λ (p : PassFacts DeskItem). p.offered) is ∙ sym (append-nil desk.offered)
+
+  one_of : (put : Option DeskItem) (connection own : ℕ) (b : Bool) → OwnItem own put → (own == connection) ≡ b → items_of connection (and_item put []) ≡ cond b (and_item put []) []
+  one_of None connection own true owned is = refl
+  one_of None connection own false owned is = refl
+  one_of (Some item) connection own b owned is =
+      ap (λ (test : Bool). cond test (item ∷ []) []) (item-of item own connection (owned item refl) ∙ is)
+
+  no_frame : (frame : Option Frame) → ((f : Frame) → frame ≡ Some f → ⊥) → frame ≡ None
+  no_frame None never = refl
+  no_frame (Some frame) never = absurd (never frame refl)
+
+  pub nothing_handled : (old : PortFacts L) (machine : Machine) (did : PortDid) (new : PortFacts L) → Steps counts left written is_shut (RoutesPacket opening) old machine did new → old.machine.awaits ≡ true → did.handled ≡ None
+  nothing_handled old machine did new steps awaits =
+      no_frame did.handled (λ f is.
+      let free : not old.machine.awaits ≡ true = and-left (not old.machine.awaits) _ (and-right (is_live (port_after_put did.put old).stage) _ (steps.turn.handles.allowed f is)) in
+      true≢false (sym free ∙ ap not awaits))
+
+  abbrev stepped_life : Life L → Machine → PortDid → PortFacts L → Life L
+  stepped_life life machine did new = record { first = life.first; events = life.events ++ stepped machine did ∷ []; last = new }
+
+  still_step : (life : Life L) (machine : Machine) (did : PortDid) (new : PortFacts L) → Steps counts left written is_shut (RoutesPacket opening) life.last machine did new
+      → (connection : ℕ) → Still connection life → Still connection (stepped_life life machine did new)
+  still_step life machine did new steps connection still =
+      let none = nothing_handled life.last machine did new steps still.awaits in
+      let same : new.machine ≡ life.last.machine = steps.turn.handles.machine ∙ ap (λ (f : Option Frame). machine_after life.last.machine f) none in record {
+        of_it = ap (λ (m : Machine). m.connection) same ∙ still.of_it;
+        awaits = ap (λ (m : Machine). m.awaits) same ∙ still.awaits;
+        nothing = frames-append life.events (stepped machine did ∷ [])
+            ∙ (ap (λ (f : Option Frame). frames_handled life.events ++ and_frame f []) none ∙ (append-nil (frames_handled life.events) ∙ still.nothing));
+      }
+
+  own_step : (life : Life L) (machine : Machine) (did : PortDid) (new : PortFacts L) → Steps counts left written is_shut (RoutesPacket opening) life.last machine did new → IsOwn life → IsOwn (stepped_life life machine did new)
+  own_step life machine did new steps own =
+      let number : new.machine.connection ≡ life.last.machine.connection = ap (λ (m : Machine). m.connection) steps.turn.handles.machine ∙ connection-machine_after life.last.machine did.handled in record {
+        number = number ∙ own.number;
+        waits = λ item is.
+            subst (λ (n : ℕ). is_item_of n item ≡ true) (sym number)
+            (asked-own life.last.machine did.handled (waiting_after_put did.put life.last.waiting) (put-own life.last.machine.connection did.put life.last.waiting own.waits) item (sym steps.turn.puts.waiting ∙ is));
+      }
+
+  put_its : (life : Life L) (machine : Machine) (did : PortDid) (new : PortFacts L) → Steps counts left written is_shut (RoutesPacket opening) life.last machine did new → IsOwn life
+      → (connection : ℕ) (b : Bool) → (life.first.machine.connection == connection) ≡ b → items_of connection (and_item did.put []) ≡ cond b (and_item did.put []) []
+  put_its life machine did new steps own connection b is =
+      one_of did.put connection life.last.machine.connection b
+      (λ item put. due-own life.last own.waits item (steps.turn.puts.due item put))
+      (ap (λ (n : ℕ). n == connection) own.number ∙ is)
+
+  -- these moments are the packet that the frame of a step is, if it is one
+  abbrev IsSaid : List Moment → Machine → PortDid → Type 0
+  IsSaid told machine did =
+      (connection : ℕ) → filter_map (routed_of connection) told ≡ cond (machine.connection == connection) (said_by machine (action_of machine did.handled)) []
+
+  changes_step : (told : List Moment) (life : Life L) (machine : Machine) (did : PortDid) (new : PortFacts L) → Steps counts left written is_shut (RoutesPacket opening) life.last machine did new
+      → IsSaid told machine did → Changes told (and_item did.put []) life (stepped_life life machine did new)
+  changes_step told life machine did new steps said = record {
+    first = refl;
+    lived = λ lives. lives_more counts left written is_shut (RoutesPacket opening) life.first life.events life.last (stepped machine did) new lives steps;
+    owned = own_step life machine did new steps;
+    puts = items_put-append life.events (stepped machine did ∷ []);
+    its = λ own connection b is. put_its life machine did new steps own connection b is;
+    since = said_by machine (action_of machine did.handled);
+    says = said-append life.events (stepped machine did ∷ [])
+        ∙ ap (λ (l : List Said). packets_said life.events ++ l) (append-nil (said_by machine (action_of machine did.handled)));
+    heard = λ own connection b is.
+        said connection
+        ∙ ap (λ (t : Bool). cond t (said_by machine (action_of machine did.handled)) [])
+        (ap (λ (m : Machine). m.connection == connection) steps.of_port ∙ (ap (λ (n : ℕ). n == connection) own.number ∙ is));
+    waits = λ connection spared waits of_it awaits. still_step life machine did new steps connection (waits of_it awaits);
+  }
+
+  pub one_step : (boxes : BoxesFacts) (life : Life L) (old : PortFacts L) (before : Shares) (new : PortFacts L) (after : Shares) (steps : PortSteps counts left written is_shut opening boxes old before new after) → life.last ≡ old
+      → One (look_stepped opening counts left written is_shut boxes old before new after steps) life before.desk.offered new after.desk.offered
+  one_step boxes life old before new after steps same =
+      let happened : Steps counts left written is_shut (RoutesPacket opening) old old.machine (did_of steps.chain) new = record {
+        of_port = refl;
+        posts = boxes.posts;
+        voices = boxes.voices;
+        desk = before.desk;
+        desk_after = after.desk;
+        router = before.common;
+        router_after = steps.routed;
+        step = steps.step;
+        turn = turned steps.chain;
+      } in record {
+        put = and_item (did_of steps.chain).put [];
+        now = stepped_life life old.machine (did_of steps.chain) new;
+        changes = changes_step (look_stepped opening counts left written is_shut boxes old before new after steps) life old.machine (did_of steps.chain) new
+            (subst (λ (p : PortFacts L). Steps counts left written is_shut (RoutesPacket opening) p old.machine (did_of steps.chain) new) (sym same) happened)
+            (λ connection. step_said opening connection counts left written is_shut boxes old before new after steps);
+        last_is = refl;
+        desk = offered_more (did_of steps.chain).put (due_item old) before.desk after.desk (turned steps.chain).puts.pass;
+      }
+
+  -- ---- a reply, and a lag
+
+  -- neither changes the connection or what waits for the desk
+  pub record KeepsPlace (old new : PortFacts L) : Type 0 where
+    pub number : new.machine.connection ≡ old.machine.connection
+    pub waiting : new.waiting ≡ old.waiting
+
+  same_place : (old new : PortFacts L) → new ≡ old → KeepsPlace old new
+  same_place old new same = record {
+    number = ap (λ (p : PortFacts L). p.machine.connection) same;
+    waiting = ap (λ (p : PortFacts L). p.waiting) same;
+  }
+
+  pub place_answered : (end : ReplyEnd) (wire : List ℕ) (seat : Option Seat) (old : PortFacts L) (closed : Option Cause) (new : PortFacts L)
+      → Answers counts left written is_shut end wire seat old closed new → KeepsPlace old new
+  place_answered end wire seat old closed new (inl stays) = same_place old new stays.same
+  place_answered end wire seat old closed new (inr (inl takes)) = record {
+    number = ap (λ (p : PortFacts L). p.machine.connection) takes.rest;
+    waiting = ap (λ (p : PortFacts L). p.waiting) takes.rest;
+  }
+  place_answered end wire seat old closed new (inr (inr closes)) = record {
+    number = ap (λ (p : PortFacts L). p.machine.connection) closes.closes.rest;
+    waiting = ap (λ (p : PortFacts L). p.waiting) closes.closes.rest;
+  }
+
+  pub place_lagged : (old : PortFacts L) (closed : Option Cause) (new : PortFacts L) → Lags counts left written is_shut old closed new → KeepsPlace old new
+  place_lagged old closed new (inl stays) = same_place old new stays.same
+  place_lagged old closed new (inr lags) = record {
+    number = ap (λ (p : PortFacts L). p.machine.connection) lags.2.rest;
+    waiting = ap (λ (p : PortFacts L). p.waiting) lags.2.rest;
+  }
+
+  pub awaits_lagged : (old : PortFacts L) (closed : Option Cause) (new : PortFacts L) → Lags counts left written is_shut old closed new → new.machine.awaits ≡ old.machine.awaits
+  awaits_lagged old closed new (inl stays) = ap (λ (p : PortFacts L). p.machine.awaits) stays.same
+  awaits_lagged old closed new (inr lags) = ap (λ (p : PortFacts L). p.machine.awaits) lags.2.rest
+
+  abbrev event_life : Life L → Event → PortFacts L → Life L
+  event_life life event new = record { first = life.first; events = life.events ++ event ∷ []; last = new }
+
+  own_place : (life : Life L) (event : Event) (new : PortFacts L) → KeepsPlace life.last new → IsOwn life → IsOwn (event_life life event new)
+  own_place life event new place own = record {
+    number = place.number ∙ own.number;
+    waits = λ item is. subst (λ (n : ℕ). is_item_of n item ≡ true) (sym place.number) (own.waits item (sym place.waiting ∙ is));
+  }
+
+  pub one_reply : (reply : ReplyFacts) (seat : Option Seat) (closed : Option Cause) (life : Life L) (new : PortFacts L) → is_of reply.connection life.last ≡ true
+      → Answers counts left written is_shut reply.end reply.wire seat life.last closed new → One (Told reply ∷ []) life [] new []
+  one_reply reply seat closed life new its answers =
+      let place = place_answered reply.end reply.wire seat life.last closed new answers in record {
+        put = [];
+        now = event_life life (replied reply.wire closed) new;
+        changes = record {
+          first = refl;
+          lived = λ lives. lives_more counts left written is_shut (RoutesPacket opening) life.first life.events life.last (replied reply.wire closed) new lives (reply.end, seat, answers);
+          owned = own_place life (replied reply.wire closed) new place;
+          puts = items_put-append life.events (replied reply.wire closed ∷ []);
+          its = λ own connection b is. nothing_either b;
+          since = [];
+          says = said-append life.events (replied reply.wire closed ∷ []);
+          heard = λ own connection b is. nothing_either b;
+          waits = λ connection spared waits of_it awaits.
+              let still = waits of_it awaits in
+              absurd (spared.0 (sym (eqb-true life.last.machine.connection reply.connection its) ∙ still.of_it));
+        };
+        last_is = refl;
+        desk = refl;
+      }
+
+  one_lagged : (closed : Option Cause) (life : Life L) (new : PortFacts L) → Lags counts left written is_shut life.last closed new → One [] life [] new []
+  one_lagged closed life new lags =
+      let place = place_lagged life.last closed new lags in record {
+        put = [];
+        now = event_life life (lagged closed) new;
+        changes = record {
+          first = refl;
+          lived = λ lives. lives_more counts left written is_shut (RoutesPacket opening) life.first life.events life.last (lagged closed) new lives lags;
+          owned = own_place life (lagged closed) new place;
+          puts = items_put-append life.events (lagged closed ∷ []);
+          its = λ own connection b is. nothing_either b;
+          since = [];
+          says = said-append life.events (lagged closed ∷ []);
+          heard = λ own connection b is. nothing_either b;
+          waits = λ connection spared waits of_it awaits.
+              let still = waits of_it awaits in record {
+                of_it = place.number ∙ still.of_it;
+                awaits = awaits_lagged life.last closed new lags ∙ still.awaits;
+                nothing = frames-append life.events (lagged closed ∷ []) ∙ (append-nil (frames_handled life.events) ∙ still.nothing);
+              };
+        };
+        last_is = refl;
+        desk = refl;
+      }
+
+  pub one_lag : (session : SessionId) (life : Life L) (old : PortFacts L) (before : RecordFacts) (new : PortFacts L) (after : RecordFacts) → LagsWhereIts counts left written is_shut session old before new after
+      → life.last ≡ old → One [] life [] new []
+  one_lag session life old before new after (inl passes) same = record {
+    put = [];
+    now = life;
+    changes = unchanged life;
+    last_is = same ∙ sym passes.same;
+    desk = refl;
+  }
+  one_lag session life old before new after (inr lags) same =
+      one_lagged lags.closed life new (subst (λ (p : PortFacts L). Lags counts left written is_shut p lags.closed new) (sym same) lags.lags)

@@ -1,0 +1,182 @@
+-- What the desk has of a port once it is gone, and what each port did in order.
+use Rattle.std.proofs.Common.{◌≡◌, ◌==◌, ◌∙◌, ℕ, ◌+◌, Bool, true, false, not, cond, List, [], ◌∷◌, ◌++◌, All, length, filter, Option, Some, None, refl, ap, sym, subst, inl, inr, arith}
+use Rattle.std.specs.List.{AllByRecursion as Each}
+use Rattle.std.proofs.lemmas.List.Elements.{All-from_recursion, recursion_from_All}
+use Rattle.mum_crew.specs.declared.role.Turn.{Turn}
+use Rattle.mum_io.specs.Counts.{Counts}
+use Rattle.mum_port.specs.Did.{action_of}
+use Rattle.mum_port.specs.Facts.{PortFacts, new_port}
+use Rattle.mum_port.specs.Life.{Event, Lives, and_item, asked_item, items_asked, lagged, replied, stepped, words_said}
+use Rattle.mum_port.specs.Stage.{is_gone}
+use Rattle.mum_port.specs.declared.item.DeskItem.{DeskItem}
+use Rattle.mum_port.specs.declared.stage.Farewell.TheVariants.{Leave, LastWord, Done}
+use Rattle.mum_port.specs.declared.stage.Stage.{Stage}
+use Rattle.mum_port.specs.declared.stage.Stage.TheVariants.{Live, Ending, Closed}
+use Rattle.mum_port.proofs.Farewells.{put_once}
+use Rattle.mum_port.proofs.Lifelong.{conserved, front_of, written_in_order}
+use Rattle.mum_published.specs.Facts.{Opening}
+use Rattle.mum_session.specs.Machine.{Machine}
+use Rattle.mum_session.specs.declared.action.Action.{Action}
+use Rattle.mum_session.specs.declared.action.Action.TheVariants.{Ask, Voice, Echo, Keep, Ignore}
+use Rattle.mum_worker.specs.Bell.{Ring, Answer, Comes, Lagging, NoMore}
+use Rattle.mum_worker.specs.Facts.{WorkerFacts, is_of, stays}
+use Rattle.mum_worker.specs.Hearing.{Hears, TakesOrTurns}
+use Rattle.mum_worker.specs.Opening.{HasOpened}
+use Rattle.mum_worker.specs.Record.{RecordFacts}
+use Rattle.mum_worker.specs.Routing.{RoutesPacket}
+use Rattle.mum_worker_laws.specs.Laws.{TurnsTo}
+use Rattle.mum_worker_laws.specs.Lives.{HaveLived, IsLife, IsNew, IsOrderly, Life, count, if_taken, is_closed_of, ports_taken, put_by, put_by_all, taken_in}
+use Rattle.mum_worker_laws.proofs.Changing.{IsOwn}
+use Rattle.mum_worker_laws.proofs.Counts.{count-append, count-cons, count-left, each-append, each_both, each_map, one}
+use Rattle.mum_worker_laws.proofs.Growing.{firsts, lasts}
+use Rattle.mum_worker_laws.proofs.Lasting.{turns_live}
+use Rattle.mum_worker_laws.proofs.LinkEnds.{all_frames}
+
+-- ---- the word that a port is gone
+
+length-item : (b : Bool) (item : DeskItem) → length (cond b (item ∷ []) []) ≡ one b
+length-item true item = refl
+length-item false item = refl
+
+words_closed : (connection : ℕ) (machine : Machine) (stage : Stage) → count (is_closed_of connection) (words_said machine stage) ≡ cond (is_gone stage) (one (machine.connection == connection)) 0
+words_closed connection machine Live = refl
+words_closed connection machine (Ending parting) = refl
+words_closed connection machine (Closed cause Leave) = refl
+words_closed connection machine (Closed cause LastWord) = refl
+words_closed connection machine (Closed cause Done) = length-item (machine.connection == connection) _
+
+-- no frame asks for it
+none_asked : (connection : ℕ) (asked : Option Action) (rest : List DeskItem) → count (is_closed_of connection) (and_item (asked_item asked) rest) ≡ count (is_closed_of connection) rest
+none_asked connection None rest = refl
+none_asked connection (Some (Ask command)) rest = refl
+none_asked connection (Some (Voice packet)) rest = refl
+none_asked connection (Some (Echo wire)) rest = refl
+none_asked connection (Some Keep) rest = refl
+none_asked connection (Some (Ignore why)) rest = refl
+
+asked_closed : (connection : ℕ) (events : List Event) → count (is_closed_of connection) (items_asked events) ≡ 0
+asked_closed connection [] = refl
+asked_closed connection (stepped machine did ∷ events) = none_asked connection (action_of machine did.handled) (items_asked events) ∙ asked_closed connection events
+asked_closed connection (replied wire closed ∷ events) = asked_closed connection events
+asked_closed connection (lagged closed ∷ events) = asked_closed connection events
+
+one_or_kept : (gone : Bool) (n : ℕ) → cond gone n 0 + cond (not gone) n 0 ≡ n
+one_or_kept true n = omega arith
+one_or_kept false n = omega arith
+
+no_command : (commands waiting : ℕ) → 0 ≡ commands + waiting → commands ≡ 0
+no_command commands waiting is = omega (arith, is)
+
+put_closed : (put commands words gone kept own : ℕ) → put ≡ commands + words → commands ≡ 0 → words ≡ gone → gone + kept ≡ own → put + kept ≡ own
+put_closed put commands words gone kept own a b c d = omega (arith, a, b, c, d)
+
+all_closed : (put one_put rest_put left one_left rest_left first one_first rest_first : ℕ) → put ≡ one_put + rest_put → left ≡ one_left + rest_left → first ≡ one_first + rest_first
+    → one_put + one_left ≡ one_first → rest_put + rest_left ≡ rest_first → put + left ≡ first
+all_closed put one_put rest_put left one_left rest_left first one_first rest_first a b c d e = omega (arith, a, b, c, d, e)
+
+module _ {L : Type 0} where
+  if_new : (number connection : ℕ) (link : L) (ports : List (PortFacts L)) (kept : RecordFacts) (ports_after : List (PortFacts L)) (kept_after : RecordFacts) (takes : TakesOrTurns number connection link ports kept ports_after kept_after)
+      → Each IsNew (if_taken number connection link ports kept ports_after kept_after takes)
+  if_new number connection link ports kept ports_after kept_after (inl takes) = (record { connection = connection; worker = number; link = link; is = refl }, tt)
+  if_new number connection link ports kept ports_after kept_after (inr turns) = tt
+
+module _ {L : Type 0} (counts : L → Counts) (left written : L → Option (List ℕ)) (is_shut : L → Bool) (opening : Opening) where
+  taken_new : (ring : Option (Ring L)) (old new : WorkerFacts L) (hears : Hears counts left written is_shut ring old new) → Each IsNew (taken_in counts left written is_shut ring old new hears)
+  taken_new None old new hears = tt
+  taken_new (Some (Answer reply)) old new hears = tt
+  taken_new (Some (Comes connection link)) old new hears = if_new old.number connection link old.ports old.common.kept new.ports new.common.kept hears.takes
+  taken_new (Some (Lagging session)) old new hears = tt
+  taken_new (Some NoMore) old new hears = tt
+
+  ports_new : (old : WorkerFacts L) (turns : List Turn) (new : WorkerFacts L) (all : TurnsTo counts left written is_shut opening old turns new) → Each IsNew (ports_taken counts left written is_shut opening old turns new all)
+  ports_new old [] new all = tt
+  ports_new old (turn ∷ turns) new (mid, turned, rest) =
+      each-append IsNew (taken_in counts left written is_shut turned.hears.ring (record old { bell = turned.hears.bell }) turned.between turned.hears.hears) (ports_taken counts left written is_shut opening mid turns new rest)
+      (taken_new turned.hears.ring (record old { bell = turned.hears.bell }) turned.between turned.hears.hears)
+      (ports_new mid turns new rest)
+
+  -- ---- each port in order
+
+  from_new : (life : Life L) (new : IsNew life.first) → IsLife counts left written is_shut opening life
+      → Lives counts left written is_shut (RoutesPacket opening) (new_port new.connection new.worker new.link) life.events life.last
+  from_new life new lives = subst (λ (p : PortFacts L). Lives counts left written is_shut (RoutesPacket opening) p life.events life.last) new.is lives
+
+  orderly_life : (life : Life L) → IsNew life.first → IsLife counts left written is_shut opening life → IsOrderly life
+  orderly_life life new is_life =
+      let lives = from_new life new is_life in
+      let handled = conserved counts left written is_shut (RoutesPacket opening) new.connection new.worker new.link life.events life.last lives in
+      let wrote = written_in_order counts left written is_shut (RoutesPacket opening) new.connection new.worker new.link life.events life.last lives in
+      let put = put_once counts left written is_shut (RoutesPacket opening) new.connection new.worker new.link life.events life.last lives in record {
+        handles = record {
+          behind = handled.0;
+          bytes = handled.1;
+          each = handled.2;
+          kept = handled.3;
+          front = λ frames rest splits.
+              front_of counts left written is_shut (RoutesPacket opening) new.connection new.worker new.link life.events life.last frames rest lives splits;
+          at_end = λ ended. all_frames counts left written is_shut opening new.connection new.worker new.link life.events life.last lives ended;
+        };
+        writes = record { behind = wrote.0; bytes = wrote.1; kept = wrote.2 };
+        puts = record { commands = put.0; put = put.1; asked = put.2 };
+      }
+
+  firsts_new : (number : ℕ) (pass : _) (journal : Option ℕ) (opened : WorkerFacts L) (turns : List Turn) (worker : WorkerFacts L) → HasOpened number pass journal opened
+      → (all : TurnsTo counts left written is_shut opening opened turns worker) (lives : List (Life L)) → firsts lives ≡ opened.ports ++ ports_taken counts left written is_shut opening opened turns worker all
+      → Each (λ (life : Life L). IsNew life.first) lives
+  firsts_new number pass journal opened turns worker begun all lives is =
+      let taken : firsts lives ≡ ports_taken counts left written is_shut opening opened turns worker all =
+      is ∙ ap (λ (l : List (PortFacts L)). l ++ ports_taken counts left written is_shut opening opened turns worker all) begun.no_port in
+      each_map IsNew (λ (life : Life L). life.first) lives (subst (λ (l : List (PortFacts L)). Each IsNew l) (sym taken) (ports_new opened turns worker all))
+
+  pub all_orderly : (number : ℕ) (pass : _) (journal : Option ℕ) (opened : WorkerFacts L) (turns : List Turn) (worker : WorkerFacts L) → HasOpened number pass journal opened
+      → (all : TurnsTo counts left written is_shut opening opened turns worker) (lived : HaveLived counts left written is_shut opening opened turns worker all) → All IsOrderly lived.lives
+  all_orderly number pass journal opened turns worker begun all lived =
+      All-from_recursion IsOrderly lived.lives
+      (each_both (λ (life : Life L). IsNew life.first) (IsLife counts left written is_shut opening) IsOrderly orderly_life lived.lives
+      (firsts_new number pass journal opened turns worker begun all lived.lives lived.begun)
+      (recursion_from_All (IsLife counts left written is_shut opening) lived.lives lived.lived))
+
+  -- ---- one word for each port
+
+  life_closed : (connection : ℕ) (life : Life L) → IsOrderly life → IsOwn life
+      → count (is_closed_of connection) (put_by life) + cond (stays life.last) (one (is_of connection life.last)) 0 ≡ one (is_of connection life.first)
+  life_closed connection life orderly own =
+      put_closed (count (is_closed_of connection) (put_by life)) (count (is_closed_of connection) orderly.puts.commands) (count (is_closed_of connection) (words_said life.last.machine life.last.stage))
+      (cond (is_gone life.last.stage) (one (is_of connection life.last)) 0) (cond (stays life.last) (one (is_of connection life.last)) 0) (one (is_of connection life.first))
+      (ap (λ (l : List DeskItem). count (is_closed_of connection) l) orderly.puts.put ∙ count-append (is_closed_of connection) orderly.puts.commands (words_said life.last.machine life.last.stage))
+      (no_command (count (is_closed_of connection) orderly.puts.commands) (count (is_closed_of connection) (and_item life.last.waiting []))
+      (sym (asked_closed connection life.events) ∙ (ap (λ (l : List DeskItem). count (is_closed_of connection) l) orderly.puts.asked ∙ count-append (is_closed_of connection) orderly.puts.commands (and_item life.last.waiting []))))
+      (words_closed connection life.last.machine life.last.stage)
+      (one_or_kept (is_gone life.last.stage) (one (is_of connection life.last)) ∙ ap (λ (n : ℕ). one (n == connection)) own.number)
+
+  lives_closed : (connection : ℕ) (lives : List (Life L)) → Each IsOrderly lives → Each IsOwn lives
+      → count (is_closed_of connection) (put_by_all lives) + count (is_of connection) (filter stays (lasts lives)) ≡ count (is_of connection) (firsts lives)
+  lives_closed connection [] orderly own = omega arith
+  lives_closed connection (life ∷ lives) orderly own =
+      all_closed (count (is_closed_of connection) (put_by_all (life ∷ lives))) (count (is_closed_of connection) (put_by life)) (count (is_closed_of connection) (put_by_all lives))
+      (count (is_of connection) (filter stays (lasts (life ∷ lives)))) (cond (stays life.last) (one (is_of connection life.last)) 0) (count (is_of connection) (filter stays (lasts lives)))
+      (count (is_of connection) (firsts (life ∷ lives))) (one (is_of connection life.first)) (count (is_of connection) (firsts lives))
+      (count-append (is_closed_of connection) (put_by life) (put_by_all lives))
+      (count-left (is_of connection) stays life.last (lasts lives))
+      (count-cons (is_of connection) life.first (firsts lives))
+      (life_closed connection life orderly.0 own.0)
+      (lives_closed connection lives orderly.1 own.1)
+
+  sums_up : (offered all none put ports taken : ℕ) → offered ≡ put → all ≡ none + put → none ≡ 0 → all + ports ≡ taken → offered + ports ≡ taken
+  sums_up offered all none put ports taken a b c d = omega (arith, a, b, c, d)
+
+  pub one_closed : (number : ℕ) (pass : _) (journal : Option ℕ) (opened : WorkerFacts L) (turns : List Turn) (worker : WorkerFacts L) (connection : ℕ) → HasOpened number pass journal opened
+      → (all : TurnsTo counts left written is_shut opening opened turns worker)
+      → count (is_closed_of connection) worker.desk.offered + count (is_of connection) worker.ports ≡ count (is_of connection) (ports_taken counts left written is_shut opening opened turns worker all)
+  one_closed number pass journal opened turns worker connection begun all =
+      let lasting = turns_live counts left written is_shut opening opened turns worker all [] begun.no_port in
+      let taken : List (PortFacts L) = ports_taken counts left written is_shut opening opened turns worker all in
+      let new = firsts_new number pass journal opened turns worker begun all lasting.now (lasting.grows.begun ∙ ap (λ (l : List (PortFacts L)). l ++ taken) (sym begun.no_port)) in
+      let orderly = each_both (λ (life : Life L). IsNew life.first) (IsLife counts left written is_shut opening) IsOrderly orderly_life lasting.now new (lasting.grows.lived tt) in
+      sums_up (count (is_closed_of connection) worker.desk.offered) (count (is_closed_of connection) (put_by_all lasting.now)) 0 (count (is_closed_of connection) lasting.put)
+      (count (is_of connection) worker.ports) (count (is_of connection) taken)
+      (ap (λ (l : List DeskItem). count (is_closed_of connection) l) (lasting.desk ∙ ap (λ (l : List DeskItem). l ++ lasting.put) begun.nothing_put))
+      (lasting.grows.total (is_closed_of connection))
+      refl
+      (ap (λ (l : List (PortFacts L)). count (is_closed_of connection) (put_by_all lasting.now) + count (is_of connection) l) lasting.kept
+      ∙ (lives_closed connection lasting.now orderly (lasting.grows.owned tt) ∙ ap (λ (l : List (PortFacts L)). count (is_of connection) l) lasting.grows.begun))

@@ -1,0 +1,125 @@
+-- What a port puts on the desk is of its own connection.
+use Rattle.std.proofs.Common.{◌≡◌, ◌==◌, ◌∙◌, ℕ, Bool, true, false, if◌then◌else◌, List, Option, Some, None, Ok, Err, refl, ap, sym}
+use Rattle.std.specs.List.{list_any}
+use Rattle.std.proofs.lemmas.Bool.{eq-eqb, eqb-true}
+use Rattle.mum_base.specs.declared.number.SessionId.{SessionId}
+use Rattle.mum_fields.specs.Table.{decoded}
+use Rattle.mum_frame.specs.declared.frame.Frame.{Frame}
+use Rattle.mum_frame.specs.declared.kind.TheConstants.{UDP_TUNNEL, VERSION, PING, AUTHENTICATE}
+use Rattle.mum_msg_state.specs.Messages.{ping, version}
+use Rattle.mum_rules_tree.specs.declared.reason.Reason.TheVariants.{Gone}
+use Rattle.mum_session.specs.Action.{Decoded, action, after_login, command_action, commands_after_login, ignore, login_action, ping_action, tree_or_user_action, version_action, voice_action}
+use Rattle.mum_session.specs.Heard.{command_heard, login_heard}
+use Rattle.mum_session.specs.Machine.{Machine, is_rejected, session_of}
+use Rattle.mum_session.specs.declared.action.Action.{Action}
+use Rattle.mum_session.specs.declared.action.Action.TheVariants.{Ask, Voice, Echo, Keep, Ignore}
+use Rattle.mum_session.specs.declared.action.Ignored.TheVariants.{Because}
+use Rattle.mum_session.specs.declared.command.Asked.{Asked}
+use Rattle.mum_session.specs.declared.heard.Heard.{Heard}
+use Rattle.mum_session.specs.declared.heard.Heard.TheVariants as heard
+use Rattle.mum_port.specs.Client.{leave}
+use Rattle.mum_port.specs.Did.{action_of, machine_after, waiting_after, waiting_after_put}
+use Rattle.mum_port.specs.Facts.{PortFacts, due_item, next_item, next_word}
+use Rattle.mum_port.specs.declared.item.DeskItem.{DeskItem}
+use Rattle.mum_port.specs.declared.item.DeskItem.TheVariants as items
+use Rattle.mum_port.specs.declared.stage.Farewell.TheVariants.{Leave, LastWord, Done}
+use Rattle.mum_port.specs.declared.stage.Stage.{Stage}
+use Rattle.mum_port.specs.declared.stage.Stage.TheVariants.{Live, Ending, Closed}
+use Rattle.mum_port.proofs.Machines.{connection-after_frame}
+use Rattle.mum_worker_laws.specs.Lives.{is_item_of}
+
+-- ---- a command is of the connection that asks for it
+
+abbrev asks_own : ℕ → Action → Bool
+asks_own connection (Ask command) = command.connection == connection
+asks_own connection (Voice packet) = true
+asks_own connection (Echo wire) = true
+asks_own connection Keep = true
+asks_own connection (Ignore why) = true
+
+either_own : (connection : ℕ) (test : Bool) (a b : Action) → asks_own connection a ≡ true → asks_own connection b ≡ true → asks_own connection (if test then a else b) ≡ true
+either_own connection true a b first other = first
+either_own connection false a b first other = other
+
+version-own : (connection : ℕ) (read : Decoded version) → asks_own connection (version_action read) ≡ true
+version-own connection (Ok values) = refl
+version-own connection (Err fault) = refl
+
+ping-own : (connection : ℕ) (read : Decoded ping) → asks_own connection (ping_action read) ≡ true
+ping-own connection (Ok values) = refl
+ping-own connection (Err fault) = refl
+
+voice-own : (connection : ℕ) (session : Option SessionId) (payload : List ℕ) → asks_own connection (voice_action session payload) ≡ true
+voice-own connection None payload = refl
+voice-own connection (Some session) payload = refl
+
+command-own : (machine : Machine) (heard_one : Heard Asked) → asks_own machine.connection (command_action machine heard_one) ≡ true
+command-own machine (heard.Message what) = eq-eqb machine.connection machine.connection refl
+command-own machine heard.Malformed = refl
+command-own machine heard.TooLong = refl
+
+later-own : (connection : ℕ) (session : Option SessionId) (a : Action) → asks_own connection a ≡ true → asks_own connection (after_login session a) ≡ true
+later-own connection None a own = refl
+later-own connection (Some session) a own = own
+
+action-own : (machine : Machine) (kind : ℕ) (payload : List ℕ) → asks_own machine.connection (action machine kind payload) ≡ true
+unfolding action
+action-own machine kind payload =
+    either_own machine.connection (is_rejected machine.stage) (ignore (Because Gone)) _ refl
+    (either_own machine.connection (kind == UDP_TUNNEL) (voice_action (session_of machine.stage) payload) _ (voice-own machine.connection (session_of machine.stage) payload)
+    (either_own machine.connection (kind == VERSION) (version_action (decoded version payload)) _ (version-own machine.connection (decoded version payload))
+    (either_own machine.connection (kind == PING) (ping_action (decoded ping payload)) _ (ping-own machine.connection (decoded ping payload))
+    (either_own machine.connection (kind == AUTHENTICATE) (login_action machine payload) _ (command-own machine (login_heard machine.version payload))
+    (either_own machine.connection (list_any (λ known. known == kind) commands_after_login) (after_login (session_of machine.stage) (tree_or_user_action machine kind payload)) _
+    (later-own machine.connection (session_of machine.stage) (tree_or_user_action machine kind payload) (command-own machine (command_heard kind payload))) refl)))))
+
+-- ---- what waits, and what is due
+
+-- it waits for the desk with an item of its own connection alone
+abbrev pub OwnItem : ℕ → Option DeskItem → Type 0
+OwnItem connection waiting = (item : DeskItem) → waiting ≡ Some item → is_item_of connection item ≡ true
+
+word-own : (machine : Machine) (stage : Stage) → OwnItem machine.connection (next_word machine stage)
+word-own machine Live item is = absurd (cc is)
+word-own machine (Ending parting) item is = absurd (cc is)
+word-own machine (Closed cause Leave) item is =
+    let same : item ≡ items.Command (leave machine) = cc (sym is) in
+    ap (λ (i : DeskItem). is_item_of machine.connection i) same ∙ eq-eqb machine.connection machine.connection refl
+word-own machine (Closed cause LastWord) item is =
+    let same : item ≡ items.Closed machine.connection = cc (sym is) in
+    ap (λ (i : DeskItem). is_item_of machine.connection i) same ∙ eq-eqb machine.connection machine.connection refl
+word-own machine (Closed cause Done) item is = absurd (cc is)
+
+next-own : (waiting : Option DeskItem) (machine : Machine) (stage : Stage) → OwnItem machine.connection waiting → OwnItem machine.connection (next_item waiting machine stage)
+next-own (Some waits) machine stage own item is = own item is
+next-own None machine stage own item is = word-own machine stage item is
+
+pub due-own : {L : Type 0} (port : PortFacts L) → OwnItem port.machine.connection port.waiting → OwnItem port.machine.connection (due_item port)
+due-own port own item is = next-own port.waiting port.machine port.stage own item is
+
+pub put-own : (connection : ℕ) (put waiting : Option DeskItem) → OwnItem connection waiting → OwnItem connection (waiting_after_put put waiting)
+put-own connection (Some done) waiting own item is = absurd (cc is)
+put-own connection None waiting own item is = own item is
+
+acted-own : (connection : ℕ) (asked : Action) (waiting : Option DeskItem) → asks_own connection asked ≡ true → OwnItem connection waiting → OwnItem connection (waiting_after (Some asked) waiting)
+acted-own connection (Ask command) waiting asks own item is =
+    let same : item ≡ items.Command command = cc (sym is) in
+    ap (λ (i : DeskItem). is_item_of connection i) same ∙ asks
+acted-own connection (Voice packet) waiting asks own item is = own item is
+acted-own connection (Echo wire) waiting asks own item is = own item is
+acted-own connection Keep waiting asks own item is = own item is
+acted-own connection (Ignore why) waiting asks own item is = own item is
+
+pub asked-own : (machine : Machine) (frame : Option Frame) (waiting : Option DeskItem) → OwnItem machine.connection waiting → OwnItem machine.connection (waiting_after (action_of machine frame) waiting)
+asked-own machine None waiting own item is = own item is
+asked-own machine (Some frame) waiting own item is =
+    acted-own machine.connection (action machine frame.kind frame.payload) waiting (action-own machine frame.kind frame.payload) own item is
+
+pub connection-machine_after : (machine : Machine) (frame : Option Frame) → (machine_after machine frame).connection ≡ machine.connection
+connection-machine_after machine None = refl
+connection-machine_after machine (Some frame) = connection-after_frame machine frame.kind frame.payload
+
+-- an item that is of one connection is of another where that is the same
+pub item-of : (item : DeskItem) (own connection : ℕ) → is_item_of own item ≡ true → is_item_of connection item ≡ (own == connection)
+item-of (items.Command command) own connection is = ap (λ (n : ℕ). n == connection) (eqb-true command.connection own is)
+item-of (items.Closed closed) own connection is = ap (λ (n : ℕ). n == connection) (eqb-true closed own is)

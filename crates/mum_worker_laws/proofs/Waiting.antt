@@ -1,0 +1,230 @@
+-- A connection that awaits a reply is not heard before it comes.
+use Rattle.std.proofs.Common.{◌≡◌, ◌≢◌, ◌∙◌, ℕ, zero, suc, Bool, true, true≢false, not, IsTrue, List, [], ◌∷◌, All, slice_set, Option, Some, None, refl, ap, sym, subst, inl, inr}
+use Rattle.std.specs.List.{AllByRecursion as Each}
+use Rattle.std.proofs.lemmas.Bool.{eqb-true}
+use Rattle.std.proofs.lemmas.List.Elements.{All-from_recursion, recursion_from_All}
+use Rattle.mum_base.specs.declared.number.SessionId.{SessionId}
+use Rattle.mum_crew.specs.declared.role.Turn.{Turn}
+use Rattle.mum_frame.specs.declared.frame.Frame.{Frame}
+use Rattle.mum_io.specs.Counts.{Counts}
+use Rattle.mum_port.specs.Did.{action_of, machine_after}
+use Rattle.mum_port.specs.Facts.{PortFacts, may_handle, new_port}
+use Rattle.mum_port.specs.Handling.{Acts, HandlesKept, Routes as PortRoutes}
+use Rattle.mum_port.specs.Life.{Steps, asked_item}
+use Rattle.mum_port.specs.Stage.{is_live}
+use Rattle.mum_port.specs.Steps.{Handles}
+use Rattle.mum_port.specs.declared.item.DeskItem.{DeskItem}
+use Rattle.mum_port.proofs.Closing.{and-left}
+use Rattle.mum_port.proofs.Course.{machine_read}
+use Rattle.mum_port.proofs.Idle.{and-right}
+use Rattle.mum_port.proofs.Turned.{did_turn}
+use Rattle.mum_published.specs.Facts.{Opening}
+use Rattle.mum_session.specs.Action.{action, after_frame, asks}
+use Rattle.mum_session.specs.Machine.{Machine, session_of}
+use Rattle.mum_session.specs.declared.action.Action.{Action}
+use Rattle.mum_session.specs.declared.action.Action.TheVariants.{Ask, Voice, Echo, Keep, Ignore}
+use Rattle.mum_worker.specs.Along.{Along}
+use Rattle.mum_worker.specs.Bell.{Ring, Answer, Comes, Lagging, NoMore}
+use Rattle.mum_worker.specs.Boxes.{BoxesFacts}
+use Rattle.mum_worker.specs.Facts.{WorkerFacts, stays}
+use Rattle.mum_worker.specs.Hearing.{AnswersFirst, Hears, LagsWhereIts, TakesOrTurns}
+use Rattle.mum_worker.specs.Record.{RecordFacts}
+use Rattle.mum_worker.specs.Routing.{CommonFacts, RoutesPacket}
+use Rattle.mum_worker.specs.Stepping.{PortSteps, Shares}
+use Rattle.mum_worker.specs.Turning.{shares_of}
+use Rattle.mum_worker_laws.specs.Laws.{Moment, TurnsTo, history, look_acted, look_handled, look_kept, look_made, look_of_session, look_stepped, looks_along, moments_of, told_by}
+use Rattle.mum_worker_laws.specs.Lives.{AwaitsReply, IsNoPacketOf, IsNoReplyTo, IsOfAnother, if_taken, ports_taken, taken_in}
+use Rattle.mum_worker_laws.proofs.Changing.{awaits_lagged, nothing_handled, place_answered, place_lagged}
+use Rattle.mum_worker_laws.proofs.Counts.{each-append, each_back, each_front, each_left}
+use Rattle.mum_worker_laws.proofs.Lasting.{first_is_of}
+use Rattle.mum_worker_laws.proofs.Own.{connection-machine_after}
+
+-- ---- behind a command a reply is awaited
+
+asks-some : (asked : Action) (item : DeskItem) → asked_item (Some asked) ≡ Some item → asks asked ≡ true
+asks-some (Ask command) item is = refl
+asks-some (Voice packet) item is = absurd (cc is)
+asks-some (Echo wire) item is = absurd (cc is)
+asks-some Keep item is = absurd (cc is)
+asks-some (Ignore why) item is = absurd (cc is)
+
+frame_awaits : (machine : Machine) (frame : Frame) (item : DeskItem) → asked_item (Some (action machine frame.kind frame.payload)) ≡ Some item → (after_frame machine frame.kind frame.payload).awaits ≡ true
+unfolding after_frame
+frame_awaits machine frame item is = asks-some (action machine frame.kind frame.payload) item is
+
+awaits_behind : (machine : Machine) (frame : Option Frame) (item : DeskItem) → asked_item (action_of machine frame) ≡ Some item → (machine_after machine frame).awaits ≡ true
+awaits_behind machine None item is = absurd (cc is)
+awaits_behind machine (Some frame) item is = frame_awaits machine frame item is
+
+-- ---- no packet meanwhile
+
+module _ {L : Type 0} where
+  each_set : (P : PortFacts L → Type 0) (xs : List (PortFacts L)) (k : ℕ) (x : PortFacts L) → P x → Each P xs → Each P (slice_set xs k x)
+  each_set P [] k x is each = tt
+  each_set P (y ∷ xs) zero x is each = (is, each.1)
+  each_set P (y ∷ xs) (suc k) x is each = (each.0, each_set P xs k x is each.1)
+
+module _ (opening : Opening) (asked : ℕ) where
+  made_of_another : (old : CommonFacts) (connection : ℕ) (speaker : SessionId) (bytes : List ℕ) (new : CommonFacts) (routes : RoutesPacket opening old connection speaker bytes new) → connection ≢ asked
+      → Each (IsNoPacketOf asked) (look_made opening old connection speaker bytes new routes)
+  made_of_another old connection speaker bytes new (inl drops) another = tt
+  made_of_another old connection speaker bytes new (inr keeps) another = (another, tt)
+
+  session_of_another : (old : CommonFacts) (connection : ℕ) (session : Option SessionId) (bytes : List ℕ) (new : CommonFacts) (routes : PortRoutes (RoutesPacket opening) connection session bytes old new) → connection ≢ asked
+      → Each (IsNoPacketOf asked) (look_of_session opening old connection session bytes new routes)
+  session_of_another old connection None bytes new same another = tt
+  session_of_another old connection (Some speaker) bytes new routes another = made_of_another old connection speaker bytes new routes another
+
+  acted_of_another : (connection : ℕ) (session : Option SessionId) (does : Action) (waiting : Option DeskItem) (out : List ℕ) (old : CommonFacts) (went : _) (waiting_after : Option DeskItem) (out_after : List ℕ) (new : CommonFacts)
+      (acts : Acts (RoutesPacket opening) connection session does waiting out old went waiting_after out_after new) → connection ≢ asked
+      → Each (IsNoPacketOf asked) (look_acted opening connection session does waiting out old went waiting_after out_after new acts)
+  acted_of_another connection session (Ask command) waiting out old went waiting_after out_after new acts another = tt
+  acted_of_another connection session (Voice packet) waiting out old went waiting_after out_after new acts another = session_of_another old connection session packet new acts.3 another
+  acted_of_another connection session (Echo wire) waiting out old went waiting_after out_after new acts another = tt
+  acted_of_another connection session Keep waiting out old went waiting_after out_after new acts another = tt
+  acted_of_another connection session (Ignore why) waiting out old went waiting_after out_after new acts another = tt
+
+  kept_of_another : (machine : Machine) (kept : List ℕ) (waiting : Option DeskItem) (out : List ℕ) (old : CommonFacts) (went : _) (machine_new : Machine) (kept_after : List ℕ) (waiting_after : Option DeskItem) (out_after : List ℕ) (new : CommonFacts)
+      (handles : HandlesKept (RoutesPacket opening) machine kept waiting out old went machine_new kept_after waiting_after out_after new) → machine.connection ≢ asked
+      → Each (IsNoPacketOf asked) (look_kept opening machine kept waiting out old went machine_new kept_after waiting_after out_after new handles)
+  kept_of_another machine kept waiting out old went machine_new kept_after waiting_after out_after new (inl (has, inl first)) another =
+      acted_of_another machine.connection (session_of machine.stage) (action machine first.frame.kind first.frame.payload) waiting out old went waiting_after out_after new first.handled.acts another
+  kept_of_another machine kept waiting out old went machine_new kept_after waiting_after out_after new (inl (has, inr lacks)) another = tt
+  kept_of_another machine kept waiting out old went machine_new kept_after waiting_after out_after new (inr none) another = tt
+
+  module _ {L : Type 0} where
+    -- a port that awaits a reply handles nothing
+    not_handled : (port : PortFacts L) → port.machine.awaits ≡ true → IsTrue (may_handle port) → ⊥
+    not_handled port awaits may =
+        true≢false (sym (and-left (not port.machine.awaits) _ (and-right (is_live port.stage) _ may)) ∙ ap not awaits)
+
+    handled_of_another : (old : PortFacts L) (router : CommonFacts) (went : _) (new : PortFacts L) (after : CommonFacts) (handles : Handles (RoutesPacket opening) old router went new after) → AwaitsReply asked old
+        → Each (IsNoPacketOf asked) (look_handled opening old router went new after handles)
+    handled_of_another old router went new after (inl none) awaits = tt
+    handled_of_another old router went new after (inr one) awaits =
+        kept_of_another old.machine old.framer.kept old.waiting old.out router went new.machine new.framer.kept new.waiting new.out after one.handled
+        (λ its. not_handled old (awaits its) one.allowed)
+
+  module _ {L : Type 0} (counts : L → Counts) (left written : L → Option (List ℕ)) (is_shut : L → Bool) where
+    step_of_another : (boxes : BoxesFacts) (old : PortFacts L) (before : Shares) (new : PortFacts L) (after : Shares) (steps : PortSteps counts left written is_shut opening boxes old before new after) → AwaitsReply asked old
+        → Each (IsNoPacketOf asked) (look_stepped opening counts left written is_shut boxes old before new after steps)
+    step_of_another boxes old before new after steps awaits =
+        handled_of_another steps.chain.after_read before.common steps.chain.handled steps.chain.after_handle steps.routed steps.chain.handles
+        (subst (λ (m : Machine). m.connection ≡ asked → IsTrue m.awaits) (sym (machine_read steps.chain)) awaits)
+
+    step_awaits : (boxes : BoxesFacts) (old : PortFacts L) (before : Shares) (new : PortFacts L) (after : Shares) → PortSteps counts left written is_shut opening boxes old before new after → AwaitsReply asked old → AwaitsReply asked new
+    step_awaits boxes old before new after steps awaits =
+        let turn = did_turn steps.chain in
+        let happened : Steps counts left written is_shut (RoutesPacket opening) old old.machine turn.0 new = record {
+          of_port = refl;
+          posts = boxes.posts;
+          voices = boxes.voices;
+          desk = before.desk;
+          desk_after = after.desk;
+          router = before.common;
+          router_after = steps.routed;
+          step = steps.step;
+          turn = turn.1;
+        } in
+        λ its.
+        let was : old.machine.awaits ≡ true = awaits (sym (connection-machine_after old.machine turn.0.handled) ∙ (ap (λ (m : Machine). m.connection) (sym turn.1.handles.machine) ∙ its)) in
+        ap (λ (m : Machine). m.awaits) (turn.1.handles.machine ∙ ap (λ (f : Option Frame). machine_after old.machine f) (nothing_handled counts left written is_shut opening old old.machine turn.0 new happened was)) ∙ was
+
+    along_of_another : (boxes : BoxesFacts) (olds : List (PortFacts L)) (before : Shares) (news : List (PortFacts L)) (after : Shares) (along : Along (PortSteps counts left written is_shut opening boxes) olds before news after)
+        → Each (AwaitsReply asked) olds → Each (AwaitsReply asked) news × Each (IsNoPacketOf asked) (looks_along opening counts left written is_shut boxes olds before news after along)
+    along_of_another boxes [] before [] after same await = (tt, tt)
+    along_of_another boxes [] before (new ∷ news) after along await = absurd along
+    along_of_another boxes (old ∷ olds) before [] after along await = absurd along
+    along_of_another boxes (old ∷ olds) before (new ∷ news) after (between, steps, along) await =
+        let rest = along_of_another boxes olds between news after along await.1 in (
+          (step_awaits boxes old before new between steps await.0, rest.0),
+          each-append (IsNoPacketOf asked) (look_stepped opening counts left written is_shut boxes old before new between steps) (looks_along opening counts left written is_shut boxes olds between news after along)
+              (step_of_another boxes old before new between steps await.0) rest.1,
+        )
+
+    -- ---- the bell
+
+    answer_awaits : (connection : ℕ) (end : _) (wire : List ℕ) (seat : _) (olds : List (PortFacts L)) (closed : _) (news : List (PortFacts L)) → AnswersFirst counts left written is_shut connection end wire seat olds closed news
+        → connection ≢ asked → Each (AwaitsReply asked) olds → Each (AwaitsReply asked) news
+    answer_awaits connection end wire seat olds closed news (inl none) another await = subst (λ (l : List (PortFacts L)). Each (AwaitsReply asked) l) (sym none.same) await
+    answer_awaits connection end wire seat olds closed news (inr first) another await =
+        let its = eqb-true first.old.machine.connection connection (first_is_of counts left written is_shut opening connection olds first.place first.old first.first first.there) in
+        let place = place_answered counts left written is_shut opening end wire seat first.old closed first.new first.answers in
+        subst (λ (l : List (PortFacts L)). Each (AwaitsReply asked) l) (sym first.others)
+        (each_set (AwaitsReply asked) olds first.place first.new (λ of_it. absurd (another (sym its ∙ (sym place.number ∙ of_it)))) await)
+
+    taken_awaits : (number connection : ℕ) (link : L) (ports : List (PortFacts L)) (kept : RecordFacts) (ports_after : List (PortFacts L)) (kept_after : RecordFacts) (takes : TakesOrTurns number connection link ports kept ports_after kept_after)
+        → Each (IsOfAnother asked) (if_taken number connection link ports kept ports_after kept_after takes) → Each (AwaitsReply asked) ports → Each (AwaitsReply asked) ports_after
+    taken_awaits number connection link ports kept ports_after kept_after (inl takes) others await =
+        subst (λ (l : List (PortFacts L)). Each (AwaitsReply asked) l) (sym takes.ports_are)
+        (each-append (AwaitsReply asked) ports (new_port connection number link ∷ []) await (λ its. absurd (others.0 its), tt))
+    taken_awaits number connection link ports kept ports_after kept_after (inr turns) others await = subst (λ (l : List (PortFacts L)). Each (AwaitsReply asked) l) (sym turns.ports_same) await
+
+    lag_awaits : (session : SessionId) (old : PortFacts L) (before : RecordFacts) (new : PortFacts L) (after : RecordFacts) → LagsWhereIts counts left written is_shut session old before new after → AwaitsReply asked old → AwaitsReply asked new
+    lag_awaits session old before new after (inl passes) awaits = subst (λ (p : PortFacts L). AwaitsReply asked p) (sym passes.same) awaits
+    lag_awaits session old before new after (inr lags) awaits =
+        λ its. awaits_lagged counts left written is_shut opening old lags.closed new lags.lags ∙ awaits (sym (place_lagged counts left written is_shut opening old lags.closed new lags.lags).number ∙ its)
+
+    lags_await : (session : SessionId) (olds : List (PortFacts L)) (before : RecordFacts) (news : List (PortFacts L)) (after : RecordFacts) → Along (LagsWhereIts counts left written is_shut session) olds before news after
+        → Each (AwaitsReply asked) olds → Each (AwaitsReply asked) news
+    lags_await session [] before [] after same await = tt
+    lags_await session [] before (new ∷ news) after along await = absurd along
+    lags_await session (old ∷ olds) before [] after along await = absurd along
+    lags_await session (old ∷ olds) before (new ∷ news) after (between, lags, along) await =
+        (lag_awaits session old before new between lags await.0, lags_await session olds between news after along await.1)
+
+    hear_awaits : (ring : Option (Ring L)) (old new : WorkerFacts L) (hears : Hears counts left written is_shut ring old new) → Each (IsNoReplyTo asked) (told_by ring) → Each (IsOfAnother asked) (taken_in counts left written is_shut ring old new hears)
+        → Each (AwaitsReply asked) old.ports → Each (AwaitsReply asked) new.ports
+    hear_awaits None old new same spared others await = subst (λ (w : WorkerFacts L). Each (AwaitsReply asked) w.ports) (sym same) await
+    hear_awaits (Some (Answer reply)) old new hears spared others await =
+        answer_awaits reply.connection reply.end reply.wire hears.takes.seat old.ports hears.takes.closed new.ports hears.takes.answers spared.0 await
+    hear_awaits (Some (Comes connection link)) old new hears spared others await =
+        taken_awaits old.number connection link old.ports old.common.kept new.ports new.common.kept hears.takes others await
+    hear_awaits (Some (Lagging session)) old new hears spared others await =
+        subst (λ (l : List (PortFacts L)). Each (AwaitsReply asked) l) (sym hears.each.left)
+        (each_left (AwaitsReply asked) stays hears.each.stepped (lags_await session old.ports old.common.kept hears.each.stepped new.common.kept hears.each.along await))
+    hear_awaits (Some NoMore) old new same spared others await = subst (λ (w : WorkerFacts L). Each (AwaitsReply asked) w.ports) (sym same) await
+
+    -- ---- the turns
+
+    none_of_it : (old : WorkerFacts L) (turns : List Turn) (new : WorkerFacts L) (all : TurnsTo counts left written is_shut opening old turns new)
+        → Each (IsNoReplyTo asked) (history counts left written is_shut opening old turns new all) → Each (IsOfAnother asked) (ports_taken counts left written is_shut opening old turns new all)
+        → Each (AwaitsReply asked) old.ports → Each (IsNoPacketOf asked) (history counts left written is_shut opening old turns new all)
+    none_of_it old [] new all spared others await = tt
+    none_of_it old (turn ∷ turns) new (mid, turned, rest) spared others await =
+        let moments : List Moment = moments_of counts left written is_shut opening old mid turn turned in
+        let later : List Moment = history counts left written is_shut opening mid turns new rest in
+        let looks : List Moment = looks_along opening counts left written is_shut turned.between.boxes turned.between.ports (shares_of turned.between turned.heard) turned.steps.steps.stepped (shares_of mid turned.worked) turned.steps.steps.along in
+        let taken : List (PortFacts L) = taken_in counts left written is_shut turned.hears.ring (record old { bell = turned.hears.bell }) turned.between turned.hears.hears in
+        let heard = hear_awaits turned.hears.ring (record old { bell = turned.hears.bell }) turned.between turned.hears.hears
+        (each_front (IsNoReplyTo asked) (told_by turned.hears.ring) looks (each_front (IsNoReplyTo asked) moments later spared))
+        (each_front (IsOfAnother asked) taken (ports_taken counts left written is_shut opening mid turns new rest) others) await in
+        let stepped = along_of_another turned.between.boxes turned.between.ports (shares_of turned.between turned.heard) turned.steps.steps.stepped (shares_of mid turned.worked) turned.steps.steps.along heard in
+        each-append (IsNoPacketOf asked) moments later
+        (each-append (IsNoPacketOf asked) (told_by turned.hears.ring) looks (none_told turned.hears.ring) stepped.1)
+        (none_of_it mid turns new rest (each_back (IsNoReplyTo asked) moments later spared)
+        (each_back (IsOfAnother asked) taken (ports_taken counts left written is_shut opening mid turns new rest) others)
+        (subst (λ (l : List (PortFacts L)). Each (AwaitsReply asked) l) (sym turned.steps.steps.left) (each_left (AwaitsReply asked) stays turned.steps.steps.stepped stepped.0)))
+      where
+        none_told : (ring : Option (Ring L)) → Each (IsNoPacketOf asked) (told_by ring)
+        none_told None = tt
+        none_told (Some (Answer reply)) = (tt, tt)
+        none_told (Some (Comes connection link)) = tt
+        none_told (Some (Lagging session)) = tt
+        none_told (Some NoMore) = tt
+
+    pub no_packet : (old : WorkerFacts L) (turns : List Turn) (new : WorkerFacts L) (all : TurnsTo counts left written is_shut opening old turns new) → All (AwaitsReply asked) old.ports
+        → All (IsNoReplyTo asked) (history counts left written is_shut opening old turns new all) → All (IsOfAnother asked) (ports_taken counts left written is_shut opening old turns new all)
+        → All (IsNoPacketOf asked) (history counts left written is_shut opening old turns new all)
+    no_packet old turns new all await spared others =
+        All-from_recursion (IsNoPacketOf asked) (history counts left written is_shut opening old turns new all)
+        (none_of_it old turns new all
+        (recursion_from_All (IsNoReplyTo asked) (history counts left written is_shut opening old turns new all) spared)
+        (recursion_from_All (IsOfAnother asked) (ports_taken counts left written is_shut opening old turns new all) others)
+        (recursion_from_All (AwaitsReply asked) old.ports await))
+
+module _ {L : Type 0} (counts : L → Counts) (left written : L → Option (List ℕ)) (is_shut : L → Bool) (opening : Opening) where
+  pub command_awaits : (old new : PortFacts L) (machine : Machine) (did : _) (item : DeskItem) → Steps counts left written is_shut (RoutesPacket opening) old machine did new
+      → asked_item (action_of machine did.handled) ≡ Some item → IsTrue new.machine.awaits
+  command_awaits old new machine did item steps asked =
+      ap (λ (m : Machine). m.awaits) (steps.turn.handles.machine ∙ ap (λ (m : Machine). machine_after m did.handled) (sym steps.of_port)) ∙ awaits_behind machine did.handled item asked

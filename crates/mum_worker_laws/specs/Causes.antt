@@ -1,0 +1,52 @@
+-- What a turn of a worker shows of its answer.
+use Rattle.std.specs.Prelude.{◌≡◌, ◌≢◌, ◌⊎◌, ℕ, Bool, true, false, List, [], ◌∷◌, ◌++◌, slice_get, Option, Some}
+use Rattle.mum_io.specs.Counts.{Counts}
+use Rattle.mum_outbox.specs.Calls.{one_more}
+use Rattle.mum_outbox.specs.Facts.{PassFacts}
+use Rattle.mum_port.specs.Did.{PortDid}
+use Rattle.mum_port.specs.Facts.{PortFacts}
+use Rattle.mum_port.specs.Life.{Steps}
+use Rattle.mum_port.specs.Turn.{IsIdle, did_nothing}
+use Rattle.mum_port.specs.declared.item.DeskItem.{DeskItem}
+use Rattle.mum_published.specs.Facts.{Opening}
+use Rattle.mum_session.specs.Machine.{Machine}
+use Rattle.mum_worker.specs.Along.{EachAlong}
+use Rattle.mum_worker.specs.Bell.{Ring, NoMore}
+use Rattle.mum_worker.specs.Boxes.{BoxesFacts}
+use Rattle.mum_worker.specs.Facts.{WorkerFacts, is_done, stays}
+use Rattle.mum_worker.specs.Routing.{RoutesPacket}
+
+abbrev pub is_no_more : {L : Type 0} → Ring L → Bool
+is_no_more NoMore = true
+is_no_more other = false
+
+module _ {L : Type 0} (counts : L → Counts) (left written : L → Option (List ℕ)) (is_shut : L → Bool) where
+  -- a port did nothing, and found nothing that it might do: see `IsIdle`
+  abbrev pub FindsNothing : BoxesFacts → PortFacts L → PassFacts DeskItem → PortFacts L → PassFacts DeskItem → Type 0
+  FindsNothing boxes old desk new after =
+      (did : PortDid) × IsIdle counts left written is_shut boxes.posts boxes.voices old desk did new after
+
+  -- the bell gave nothing, which is counted, each port found nothing that it might do, and the worker is not done
+  pub record HasNothingToDo (old new : WorkerFacts L) : Type 0 where
+    pub bell : new.bell ≡ record old.bell { empty = one_more old.bell.empty }
+    pub ports : EachAlong (FindsNothing old.boxes) stays old.ports old.desk new.ports new.desk
+    pub not_done : is_done new ≡ false
+
+  -- the bell gave something, which is the last that was taken from it
+  pub record HasHeard (old new : WorkerFacts L) : Type 0 where
+    pub ring : Ring L
+    pub taken : new.bell ≡ record old.bell { taken = old.bell.taken ++ ring ∷ [] }
+
+  -- one of these ports made a step that did something
+  pub record OneWorked (opening : Opening) (ports : List (PortFacts L)) : Type 0 where
+    pub place : ℕ
+    pub port : PortFacts L
+    pub there : slice_get ports place ≡ Some port
+    pub machine : Machine
+    pub did : PortDid
+    pub after : PortFacts L
+    pub steps : Steps counts left written is_shut (RoutesPacket opening) port machine did after
+    pub something : did ≢ did_nothing
+
+  abbrev pub HasWorked : Opening → WorkerFacts L → WorkerFacts L → Type 0
+  HasWorked opening old new = HasHeard old new ⊎ OneWorked opening old.ports

@@ -9,3 +9,5 @@ mod Once
 mod Putting
 mod Handing
 mod Giving
+mod Framing
+mod Sent

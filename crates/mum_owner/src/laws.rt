@@ -8,7 +8,11 @@ ghost use Rattle.mum_crew.specs.declared.role.Turn.{Turn};
 ghost use Rattle.mum_owner.specs.Doors.{given_after_all};
 ghost use Rattle.mum_owner.specs.Facts.{OwnerFacts};
 ghost use Rattle.mum_owner.specs.Laws.{TurnsTo, answered, command_in, commands_given, handed, is_no_login, is_of_worker, items_taken, lags_made, leave_in, leaves_decided, listed, numbers, puts_at, replies_made};
-ghost use Rattle.mum_owner.specs.Written.{is_login};
+ghost use Rattle.mum_owner.specs.Written.{IsWrittenAs, is_login, version_with};
+ghost use Rattle.mum_session.specs.Action.{action};
+ghost use Rattle.mum_session.specs.Machine.{Machine};
+ghost use Rattle.mum_session.specs.declared.action.Action.TheVariants.{Ask};
+ghost use Rattle.mum_session.specs.declared.command.Command.{Command};
 ghost use Rattle.mum_owner.specs.Opened.{IsOpened};
 
 use crate::entrance::Entrance;
@@ -77,4 +81,12 @@ pub fn commands_are_given_once<D: Entrance>()
         (all : TurnsTo D.Peer D.counts D.given opened turns owner) →
         filter_map leave_in (items_taken owner.desk)
         ≡ leaves_decided D.Peer D.counts D.given opened turns owner all ++ listed owner.desk.leave }
+{}
+
+/// A command is written down as a frame of the type of the frame that asked for it, with the version that its
+/// connection had told before where it is a login.
+pub fn frames_have_the_type_that_was_sent()
+    ensures { (machine : Machine) (kind : ℕ) (payload : List ℕ) (command : Command) →
+        action machine kind payload ≡ Ask command →
+        IsWrittenAs kind (version_with kind machine.version) command.what }
 {}

@@ -6,6 +6,7 @@ ghost use Rattle.mum_control.specs.Commanded.{current};
 ghost use Rattle.mum_io.specs.Counts.{NoneFalls, Rose};
 ghost use Rattle.mum_published.specs.Calls.{appended};
 ghost use Rattle.mum_outbox.specs.Calls.{IsNewPass};
+ghost use Rattle.mum_record.specs.Journal.{Each, IsWritableControl};
 ghost use Rattle.mum_owner.specs.Doors.{NoMoreCome, given_after_all};
 ghost use Rattle.mum_owner.specs.Guests.{entered, has_room, joined_by, lagging, no_guests};
 ghost use Rattle.mum_owner.specs.Opened.{IsOpened, opening_of};
@@ -595,6 +596,8 @@ impl<'a, D: Entrance, N: Serving, R: Wait + Copy> Owner<'a, D, N, R> {
         ensures state { result.state ≡ current self.entry.control }
         ensures opening { self.entry.control.publisher.opening ≡ N.opening }
         ensures entries { result.entries.items ≡ self.entry.scribe.entries }
+        // Each has a line in a journal.
+        ensures writable { Each IsWritableControl result.entries.items }
         ensures no_memory { result.no_memory ≡ self.entry.scribe.no_memory }
         ensures door_failed { result.door_failed ≡ self.entry.doorway.failed }
         ensures failed { IsTrue result.door_failed → Rose N.door.counts.faults (D.counts result.door).faults }

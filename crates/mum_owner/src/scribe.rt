@@ -1,8 +1,9 @@
 //! What is counted and written down of the commands.
 
-ghost use Rattle.std.specs.Prelude.{◌≡◌, ◌<◌, ◌||◌, ◌++◌, true, false, [], None, is_none, IsSome, OnErr, OnOk};
+ghost use Rattle.std.specs.Prelude.{◌≡◌, ◌<◌, ◌||◌, ◌++◌, true, false, [], None, is_none, IfSome, IsSome, OnErr, OnOk};
 ghost use Rattle.std.specs.Vec.{vec_capacity, vec_len};
-ghost use Rattle.mum_owner.specs.Written.{accepted_by, entries_by, prepared, recorded, refused};
+ghost use Rattle.mum_record.specs.Journal.{Each, IsWritableControl};
+ghost use Rattle.mum_owner.specs.Written.{IsWritableDraft, accepted_by, entries_by, prepared, recorded, refused};
 
 use crate::entry::{Draft, entry_of};
 use mum_base::{Mark, OutOfMemory};
@@ -14,6 +15,7 @@ use std::marker::Model;
 /// The entries of a journal, where one was asked for; how many edits were accepted; and whether memory ran out.
 #[derive(Drop)]
 pub(crate) struct Scribe {
+    alloc: Global,
     is_asked: bool,
     // What is prepared of the next entry. There is room for that entry.
     draft: Option<Draft>,
@@ -23,8 +25,10 @@ pub(crate) struct Scribe {
 }
 
 impl Model for Scribe {
-    ghost use Rattle.std.specs.Prelude.{◌<◌, IsSome};
+    ghost use Rattle.std.specs.Prelude.{◌<◌, IfSome, IsSome};
     ghost use Rattle.std.specs.Vec.{vec_capacity, vec_len};
+    ghost use Rattle.mum_owner.specs.Written.{IsWritableDraft};
+    ghost use Rattle.mum_record.specs.Journal.{Each, IsWritableControl};
     ghost use Rattle.mum_owner.specs.Facts.{ScribeFacts};
 
     ghost Value = { ScribeFacts };
@@ -37,7 +41,8 @@ impl Model for Scribe {
       no_memory = s.no_memory;
     } };
 
-    ghost invariant = { λ s. IsSome s.draft → vec_len s.entries < vec_capacity s.entries };
+    ghost invariant = { λ s. (IsSome s.draft → vec_len s.entries < vec_capacity s.entries)
+        × IfSome s.draft IsWritableDraft × Each IsWritableControl s.entries.items };
 }
 
 // How many edits were accepted, after a command of this outcome.
@@ -52,8 +57,11 @@ fn accepted_by(mark: Option<Mark>, accepted: u64) -> u64
 
 // Writes an entry, where one is prepared and the command has an outcome.
 fn write(entries: &mut Vec<ControlEntry>, connection: u32, draft: Option<Draft>, mark: Option<Mark>)
-    requires { IsSome draft → vec_len entries.old < vec_capacity entries.old }
-    ensures { entries.new.items ≡ entries.old.items ++ entries_by connection draft mark }
+    requires room { IsSome draft → vec_len entries.old < vec_capacity entries.old }
+    requires draft { IfSome draft IsWritableDraft }
+    requires writable { Each IsWritableControl entries.old.items }
+    ensures entries { entries.new.items ≡ entries.old.items ++ entries_by connection draft mark }
+    ensures writable { Each IsWritableControl entries.new.items }
 {
     let Some(Draft { version, frame }) = draft else {
         return;
@@ -74,6 +82,7 @@ impl Scribe {
         ensures { result ≡ record { is_asked = is_asked; draft = None; entries = []; accepted = 0; no_memory = false } }
     {
         Scribe {
+            alloc,
             is_asked,
             draft: None,
             entries: Vec::new(alloc),
@@ -94,7 +103,7 @@ impl Scribe {
             return Ok(());
         }
         self.entries.reserve(1)?;
-        self.draft = Some(entry_of(command));
+        self.draft = Some(entry_of(self.alloc, command)?);
         Ok(())
     }
 
@@ -120,9 +129,11 @@ impl Scribe {
     pub(crate) fn close(self) -> (u64, Vec<ControlEntry>, bool)
         ensures accepted { result.0 ≡ self.accepted }
         ensures entries { result.1.items ≡ self.entries }
+        ensures writable { Each IsWritableControl result.1.items }
         ensures no_memory { result.2 ≡ self.no_memory }
     {
         let Scribe {
+            alloc: _,
             is_asked: _,
             draft: _,
             entries,

@@ -1,15 +1,16 @@
 //! `mum_control`: a session whose box is full, and an edit whose publish runs out of memory.
 
-ghost use Rattle.std.specs.Prelude.{◌≡◌, [], IfOk, length};
+ghost use Rattle.std.specs.Prelude.{◌≡◌, [], length};
 ghost use Rattle.mum_base.specs.declared.number.TheConstants.{SLOTS as slots};
 ghost use Rattle.mum_published.specs.Calls.{latest};
 
-use mum_base::{Mark, Octets, OutOfMemory, SLOTS, SessionId, Slot, Text};
+use crate::opening::{begin, boxes_of};
+use mum_base::{Mark, Octets, OutOfMemory, SessionId, Slot, Text};
 use mum_control::{Control, Posted};
 use mum_fields::Message;
 use mum_msg_state::Authenticate;
 use mum_outbox::{Offered, POST_CAPACITY, PostBox, PostParcel};
-use mum_published::{Naming, Publisher, open};
+use mum_published::{Naming, Publisher};
 use mum_rules_user::UserMessage;
 use mum_session::{Asked, Command};
 use mum_state::State;
@@ -21,20 +22,6 @@ use std::test::Fail;
 
 /// The version of the client of the login: 1.5.0.
 const VERSION: u32 = 0x1_0500;
-
-/// A box for each slot, and another owner of the first one.
-fn boxes_of(alloc: Global) -> Result<(Vec<PostBox>, PostBox), OutOfMemory>
-    ensures { IfOk result (λ made. length made.0.items ≡ slots) }
-{
-    let mut first = PostBox::new(alloc)?;
-    let own = first.share()?;
-    let mut boxes = Vec::new(alloc);
-    boxes.push(first)?;
-    for _slot in 1..SLOTS {
-        boxes.push(PostBox::new(alloc)?)?;
-    }
-    Ok((boxes, own))
-}
 
 /// Fills a box with parcels for nobody, and gives their number.
 fn fill<R: Wait>(rt: &R, alloc: Global, queue: PostBox) -> usize {
@@ -217,28 +204,6 @@ fn see_at<R: Wait>(
     requires boxes { length boxes.items ≡ slots }
 {
     open_and_see::<Brand, R>(rt, alloc, publisher, state, boxes, login)
-}
-
-/// A publisher of an empty state, and that state.
-fn begin<R: Wait>(rt: &R, alloc: Global) -> Result<(Publisher, State), OutOfMemory>
-    ensures state { IfOk result (λ begun. begun.1 ≡ latest begun.0) }
-    ensures pending { IfOk result (λ begun. begun.0.pending ≡ []) }
-{
-    let twin = State::empty(alloc)?;
-    let state = match twin.copy(alloc) {
-        Ok(state) => state,
-        Err(error) => {
-            drop(twin);
-            return Err(error);
-        }
-    };
-    match open(rt, alloc, state, 1) {
-        Ok((publisher, _passes)) => Ok((publisher, twin)),
-        Err(error) => {
-            drop(twin);
-            Err(error)
-        }
-    }
 }
 
 /// What becomes of a login at an empty state.

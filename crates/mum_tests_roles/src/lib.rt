@@ -1,8 +1,12 @@
-//! Tests of the parts that the server's roles are made of: a port over links that take nothing, and the control owner
-//! over a box that is full or without memory. A module for each crate.
+//! Tests of the parts that the server's roles are made of: a port over links that take nothing, the control owner over
+//! a box that is full or without memory, and the owner's journal. A module for each crate.
 #![tactic(auto)]
 
 #[cfg(test)]
 mod control;
+#[cfg(test)]
+mod opening;
+#[cfg(test)]
+mod owner;
 #[cfg(test)]
 mod port;

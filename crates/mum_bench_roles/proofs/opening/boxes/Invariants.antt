@@ -1,0 +1,5 @@
+use Rattle.std.proofs.Common.{◌≡◌, length}
+use Rattle.mum_bench_roles.proofs.opening.boxes.Given as goal
+
+abbrev pub invariant-boxes : goal.invariant-boxes
+invariant-boxes g l = length l.boxes.items ≡ l._slot

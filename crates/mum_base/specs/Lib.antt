@@ -1,4 +1,5 @@
 pub mod Channels
+pub mod Codes
 pub mod Name
 pub mod Octets
 pub mod Perm

@@ -5,6 +5,7 @@
 pub mod items;
 pub mod name;
 pub mod number;
+pub mod outcome;
 pub mod perm;
 pub mod reply;
 pub mod steps;
@@ -12,6 +13,7 @@ pub mod steps;
 pub use items::{Items, Octets, OutOfMemory, Text};
 pub use name::{NameFault, check_name, check_text};
 pub use number::{AccountId, CONNECTION_LIMIT, Cause, ChannelId, PLACES, SLOTS, SessionId, Slot};
+pub use outcome::{DenyType, Reason, RejectType};
 pub use perm::{Perm, permission_bits};
 pub use reply::{Mark, ReplyEnd};
 pub use steps::Steps;

@@ -1,13 +1,24 @@
 //! The numbers by which sessions, channels and accounts are named on the wire, and how many there may be.
 
+ghost use Rattle.std.specs.Prelude.{◌≡◌};
+
 /// The most sessions that any server may have at once: slots are below it.
-pub const SLOTS: usize = 128;
+pub const SLOTS: usize = 512;
 
 /// The most channels that any server may have at once, with the root: places are below it.
-pub const PLACES: usize = 1024;
+pub const PLACES: usize = 2048;
 
 /// The most connections that may be open at once.
-pub const CONNECTION_LIMIT: usize = 256;
+pub const CONNECTION_LIMIT: usize = 1024;
+
+/// The numbers that definitions name. This does nothing: its contract is what they are.
+pub fn numbers()
+    ensures root { ChannelId.ROOT.0 ≡ 0 }
+    ensures super_user { AccountId.SUPER_USER.0 ≡ 0 }
+    ensures slots { SLOTS ≡ 512 }
+    ensures places { PLACES ≡ 2048 }
+    ensures connections { CONNECTION_LIMIT ≡ 1024 }
+{}
 
 /// The number of a session. Numbers are given in order from 1 and never given again; 0 is no
 /// session's.
@@ -32,9 +43,9 @@ impl AccountId {
     pub const SUPER_USER: AccountId = AccountId(0);
 }
 
-/// The place that a session holds while it is connected, below 128. It is given again once it is free.
+/// The place that a session holds while it is connected. It is given again once it is free.
 #[derive(Clone, Copy, Debug, Default, PartialEq, Eq, PartialOrd, Ord, Hash)]
-pub struct Slot(pub u8);
+pub struct Slot(pub u16);
 
 /// Why a connection was closed.
 #[derive(Clone, Copy, Debug, PartialEq, Eq)]

@@ -45,8 +45,8 @@ pub over_limit : (limit n : ℕ) → suc n ≤ limit → leb limit n ≡ false
 over_limit limit n room = grind (arith, nat_tests)
 
 -- a tree with one channel more has nothing against it
-added_back : {limit : ℕ} → (tree : TreeState) (id parent : ChannelId) (name : List ℕ) (temporary : Bool) → IsProper limit tree → tree.greatest < id.0 → IsProper limit (with_new tree id parent name temporary) → fault_of_add limit tree id parent name ≡ None
-added_back {limit} tree id parent name temporary proper above after =
+added_back : (tree : TreeState) (id parent : ChannelId) (name : List ℕ) (temporary : Bool) → IsProper tree → tree.greatest < id.0 → IsProper (with_new tree id parent name temporary) → fault_of_add tree id parent name ≡ None
+added_back tree id parent name temporary proper above after =
     let rows = tree.channels in
     let row = new_row (least_place rows) id parent name temporary in
     let new = rows ++ row ∷ [] in
@@ -89,22 +89,22 @@ added_back {limit} tree id parent name temporary proper above after =
     let whole : upward new 33 parent ≡ upward new 32 parent = upward_more new 32 parent leads-2 in
     let short : leb 33 (length (path rows parent)) ≡ false =
     over_limit 33 (length (path rows parent)) (omega (arith, length-reverse (upward rows 33 parent), ap length kept, ap length whole, upward_within new 32 parent)) in
-    let room : is_full limit tree ≡ false = over_limit limit (length rows) (omega (arith, after.few, length-append rows (row ∷ []))) in
-    five (not (is_there rows parent)) (is_taken rows parent id name) (is_temporary rows parent) (leb 33 (length (path rows parent))) (is_full limit tree) NoChannel SameName TemporaryParent Nesting Count (ap not stands) free lasts short room
+    let room : is_full tree ≡ false = over_limit tree.limit (length rows) (omega (arith, after.few, length-append rows (row ∷ []))) in
+    five (not (is_there rows parent)) (is_taken rows parent id name) (is_temporary rows parent) (leb 33 (length (path rows parent))) (is_full tree) NoChannel SameName TemporaryParent Nesting Count (ap not stands) free lasts short room
   where
     plus_zero : (n : ℕ) → n ≡ n + 0
     plus_zero n = omega arith
 
 -- with a new channel a tree is a tree exactly where nothing stands against it
-pub adds_both_ways : (limit : ℕ) (tree : TreeState) (id parent : ChannelId) (name : List ℕ) (temporary : Bool) → IsProper limit tree → tree.greatest < id.0 → (fault_of_add limit tree id parent name ≡ None) ↔ IsProper limit (with_new tree id parent name temporary)
-adds_both_ways limit tree id parent name temporary proper above = (
+pub adds_both_ways : (tree : TreeState) (id parent : ChannelId) (name : List ℕ) (temporary : Bool) → IsProper tree → tree.greatest < id.0 → (fault_of_add tree id parent name ≡ None) ↔ IsProper (with_new tree id parent name temporary)
+adds_both_ways tree id parent name temporary proper above = (
   λ allowed. (added_proper tree (least_place tree.channels) id parent name name temporary plain_info proper above allowed refl refl refl).1,
   added_back tree id parent name temporary proper above,
 )
 
 -- without a channel and all below it a tree is a tree exactly where nothing stands against it
-pub removes_both_ways : (limit : ℕ) (tree : TreeState) (id : ChannelId) → IsProper limit tree → is_there tree.channels id ≡ true → (fault_of_remove tree id ≡ None) ↔ IsProper limit (without_subtree tree id)
-removes_both_ways limit tree id proper there = (
+pub removes_both_ways : (tree : TreeState) (id : ChannelId) → IsProper tree → is_there tree.channels id ≡ true → (fault_of_remove tree id ≡ None) ↔ IsProper (without_subtree tree id)
+removes_both_ways tree id proper there = (
   λ allowed.
       let (named, rest) = none_stands (not (is_there tree.channels id)) NoChannel _ allowed in
       let (lower, end) = none_stands (eqb id.0 0) RootFixed None rest in

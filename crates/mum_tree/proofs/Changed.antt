@@ -127,8 +127,8 @@ map_lasting f keeps rows lasting =
     rows lasting)
 
 -- a change that keeps places keeps the tree, where names stay apart
-pub map_proper : {limit : ℕ} → (tree : TreeState) (f : Row → Row) → KeepsPlaces f → AllPairs AreApart (map f tree.channels) → IsProper limit tree → IsProper limit (record { channels = map f tree.channels; links = tree.links; greatest = tree.greatest })
-map_proper {limit} tree f keeps apart proper =
+pub map_proper : (tree : TreeState) (f : Row → Row) → KeepsPlaces f → AllPairs AreApart (map f tree.channels) → IsProper tree → IsProper (record { channels = map f tree.channels; links = tree.links; greatest = tree.greatest; limit = tree.limit })
+map_proper tree f keeps apart proper =
     let rows = tree.channels in
     let (row, found, (place, parent, name, kind)) = proper.root in
     record {
@@ -137,11 +137,12 @@ map_proper {limit} tree f keeps apart proper =
       lead = map_lead f keeps rows proper.lead;
       apart = apart;
       lasting = map_lasting f keeps rows proper.lasting;
-      seated = All-map (λ one. one.place < limit) f rows (All-weaker (λ one. one.place < limit) (λ one. (f one).place < limit) (λ one seated. rw (keeps.places one) seated) rows proper.seated);
-      seats = AllPairs-map (λ one other. one.place ≢ other.place) (λ one other. one.place ≢ other.place) f rows (λ i j d below within differ same. differ (sym (keeps.places (get_or rows i d)) ∙ same ∙ keeps.places (get_or rows j d))) proper.seats;
+      places_fit = All-map (λ one. one.place < tree.limit) f rows (All-weaker (λ one. one.place < tree.limit) (λ one. (f one).place < tree.limit) (λ one places_fit. rw (keeps.places one) places_fit) rows proper.places_fit);
+      places_apart = AllPairs-map (λ one other. one.place ≢ other.place) (λ one other. one.place ≢ other.place) f rows (λ i j d below within differ same. differ (sym (keeps.places (get_or rows i d)) ∙ same ∙ keeps.places (get_or rows j d))) proper.places_apart;
       few = rw (length-map rows f) proper.few;
       known = All-map (λ one. number one ≤ tree.greatest) f rows (All-weaker (λ one. number one ≤ tree.greatest) (λ one. number (f one) ≤ tree.greatest) (λ one known. rw (keeps.numbers one) known) rows proper.known);
       joined = links_kept rows (map f rows) tree.links (λ id there. subst (λ (found : Option Row). is_some found ≡ true) (sym (row_of-map f keeps.numbers rows id)) (some_to f (row_of rows id) there)) proper.joined;
+      limited = proper.limited;
     }
 
 -- a change of one channel's name or info

@@ -1,23 +1,21 @@
 -- Rounds over links find what links lead to.
-use Rattle.std.proofs.Common.{◌≡◌, ℕ, zero, suc, ◌<◌, ◌≤◌, ◌&&◌, ◌⊎◌, inl, inr, Bool, true, false, not, cond, eqb, List, [], ◌∷◌, length, get_or, map, Some, refl, arith, ap, sym, ◌∙◌, subst, ⊎_elim}
+use Rattle.std.proofs.Common.{◌≡◌, ℕ, zero, suc, ◌<◌, ◌≤◌, ◌&&◌, ◌⊎◌, inl, inr, Bool, true, false, not, cond, eqb, List, [], ◌∷◌, length, get_or, Some, refl, arith, ap, sym, ◌∙◌, subst, ⊎_elim}
 use Rattle.std.specs.Prelude.{◌↔◌}
-use Rattle.std.specs.List.{All, Contains, count_by, filter, list_any}
+use Rattle.std.specs.List.{All, Contains, count_by, list_any}
 use Rattle.std.proofs.lemmas.Bool.{and_from, and_parts, both_ways, cases_Bool, eq-eqb, eqb-true, false≢true, or_cases, or_left, or_right, not-true}
 use Rattle.std.proofs.lemmas.List.Elements.{All-contains}
-use Rattle.std.proofs.lemmas.List.{get_or_default}
 use Rattle.std.proofs.lemmas.List.Sums.{count_by-le-length, sum_by-cons}
 use Rattle.std.proofs.lemmas.Option.{same_Some}
 use Rattle.mum_base.specs.declared.number.ChannelId.{ChannelId}
 use Rattle.mum_tree.specs.declared.channel.Row.{Row}
-use Rattle.mum_tree.specs.Rows.{number, row_of, is_there, Rise}
+use Rattle.mum_tree.specs.Rows.{number, row_of, is_there}
 use Rattle.mum_tree.specs.Proper.{AreLinks, IsBetween}
 use Rattle.mum_tree.specs.State.{Pair, TreeState}
-use Rattle.mum_tree.specs.Walks.{is_reached, linked, HasRow, LeadTo, Walk}
+use Rattle.mum_tree.specs.Walks.{is_reached, linked, LeadTo, Walk}
 use Rattle.mum_tree.proofs.Changed.{number_found}
 use Rattle.mum_tree.proofs.Edits.{some_row}
 use Rattle.mum_tree.proofs.Find.{contains_later}
-use Rattle.mum_tree.proofs.Marks.{one_place, passes_from, passes_to}
-use Rattle.mum_tree.proofs.Shrunk.{filter_agree_at}
+use Rattle.mum_tree.proofs.Marks.{passes_from, passes_to}
 use Rattle.mum_tree.proofs.Start.{root_row}
 use Rattle.mum_tree.proofs.Upward.{none_contained}
 
@@ -217,19 +215,3 @@ both_same true true one two = refl
 both_same true false one two = sym (one refl)
 both_same false true one two = two refl
 both_same false false one two = refl
-
--- the marks of what was found are those of what is reached
-pub found_reached : (tree : TreeState) (id : ChannelId) (found : List ℕ) (marks : List Bool) → AreLinks tree.channels tree.links → is_there tree.channels id ≡ true → ((other : ChannelId) → HasRow tree.channels found other ↔ LeadTo tree.links id other) → ((k : ℕ) (d : Row) → k < length tree.channels → (get_or marks (get_or tree.channels k d).place false ≡ true) ↔ Contains found k) → Rise tree.channels → map (λ row. row.channel.id) (filter (λ row. get_or marks row.place false) tree.channels) ≡ linked tree id
-found_reached tree id found marks are there leads each rise =
-    let rows = tree.channels in
-    ap (λ (kept : List Row). map (λ row. row.channel.id) kept)
-    (filter_agree_at (λ row. get_or marks row.place false) (λ row. is_reached tree.links (length rows) id row.channel.id) rows
-    (λ k d within.
-    let row = get_or rows k d in
-    let same = reached_all rows tree.links id row.channel.id are there in
-    both_same (get_or marks row.place false) (is_reached tree.links (length rows) id row.channel.id)
-    (λ on. same.1 ((leads row.channel.id).0 (k, (each k d within).0 on, within, λ other. ap (λ (r : Row). r.channel.id) (get_or_default rows k other d within))))
-    (λ on.
-    let (at, has, inside, named) = (leads row.channel.id).1 (same.0 on) in
-    let here : at ≡ k = one_place number rows at k d rise inside within (ap (λ (x : ChannelId). x.0) (named d)) in
-    (each k d within).1 (subst (Contains found) here has))))

@@ -65,31 +65,31 @@ none_kept zero place = refl
 none_kept (suc n) zero = refl
 none_kept (suc n) (suc place) = none_kept n place
 
-pub levels_none : (rows : List Row) (top : ChannelId) (known : List (Option (Option ℕ))) → known ≡ replicate 1024 unknown → AreLevels rows top known
+pub levels_none : (rows : List Row) (top : ChannelId) (known : List (Option (Option ℕ))) → known ≡ replicate 2048 unknown → AreLevels rows top known
 levels_none rows top known none k d within =
     subst (λ (steps : Option (Option ℕ)). IfSome steps (λ s. s ≡ level rows top (get_or rows k d).channel.id))
-    (sym (ap (λ (ks : List (Option (Option ℕ))). get_or ks (get_or rows k d).place unknown) none ∙ none_kept 1024 (get_or rows k d).place)) tt
+    (sym (ap (λ (ks : List (Option (Option ℕ))). get_or ks (get_or rows k d).place unknown) none ∙ none_kept 2048 (get_or rows k d).place)) tt
 
 pub levels_set : (rows : List Row) (top : ChannelId) (known : List (Option (Option ℕ))) (i : ℕ) (row : Row) (found : Option ℕ) → i < length rows → row ≡ get_or rows i row → row.place < length known → AllPairs (λ one other. one.place ≢ other.place) rows → found ≡ level rows top row.channel.id → AreLevels rows top known → AreLevels rows top (set known row.place (Some found))
-levels_set rows top known i row found within read seated seats is right k d inside =
+levels_set rows top known i row found within read places_fit places_apart is right k d inside =
     ⊎_elim
     (λ (here : k ≡ i).
     let same : get_or rows k d ≡ row = ap (λ j. get_or rows j d) here ∙ get_or_default rows i d row within ∙ sym read in
-    let at : get_or (set known row.place (Some found)) row.place None ≡ Some found = get_or-set_same known row.place (Some found) None seated in
+    let at : get_or (set known row.place (Some found)) row.place None ≡ Some found = get_or-set_same known row.place (Some found) None places_fit in
     subst (λ (r : Row). IfSome (get_or (set known row.place (Some found)) r.place None) (λ s. s ≡ level rows top r.channel.id)) (sym same)
     (subst (λ (kept : Option (Option ℕ)). IfSome kept (λ s. s ≡ level rows top row.channel.id)) (sym at) is))
     (λ (off : k ≡ i → ⊥).
-    let differs : (get_or rows k d).place ≢ row.place = places_differ rows i row k d within read seats inside off in
+    let differs : (get_or rows k d).place ≢ row.place = places_differ rows i row k d within read places_apart inside off in
     subst (λ (kept : Option (Option ℕ)). IfSome kept (λ s. s ≡ level rows top (get_or rows k d).channel.id))
     (sym (get_or-set_other known row.place (get_or rows k d).place (Some found) None differs)) (right k d inside))
     (cases_eq k i)
   where
     places_differ : (rows : List Row) (i : ℕ) (row : Row) (k : ℕ) (d : Row) → i < length rows → row ≡ get_or rows i row → AllPairs (λ one other. one.place ≢ other.place) rows → k < length rows → (k ≡ i → ⊥) → (get_or rows k d).place ≢ row.place
-    places_differ rows i row k d within read seats inside off e =
+    places_differ rows i row k d within read places_apart inside off e =
         let at : (get_or rows i d).place ≡ row.place = ap (λ (r : Row). r.place) (get_or_default rows i d row within ∙ sym read) in
         ⊎_elim
-        (λ (l : k < i). seats k i d l within (e ∙ sym at))
-        (λ (g : i ≤ k). seats i k d (omega arith) inside (at ∙ sym e))
+        (λ (l : k < i). places_apart k i d l within (e ∙ sym at))
+        (λ (g : i ≤ k). places_apart i k d (omega arith) inside (at ∙ sym e))
         (cases_lt k i)
 
 -- the channels on a path are those on the top's and the steps under it

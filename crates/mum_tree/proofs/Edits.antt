@@ -41,18 +41,18 @@ some_row None there = absurd (false≢true there)
 some_row (Some row) there = (row, refl)
 
 -- what an added channel leaves, as the code has it, where no cause stands against it
-pub added_proper : {limit : ℕ} → (tree : TreeState) (place : ℕ) (id parent : ChannelId) (name text : List ℕ) (temporary : Bool) (info : ChannelInfo) → IsProper limit tree → tree.greatest < id.0 → fault_of_add limit tree id parent name ≡ None → text ≡ name → info ≡ plain_info → place ≡ least_place tree.channels → (record { channels = tree.channels ++ record { place = place; channel = record { id = id; parent = parent; name = text; temporary = temporary; info = info } } ∷ []; links = tree.links; greatest = id.0 } ≡ with_new tree id parent name temporary) × IsProper limit (with_new tree id parent name temporary)
-added_proper {limit} tree place id parent name text temporary info proper above allowed same plain least =
+pub added_proper : (tree : TreeState) (place : ℕ) (id parent : ChannelId) (name text : List ℕ) (temporary : Bool) (info : ChannelInfo) → IsProper tree → tree.greatest < id.0 → fault_of_add tree id parent name ≡ None → text ≡ name → info ≡ plain_info → place ≡ least_place tree.channels → (record { channels = tree.channels ++ record { place = place; channel = record { id = id; parent = parent; name = text; temporary = temporary; info = info } } ∷ []; links = tree.links; greatest = id.0; limit = tree.limit } ≡ with_new tree id parent name temporary) × IsProper (with_new tree id parent name temporary)
+added_proper tree place id parent name text temporary info proper above allowed same plain least =
     let rows = tree.channels in
     let (there, rest) = none_stands (not (is_there rows parent)) NoChannel _ allowed in
     let (apart, rest-2) = none_stands (is_taken rows parent id name) SameName _ rest in
     let (lasts, rest-3) = none_stands (is_temporary rows parent) TemporaryParent _ rest-2 in
     let (shallow, rest-4) = none_stands (leb 33 (length (path rows parent))) Nesting _ rest-3 in
-    let (room, rest-5) = none_stands (is_full limit tree) Count None rest-4 in
+    let (room, rest-5) = none_stands (is_full tree) Count None rest-4 in
     let (row, found) = some_row (row_of rows parent) (not-false (is_there rows parent) there) in
     let short : length (upward rows 33 parent) ≤ 32 = omega (arith, leb-false 33 (length (path rows parent)) shallow, length-reverse (upward rows 33 parent)) in
     let lead : Contains (upward rows 32 parent) the_root = subst (λ (us : List ChannelId). Contains us the_root) (upward_short rows 32 parent short) (proper.lead parent (ap is_some found)) in
-    let few : length rows < limit = leb-false limit (length rows) room in
+    let few : length rows < tree.limit = leb-false tree.limit (length rows) room in
     let within = least_within rows in (
       rw (same, plain, least) refl,
       grown_proper tree (new_row (least_place rows) id parent name temporary) row proper above found apart lasts lead few (omega arith) (least_free rows).0,
@@ -116,14 +116,14 @@ names_apart rows id row name rise apart found free =
     (cases_Bool (eqb (number one) id.0)))
     apart
 
-pub renamed_proper : {limit : ℕ} → (tree : TreeState) (id : ChannelId) (row : Row) (name : List ℕ) → IsProper limit tree → row_of tree.channels id ≡ Some row → id.0 ≢ 0 → is_taken tree.channels row.channel.parent id name ≡ false → IsProper limit (with_channel tree id (named name))
-renamed_proper {limit} tree id row name proper found lower free =
+pub renamed_proper : (tree : TreeState) (id : ChannelId) (row : Row) (name : List ℕ) → IsProper tree → row_of tree.channels id ≡ Some row → id.0 ≢ 0 → is_taken tree.channels row.channel.parent id name ≡ false → IsProper (with_channel tree id (named name))
+renamed_proper tree id row name proper found lower free =
     map_proper tree (change_row id (named name))
     (change_keeps id (named name) (λ channel. (refl, refl, refl)) (λ channel root. absurd (lower root)))
     (names_apart tree.channels id row name proper.rise proper.apart found free) proper
 
-pub informed_proper : {limit : ℕ} → (tree : TreeState) (id : ChannelId) (info : ChannelInfo) → IsProper limit tree → IsProper limit (with_channel tree id (informed info))
-informed_proper {limit} tree id info proper =
+pub informed_proper : (tree : TreeState) (id : ChannelId) (info : ChannelInfo) → IsProper tree → IsProper (with_channel tree id (informed info))
+informed_proper tree id info proper =
     let f = change_row id (informed info) in
     let same : (row : Row) → (f row).channel.name ≡ row.channel.name = λ row. cond_both (eqb (number row) id.0) (record row { channel = informed info row.channel }) row (λ r. r.channel.name ≡ row.channel.name) (λ e. refl) (λ e. refl) in
     let keeps = change_keeps id (informed info) (λ channel. (refl, refl, refl)) (λ channel root. refl) in
@@ -139,8 +139,8 @@ informed_proper {limit} tree id info proper =
     proper
 
 -- what a renaming leaves, as the code has it, where no cause stands against it
-pub renaming : {limit : ℕ} → (tree : TreeState) (seen : List Row) (at : ℕ) (id : ChannelId) (row : Row) (name text : List ℕ) → IsProper limit tree → seen ≡ tree.channels → (at < length seen) × ((other : Row) → row_of seen id ≡ Some (get_or seen at other)) → row ≡ get_or tree.channels at row → fault_of_rename tree id name ≡ None → text ≡ name → (set tree.channels at (record row { channel = named text row.channel }) ≡ changed id (named name) tree.channels) × IsProper limit (with_channel tree id (named name))
-renaming {limit} tree seen at id row name text proper same located is allowed given =
+pub renaming : (tree : TreeState) (seen : List Row) (at : ℕ) (id : ChannelId) (row : Row) (name text : List ℕ) → IsProper tree → seen ≡ tree.channels → (at < length seen) × ((other : Row) → row_of seen id ≡ Some (get_or seen at other)) → row ≡ get_or tree.channels at row → fault_of_rename tree id name ≡ None → text ≡ name → (set tree.channels at (record row { channel = named text row.channel }) ≡ changed id (named name) tree.channels) × IsProper (with_channel tree id (named name))
+renaming tree seen at id row name text proper same located is allowed given =
     let rows = tree.channels in
     let (within, finds) = subst (λ (rs : List Row). (at < length rs) × ((other : Row) → row_of rs id ≡ Some (get_or rs at other))) same located in
     let found : row_of rows id ≡ Some row = row_read rows at id row finds is in
@@ -152,8 +152,8 @@ renaming {limit} tree seen at id row name text proper same located is allowed gi
       renamed_proper tree id row name proper found (λ (e : id.0 ≡ 0). both_ways (eqb id.0 0) lower (eq-eqb id.0 0 e)) (sym (ap (λ p. is_taken rows p id name) parent) ∙ free),
     )
 
-pub informing : {limit : ℕ} → (tree : TreeState) (seen : List Row) (at : ℕ) (id : ChannelId) (row : Row) (info : ChannelInfo) → IsProper limit tree → seen ≡ tree.channels → (at < length seen) × ((other : Row) → row_of seen id ≡ Some (get_or seen at other)) → row ≡ get_or tree.channels at row → (fault_of_set_info tree id ≡ None) × (set tree.channels at (record row { channel = informed info row.channel }) ≡ changed id (informed info) tree.channels) × IsProper limit (with_channel tree id (informed info))
-informing {limit} tree seen at id row info proper same located is =
+pub informing : (tree : TreeState) (seen : List Row) (at : ℕ) (id : ChannelId) (row : Row) (info : ChannelInfo) → IsProper tree → seen ≡ tree.channels → (at < length seen) × ((other : Row) → row_of seen id ≡ Some (get_or seen at other)) → row ≡ get_or tree.channels at row → (fault_of_set_info tree id ≡ None) × (set tree.channels at (record row { channel = informed info row.channel }) ≡ changed id (informed info) tree.channels) × IsProper (with_channel tree id (informed info))
+informing tree seen at id row info proper same located is =
     let rows = tree.channels in
     let (within, finds) = subst (λ (rs : List Row). (at < length rs) × ((other : Row) → row_of rs id ≡ Some (get_or rs at other))) same located in
     let found : row_of rows id ≡ Some row = row_read rows at id row finds is in

@@ -233,16 +233,17 @@ links_made rows links a b here there differ new room room-2 are =
           (are.few_each id));
     }
 
-pub relinked : {limit : ℕ} → (tree : TreeState) (links : List Pair) → AreLinks tree.channels links → IsProper limit tree → IsProper limit (record { channels = tree.channels; links = links; greatest = tree.greatest })
+pub relinked : (tree : TreeState) (links : List Pair) → AreLinks tree.channels links → IsProper tree → IsProper (record { channels = tree.channels; links = links; greatest = tree.greatest; limit = tree.limit })
 relinked tree links are proper = record {
   rise = proper.rise;
   root = proper.root;
   lead = proper.lead;
   apart = proper.apart;
   lasting = proper.lasting;
-  seated = proper.seated;
-  seats = proper.seats;
+  places_fit = proper.places_fit;
+  places_apart = proper.places_apart;
   few = proper.few;
   known = proper.known;
   joined = are;
+  limited = proper.limited;
 }

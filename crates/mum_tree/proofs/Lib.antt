@@ -9,14 +9,16 @@ pub mod Edits
 pub mod Find
 pub mod Grown
 pub mod Joined
+pub mod Limited
 pub mod LinkBack
 pub mod Linking
 pub mod LinkSearch
 pub mod Marks
 pub mod Moved
+pub mod Numbered
 pub mod Partners
 pub mod Places
-pub mod Reached
+pub mod Relinked
 pub mod Search
 pub mod SeatBack
 pub mod Shrunk

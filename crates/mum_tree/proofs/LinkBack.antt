@@ -1,5 +1,5 @@
 -- With a link a tree is a tree exactly where nothing stands against it.
-use Rattle.std.proofs.Common.{◌≡◌, ◌≢◌, ℕ, ◌<◌, ◌≤◌, ◌||◌, Bool, true, false, not, cond, eqb, leb, List, length, Option, Some, None, refl, arith, ap, sym, ◌∙◌, subst, ⊎_elim}
+use Rattle.std.proofs.Common.{◌≡◌, ◌≢◌, ◌<◌, ◌≤◌, ◌||◌, Bool, true, false, not, cond, eqb, leb, List, length, Option, Some, None, refl, arith, ap, sym, ◌∙◌, subst, ⊎_elim}
 use Rattle.std.specs.Prelude.{◌↔◌}
 use Rattle.std.specs.List.{count_by, filter}
 use Rattle.std.proofs.lemmas.Bool.{and_from, both_ways, cases_Bool, eq-eqb, or_from, or_parts}
@@ -31,8 +31,8 @@ one_more pairs a b =
     )
 
 -- with a link between two channels that are there a tree is a tree exactly where nothing stands against it
-pub link_both_ways : (limit : ℕ) (tree : TreeState) (a b : ChannelId) → IsProper limit tree → is_there tree.channels a ≡ true → is_there tree.channels b ≡ true → (fault_of_link tree a b ≡ None) ↔ IsProper limit (with_link tree a b)
-link_both_ways limit tree a b proper here there =
+pub link_both_ways : (tree : TreeState) (a b : ChannelId) → IsProper tree → is_there tree.channels a ≡ true → is_there tree.channels b ≡ true → (fault_of_link tree a b ≡ None) ↔ IsProper (with_link tree a b)
+link_both_ways tree a b proper here there =
     let rows = tree.channels in
     let new = with_pair b a (with_pair a b tree.links) in
     let stays = eqb a.0 b.0 || are_linked tree a b in
@@ -41,13 +41,13 @@ link_both_ways limit tree a b proper here there =
     let fault : Bool → Option TreeFault = λ x. cond x None (cond crowd (Some LinkCount) None) in
     let known : fault_of_link tree a b ≡ fault stays = ap (λ (x : Bool). cond (not x) (Some NoChannel) (fault stays)) (and_from (is_there rows a) (is_there rows b) here there) in
     ⊎_elim
-    (λ (on : stays ≡ true). (λ allowed. subst (IsProper limit) (sym (ap left on)) proper, λ after. known ∙ ap fault on))
+    (λ (on : stays ≡ true). (λ allowed. subst IsProper (sym (ap left on)) proper, λ after. known ∙ ap fault on))
     (λ (off : stays ≡ false).
     let (one, two) = or_parts (eqb a.0 b.0) (are_linked tree a b) off in
     let differ : a.0 ≢ b.0 = λ (e : a.0 ≡ b.0). both_ways (eqb a.0 b.0) one (eq-eqb a.0 b.0 e) in (
-      λ allowed. subst (IsProper limit) (sym (ap left off)) (relinked tree new (links_grown tree a b proper allowed differ two) proper),
+      λ allowed. subst IsProper (sym (ap left off)) (relinked tree new (links_grown tree a b proper allowed differ two) proper),
       λ after.
-          let linked : IsProper limit (left false) = subst (IsProper limit) (ap left off) after in
+          let linked : IsProper (left false) = subst IsProper (ap left off) after in
           let (more, more-2) = one_more tree.links a b in
           known ∙ ap fault off
           ∙ ap (λ (x : Bool). cond x (Some LinkCount) None) (or_from _ _ (had_room tree.links new a more (linked.joined.few_each a)) (had_room tree.links new b more-2 (linked.joined.few_each b))),

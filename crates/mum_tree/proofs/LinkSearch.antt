@@ -1,4 +1,4 @@
--- A search by halving in pairs that are in order.
+-- A binary search in pairs that are in order.
 use Rattle.std.proofs.Common.{◌≡◌, ℕ, zero, suc, ◌+◌, ◌<◌, ◌≤◌, ◌||◌, ◌&&◌, Bool, true, false, not, cond, eqb, ltb, List, [], ◌∷◌, length, get_or, take, drop, Result, Ok, Err, inl, inr, refl, sym, ap, subst, ◌∙◌, arith, ⊎_elim}
 use Rattle.std.specs.List.{All, filter, list_any}
 use Rattle.std.specs.List.Sorted.{IsBinarySearchResult, IsNonDecreasingBy, IsPartitionedBy, IsPartitionPoint, IsSearchInRange}
@@ -57,11 +57,11 @@ answers_rise links from to ordered =
     (λ x y above. answer_rises x.0.0 x.1.0 y.0.0 y.1.0 from.0 to.0 above)
 
 -- a search for a pair finds it exactly where it is there
-pub found_by_halving : (links : List Pair) (from to : ChannelId) → Ordered links → (r : Result ℕ ℕ) → IsSearchInRange r (length links) → IsBinarySearchResult (λ pair. pair_cmp pair (from, to)) links r → is_ok r ≡ list_any (is_pair from to) links
-found_by_halving links from to ordered (Ok i) within equal =
+pub found_by_binary_search : (links : List Pair) (from to : ChannelId) → Ordered links → (r : Result ℕ ℕ) → IsSearchInRange r (length links) → IsBinarySearchResult (λ pair. pair_cmp pair (from, to)) links r → is_ok r ≡ list_any (is_pair from to) links
+found_by_binary_search links from to ordered (Ok i) within equal =
     let d : Pair = (from, to) in
     sym (list_any_at (is_pair from to) links i d within (pair_equal (get_or links i d).0.0 (get_or links i d).1.0 from.0 to.0 (equal d)))
-found_by_halving links from to ordered (Err i) within parted = sym (list_any_none (is_pair from to) links other)
+found_by_binary_search links from to ordered (Err i) within parted = sym (list_any_none (is_pair from to) links other)
   where
     other : All (λ pair. is_pair from to pair ≡ false) links
     other j d lt = elim (cases_lt j i) [

@@ -43,7 +43,7 @@ pub room_left : (pairs : List Pair) (of : ChannelId) → leb 64 (length (ends_fr
 room_left pairs of few = omega (arith, leb-false 64 (length (ends_from of pairs)) few, length-filter (starts_at of) pairs, length-map (filter (starts_at of) pairs) (λ pair. pair.1))
 
 -- the links with one more, where no cause stands against it
-pub links_grown : {limit : ℕ} → (tree : TreeState) (a b : ChannelId) → IsProper limit tree → fault_of_link tree a b ≡ None → a.0 ≢ b.0 → are_linked tree a b ≡ false → AreLinks tree.channels (with_pair b a (with_pair a b tree.links))
+pub links_grown : (tree : TreeState) (a b : ChannelId) → IsProper tree → fault_of_link tree a b ≡ None → a.0 ≢ b.0 → are_linked tree a b ≡ false → AreLinks tree.channels (with_pair b a (with_pair a b tree.links))
 links_grown tree a b proper allowed differ unlinked =
     let rows = tree.channels in
     let passed : ((eqb a.0 b.0) || are_linked tree a b) ≡ false = or_from _ _ (ne_eqb a.0 b.0 differ) unlinked in

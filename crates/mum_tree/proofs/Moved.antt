@@ -12,7 +12,7 @@ use Rattle.mum_tree.specs.Rows.{number, row_of, is_there, is_temporary, is_taken
 use Rattle.mum_tree.specs.Proper.{AreApart, IsProper, IsUnderLasting, LeadUp}
 use Rattle.mum_tree.specs.declared.fault.TreeFault.TheVariants.{NoChannel, SameName, UnderItself, Nesting, RootFixed, TemporaryParent}
 use Rattle.std.proofs.lemmas.Bool.{and_parts, not-false}
-use Rattle.mum_tree.specs.Refusals.{fault_of_move, fault_of_seat, name_of}
+use Rattle.mum_tree.specs.Refusals.{fault_of_move, fault_of_placement, name_of}
 use Rattle.mum_tree.specs.State.{TreeState, changed, with_channel}
 use Rattle.mum_tree.proofs.Find.{contains_later}
 use Rattle.mum_tree.proofs.Joined.{links_kept}
@@ -211,8 +211,8 @@ moved_lasting rows id seat lasting lasts =
     (cases_Bool (eqb (number row) id.0)))
     rows lasting)
 
-pub moved_proper : {limit : ℕ} → (tree : TreeState) (id : ChannelId) (seat : Channel) (row : Row) → IsProper limit tree → row_of tree.channels id ≡ Some row → id.0 ≢ 0 → is_there tree.channels seat.parent ≡ true → is_taken tree.channels seat.parent id seat.name ≡ false → is_below tree.channels id seat.parent ≡ false → is_temporary tree.channels seat.parent ≡ false → list_any (nests tree.channels id seat.parent) tree.channels ≡ false → IsProper limit (with_channel tree id (placed seat))
-moved_proper {limit} tree id seat row proper found lower stands free off lasts shallow =
+pub moved_proper : (tree : TreeState) (id : ChannelId) (seat : Channel) (row : Row) → IsProper tree → row_of tree.channels id ≡ Some row → id.0 ≢ 0 → is_there tree.channels seat.parent ≡ true → is_taken tree.channels seat.parent id seat.name ≡ false → is_below tree.channels id seat.parent ≡ false → is_temporary tree.channels seat.parent ≡ false → list_any (nests tree.channels id seat.parent) tree.channels ≡ false → IsProper (with_channel tree id (placed seat))
+moved_proper tree id seat row proper found lower stands free off lasts shallow =
     let rows = tree.channels in
     let f : Row → Row = moved_row id seat in
     let (root, here, is) = proper.root in
@@ -223,11 +223,12 @@ moved_proper {limit} tree id seat row proper found lower stands free off lasts s
       lead = moved_lead rows id seat proper.rise proper.lead lower stands off shallow;
       apart = moved_apart rows id seat row proper.rise proper.apart found free;
       lasting = moved_lasting rows id seat proper.lasting lasts;
-      seated = All-map (λ one. one.place < limit) f rows (All-weaker (λ one. one.place < limit) (λ one. (f one).place < limit) (λ one seated. rw (same_place id seat one) seated) rows proper.seated);
-      seats = AllPairs-map (λ one other. one.place ≢ other.place) (λ one other. one.place ≢ other.place) f rows (λ i j d below within differ same. differ (sym (same_place id seat (get_or rows i d)) ∙ same ∙ same_place id seat (get_or rows j d))) proper.seats;
+      places_fit = All-map (λ one. one.place < tree.limit) f rows (All-weaker (λ one. one.place < tree.limit) (λ one. (f one).place < tree.limit) (λ one places_fit. rw (same_place id seat one) places_fit) rows proper.places_fit);
+      places_apart = AllPairs-map (λ one other. one.place ≢ other.place) (λ one other. one.place ≢ other.place) f rows (λ i j d below within differ same. differ (sym (same_place id seat (get_or rows i d)) ∙ same ∙ same_place id seat (get_or rows j d))) proper.places_apart;
       few = rw (length-map rows f) proper.few;
       known = All-map (λ one. number one ≤ tree.greatest) f rows (All-weaker (λ one. number one ≤ tree.greatest) (λ one. number (f one) ≤ tree.greatest) (λ one known. rw (same_number id seat one) known) rows proper.known);
       joined = links_kept rows (all_moved id seat rows) tree.links (λ x there. subst (λ (o : Option Row). is_some o ≡ true) (sym (row_of-map (moved_row id seat) (same_number id seat) rows x)) (some_to (moved_row id seat) (row_of rows x) there)) proper.joined;
+      limited = proper.limited;
     }
 
 -- two changes that leave the same of the channel leave the same
@@ -238,8 +239,8 @@ same_change rows at id row one other rise within found is same =
     ∙ set_row rows at id row other rise within found is
 
 -- what another name or parent leaves, where nothing is said against them
-pub reseated_proper : {limit : ℕ} → (tree : TreeState) (id : ChannelId) (seat : Channel) (row : Row) → IsProper limit tree → row_of tree.channels id ≡ Some row → is_there tree.channels seat.parent ≡ true → fault_of_seat tree id seat.name seat.parent ≡ None → IsProper limit (with_channel tree id (placed seat))
-reseated_proper {limit} tree id seat row proper found stands allowed =
+pub reseated_proper : (tree : TreeState) (id : ChannelId) (seat : Channel) (row : Row) → IsProper tree → row_of tree.channels id ≡ Some row → is_there tree.channels seat.parent ≡ true → fault_of_placement tree id seat.name seat.parent ≡ None → IsProper (with_channel tree id (placed seat))
+reseated_proper tree id seat row proper found stands allowed =
     let rows = tree.channels in
     let (lower, rest) = none_stands (eqb id.0 0) RootFixed _ allowed in
     let (free, rest-2) = none_stands (is_taken rows seat.parent id seat.name) SameName _ rest in
@@ -252,8 +253,8 @@ abbrev pub under_parent : ChannelId → Channel → Channel
 under_parent parent channel = record channel { parent = parent }
 
 -- what a move leaves, as the code has it, where no cause stands against it
-pub moving : {limit : ℕ} → (tree : TreeState) (seen : List Row) (at : ℕ) (id parent : ChannelId) (row : Row) → IsProper limit tree → seen ≡ tree.channels → (at < length seen) × ((other : Row) → row_of seen id ≡ Some (get_or seen at other)) → row ≡ get_or tree.channels at row → fault_of_move tree id parent ≡ None → (set tree.channels at (record row { channel = under_parent parent row.channel }) ≡ changed id (under_parent parent) tree.channels) × IsProper limit (with_channel tree id (under_parent parent))
-moving {limit} tree seen at id parent row proper same located is allowed =
+pub moving : (tree : TreeState) (seen : List Row) (at : ℕ) (id parent : ChannelId) (row : Row) → IsProper tree → seen ≡ tree.channels → (at < length seen) × ((other : Row) → row_of seen id ≡ Some (get_or seen at other)) → row ≡ get_or tree.channels at row → fault_of_move tree id parent ≡ None → (set tree.channels at (record row { channel = under_parent parent row.channel }) ≡ changed id (under_parent parent) tree.channels) × IsProper (with_channel tree id (under_parent parent))
+moving tree seen at id parent row proper same located is allowed =
     let rows = tree.channels in
     let seat = under_parent parent row.channel in
     let (within, finds) = subst (λ (rs : List Row). (at < length rs) × ((other : Row) → row_of rs id ≡ Some (get_or rs at other))) same located in
@@ -261,7 +262,7 @@ moving {limit} tree seen at id parent row proper same located is allowed =
     let name : name_of tree id ≡ row.channel.name = ap (λ (o : Option Row). option_map_or (λ r. r.channel.name) o []) found in
     let (there, rest) = none_stands (not (is_there rows id && is_there rows parent)) NoChannel _ allowed in
     let stands = (and_parts (is_there rows id) (is_there rows parent) (not-false (is_there rows id && is_there rows parent) there)).1 in
-    let done = reseated_proper tree id seat row proper found stands (ap (λ n. fault_of_seat tree id n parent) (sym name) ∙ rest) in (
+    let done = reseated_proper tree id seat row proper found stands (ap (λ n. fault_of_placement tree id n parent) (sym name) ∙ rest) in (
       set_row rows at id row (under_parent parent) proper.rise within found is,
-      subst (λ (rs : List Row). IsProper limit (record tree { channels = rs })) (same_change rows at id row (placed seat) (under_parent parent) proper.rise within found is refl) done,
+      subst (λ (rs : List Row). IsProper (record tree { channels = rs })) (same_change rows at id row (placed seat) (under_parent parent) proper.rise within found is refl) done,
     )

@@ -42,11 +42,11 @@ pair_is x y pair on =
     let (starts, ends) = and_parts (eqb pair.0.0 x.0) (eqb pair.1.0 y.0) on in
     ap (λ (a : ChannelId). (a, pair.1)) (same_number pair.0 x starts) ∙ ap (λ (b : ChannelId). (x, b)) (same_number pair.1 y ends)
 
-and_false : (b : Bool) → (b && false) ≡ false
+pub and_false : (b : Bool) → (b && false) ≡ false
 and_false true = refl
 and_false false = refl
 
-and_true : (b : Bool) → (b && true) ≡ b
+pub and_true : (b : Bool) → (b && true) ≡ b
 and_true true = refl
 and_true false = refl
 
@@ -111,7 +111,7 @@ there_test o y false n held =
     (λ (off : eqb o y ≡ false). sym (ap (λ (b : Bool). b && n) off))
     (cases_Bool (eqb o y))
 
-join_own : (links : List Pair) (id o y : ChannelId) → linked_in (pairs_with id o links) id y ≡ (linked_in links id y || (eqb o.0 y.0 && not (eqb y.0 id.0)))
+pub join_own : (links : List Pair) (id o y : ChannelId) → linked_in (pairs_with id o links) id y ≡ (linked_in links id y || (eqb o.0 y.0 && not (eqb y.0 id.0)))
 join_own links id o y =
     let l = linked_in links id y in
     let more = with_pair o id (with_pair id o links) in
@@ -149,7 +149,7 @@ join_all id y (o ∷ adds) links =
 part_test : (i o y : ℕ) → ((eqb i i && eqb y o) || (eqb i o && eqb y i)) ≡ eqb o y
 part_test i o y = grind (arith, nat_tests)
 
-part_own : (links : List Pair) (id o y : ChannelId) → linked_in (pairs_without id o links) id y ≡ (linked_in links id y && not (eqb o.0 y.0))
+pub part_own : (links : List Pair) (id o y : ChannelId) → linked_in (pairs_without id o links) id y ≡ (linked_in links id y && not (eqb o.0 y.0))
 part_own links id o y =
     any_filter id y (λ pair. not (is_pair id o pair || is_pair o id pair)) links
     ∙ ap (λ (t : Bool). linked_in links id y && not t) (part_test id.0 o.0 y.0)
@@ -183,13 +183,13 @@ other_test i o x y false one two = grind (arith, nat_tests)
 rest_test : (i o x y : ℕ) → eqb x i ≡ false → eqb y i ≡ false → ((eqb x i && eqb y o) || (eqb x o && eqb y i)) ≡ false
 rest_test i o x y one two = grind (arith, nat_tests)
 
-join_other : (links : List Pair) (id o x y : ChannelId) → eqb x.0 id.0 ≡ false → eqb y.0 id.0 ≡ false → linked_in (pairs_with id o links) x y ≡ linked_in links x y
+pub join_other : (links : List Pair) (id o x y : ChannelId) → eqb x.0 id.0 ≡ false → eqb y.0 id.0 ≡ false → linked_in (pairs_with id o links) x y ≡ linked_in links x y
 join_other links id o x y one two =
     cond_both ((eqb id.0 o.0) || linked_in links id o) links (with_pair o id (with_pair id o links)) (λ zs. linked_in zs x y ≡ linked_in links x y)
     (λ e. refl)
     (λ e. any_with x y o id (with_pair id o links) ∙ ap (λ (t : Bool). is_pair x y (o, id) || t) (any_with x y id o links) ∙ other_test id.0 o.0 x.0 y.0 (linked_in links x y) one two)
 
-part_other : (links : List Pair) (id o x y : ChannelId) → eqb x.0 id.0 ≡ false → eqb y.0 id.0 ≡ false → linked_in (pairs_without id o links) x y ≡ linked_in links x y
+pub part_other : (links : List Pair) (id o x y : ChannelId) → eqb x.0 id.0 ≡ false → eqb y.0 id.0 ≡ false → linked_in (pairs_without id o links) x y ≡ linked_in links x y
 part_other links id o x y one two =
     any_filter x y (λ pair. not (is_pair id o pair || is_pair o id pair)) links
     ∙ ap (λ (t : Bool). linked_in links x y && not t) (rest_test id.0 o.0 x.0 y.0 one two)
@@ -218,7 +218,7 @@ linked_back links x y both on =
 all_parts : (rows : List Row) (id : ChannelId) (ids : List ChannelId) → list_all (is_there rows) (id ∷ ids) ≡ true → (is_there rows id ≡ true) × (list_all (is_there rows) ids ≡ true)
 all_parts rows id ids all = and_parts (is_there rows id) (list_all (is_there rows) ids) all
 
-pairs_joined : (rows : List Row) (links : List Pair) (id o : ChannelId) → is_there rows id ≡ true → is_there rows o ≡ true → ArePairs rows links → ArePairs rows (pairs_with id o links)
+pub pairs_joined : (rows : List Row) (links : List Pair) (id o : ChannelId) → is_there rows id ≡ true → is_there rows o ≡ true → ArePairs rows links → ArePairs rows (pairs_with id o links)
 pairs_joined rows links id o here there are =
     cond_both ((eqb id.0 o.0) || linked_in links id o) links (with_pair o id (with_pair id o links)) (ArePairs rows)
     (λ e. are)
@@ -500,8 +500,8 @@ fits_back tree id change rise are here adds fit =
     (cases_Bool (fresh (get_or rows k d)))))
 
 -- after a change of its links a channel has the partners that the definition says, and links are links exactly where none has too many
-pub links_both_ways : (limit : ℕ) (tree : TreeState) (id : ChannelId) (change : Change) → IsProper limit tree → is_there tree.channels id ≡ true → list_all (is_there tree.channels) change.links_add ≡ true → (overlinks tree id change ≡ false) ↔ AreLinks tree.channels (links_after tree id change)
-links_both_ways limit tree id change proper here adds = (
+pub links_both_ways : (tree : TreeState) (id : ChannelId) (change : Change) → IsProper tree → is_there tree.channels id ≡ true → list_all (is_there tree.channels) change.links_add ≡ true → (overlinks tree id change ≡ false) ↔ AreLinks tree.channels (links_after tree id change)
+links_both_ways tree id change proper here adds = (
   links_fit tree id change proper.rise proper.joined here adds,
   fits_back tree id change proper.rise proper.joined here adds,
 )

@@ -30,10 +30,10 @@ none_taken zero place e h = e
 none_taken (suc n) zero e h = e
 none_taken (suc n) (suc place) e h = none_taken n place e refl
 
-pub free_more : (rows : List Row) (taken : List Bool) (i : ℕ) (row : Row) → i < length rows → row ≡ get_or rows i row → row.place < length taken → ((place : ℕ) → place < 1024 → get_or taken place false ≡ false → (k : ℕ) (d : Row) → k < i → (get_or rows k d).place ≢ place) → (place : ℕ) → place < 1024 → get_or (set taken row.place true) place false ≡ false → (k : ℕ) (d : Row) → k < i + 1 → (get_or rows k d).place ≢ place
-free_more rows taken i row within read seated free place inside unset k d below same =
+pub free_more : (rows : List Row) (taken : List Bool) (i : ℕ) (row : Row) → i < length rows → row ≡ get_or rows i row → row.place < length taken → ((place : ℕ) → place < 2048 → get_or taken place false ≡ false → (k : ℕ) (d : Row) → k < i → (get_or rows k d).place ≢ place) → (place : ℕ) → place < 2048 → get_or (set taken row.place true) place false ≡ false → (k : ℕ) (d : Row) → k < i + 1 → (get_or rows k d).place ≢ place
+free_more rows taken i row within read places_fit free place inside unset k d below same =
     ⊎_elim
-    (λ (e : place ≡ row.place). both_ways (get_or (set taken row.place true) place false) unset (ap (λ p. get_or (set taken row.place true) p false) e ∙ get_or-set_same taken row.place true false seated))
+    (λ (e : place ≡ row.place). both_ways (get_or (set taken row.place true) place false) unset (ap (λ p. get_or (set taken row.place true) p false) e ∙ get_or-set_same taken row.place true false places_fit))
     (λ (ne : place ≡ row.place → ⊥). ⊎_elim
     (λ (here : k ≡ i). ne (sym same ∙ ap (λ j. (get_or rows j d).place) here ∙ ap (λ (r : Row). r.place) (get_or_default rows i d row within) ∙ sym (ap (λ (r : Row). r.place) read)))
     (λ (off : k ≡ i → ⊥). free place inside (sym (get_or-set_other taken row.place place true false ne) ∙ unset) k d (omega arith) same)
@@ -49,15 +49,15 @@ taken_more rows taken i row within read has place held free =
 
 -- what is written at the places of rows, one row more
 pub seat_more : {B : Type 0} (P : ℕ → Row → B → Type 0) (none : B) (rows : List Row) (marks : List B) (i : ℕ) (row : Row) (value : B) → i < length rows → row ≡ get_or rows i row → row.place < length marks → AllPairs (λ one other. one.place ≢ other.place) rows → ((k : ℕ) (d : Row) → k < i → P k (get_or rows k d) (get_or marks (get_or rows k d).place none)) → P i row value → (k : ℕ) (d : Row) → k < i + 1 → P k (get_or rows k d) (get_or (set marks row.place value) (get_or rows k d).place none)
-seat_more {B} P none rows marks i row value within read seated seats done now k d inside =
+seat_more {B} P none rows marks i row value within read places_fit places_apart done now k d inside =
     ⊎_elim
     (λ (here : k ≡ i).
     let same : row ≡ get_or rows k d = read ∙ get_or_default rows i row d within ∙ ap (λ j. get_or rows j d) (sym here) in
-    let is : value ≡ get_or (set marks row.place value) (get_or rows k d).place none = sym (get_or-set_same marks row.place value none seated) ∙ ap (λ (r : Row). get_or (set marks row.place value) r.place none) same in
+    let is : value ≡ get_or (set marks row.place value) (get_or rows k d).place none = sym (get_or-set_same marks row.place value none places_fit) ∙ ap (λ (r : Row). get_or (set marks row.place value) r.place none) same in
     subst (λ (b : B). P k (get_or rows k d) b) is (subst (λ (r : Row). P k r value) same (subst (λ j. P j row value) (sym here) now)))
     (λ (off : k ≡ i → ⊥).
     let before : k < i = omega arith in
-    let differs : (get_or rows k d).place ≢ row.place = λ e. seats k i d before within (e ∙ ap (λ (r : Row). r.place) (read ∙ get_or_default rows i row d within)) in
+    let differs : (get_or rows k d).place ≢ row.place = λ e. places_apart k i d before within (e ∙ ap (λ (r : Row). r.place) (read ∙ get_or_default rows i row d within)) in
     subst (λ (b : B). P k (get_or rows k d) b) (sym (get_or-set_other marks row.place (get_or rows k d).place value none differs)) (done k d before))
     (cases_eq k i)
 
@@ -179,9 +179,9 @@ pub marks_had : (rows : List Row) (marks : List Bool) → All (λ row. row.place
     → ((place : ℕ) → place < length marks → get_or marks place false ≡ false → IsFree rows place)
     → ((place : ℕ) → get_or marks place false ≡ true → IsFree rows place → ⊥)
     → (place : ℕ) → get_or marks place false ≡ has_place rows place
-marks_had rows marks seated free taken place = ⊎_elim
+marks_had rows marks places_fit free taken place = ⊎_elim
     (λ (within : place < length marks). by_mark (get_or marks place false) refl within)
-    (λ (past : length marks ≤ place). get_or_past marks place false past ∙ sym (free_unhad rows place (λ k d at same. let lt : (get_or rows k d).place < length marks = seated k d at in omega arith)))
+    (λ (past : length marks ≤ place). get_or_past marks place false past ∙ sym (free_unhad rows place (λ k d at same. let lt : (get_or rows k d).place < length marks = places_fit k d at in omega arith)))
     (cases_lt place (length marks))
   where
     by_mark : (mark : Bool) → get_or marks place false ≡ mark → place < length marks → mark ≡ has_place rows place

@@ -2,10 +2,11 @@
 use Rattle.std.proofs.Common.{ℕ, zero, suc, ◌+◌, ◌/◌, ◌%◌, true, false, List, [], ◌∷◌, ◌++◌, fold, map, Some, None}
 use Rattle.mum_base.specs.declared.number.ChannelId.{ChannelId}
 use Rattle.mum_tree.specs.declared.channel.ChannelInfo.{ChannelInfo}
+use Rattle.mum_tree.specs.declared.channel.Row.{Row}
 use Rattle.mum_tree.specs.Change.{Change, with_change}
 use Rattle.mum_tree.specs.Places.{first_place}
 use Rattle.mum_tree.specs.Rows.{upward}
-use Rattle.mum_tree.specs.State.{TreeState, root_alone, with_info, with_link, with_name, with_new, with_parent, without_link, without_subtree}
+use Rattle.mum_tree.specs.State.{TreeState, new_row, root_alone, with_info, with_link, with_name, with_new, with_parent, without_link, without_subtree}
 
 abbrev pub channel : ℕ → ChannelId
 channel number = record { 0 = number }
@@ -50,6 +51,9 @@ link one other made = with_link made (channel one) (channel other)
 abbrev pub unlink : ℕ → ℕ → Step
 unlink one other made = without_link made (channel one) (channel other)
 
+abbrev pub raise : ℕ → Step
+raise limit made = record made { limit = limit }
+
 abbrev pub edit : ℕ → Change → Step
 edit id change made = with_change made (channel id) change
 
@@ -68,6 +72,11 @@ nested (suc n) = nested n ++ make (suc n) n (two_letters n) ∷ []
 abbrev pub beside : ℕ → ℕ → List Step
 beside first zero = []
 beside first (suc n) = beside first n ++ make (first + n) 0 (two_letters (first + n)) ∷ []
+
+-- rows at the places below n
+abbrev pub at_places : ℕ → List Row
+at_places zero = []
+at_places (suc n) = new_row n (channel n) (channel 0) [] false ∷ at_places n
 
 -- links of a channel to n channels from this number on
 abbrev pub linked_to : ℕ → ℕ → ℕ → List Step

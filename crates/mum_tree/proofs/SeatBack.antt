@@ -12,7 +12,7 @@ use Rattle.mum_tree.specs.declared.channel.Channel.{Channel}
 use Rattle.mum_tree.specs.declared.channel.Row.{Row}
 use Rattle.mum_tree.specs.declared.fault.TreeFault.TheVariants.{SameName, UnderItself, Nesting, RootFixed, TemporaryParent}
 use Rattle.mum_tree.specs.Proper.{AreApart, IsProper, IsUnderLasting, LeadUp}
-use Rattle.mum_tree.specs.Refusals.{fault_of_seat}
+use Rattle.mum_tree.specs.Refusals.{fault_of_placement}
 use Rattle.mum_tree.specs.Rows.{number, row_of, is_there, is_temporary, is_below, is_taken, has_name_beside, nests, path, upward, Rise}
 use Rattle.mum_tree.specs.State.{TreeState, with_channel}
 use Rattle.mum_tree.proofs.Back.{five}
@@ -25,22 +25,22 @@ use Rattle.mum_tree.proofs.Shrunk.{is_top, list_any-reverse, upward_enough}
 use Rattle.mum_tree.proofs.Upward.{the_root, lead_parent, none_contained, option_cases, upward_missing, upward_root, upward_under, upward_zero}
 
 -- the row with the seat
-abbrev seated : Channel → Row → Row
-seated seat row = record row { channel = placed seat row.channel }
+abbrev placed_row : Channel → Row → Row
+placed_row seat row = record row { channel = placed seat row.channel }
 
 -- the row of the channel that moves
-found_seated : (rows : List Row) (id : ChannelId) (seat : Channel) (row : Row) → row_of rows id ≡ Some row → row_of (all_moved id seat rows) id ≡ Some (seated seat row)
+found_seated : (rows : List Row) (id : ChannelId) (seat : Channel) (row : Row) → row_of rows id ≡ Some row → row_of (all_moved id seat rows) id ≡ Some (placed_row seat row)
 found_seated rows id seat row found = found_moved id seat rows id row found ∙ ap (λ (r : Row). Some r) (moved id seat row (eq-eqb (number row) id.0 (number_found rows id row found)))
 
 -- the root has the name and the parent that it had
-pub root_fixed : {limit : ℕ} → (tree : TreeState) (id : ChannelId) (seat : Channel) (row : Row) → IsProper limit tree → row_of tree.channels id ≡ Some row → IsProper limit (with_channel tree id (placed seat)) → id.0 ≡ 0 → (seat.name ≡ row.channel.name) × (seat.parent ≡ row.channel.parent)
+pub root_fixed : (tree : TreeState) (id : ChannelId) (seat : Channel) (row : Row) → IsProper tree → row_of tree.channels id ≡ Some row → IsProper (with_channel tree id (placed seat)) → id.0 ≡ 0 → (seat.name ≡ row.channel.name) × (seat.parent ≡ row.channel.parent)
 root_fixed tree id seat row proper found after root =
     let rows = tree.channels in
     let same : id ≡ the_root = ap (λ n. record { 0 = n }) root in
     let (before, was, (place, parent, name, kind)) = proper.root in
     let (now, is, (place-2, parent-2, name-2, kind-2)) = after.root in
     let one : before ≡ row = same_Some before row (sym was ∙ ap (row_of rows) (sym same) ∙ found) in
-    let two : now ≡ seated seat row = same_Some now (seated seat row) (sym is ∙ ap (row_of (all_moved id seat rows)) (sym same) ∙ found_seated rows id seat row found) in
+    let two : now ≡ placed_row seat row = same_Some now (placed_row seat row) (sym is ∙ ap (row_of (all_moved id seat rows)) (sym same) ∙ found_seated rows id seat row found) in
     let above : seat.parent.0 ≡ row.channel.parent.0 = ap (λ (r : Row). r.channel.parent.0) (sym two) ∙ parent-2 ∙ sym parent ∙ ap (λ (r : Row). r.channel.parent.0) one in (
       ap (λ (r : Row). r.channel.name) (sym two) ∙ name-2 ∙ sym name ∙ ap (λ (r : Row). r.channel.name) one,
       ap (λ n. record { 0 = n }) above,
@@ -62,15 +62,15 @@ name_free rows id seat row found lower apart =
     let under : one.channel.parent.0 ≡ seat.parent.0 = eqb-true one.channel.parent.0 seat.parent.0 under-2 in
     let name : one.channel.name ≡ seat.name = (bytes_eq-Decides one.channel.name seat.name).0 same in
     let lower-2 : number one ≢ 0 = λ (e : number one ≡ 0). both_ways (not (eqb (number one) 0)) (ap not (eq-eqb (number one) 0 e)) off-2 in
-    let lower-3 : number (seated seat row) ≢ 0 = λ (e : number row ≡ 0). lower (sym mine ∙ e) in
+    let lower-3 : number (placed_row seat row) ≢ 0 = λ (e : number row ≡ 0). lower (sym mine ∙ e) in
     let other : eqb (number one) id.0 ≡ false = not-true (eqb (number one) id.0) off in
     let still : get_or new k d ≡ one = get_or-map f rows k d d within ∙ unmoved id seat one other in
-    let there : get_or new at d ≡ seated seat row = get_or-map f rows at d d inside ∙ ap f (reads d) ∙ moved id seat row (eq-eqb (number row) id.0 mine) in
+    let there : get_or new at d ≡ placed_row seat row = get_or-map f rows at d d inside ∙ ap f (reads d) ∙ moved id seat row (eq-eqb (number row) id.0 mine) in
     let apart-at : k ≢ at = λ (e : k ≡ at). both_ways (eqb (number one) id.0) other (eq-eqb (number one) id.0 (ap (λ n. number (get_or rows n d)) e ∙ ap number (reads d) ∙ mine)) in
     ⊎_elim
     (λ (l : k < at).
     let pair : AreApart (get_or new k d) (get_or new at d) = apart k at d l (omega (arith, length-map rows f)) in
-    subst (λ (r : Row). AreApart r (seated seat row)) still (subst (AreApart (get_or new k d)) there pair) lower-2 lower-3 under name)
+    subst (λ (r : Row). AreApart r (placed_row seat row)) still (subst (AreApart (get_or new k d)) there pair) lower-2 lower-3 under name)
     (λ (g : at ≤ k).
     let pair : AreApart (get_or new at d) (get_or new k d) = apart at k d (omega arith) (omega (arith, length-map rows f)) in
     subst (λ (r : Row). AreApart r one) there (subst (AreApart (get_or new at d)) still pair) lower-3 lower-2 (sym under) (sym name))
@@ -114,8 +114,8 @@ no_way rows id seat row found lower round (suc n) (suc steps) x on lead =
     (λ (here : eqb x.0 id.0 ≡ true).
     let same : x ≡ id = ap (λ m. record { 0 = m }) (eqb-true x.0 id.0 here) in
     let under : eqb x.0 0 ≡ false = ne_eqb x.0 0 (λ (e : x.0 ≡ 0). lower (sym (eqb-true x.0 id.0 here) ∙ e)) in
-    let again : row_of new x ≡ Some (seated seat row) = ap (row_of new) same ∙ found_seated rows id seat row found in
-    no_way rows id seat row found lower round n 33 seat.parent round (lead_parent new n x (seated seat row) again under lead))
+    let again : row_of new x ≡ Some (placed_row seat row) = ap (row_of new) same ∙ found_seated rows id seat row found in
+    no_way rows id seat row found lower round n 33 seat.parent round (lead_parent new n x (placed_row seat row) again under lead))
     (λ (other : eqb x.0 id.0 ≡ false).
     let under = none_above rows id x steps one there other on in
     no_way rows id seat row found lower round n steps one.channel.parent (above_has rows id x steps one there other under on)
@@ -135,8 +135,8 @@ way_fits rows id seat row found lower above off (suc m) (suc steps) x fits short
     (λ (here : eqb x.0 id.0 ≡ true).
     let same : x ≡ id = ap (λ n. record { 0 = n }) (eqb-true x.0 id.0 here) in
     let under : eqb x.0 0 ≡ false = ne_eqb x.0 0 (λ (e : x.0 ≡ 0). lower (sym (eqb-true x.0 id.0 here) ∙ e)) in
-    let again : row_of new x ≡ Some (seated seat row) = ap (row_of new) same ∙ found_seated rows id seat row found in
-    let up = lead_parent new m x (seated seat row) again under lead in
+    let again : row_of new x ≡ Some (placed_row seat row) = ap (row_of new) same ∙ found_seated rows id seat row found in
+    let up = lead_parent new m x (placed_row seat row) again under lead in
     let whole : upward rows 33 x ≡ upward rows (suc steps) x = upward_enough rows (suc steps) (32 - steps) 33 x (omega arith) was in
     let whole-2 : upward new 33 seat.parent ≡ upward new m seat.parent = upward_enough new m (33 - m) 33 seat.parent (omega arith) up in
     let long : length (upward rows (suc steps) x) ≡ length (upward rows 33 id) = ap length (sym whole) ∙ ap (λ y. length (upward rows 33 y)) same in
@@ -169,16 +169,16 @@ shallow rows id seat row rise lead found lower stands off after =
     absurd (omega (arith, length-reverse (upward rows 33 id), length-reverse (upward rows 33 seat.parent), length-reverse (upward rows 33 x)))))
 
 -- nothing stands against the name and the parent of a channel in a tree
-pub seat_allowed : {limit : ℕ} → (tree : TreeState) (id : ChannelId) (seat : Channel) (row : Row) → IsProper limit tree → row_of tree.channels id ≡ Some row → is_there tree.channels seat.parent ≡ true → id.0 ≢ 0 → IsProper limit (with_channel tree id (placed seat)) → fault_of_seat tree id seat.name seat.parent ≡ None
+pub seat_allowed : (tree : TreeState) (id : ChannelId) (seat : Channel) (row : Row) → IsProper tree → row_of tree.channels id ≡ Some row → is_there tree.channels seat.parent ≡ true → id.0 ≢ 0 → IsProper (with_channel tree id (placed seat)) → fault_of_placement tree id seat.name seat.parent ≡ None
 seat_allowed tree id seat row proper found stands lower after =
     let rows = tree.channels in
     let new = all_moved id seat rows in
     let there : is_there new id ≡ true = ap is_some (found_seated rows id seat row found) in
     let off : list_any (is_top id) (upward rows 33 seat.parent) ≡ false = false_from_ne_true _ (λ round.
     no_way rows id seat row found lower round 32 33 seat.parent round
-    (lead_parent new 32 id (seated seat row) (found_seated rows id seat row found) (ne_eqb id.0 0 lower) (after.lead id there))) in
+    (lead_parent new 32 id (placed_row seat row) (found_seated rows id seat row found) (ne_eqb id.0 0 lower) (after.lead id there))) in
     let (at, inside, reads) = row_stands rows id row found in
-    let mine : get_or new at row ≡ seated seat row = get_or-map (moved_row id seat) rows at row row inside ∙ ap (moved_row id seat) (reads row) ∙ moved id seat row (eq-eqb (number row) id.0 (number_found rows id row found)) in
+    let mine : get_or new at row ≡ placed_row seat row = get_or-map (moved_row id seat) rows at row row inside ∙ ap (moved_row id seat) (reads row) ∙ moved id seat row (eq-eqb (number row) id.0 (number_found rows id row found)) in
     let lasts : is_temporary new seat.parent ≡ false =
     subst (IsUnderLasting new) mine (after.lasting at row (omega (arith, length-map rows (moved_row id seat)))) (λ (e : number row ≡ 0). lower (sym (number_found rows id row found) ∙ e)) in
     five (eqb id.0 0) (is_taken rows seat.parent id seat.name) (is_below rows id seat.parent) (is_temporary rows seat.parent) (list_any (nests rows id seat.parent) rows) RootFixed SameName UnderItself TemporaryParent Nesting

@@ -189,8 +189,8 @@ shrunk_links rows kept links are =
     (λ pair passes is. let (here, there) = and_parts (is_there kept pair.0) (is_there kept pair.1) passes in (here, there, is.2))
     are
 
-pub shrunk_proper : {limit : ℕ} → (tree : TreeState) (top : ChannelId) (links : List Pair) → IsProper limit tree → top.0 ≢ 0 → links ≡ links_left (filter (stays tree.channels top) tree.channels) tree.links → IsProper limit (record { channels = filter (stays tree.channels top) tree.channels; links = links; greatest = tree.greatest })
-shrunk_proper {limit} tree top links proper lower left =
+pub shrunk_proper : (tree : TreeState) (top : ChannelId) (links : List Pair) → IsProper tree → top.0 ≢ 0 → links ≡ links_left (filter (stays tree.channels top) tree.channels) tree.links → IsProper (record { channels = filter (stays tree.channels top) tree.channels; links = links; greatest = tree.greatest; limit = tree.limit })
+shrunk_proper tree top links proper lower left =
     let rows = tree.channels in
     let q = stays rows top in
     let (root, found, is) = proper.root in
@@ -202,11 +202,12 @@ shrunk_proper {limit} tree top links proper lower left =
       lead = shrunk_lead rows top proper.rise proper.lead;
       apart = AllPairs-filter AreApart q rows proper.apart;
       lasting = shrunk_lasting rows top proper.rise proper.lead proper.lasting;
-      seated = All-filter q (λ one. one.place < limit) rows proper.seated;
-      seats = AllPairs-filter (λ one other. one.place ≢ other.place) q rows proper.seats;
+      places_fit = All-filter q (λ one. one.place < tree.limit) rows proper.places_fit;
+      places_apart = AllPairs-filter (λ one other. one.place ≢ other.place) q rows proper.places_apart;
       few = omega (arith, length-filter q rows, count_by-le-length q rows);
       known = All-filter q (λ one. number one ≤ tree.greatest) rows proper.known;
       joined = subst (λ (ps : List Pair). AreLinks (filter q rows) ps) (sym left) (shrunk_links rows (filter q rows) tree.links proper.joined);
+      limited = proper.limited;
     }
 
 pub remove_allowed : (tree : TreeState) (id : ChannelId) → is_there tree.channels id ≡ true → id.0 ≢ 0 → fault_of_remove tree id ≡ None

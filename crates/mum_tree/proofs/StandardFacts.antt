@@ -3,15 +3,15 @@ use Rattle.std.proofs.Common.{◌≡◌, ℕ, true, false, List, [], ◌∷◌, 
 use Rattle.std.specs.Option.{option_map}
 use Rattle.mum_tree.specs.declared.channel.Channel.{Channel}
 use Rattle.mum_tree.specs.declared.channel.ChannelInfo.{ChannelInfo}
-use Rattle.mum_tree.specs.declared.channel.TheConstants.{CHANNEL_LIMIT}
 use Rattle.mum_tree.specs.declared.fault.TreeFault.{TreeFault}
 use Rattle.mum_tree.specs.declared.fault.TreeFault.TheVariants.{Count, LinkCount, Nesting, NoChannel, RootFixed, SameName, TemporaryParent, UnderItself}
 use Rattle.mum_tree.specs.Change.{Change, fault_of_edit}
-use Rattle.mum_tree.specs.Refusals.{fault_of_add, fault_of_link, fault_of_move, fault_of_remove, fault_of_rename, fault_of_unlink}
+use Rattle.mum_tree.specs.Places.{first_place}
+use Rattle.mum_tree.specs.Refusals.{fault_of_add, fault_of_link, fault_of_move, fault_of_remove, fault_of_rename, fault_of_unlink, is_full}
 use Rattle.mum_tree.specs.Rows.{is_below, path, row_of, upward}
 use Rattle.mum_tree.specs.State.{below, next_number, partners, plain_info}
 use Rattle.mum_tree.specs.Walks.{is_reached, linked}
-use Rattle.mum_tree.proofs.Scenes.{Step, beside, channel, describe, edit, link, linked_to, make, make_temporary, move, nested, number, remove, rename, to_links, to_name, to_parent, to_seat, tree, unchanged, unlink}
+use Rattle.mum_tree.proofs.Scenes.{Step, at_places, beside, channel, describe, edit, link, linked_to, make, make_temporary, move, nested, number, raise, remove, rename, to_links, to_name, to_parent, to_seat, tree, unchanged, unlink}
 
 abbrev a : List ℕ
 a = codes "A"
@@ -93,7 +93,7 @@ numbers_and_places = search
 -- ---- why a change is refused: the first cause, or none
 
 abbrev making : List Step → ℕ → ℕ → List ℕ → Option TreeFault
-making steps id parent name = fault_of_add CHANNEL_LIMIT (tree steps) (channel id) (channel parent) name
+making steps id parent name = fault_of_add (tree steps) (channel id) (channel parent) name
 
 abbrev renaming : List Step → ℕ → List ℕ → Option TreeFault
 renaming steps id name = fault_of_rename (tree steps) (channel id) name
@@ -139,7 +139,7 @@ pub refusals : Refusals
 unfolding tree upward
 refusals = search
 
--- ---- the limits: 32 under the root, 1,024 channels, 64 links
+-- ---- the limits: 32 under the root, 1,024 channels until the limit is raised, 64 links
 
 -- channel 1 is linked to 64 of the others
 abbrev a_star : List Step
@@ -165,6 +165,29 @@ limits = record {
   room_again_after_an_unlinking = refl;
 }
 
+-- ---- the limit of channels
+
+pub a_full_tree : is_full (tree (beside 1 1023)) ≡ true
+unfolding tree upward
+a_full_tree = refl
+
+pub the_1025th_once_the_limit_is_raised : making (beside 1 1023 ++ raise 2048 ∷ []) 1024 0 a ≡ None
+unfolding tree upward
+the_1025th_once_the_limit_is_raised = refl
+
+-- after place 1,023, which is had, comes place 1,024
+pub places_from_1024_on : first_place (at_places 1024) 2 1023 ≡ 1024
+unfolding first_place
+places_from_1024_on = refl
+
+pub no_more_than_the_limit_that_was_set : making (beside 1 1023 ++ raise 1025 ∷ make 1024 0 a ∷ []) 1025 0 b ≡ Some Count
+unfolding tree upward
+no_more_than_the_limit_that_was_set = refl
+
+pub a_limit_changes_nothing_else : (tree (make 1 0 a ∷ make 2 0 b ∷ raise 2048 ∷ remove 1 ∷ make 3 0 c ∷ [])).channels ≡ (tree (make 1 0 a ∷ make 2 0 b ∷ remove 1 ∷ make 3 0 c ∷ [])).channels
+unfolding tree upward
+a_limit_changes_nothing_else = refl
+
 -- ---- links, and where they lead
 
 abbrev four : List Step
@@ -182,6 +205,10 @@ pub record LinksLead : Type 0 where
       let made = four ++ link 3 2 ∷ link 2 1 ∷ [] in (linked_in made 1 ≡ 1 ∷ 2 ∷ 3 ∷ []) × (linked_in made 4 ≡ 4 ∷ [])
   pub a_ring_holds_without_one_of_its_links :
       linked_in (four ++ link 3 2 ∷ link 2 1 ∷ link 3 4 ∷ link 4 1 ∷ unlink 1 2 ∷ []) 1 ≡ 1 ∷ 2 ∷ 3 ∷ 4 ∷ []
+  pub a_chain_of_three_until_one_of_its_links_is_taken_away :
+      let made = make 1 0 a ∷ make 2 0 b ∷ make 3 0 c ∷ link 1 2 ∷ link 2 3 ∷ [] in
+      (linked_in made 1 ≡ 1 ∷ 2 ∷ 3 ∷ []) × (linked_in made 3 ≡ 1 ∷ 2 ∷ 3 ∷ [])
+      × (linked_in (made ++ unlink 2 3 ∷ []) 1 ≡ 1 ∷ 2 ∷ []) × (linked_in (made ++ unlink 2 3 ∷ []) 3 ≡ 3 ∷ [])
   pub a_chain_falls_apart_without_its_middle :
       let made = four ++ link 2 3 ∷ link 3 4 ∷ link 4 1 ∷ remove 3 ∷ [] in (linked_in made 1 ≡ 1 ∷ 4 ∷ []) × (linked_in made 2 ≡ 2 ∷ [])
   pub the_root_is_linked_as_any_other : linked_in (make 1 0 a ∷ make 2 1 b ∷ link 0 2 ∷ []) 2 ≡ 0 ∷ 2 ∷ []

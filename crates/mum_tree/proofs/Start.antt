@@ -32,20 +32,21 @@ root_leads id there =
     let leads : Contains (upward root_alone.channels 33 the_root) the_root = subst (λ (us : List ChannelId). Contains us the_root) (sym up) (0, omega arith, refl) in
     subst (λ (x : ChannelId). Contains (upward root_alone.channels 33 x) the_root) same leads
 
-pub root_proper : IsProper CHANNEL_LIMIT root_alone
+pub root_proper : IsProper root_alone
 root_proper = record {
   rise = λ i j d below within. absurd (omega arith);
   root = (root_row, refl, (refl, refl, refl, refl));
   lead = root_leads;
   apart = λ i j d below within. absurd (omega arith);
   lasting = All-cons (IsUnderLasting root_alone.channels) root_row [] (λ h. absurd (h refl)) (All-nil (IsUnderLasting root_alone.channels));
-  seated = All-cons (λ (row : Row). row.place < 1024) root_row [] (omega arith) (All-nil (λ (row : Row). row.place < 1024));
-  seats = λ i j d below within. absurd (omega arith);
+  places_fit = All-cons (λ (row : Row). row.place < 1024) root_row [] (omega arith) (All-nil (λ (row : Row). row.place < 1024));
+  places_apart = λ i j d below within. absurd (omega arith);
   few = omega arith;
   known = All-cons (λ (row : Row). number row ≤ 0) root_row [] (omega arith) (All-nil (λ (row : Row). number row ≤ 0));
   joined = links_none root_alone.channels;
+  limited = omega arith;
 }
 
 -- what was put together as the root alone is a tree
-pub made_proper : (before rows : List Row) (links : List Pair) (name : List ℕ) (info : ChannelInfo) → before ≡ [] → rows ≡ before ++ record { place = 0; channel = record { id = the_root; parent = the_root; name = name; temporary = false; info = info } } ∷ [] → name ≡ codes "Root" → info ≡ plain_info → links ≡ [] → IsProper CHANNEL_LIMIT (record { channels = rows; links = links; greatest = 0 })
+pub made_proper : (before rows : List Row) (links : List Pair) (name : List ℕ) (info : ChannelInfo) → before ≡ [] → rows ≡ before ++ record { place = 0; channel = record { id = the_root; parent = the_root; name = name; temporary = false; info = info } } ∷ [] → name ≡ codes "Root" → info ≡ plain_info → links ≡ [] → IsProper (record { channels = rows; links = links; greatest = 0; limit = CHANNEL_LIMIT })
 made_proper before rows links name info none all named plain unlinked = rw (all, none, named, plain, unlinked) root_proper

@@ -10,11 +10,11 @@ use Rattle.mum_tree.specs.declared.channel.Channel.{Channel}
 use Rattle.mum_tree.specs.declared.fault.TreeFault.{TreeFault}
 use Rattle.mum_tree.specs.declared.fault.TreeFault.TheVariants.{NoChannel, LinkCount}
 use Rattle.mum_tree.specs.declared.links.TheConstants.{LINK_LIMIT}
-use Rattle.mum_tree.specs.Refusals.{fault_of_seat, name_of, parent_of}
+use Rattle.mum_tree.specs.Refusals.{fault_of_placement, name_of, parent_of}
 use Rattle.mum_tree.specs.Rows.{is_there}
 use Rattle.mum_tree.specs.State.{Pair, TreeState, are_linked, changed, pairs_with, pairs_without, partners}
 
--- what becomes another, as far as it is given, and the links that come and go
+-- the new values, as far as they are given, and the links that come and go
 pub record Change : Type 0 where
   pub name : Option (List ℕ)
   pub parent : Option ChannelId
@@ -62,17 +62,25 @@ abbrev pub pairs_without_all : ChannelId → List ChannelId → List Pair → Li
 pairs_without_all id [] pairs = pairs
 pairs_without_all id (other ∷ others) pairs = pairs_without_all id others (pairs_without id other pairs)
 
+-- the link of a channel to another, as a change leaves it: gone where it goes, else there where it comes
+abbrev pub pairs_set : ChannelId → ChannelId → Bool → Bool → List Pair → List Pair
+pairs_set id other comes goes pairs =
+    if goes then pairs_without id other pairs else if comes && not (other.0 == id.0) then pairs_with id other pairs else pairs
+
 -- what is given is set; then the links that come are there, and then those that go are gone
 abbrev pub with_change : TreeState → ChannelId → Change → TreeState
 with_change tree id change = record {
   channels = changed id (with_given change) tree.channels;
   links = pairs_without_all id change.links_remove (pairs_with_all id change.links_add tree.links);
   greatest = tree.greatest;
+  limit = tree.limit;
 }
 
+-- the name that the channel has after the change
 abbrev pub name_after : TreeState → ChannelId → Change → List ℕ
 name_after tree id change = given_or change.name (name_of tree id)
 
+-- the parent that the channel has after the change
 abbrev pub parent_after : TreeState → ChannelId → Change → ChannelId
 parent_after tree id change = given_or change.parent (parent_of tree id)
 
@@ -82,9 +90,9 @@ names_there tree id change =
     is_there tree.channels id && is_there tree.channels (parent_after tree id change) &&
     list_all (is_there tree.channels) change.links_add && list_all (is_there tree.channels) change.links_remove
 
--- the name or the parent becomes another
-abbrev pub reseats : TreeState → ChannelId → Change → Bool
-reseats tree id change =
+-- the name or the parent changes
+abbrev pub renames_or_moves : TreeState → ChannelId → Change → Bool
+renames_or_moves tree id change =
     not (bytes_eq (name_after tree id change) (name_of tree id)) || not ((parent_after tree id change).0 == (parent_of tree id).0)
 
 -- the channel is linked to the other after the change
@@ -102,9 +110,10 @@ overlinks tree id change =
     nat_lt LINK_LIMIT (count_by (λ row. is_partner_after tree id change row.channel.id) tree.channels) ||
     list_any (λ row. is_new_partner tree id change row.channel.id && nat_le LINK_LIMIT (length (partners tree row.channel.id))) tree.channels
 
+-- a channel that is not there, then a cause against a new name or parent, then too many links
 abbrev pub fault_of_edit : TreeState → ChannelId → Change → Option TreeFault
 fault_of_edit tree id change =
     if not (names_there tree id change) then Some NoChannel
     else option_map_or (λ fault. Some fault)
-    (if reseats tree id change then fault_of_seat tree id (name_after tree id change) (parent_after tree id change) else None)
+    (if renames_or_moves tree id change then fault_of_placement tree id (name_after tree id change) (parent_after tree id change) else None)
     (if overlinks tree id change then Some LinkCount else None)

@@ -1,4 +1,5 @@
 pub mod Change
+pub mod Components
 pub mod Fault
 pub mod Places
 pub mod Proper

@@ -7,12 +7,12 @@ use Rattle.mum_tree.specs.declared.channel.Row.{Row}
 abbrev pub has_place : List Row → ℕ → Bool
 has_place rows place = list_any (λ row. row.place == place) rows
 
--- the first place from this one on, of so many, that no row has
+-- the first of the next n places, from this one on, that no row has
 unfoldable pub first_place : List Row → ℕ → ℕ → ℕ
 first_place rows zero place = place
 first_place rows (suc more) place = if has_place rows place then first_place rows more (place + 1) else place
 
--- the least place that no row has; so many rows leave one free of one place more
+-- the least place that no row has; n rows leave one of n + 1 places free
 abbrev pub least_place : List Row → ℕ
 least_place rows = first_place rows (length rows) 0
 

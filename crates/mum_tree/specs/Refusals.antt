@@ -1,4 +1,4 @@
--- For what each change of a tree is refused: the first cause that stands.
+-- For what each change of a tree is refused: the first cause that applies.
 use Rattle.std.specs.Prelude.{ℕ, ◌==◌, ◌&&◌, ◌||◌, not, nat_le, Bool, List, [], length, Option, Some, None, if◌then◌else◌}
 use Rattle.std.specs.List.{list_any}
 use Rattle.std.specs.Option.{option_map_or}
@@ -10,25 +10,29 @@ use Rattle.mum_tree.specs.declared.links.TheConstants.{LINK_LIMIT}
 use Rattle.mum_tree.specs.Rows.{row_of, is_root, is_there, is_temporary, is_taken, is_below, nests, path}
 use Rattle.mum_tree.specs.State.{TreeState, are_linked, partners}
 
--- as many channels stand as there can be
-abbrev pub is_full : ℕ → TreeState → Bool
-is_full limit tree = nat_le limit (length tree.channels)
+-- there are as many channels as the limit allows
+abbrev pub is_full : TreeState → Bool
+is_full tree = nat_le tree.limit (length tree.channels)
 
+-- the name of a channel; none where it is not there
 abbrev pub name_of : TreeState → ChannelId → List ℕ
 name_of tree id = option_map_or (λ row. row.channel.name) (row_of tree.channels id) []
 
+-- the parent of a channel; itself where it is not there
 abbrev pub parent_of : TreeState → ChannelId → ChannelId
 parent_of tree id = option_map_or (λ row. row.channel.parent) (row_of tree.channels id) id
 
-abbrev pub fault_of_add : ℕ → TreeState → ChannelId → ChannelId → List ℕ → Option TreeFault
-fault_of_add limit tree id parent name =
+-- why a new channel under the parent is refused
+abbrev pub fault_of_add : TreeState → ChannelId → ChannelId → List ℕ → Option TreeFault
+fault_of_add tree id parent name =
     if not (is_there tree.channels parent) then Some NoChannel
     else if is_taken tree.channels parent id name then Some SameName
     else if is_temporary tree.channels parent then Some TemporaryParent
     else if nat_le PATH_LIMIT (length (path tree.channels parent)) then Some Nesting
-    else if is_full limit tree then Some Count
+    else if is_full tree then Some Count
     else None
 
+-- why a new name is refused
 abbrev pub fault_of_rename : TreeState → ChannelId → List ℕ → Option TreeFault
 fault_of_rename tree id name =
     if not (is_there tree.channels id) then Some NoChannel
@@ -36,12 +40,13 @@ fault_of_rename tree id name =
     else if is_taken tree.channels (parent_of tree id) id name then Some SameName
     else None
 
+-- why a new description is refused
 abbrev pub fault_of_set_info : TreeState → ChannelId → Option TreeFault
 fault_of_set_info tree id = if not (is_there tree.channels id) then Some NoChannel else None
 
--- what is said against another name or another parent of a channel, as both shall be
-abbrev pub fault_of_seat : TreeState → ChannelId → List ℕ → ChannelId → Option TreeFault
-fault_of_seat tree id name parent =
+-- the first cause against a new name or a new parent of a channel, given both
+abbrev pub fault_of_placement : TreeState → ChannelId → List ℕ → ChannelId → Option TreeFault
+fault_of_placement tree id name parent =
     if is_root id then Some RootFixed
     else if is_taken tree.channels parent id name then Some SameName
     else if is_below tree.channels id parent then Some UnderItself
@@ -49,17 +54,20 @@ fault_of_seat tree id name parent =
     else if list_any (nests tree.channels id parent) tree.channels then Some Nesting
     else None
 
+-- why a new parent is refused
 abbrev pub fault_of_move : TreeState → ChannelId → ChannelId → Option TreeFault
 fault_of_move tree id parent =
     if not (is_there tree.channels id && is_there tree.channels parent) then Some NoChannel
-    else fault_of_seat tree id (name_of tree id) parent
+    else fault_of_placement tree id (name_of tree id) parent
 
+-- why a removal is refused
 abbrev pub fault_of_remove : TreeState → ChannelId → Option TreeFault
 fault_of_remove tree id =
     if not (is_there tree.channels id) then Some NoChannel
     else if is_root id then Some RootFixed
     else None
 
+-- why a link is refused: none that is there already, or of a channel to itself
 abbrev pub fault_of_link : TreeState → ChannelId → ChannelId → Option TreeFault
 fault_of_link tree a b =
     if not (is_there tree.channels a && is_there tree.channels b) then Some NoChannel
@@ -67,5 +75,6 @@ fault_of_link tree a b =
     else if nat_le LINK_LIMIT (length (partners tree a)) || nat_le LINK_LIMIT (length (partners tree b)) then Some LinkCount
     else None
 
+-- why the removal of a link is refused
 abbrev pub fault_of_unlink : TreeState → ChannelId → ChannelId → Option TreeFault
 fault_of_unlink tree a b = if not (is_there tree.channels a && is_there tree.channels b) then Some NoChannel else None

@@ -8,9 +8,11 @@ use Rattle.mum_base.specs.declared.number.TheConstants.ChannelId.{ROOT}
 use Rattle.mum_tree.specs.declared.channel.Row.{Row}
 use Rattle.mum_tree.specs.declared.channel.TheConstants.{PATH_LIMIT}
 
+-- the number of the row's channel
 abbrev pub number : Row → ℕ
 number row = row.channel.id.0
 
+-- the number is that of the root
 abbrev pub is_root : ChannelId → Bool
 is_root id = id.0 == ROOT.0
 
@@ -18,13 +20,15 @@ is_root id = id.0 == ROOT.0
 abbrev pub row_of : List Row → ChannelId → Option Row
 row_of rows id = find (λ row. number row == id.0) rows
 
+-- the channel is there
 abbrev pub is_there : List Row → ChannelId → Bool
 is_there rows id = is_some (row_of rows id)
 
+-- the channel is there and temporary
 abbrev pub is_temporary : List Row → ChannelId → Bool
 is_temporary rows id = option_map_or (λ row. row.channel.temporary) (row_of rows id) false
 
--- from a channel up, in at most so many steps: the channel, its parent, and so on to the root
+-- from a channel up, in at most n steps: the channel, its parent, and so on to the root
 unfoldable pub upward : List Row → ℕ → ChannelId → List ChannelId
 upward rows zero id = []
 upward rows (suc steps) id =

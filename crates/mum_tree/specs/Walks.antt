@@ -1,11 +1,10 @@
 -- Where links lead.
-use Rattle.std.specs.Prelude.{◌≡◌, ℕ, zero, suc, ◌<◌, ◌==◌, ◌&&◌, ◌||◌, Bool, List, filter, length, map, slice_index_or}
+use Rattle.std.specs.Prelude.{◌≡◌, ℕ, zero, suc, ◌==◌, ◌&&◌, ◌||◌, Bool, List, filter, length, map}
 use Rattle.std.specs.List.{list_any, Contains}
 use Rattle.mum_base.specs.declared.number.ChannelId.{ChannelId}
-use Rattle.mum_tree.specs.declared.channel.Row.{Row}
 use Rattle.mum_tree.specs.State.{Pair, TreeState}
 
--- at most so many links, one after the other, lead from a channel to another
+-- at most n links, one after the other, lead from a channel to another
 unfoldable pub is_reached : List Pair → ℕ → ChannelId → ChannelId → Bool
 is_reached links zero from to = from.0 == to.0
 is_reached links (suc rounds) from to =
@@ -16,7 +15,7 @@ is_reached links (suc rounds) from to =
 abbrev pub linked : TreeState → ChannelId → List ChannelId
 linked tree id = map (λ row. row.channel.id) (filter (λ row. is_reached tree.links (length tree.channels) id row.channel.id) tree.channels)
 
--- so many links, one after the other, lead from a channel to another
+-- n links, one after the other, lead from a channel to another
 abbrev pub Walk : List Pair → ℕ → ChannelId → ChannelId → Type 0
 Walk links zero from to = from ≡ to
 Walk links (suc steps) from to = (last : ChannelId) × Walk links steps from last × Contains links (last, to)
@@ -24,8 +23,3 @@ Walk links (suc steps) from to = (last : ChannelId) × Walk links steps from las
 -- some list of links leads from a channel to another; none leads to the channel itself
 abbrev pub LeadTo : List Pair → ChannelId → ChannelId → Type 0
 LeadTo links from to = (steps : ℕ) × Walk links steps from to
-
--- the channel's row stands at one of these places in the list of rows
-abbrev pub HasRow : List Row → List ℕ → ChannelId → Type 0
-HasRow rows found id =
-    (at : ℕ) × Contains found at × (at < length rows) × ((other : Row) → (slice_index_or rows at other).channel.id ≡ id)

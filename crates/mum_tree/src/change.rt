@@ -5,8 +5,8 @@ ghost use Rattle.mum_tree.specs.Change.{given_or};
 
 use mum_base::{ChannelId, Text};
 
-/// What becomes another of a channel, as far as it is given, and the links that come and go
-/// (Mumble.proto, `ChannelState`). A channel in both lists is linked first, and then parted; the
+/// The new values of a channel, as far as they are given, and the links that come and go
+/// (Mumble.proto, `ChannelState`). A channel in both lists is linked first, and then unlinked; the
 /// channel's own number in them means nothing.
 #[derive(Clone, Copy)]
 pub struct ChannelChange<'a> {

@@ -6,7 +6,7 @@ ghost use Rattle.mum_tree.specs.State.{plain_info};
 use mum_base::{ChannelId, OutOfMemory, Text};
 use std::alloc::Global;
 
-/// The most channels of a tree, with the root. Places are below it.
+/// The most channels of a new tree, with the root, until its limit is raised.
 pub const CHANNEL_LIMIT: usize = 1024;
 
 /// The most channels from the root down to one, with both: a channel is at most 32 under the root.
@@ -73,8 +73,8 @@ impl Channel {
     }
 }
 
-/// A channel and its place: a number below 1,024 that no other channel has, kept while the channel
-/// is there and given again once it is gone.
+/// A channel and its place: a number below the limit of the tree that no other channel has, kept
+/// while the channel is there and given again once it is gone.
 #[derive(Drop)]
 pub struct Row {
     pub place: u16,

@@ -31,7 +31,7 @@ pub enum TreeFault {
 }
 
 impl TreeFault {
-    /// The number of the fault, 30 to 37; none for want of memory.
+    /// The number of the fault, 30 to 37; none for out of memory.
     pub fn code(self) -> Option<u8>
         ensures { result ≡ fault_code self }
     {

@@ -28,61 +28,61 @@ pub fn places_of_new_channels()
     ensures { (rows : List Row) → IsLeastFree rows (least_place rows) }
 {}
 
-/// With a new channel a tree is a tree exactly where nothing stands against it.
+/// With a new channel a tree is a tree exactly where no cause against it applies.
 pub fn new_channels()
-    ensures { (limit : ℕ) (tree : TreeState) (id parent : ChannelId) (name : List ℕ)
-        (temporary : Bool) → IsProper limit tree → tree.greatest < id.0 →
-        (fault_of_add limit tree id parent name ≡ None) ↔
-        IsProper limit (with_new tree id parent name temporary) }
+    ensures { (tree : TreeState) (id parent : ChannelId) (name : List ℕ)
+        (temporary : Bool) → IsProper tree → tree.greatest < id.0 →
+        (fault_of_add tree id parent name ≡ None) ↔
+        IsProper (with_new tree id parent name temporary) }
 {}
 
-/// Without a channel that is there, and all below it, a tree is a tree exactly where nothing stands
-/// against it.
+/// Without a channel that is there, and all below it, a tree is a tree exactly where no cause
+/// against it applies.
 pub fn removals()
-    ensures { (limit : ℕ) (tree : TreeState) (id : ChannelId) → IsProper limit tree →
+    ensures { (tree : TreeState) (id : ChannelId) → IsProper tree →
         IsTrue (is_there tree.channels id) →
-        (fault_of_remove tree id ≡ None) ↔ IsProper limit (without_subtree tree id) }
+        (fault_of_remove tree id ≡ None) ↔ IsProper (without_subtree tree id) }
 {}
 
 /// After a change the links are those of a tree exactly where it leaves no channel too many of
 /// them.
 pub fn changed_links()
-    ensures { (limit : ℕ) (tree : TreeState) (id : ChannelId) (change : Change) →
-        IsProper limit tree → IsTrue (is_there tree.channels id) →
+    ensures { (tree : TreeState) (id : ChannelId) (change : Change) →
+        IsProper tree → IsTrue (is_there tree.channels id) →
         IsTrue (list_all (is_there tree.channels) change.links_add) →
         (overlinks tree id change ≡ false) ↔
         AreLinks tree.channels (with_change tree id change).links }
 {}
 
 /// After a change of a channel, in which each channel named is there, a tree is a tree exactly
-/// where nothing stands against it.
+/// where no cause against it applies.
 pub fn edits()
-    ensures { (limit : ℕ) (tree : TreeState) (id : ChannelId) (change : Change) →
-        IsProper limit tree → IsTrue (names_there tree id change) →
-        (fault_of_edit tree id change ≡ None) ↔ IsProper limit (with_change tree id change) }
+    ensures { (tree : TreeState) (id : ChannelId) (change : Change) →
+        IsProper tree → IsTrue (names_there tree id change) →
+        (fault_of_edit tree id change ≡ None) ↔ IsProper (with_change tree id change) }
 {}
 
-/// With another name of a channel that is not the root, a tree is a tree exactly where nothing
-/// stands against it.
+/// With a new name of a channel that is not the root, a tree is a tree exactly where no cause
+/// against it applies.
 pub fn renamings()
-    ensures { (limit : ℕ) (tree : TreeState) (id : ChannelId) (name : List ℕ) →
-        IsProper limit tree → IsTrue (is_there tree.channels id) → is_root id ≡ false →
-        (fault_of_rename tree id name ≡ None) ↔ IsProper limit (with_name tree id name) }
+    ensures { (tree : TreeState) (id : ChannelId) (name : List ℕ) →
+        IsProper tree → IsTrue (is_there tree.channels id) → is_root id ≡ false →
+        (fault_of_rename tree id name ≡ None) ↔ IsProper (with_name tree id name) }
 {}
 
-/// With another parent of a channel that is not the root, a tree is a tree exactly where nothing
-/// stands against it.
+/// With a new parent of a channel that is not the root, a tree is a tree exactly where no cause
+/// against it applies.
 pub fn moves()
-    ensures { (limit : ℕ) (tree : TreeState) (id parent : ChannelId) → IsProper limit tree →
+    ensures { (tree : TreeState) (id parent : ChannelId) → IsProper tree →
         IsTrue (is_there tree.channels id) → IsTrue (is_there tree.channels parent) →
         is_root id ≡ false →
-        (fault_of_move tree id parent ≡ None) ↔ IsProper limit (with_parent tree id parent) }
+        (fault_of_move tree id parent ≡ None) ↔ IsProper (with_parent tree id parent) }
 {}
 
-/// With a link between two channels that are there, a tree is a tree exactly where nothing stands
-/// against it.
+/// With a link between two channels that are there, a tree is a tree exactly where no cause
+/// against it applies.
 pub fn new_links()
-    ensures { (limit : ℕ) (tree : TreeState) (a b : ChannelId) → IsProper limit tree →
+    ensures { (tree : TreeState) (a b : ChannelId) → IsProper tree →
         IsTrue (is_there tree.channels a) → IsTrue (is_there tree.channels b) →
-        (fault_of_link tree a b ≡ None) ↔ IsProper limit (with_link tree a b) }
+        (fault_of_link tree a b ≡ None) ↔ IsProper (with_link tree a b) }
 {}

@@ -5,12 +5,11 @@
 
 mod change;
 mod channel;
+mod components;
 mod fault;
-mod found;
 pub mod laws;
 mod levels;
 mod links;
-mod reach;
 mod rows;
 mod scratch;
 mod tree;

@@ -1,16 +1,18 @@
-//! Links between channels. A link stands in the list twice, once from each of its two channels,
-//! in order of the numbers.
+//! Links between channels. A link is in the list twice, once from each of its two channels, in order
+//! of the numbers.
 
-ghost use Rattle.std.specs.Prelude.{◌≡◌, ◌&&◌, ◌||◌, ℕ, ◌+◌, ◌*◌, ◌<◌, ◌≤◌, vec_capacity, vec_len, true, false, length, nat_le, slice_get, slice_index_or};
-ghost use Rattle.std.specs.List.{filter, list_any};
+ghost use Rattle.std.specs.Prelude.{◌≡◌, ◌≢◌, ◌&&◌, ◌||◌, not, ℕ, ◌+◌, ◌*◌, ◌<◌, ◌≤◌, ◌==◌, vec_capacity, vec_len, true, false, length, nat_le, slice_get, slice_index_or, IsTrue, if◌then◌else◌};
+ghost use Rattle.std.specs.List.{All, AllPairs, count_by, filter, list_all, list_any};
+ghost use Rattle.mum_base.specs.Channels.{is_among};
+ghost use Rattle.mum_tree.specs.declared.channel.Row.{Row};
 ghost use Rattle.mum_tree.specs.Rows.{is_there, Rise};
 ghost use Rattle.mum_tree.specs.State.{Pair, Ordered, ends_from, is_pair, is_above, pairs_with, pairs_without, starts_at, with_pair};
-ghost use Rattle.mum_tree.specs.Change.{pairs_with_all, pairs_without_all};
-ghost use Rattle.mum_tree.specs.Proper.{AreBothWays};
+ghost use Rattle.mum_tree.specs.Change.{pairs_set, pairs_with_all, pairs_without_all};
+ghost use Rattle.mum_tree.specs.Proper.{AreBothWays, ArePairs};
 
 use crate::channel::Row;
-use crate::rows::both_there;
-use mum_base::ChannelId;
+use crate::rows::{both_there, has_mark, places_of};
+use mum_base::{ChannelId, PLACES};
 
 /// The most links of a channel.
 pub const LINK_LIMIT: usize = 64;
@@ -57,7 +59,7 @@ pub(crate) fn is_crowded(links: &[(ChannelId, ChannelId)], of: ChannelId) -> boo
     links_of(links, of).len() >= LINK_LIMIT
 }
 
-/// The channel linked to one that so many others precede.
+/// The channel linked to one at this index in order of number.
 pub(crate) fn nth_end(
     links: &[(ChannelId, ChannelId)],
     of: ChannelId,
@@ -111,31 +113,15 @@ fn join(links: &mut Vec<(ChannelId, ChannelId)>, a: ChannelId, b: ChannelId)
     put_link(links, a, b);
 }
 
-/// Links a channel to each of these that is another. There is room for them.
-pub(crate) fn put_links(
-    links: &mut Vec<(ChannelId, ChannelId)>,
-    id: ChannelId,
-    others: &[ChannelId],
-)
-    requires ordered { Ordered links.old.items }
-    requires both { AreBothWays links.old.items }
-    requires room { vec_len links.old + 2 * length others.now ≤ vec_capacity links.old }
-    ensures made { links.new.items ≡ pairs_with_all id others.now links.old.items }
-    ensures ordered { Ordered links.new.items }
-    ensures both { AreBothWays links.new.items }
-{
-    for other in others {
-        join(links, id, *other);
-    }
-}
-
-/// Takes the link between two channels away, if there is one.
+/// Removes the link between two channels, if there is one.
 pub(crate) fn take_link(links: &mut Vec<(ChannelId, ChannelId)>, a: ChannelId, b: ChannelId)
     requires ordered { Ordered links.old.items }
     requires both { AreBothWays links.old.items }
     ensures made { links.new.items ≡ pairs_without a b links.old.items }
     ensures ordered { Ordered links.new.items }
     ensures both { AreBothWays links.new.items }
+    ensures len { vec_len links.new ≤ vec_len links.old }
+    ensures capacity { vec_capacity links.old ≤ vec_capacity links.new }
 {
     if !has_link(links, a, b) {
         return;
@@ -143,22 +129,65 @@ pub(crate) fn take_link(links: &mut Vec<(ChannelId, ChannelId)>, a: ChannelId, b
     links.retain(|link| !joins(link, a, b));
 }
 
-/// Takes the links of a channel to each of these away, as far as there are any.
-pub(crate) fn take_links(
+// Removes the link between two channels where it goes, else puts it there where it comes.
+fn set_link(
     links: &mut Vec<(ChannelId, ChannelId)>,
     id: ChannelId,
-    others: &[ChannelId],
+    other: ChannelId,
+    comes: bool,
+    goes: bool,
 )
     requires ordered { Ordered links.old.items }
     requires both { AreBothWays links.old.items }
-    ensures { links.new.items ≡ pairs_without_all id others.now links.old.items }
+    requires room { IsTrue (not goes && (comes && not (other.0 == id.0))) → vec_len links.old + 2 ≤ vec_capacity links.old }
+    ensures made { links.new.items ≡ pairs_set id other comes goes links.old.items }
+    ensures len { vec_len links.new ≤ vec_len links.old + (if not goes && (comes && not (other.0 == id.0)) then 2 else 0) }
+    ensures capacity { vec_capacity links.old ≤ vec_capacity links.new }
 {
-    for other in others {
-        take_link(links, id, *other);
+    if goes {
+        take_link(links, id, other);
+        return;
+    }
+    if comes && other.0 != id.0 {
+        join(links, id, other);
     }
 }
 
-/// Takes away the links of channels that are not there.
+/// Links a channel to some and then unlinks it from others. There is room for as many links as a
+/// channel may have.
+pub(crate) fn change_links(
+    links: &mut Vec<(ChannelId, ChannelId)>,
+    rows: &[Row],
+    id: ChannelId,
+    adds: &[ChannelId],
+    removes: &[ChannelId],
+)
+    requires rise { Rise rows.now }
+    requires places_fit { All (λ row. row.place < PLACES) rows.now }
+    requires places_apart { AllPairs (λ row other. row.place ≢ other.place) rows.now }
+    requires pairs { ArePairs rows.now links.old.items }
+    requires here { IsTrue (is_there rows.now id) }
+    requires added { IsTrue (list_all (is_there rows.now) adds.now) }
+    requires removed { IsTrue (list_all (is_there rows.now) removes.now) }
+    requires few { count_by (λ row. (list_any (is_pair id row.channel.id) links.old.items
+        || (is_among adds.now row.channel.id && not (row.channel.id.0 == id.0)))
+        && not (is_among removes.now row.channel.id)) rows.now ≤ LINK_LIMIT }
+    requires room { vec_len links.old + 2 * LINK_LIMIT ≤ vec_capacity links.old }
+    ensures made { links.new.items ≡ pairs_without_all id removes.now (pairs_with_all id adds.now links.old.items) }
+    ensures pairs { ArePairs rows.now links.new.items }
+{
+    let mut added = [false; PLACES];
+    let mut removed = [false; PLACES];
+    places_of(rows, adds, &mut added);
+    places_of(rows, removes, &mut removed);
+    for row in rows {
+        let comes = has_mark(&added, row.place);
+        let goes = has_mark(&removed, row.place);
+        set_link(links, id, row.channel.id, comes, goes);
+    }
+}
+
+/// Removes the links of channels that are not there.
 pub(crate) fn keep_ends(links: &mut Vec<(ChannelId, ChannelId)>, rows: &[Row])
     requires { Rise rows.now }
     ensures { links.new.items ≡ filter (λ pair. is_there rows.now pair.0 && is_there rows.now pair.1) links.old.items }

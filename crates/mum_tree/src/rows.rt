@@ -1,6 +1,6 @@
-//! Look-ups in the rows of a tree, which stand in order of number.
+//! Look-ups in the rows of a tree, which are in order of number.
 
-ghost use Rattle.std.specs.Prelude.{◌≡◌, ◌≢◌, ◌&&◌, ℕ, ◌≤◌, true, false, slice_index_or, ◌<◌, None, Some, length, MatchOption, IfOk, IfSome, IsTrue, is_some};
+ghost use Rattle.std.specs.Prelude.{◌≡◌, ◌≢◌, ◌&&◌, ℕ, ◌≤◌, true, false, slice_index_or, ◌<◌, None, Some, length, replicate, MatchOption, IfOk, IfSome, IsTrue, is_some};
 ghost use Rattle.std.specs.Option.{option_copied};
 ghost use Rattle.std.specs.List.{All, AllPairs, count_by, list_all, list_any};
 ghost use Rattle.mum_base.specs.Channels.{is_among};
@@ -9,12 +9,12 @@ ghost use Rattle.mum_tree.specs.Rows.{row_of, is_temporary, is_there, path, leve
 ghost use Rattle.mum_tree.specs.Proper.{LeadUp};
 ghost use Rattle.mum_tree.specs.declared.channel.Row.{Row};
 
-use crate::channel::{CHANNEL_LIMIT, PATH_LIMIT, Row};
+use crate::channel::{PATH_LIMIT, Row};
 use arrayvec::ArrayVec;
-use mum_base::{ChannelId, OutOfMemory};
+use mum_base::{ChannelId, OutOfMemory, PLACES};
 use std::alloc::Global;
 
-/// Where the row of a channel stands.
+/// The index of the row of a channel.
 pub(crate) fn locate(rows: &[Row], id: ChannelId) -> Option<usize>
     requires { Rise rows.now }
     ensures { MatchOption result (row_of rows.now id ≡ None)
@@ -24,7 +24,7 @@ pub(crate) fn locate(rows: &[Row], id: ChannelId) -> Option<usize>
         .ok()
 }
 
-/// Where the row of a channel that is there stands.
+/// The index of the row of a channel that is there.
 pub(crate) fn place_in_rows(rows: &[Row], id: ChannelId) -> usize
     requires rise { Rise rows.now }
     requires there { IsTrue (is_there rows.now id) }
@@ -163,36 +163,44 @@ pub(crate) fn has_name(rows: &[Row], parent: ChannelId, id: ChannelId, name: &st
     })
 }
 
-/// Which places have a channel.
-pub(crate) fn taken_places(rows: &[Row]) -> [bool; CHANNEL_LIMIT]
-    requires { All (λ row. row.place < CHANNEL_LIMIT) rows.now }
-    ensures length { length result ≡ CHANNEL_LIMIT }
-    ensures free { (place : ℕ) → place < CHANNEL_LIMIT → slice_index_or result place false ≡ false → IsFree rows.now place }
-    ensures taken { (place : ℕ) → slice_index_or result place false ≡ true → IsFree rows.now place → ⊥ }
-    ensures count { count_by (λ one. one) result ≤ length rows.now }
+// Clears all marks.
+fn clear(marks: &mut [bool])
+    requires { length marks.old ≡ PLACES }
+    ensures { marks.new ≡ replicate PLACES false }
 {
-    let mut taken = [false; CHANNEL_LIMIT];
+    marks.fill(false);
+}
+
+/// Finds which places have a channel.
+pub(crate) fn taken_places(rows: &[Row], taken: &mut [bool])
+    requires places_fit { All (λ row. row.place < PLACES) rows.now }
+    requires room { length taken.old ≡ PLACES }
+    ensures length { length taken.new ≡ PLACES }
+    ensures free { (place : ℕ) → place < PLACES → slice_index_or taken.new place false ≡ false → IsFree rows.now place }
+    ensures taken { (place : ℕ) → slice_index_or taken.new place false ≡ true → IsFree rows.now place → ⊥ }
+    ensures count { count_by (λ one. one) taken.new ≤ length rows.now }
+{
+    clear(taken);
     for row in rows {
         taken[row.place as usize] = true;
     }
-    taken
 }
 
-/// Which places have one of these channels.
-pub(crate) fn places_of(rows: &[Row], ids: &[ChannelId]) -> [bool; CHANNEL_LIMIT]
+/// Finds which places have one of these channels.
+pub(crate) fn places_of(rows: &[Row], ids: &[ChannelId], marks: &mut [bool])
     requires rise { Rise rows.now }
-    requires seated { All (λ row. row.place < CHANNEL_LIMIT) rows.now }
-    requires seats { AllPairs (λ row other. row.place ≢ other.place) rows.now }
+    requires places_fit { All (λ row. row.place < PLACES) rows.now }
+    requires places_apart { AllPairs (λ row other. row.place ≢ other.place) rows.now }
     requires there { IsTrue (list_all (is_there rows.now) ids.now) }
-    ensures length { length result ≡ CHANNEL_LIMIT }
-    ensures value { All (λ row. slice_index_or result row.place false ≡ is_among ids.now row.channel.id) rows.now }
+    requires room { length marks.old ≡ PLACES }
+    ensures length { length marks.new ≡ PLACES }
+    ensures value { All (λ row. slice_index_or marks.new row.place false ≡ is_among ids.now row.channel.id) rows.now }
 {
-    let mut marks = [false; CHANNEL_LIMIT];
+    clear(marks);
     for id in ids {
         let row = &rows[place_in_rows(rows, *id)];
         marks[row.place as usize] = true;
     }
-    marks
 }
 
 /// Whether a place is marked.
@@ -207,13 +215,14 @@ pub(crate) fn has_mark(marks: &[bool], place: u16) -> bool
 
 /// The least place that no channel has.
 pub(crate) fn least_free_place(rows: &[Row]) -> u16
-    requires seated { All (λ row. row.place < CHANNEL_LIMIT) rows.now }
-    requires room { length rows.now < CHANNEL_LIMIT }
+    requires places_fit { All (λ row. row.place < PLACES) rows.now }
+    requires room { length rows.now < PLACES }
     ensures least { result ≡ least_place rows.now }
-    ensures within { result < CHANNEL_LIMIT }
+    ensures within { result < PLACES }
 {
-    let taken = taken_places(rows);
-    for place in 0..CHANNEL_LIMIT {
+    let mut taken = [false; PLACES];
+    taken_places(rows, &mut taken);
+    for place in 0..PLACES {
         if !taken[place] {
             return place as u16;
         }

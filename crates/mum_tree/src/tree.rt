@@ -1,6 +1,6 @@
 //! The tree of channels, and what is read from it.
 
-ghost use Rattle.std.specs.Prelude.{◌≡◌, ℕ, if◌then◌else◌, ◌<◌, ◌↔◌, ◌&&◌, false, length, slice_index_or, IfOk, IfSome, IsTrue, MatchOption, None, is_some, slice_get};
+ghost use Rattle.std.specs.Prelude.{◌≡◌, ℕ, if◌then◌else◌, ◌<◌, ◌≤◌, ◌↔◌, ◌&&◌, false, length, slice_index_or, IfOk, IfSome, IsTrue, MatchOption, None, is_some, slice_get};
 ghost use Rattle.std.specs.List.{list_all, Contains};
 ghost use Rattle.std.specs.Option.{option_copied, option_map};
 ghost use Rattle.mum_base.specs.declared.number.ChannelId.{ChannelId};
@@ -9,50 +9,55 @@ ghost use Rattle.mum_tree.specs.Proper.{IsProper};
 ghost use Rattle.mum_tree.specs.Rows.{row_of, is_below, is_there, path, IsWay};
 ghost use Rattle.mum_tree.specs.State.{root_alone, next_number, plain_info, partners, below, with_info, with_link, with_name, with_new, with_parent, without_link, without_subtree};
 ghost use Rattle.mum_tree.specs.Walks.{linked, LeadTo};
-ghost use Rattle.mum_tree.specs.Refusals.{is_full, fault_of_add, fault_of_link, fault_of_move, fault_of_remove, fault_of_rename, fault_of_seat, fault_of_set_info, fault_of_unlink};
+ghost use Rattle.mum_tree.specs.Refusals.{is_full, fault_of_add, fault_of_link, fault_of_move, fault_of_remove, fault_of_rename, fault_of_placement, fault_of_set_info, fault_of_unlink};
 ghost use Rattle.mum_tree.specs.Fault.{named_cause};
 ghost use Rattle.mum_tree.specs.Change.{change_of, fault_of_edit, overlinks, with_change};
 ghost use Rattle.mum_base.specs.Refusal.{Settles, SettlesInPlace};
 
 use crate::change::{ChannelChange, give};
 use crate::channel::{CHANNEL_LIMIT, Channel, ChannelInfo, PATH_LIMIT, Row};
+use crate::components::{link_room, mark_component, number_components, relink};
 use crate::fault::TreeFault;
-use crate::levels::{nests_too_deep, places_below};
-use crate::links::{
-    LINK_LIMIT, has_link, is_crowded, keep_ends, nth_end, put_link, put_links, take_link,
-    take_links,
-};
-use crate::reach::{find_linked, places_found};
+use crate::levels::{mark_below, nests_too_deep, places_below};
+use crate::links::{LINK_LIMIT, has_link, is_crowded, keep_ends, nth_end, put_link, take_link};
 use crate::rows::{
     all_stand, both_there, copy_rows, find_path, find_row, has_mark, has_name, is_temporary_there,
-    least_free_place, locate, path_length, places_of, stands, stands_below, taken_places,
+    least_free_place, locate, path_length, place_in_rows, places_of, stands, stands_below,
+    taken_places,
 };
 use crate::scratch::Scratch;
 use arrayvec::ArrayVec;
-use mum_base::{ChannelId, OutOfMemory, Text};
+use mum_base::{ChannelId, OutOfMemory, PLACES, Text};
 use std::alloc::Global;
 use std::marker::Model;
 
 /// The channels of a server and the links between them. A contract sees them as rows in order of
-/// number, pairs of numbers, and the greatest number that a channel ever had.
+/// number, pairs of numbers, the greatest number that a channel ever had, and the limit of channels.
 #[derive(Drop)]
 pub struct Tree {
     alloc: Global,
     rows: Vec<Row>,
     links: Vec<(ChannelId, ChannelId)>,
     greatest: u32,
+    /// The most channels.
+    limit: u32,
+    /// Beside each row, the index of the first row of its component of the links.
+    components: Vec<u16>,
 }
 
 impl Model for Tree {
-    ghost use Rattle.mum_tree.specs.declared.channel.TheConstants.{CHANNEL_LIMIT};
+    ghost use Rattle.mum_tree.specs.Components.{AreComponents};
     ghost use Rattle.mum_tree.specs.Proper.{IsProper};
     ghost use Rattle.mum_tree.specs.State.{TreeState};
 
     ghost Value = { TreeState };
 
-    ghost view = { λ t. record { channels = t.rows.items; links = t.links.items; greatest = t.greatest } };
+    ghost view = { λ t. record { channels = t.rows.items; links = t.links.items; greatest = t.greatest; limit = t.limit } };
 
-    ghost invariant = { λ t. IsProper CHANNEL_LIMIT (record { channels = t.rows.items; links = t.links.items; greatest = t.greatest }) };
+    ghost invariant = { λ t. record {
+      proper : IsProper (record { channels = t.rows.items; links = t.links.items; greatest = t.greatest; limit = t.limit });
+      numbered : AreComponents t.rows.items t.links.items t.components.items;
+    } };
 }
 
 /// One if it holds, else nothing.
@@ -63,10 +68,10 @@ fn one_if(holds: bool) -> usize
 }
 
 impl Tree {
-    /// The root alone.
+    /// The root alone, with room for 1,024 channels.
     pub fn new(alloc: Global) -> Result<Tree, OutOfMemory>
         ensures made { IfOk result (λ tree. tree ≡ root_alone) }
-        ensures proper { IfOk result (λ tree. IsProper CHANNEL_LIMIT tree) }
+        ensures proper { IfOk result (λ tree. IsProper tree) }
     {
         let mut rows = Vec::new(alloc);
         rows.push(Row {
@@ -84,7 +89,27 @@ impl Tree {
             rows,
             links: Vec::new(alloc),
             greatest: 0,
+            limit: CHANNEL_LIMIT as u32,
+            components: vec![in alloc; 0; 1]?,
         })
+    }
+
+    /// The most channels that there may be, with the root.
+    pub fn limit(&self) -> u32
+        ensures value { result ≡ self.now.limit }
+        ensures within { result ≤ PLACES }
+    {
+        self.limit
+    }
+
+    /// Raises the limit of channels, to at most 2,048. It takes no memory.
+    pub fn set_limit(&mut self, channels: u32)
+        requires raised { self.old.limit ≤ channels }
+        requires within { channels ≤ PLACES }
+        ensures made { self.new ≡ record self.old { limit = channels } }
+        ensures proper { IsProper self.new }
+    {
+        self.limit = channels;
     }
 
     /// The number for a new channel: one above the greatest that a channel ever had.
@@ -108,7 +133,7 @@ impl Tree {
         }
     }
 
-    /// The channel that so many channels precede in order of number.
+    /// The channel at this index in order of number.
     pub fn nth(&self, i: usize) -> Option<ChannelId>
         ensures { result ≡ option_map (λ row. row.channel.id) (slice_get self.now.channels i) }
     {
@@ -139,9 +164,9 @@ impl Tree {
 
     /// Whether there are as many channels as there can be.
     pub fn full(&self) -> bool
-        ensures { result ≡ is_full CHANNEL_LIMIT self.now }
+        ensures { result ≡ is_full self.now }
     {
-        self.rows.len() >= CHANNEL_LIMIT
+        self.rows.len() >= self.limit as usize
     }
 
     /// The first cause for which a new channel is refused: NoChannel, SameName, TemporaryParent,
@@ -152,7 +177,7 @@ impl Tree {
         parent: ChannelId,
         name: &str,
     ) -> Option<TreeFault>
-        ensures { result ≡ fault_of_add CHANNEL_LIMIT self.now id parent name.now }
+        ensures { result ≡ fault_of_add self.now id parent name.now }
     {
         let rows = self.rows.as_slice();
         let Some(above) = find_row(rows, parent) else {
@@ -167,7 +192,7 @@ impl Tree {
         if path_length(rows, parent) >= PATH_LIMIT {
             return Some(TreeFault::Nesting);
         }
-        if rows.len() >= CHANNEL_LIMIT {
+        if self.full() {
             return Some(TreeFault::Count);
         }
         None
@@ -183,9 +208,9 @@ impl Tree {
         temporary: bool,
     ) -> Result<(), TreeFault>
         requires { self.old.greatest < id.0 }
-        ensures made { Settles named_cause (fault_of_add CHANNEL_LIMIT self.old id parent name.now)
+        ensures made { Settles named_cause (fault_of_add self.old id parent name.now)
             (with_new self.old id parent name.now temporary) self.old result self.new }
-        ensures proper { IsProper CHANNEL_LIMIT self.new }
+        ensures proper { IsProper self.new }
     {
         if let Some(cause) = self.cause_against_adding(id, parent, name) {
             return Err(cause);
@@ -198,12 +223,15 @@ impl Tree {
             info: ChannelInfo::plain(self.alloc),
         };
         let place = least_free_place(&self.rows);
+        let component = self.rows.len() as u16;
+        self.components.reserve(1)?;
         self.rows.push(Row { place, channel })?;
+        self.components.push_reserved(component);
         self.greatest = id.0;
         Ok(())
     }
 
-    /// The first cause for which another name is refused.
+    /// The first cause for which a new name is refused.
     fn cause_against_renaming(&self, id: ChannelId, name: &str) -> Option<TreeFault>
         ensures { result ≡ fault_of_rename self.now id name.now }
     {
@@ -220,11 +248,11 @@ impl Tree {
         None
     }
 
-    /// Gives a channel another name. Refused, in this order: NoChannel, RootFixed, SameName.
+    /// Gives a channel a new name. Refused, in this order: NoChannel, RootFixed, SameName.
     pub fn rename(&mut self, id: ChannelId, name: &str) -> Result<(), TreeFault>
         ensures made { Settles named_cause (fault_of_rename self.old id name.now)
             (with_name self.old id name.now) self.old result self.new }
-        ensures proper { IsProper CHANNEL_LIMIT self.new }
+        ensures proper { IsProper self.new }
     {
         let Some(at) = locate(&self.rows, id) else {
             return Err(TreeFault::NoChannel);
@@ -238,12 +266,12 @@ impl Tree {
         Ok(())
     }
 
-    /// Gives a channel another description, position and limit of users. Refused: NoChannel.
+    /// Gives a channel a new description, position and limit of users. Refused: NoChannel.
     /// It takes no memory.
     pub fn set_info(&mut self, id: ChannelId, info: ChannelInfo) -> Result<(), TreeFault>
         ensures made { SettlesInPlace (fault_of_set_info self.old id)
             (with_info self.old id info) self.old result self.new }
-        ensures proper { IsProper CHANNEL_LIMIT self.new }
+        ensures proper { IsProper self.new }
     {
         let Some(at) = locate(&self.rows, id) else {
             return Err(TreeFault::NoChannel);
@@ -253,24 +281,28 @@ impl Tree {
         Ok(())
     }
 
-    /// The channel linked to this one that so many others linked to it precede in order of number.
+    /// The channel linked to this one at this index in order of number.
     pub fn link_at(&self, id: ChannelId, i: usize) -> Option<ChannelId>
         ensures { result ≡ slice_get (partners self.now id) i }
     {
         nth_end(&self.links, id, i)
     }
 
-    /// Takes the link between two channels away, if there is one. Refused: NoChannel.
+    /// Removes the link between two channels, if there is one. Refused: NoChannel.
     /// It takes no memory.
     pub fn unlink(&mut self, a: ChannelId, b: ChannelId) -> Result<(), TreeFault>
         ensures made { SettlesInPlace (fault_of_unlink self.old a b)
             (without_link self.old a b) self.old result self.new }
-        ensures proper { IsProper CHANNEL_LIMIT self.new }
+        ensures proper { IsProper self.new }
     {
         if !both_there(&self.rows, a, b) {
             return Err(TreeFault::NoChannel);
         }
+        if !has_link(&self.links, a, b) {
+            return Ok(());
+        }
         take_link(&mut self.links, a, b);
+        number_components(&mut self.components, &self.rows, &self.links);
         Ok(())
     }
 
@@ -295,7 +327,7 @@ impl Tree {
     pub fn link(&mut self, a: ChannelId, b: ChannelId) -> Result<(), TreeFault>
         ensures made { Settles named_cause (fault_of_link self.old a b)
             (with_link self.old a b) self.old result self.new }
-        ensures proper { IsProper CHANNEL_LIMIT self.new }
+        ensures proper { IsProper self.new }
     {
         if let Some(cause) = self.cause_against_linking(a, b) {
             return Err(cause);
@@ -305,12 +337,18 @@ impl Tree {
         }
         self.links.reserve(2)?;
         put_link(&mut self.links, a, b);
+        number_components(&mut self.components, &self.rows, &self.links);
         Ok(())
     }
 
-    /// What is said against another name or another parent of a channel, as both shall be.
-    fn cause_against_seat(&self, id: ChannelId, name: &str, parent: ChannelId) -> Option<TreeFault>
-        ensures { result ≡ fault_of_seat self.now id name.now parent }
+    /// The first cause against a new name or a new parent of a channel, given both.
+    fn cause_against_placement(
+        &self,
+        id: ChannelId,
+        name: &str,
+        parent: ChannelId,
+    ) -> Option<TreeFault>
+        ensures { result ≡ fault_of_placement self.now id name.now parent }
     {
         let rows = self.rows.as_slice();
         if id.0 == ChannelId::ROOT.0 {
@@ -342,7 +380,7 @@ impl Tree {
         if !stands(rows, parent) {
             return Some(TreeFault::NoChannel);
         }
-        self.cause_against_seat(id, moved.channel.name.as_str(), parent)
+        self.cause_against_placement(id, moved.channel.name.as_str(), parent)
     }
 
     /// Puts a channel, with all below it, under another. Refused, in this order: NoChannel,
@@ -350,7 +388,7 @@ impl Tree {
     pub fn move_under(&mut self, id: ChannelId, parent: ChannelId) -> Result<(), TreeFault>
         ensures made { SettlesInPlace (fault_of_move self.old id parent)
             (with_parent self.old id parent) self.old result self.new }
-        ensures proper { IsProper CHANNEL_LIMIT self.new }
+        ensures proper { IsProper self.new }
     {
         let Some(at) = locate(&self.rows, id) else {
             return Err(TreeFault::NoChannel);
@@ -373,8 +411,10 @@ impl Tree {
         if change.links_add.is_empty() {
             return false;
         }
-        let added = places_of(rows, change.links_add);
-        let removed = places_of(rows, change.links_remove);
+        let mut added = [false; PLACES];
+        let mut removed = [false; PLACES];
+        places_of(rows, change.links_add, &mut added);
+        places_of(rows, change.links_remove, &mut removed);
         let mut partners = 0;
         for row in rows {
             let other = row.channel.id;
@@ -412,7 +452,7 @@ impl Tree {
             return Some(TreeFault::NoChannel);
         }
         if name != before || parent.0 != row.channel.parent.0 {
-            if let Some(cause) = self.cause_against_seat(id, name, parent) {
+            if let Some(cause) = self.cause_against_placement(id, name, parent) {
                 return Some(cause);
             }
         }
@@ -424,13 +464,13 @@ impl Tree {
 
     /// Changes a channel in several parts at once: what is given of its name, its parent and what
     /// describes it, then the links that come, then those that go. Refused, in this order: NoChannel
-    /// for any that the change names; where the name or the parent becomes another, RootFixed,
+    /// for any that the change names; where the name or the parent changes, RootFixed,
     /// SameName under the parent that it then has, UnderItself, TemporaryParent, Nesting; LinkCount,
     /// of the links that are left.
     pub fn edit(&mut self, id: ChannelId, change: &ChannelChange<'_>) -> Result<(), TreeFault>
         ensures made { Settles named_cause (fault_of_edit self.old id (change_of change.now))
             (with_change self.old id (change_of change.now)) self.old result self.new }
-        ensures proper { IsProper CHANNEL_LIMIT self.new }
+        ensures proper { IsProper self.new }
     {
         let Some(at) = locate(&self.rows, id) else {
             return Err(TreeFault::NoChannel);
@@ -440,9 +480,17 @@ impl Tree {
         }
         let name = Text::of_given(self.alloc, change.name)?;
         let description = Text::share_given(change.description)?;
-        self.links.reserve(2 * change.links_add.len())?;
-        put_links(&mut self.links, id, change.links_add);
-        take_links(&mut self.links, id, change.links_remove);
+        let adds = change.links_add;
+        let removes = change.links_remove;
+        self.links.reserve(link_room(adds, removes))?;
+        relink(
+            &mut self.links,
+            &mut self.components,
+            &self.rows,
+            id,
+            adds,
+            removes,
+        );
         let channel = &mut self.rows[at].channel;
         give(&mut channel.name, name);
         give(&mut channel.parent, change.parent);
@@ -452,7 +500,7 @@ impl Tree {
         Ok(())
     }
 
-    /// The first cause for which a channel is not taken away: NoChannel or RootFixed. It takes no
+    /// The first cause for which a channel is not removed: NoChannel or RootFixed. It takes no
     /// memory.
     pub fn cause_against_removing(&self, id: ChannelId) -> Option<TreeFault>
         ensures { result ≡ fault_of_remove self.now id }
@@ -466,42 +514,48 @@ impl Tree {
         None
     }
 
-    /// Takes away a channel, all below it, and their links. Refused, in this order: NoChannel,
+    /// Removes a channel, all below it, and their links. Refused, in this order: NoChannel,
     /// RootFixed. It takes no memory.
     pub fn remove_subtree(&mut self, id: ChannelId) -> Result<(), TreeFault>
         ensures made { SettlesInPlace (fault_of_remove self.old id)
             (without_subtree self.old id) self.old result self.new }
-        ensures proper { IsProper CHANNEL_LIMIT self.new }
+        ensures proper { IsProper self.new }
     {
         if let Some(cause) = self.cause_against_removing(id) {
             return Err(cause);
         }
-        let gone = places_below(&self.rows, id);
+        let mut gone = [false; PLACES];
+        places_below(&self.rows, id, &mut gone);
         self.rows.retain(|row| !has_mark(&gone, row.place));
         keep_ends(&mut self.links, &self.rows);
+        self.components.truncate(self.rows.len());
+        number_components(&mut self.components, &self.rows, &self.links);
         Ok(())
     }
 
     /// An equal tree.
     pub fn copy(&self, alloc: Global) -> Result<Tree, OutOfMemory>
         ensures made { IfOk result (λ tree. tree ≡ self.now) }
-        ensures proper { IfOk result (λ tree. IsProper CHANNEL_LIMIT tree) }
+        ensures proper { IfOk result (λ tree. IsProper tree) }
     {
         Ok(Tree {
             alloc,
             rows: copy_rows(alloc, &self.rows)?,
             links: Vec::from_slice(alloc, &self.links)?,
             greatest: self.greatest,
+            limit: self.limit,
+            components: Vec::from_slice(alloc, &self.components)?,
         })
     }
 
-    /// Which places have a channel. It takes no memory.
-    pub fn taken_places(&self) -> [bool; CHANNEL_LIMIT]
-        ensures length { length result ≡ CHANNEL_LIMIT }
+    /// Finds which places have a channel. It takes no memory.
+    pub fn taken_places(&self, taken: &mut [bool])
+        requires { length taken.old ≡ PLACES }
+        ensures length { length taken.new ≡ PLACES }
         ensures taken { (place : ℕ) →
-            slice_index_or result place false ≡ has_place self.now.channels place }
+            slice_index_or taken.new place false ≡ has_place self.now.channels place }
     {
-        taken_places(&self.rows)
+        taken_places(&self.rows, taken);
     }
 
     /// Whether a channel is there. It takes no memory.
@@ -523,9 +577,7 @@ impl Tree {
         requires { IsTrue (is_there self.now.channels id) }
         ensures { scratch.new ≡ below self.now id }
     {
-        let rows = self.rows.as_slice();
-        let below = places_below(rows, id);
-        scratch.fill(rows, &below);
+        mark_below(&self.rows, id, scratch);
     }
 
     /// Marks a channel and all that links lead to from it. It takes no memory.
@@ -534,8 +586,7 @@ impl Tree {
         ensures marks { scratch.new ≡ linked self.now id }
         ensures leads { (other : ChannelId) → Contains (linked self.now id) other ↔ LeadTo self.now.links id other }
     {
-        let found = find_linked(&self.rows, &self.links, id);
-        let places = places_found(&self.rows, &found);
-        scratch.fill(&self.rows, &places);
+        let at = place_in_rows(&self.rows, id);
+        mark_component(&self.rows, &self.components, at, scratch);
     }
 }

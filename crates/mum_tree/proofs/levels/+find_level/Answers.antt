@@ -35,7 +35,7 @@ find_level-requires t c =
     let shorter = way_shorter rows row.channel.id row c.requires.lead found c.if-row.false in
     let here = ap (λ (r : Row). length (upward rows 33 r.channel.id)) (get_or_read rows c.args.at row c.requires.there c.index-rows-at.is root_row) in
     let above = ap (λ (id : ChannelId). length (upward rows 33 id)) (c.place_in_rows-above.ensures.is root_row) in
-    (omega (arith, c.decreases), (c.requires.rise, (c.requires.lead, (c.requires.seated, (c.requires.seats, (c.place_in_rows-above.ensures.within, (c.requires.room, c.requires.right)))))))
+    (omega (arith, c.decreases), (c.requires.rise, (c.requires.lead, (c.requires.places_fit, (c.requires.places_apart, (c.place_in_rows-above.ensures.within, (c.requires.room, c.requires.right)))))))
 
 pub one_further-level-requires : goal.one_further-level-requires
 one_further-level-requires t c =
@@ -59,7 +59,7 @@ returns-clause-kept t c =
     let found = row_found rows c.args.at row c.requires.rise c.requires.there c.index-rows-at.is in
     let above = c.find_level.ensures.value root_row ∙ ap (level rows c.args.top) (c.place_in_rows-above.ensures.is root_row) in
     let here = c.one_further-level.ensures ∙ ap (option_map (λ (k : ℕ). k + 1)) above ∙ level_under rows c.args.top row.channel.id row c.requires.lead found c.if-row-top.false c.if-row.false in
-    let seated : (get_or rows c.args.at row).place < 1024 = c.requires.seated c.args.at row c.requires.there in
+    let places_fit : (get_or rows c.args.at row).place < 2048 = c.requires.places_fit c.args.at row c.requires.there in
     let same : row.place ≡ (get_or rows c.args.at row).place = ap (λ (r : Row). r.place) c.index-rows-at.is in
     let inside : row.place < length c.find_level.new.known = omega (arith, c.requires.room, c.find_level.auto.known) in
-    levels_set rows c.args.top c.find_level.new.known c.args.at row c.one_further-level.result c.requires.there c.index-rows-at.is inside c.requires.seats here c.find_level.ensures.kept
+    levels_set rows c.args.top c.find_level.new.known c.args.at row c.one_further-level.result c.requires.there c.index-rows-at.is inside c.requires.places_apart here c.find_level.ensures.kept

@@ -1,7 +1,11 @@
-use Rattle.std.proofs.Common.{◌≡◌, false, take}
+use Rattle.std.proofs.Common.{◌≡◌, false, length, take}
 use Rattle.std.specs.List.{list_any}
-use Rattle.mum_tree.specs.Rows.{nests}
+use Rattle.mum_tree.specs.Rows.{nests, AreLevels}
 use Rattle.mum_tree.proofs.levels.nests_too_deep.Given as goal
 
-abbrev pub invariant-loop-row : goal.invariant-loop-row
-invariant-loop-row l = list_any (nests l.rows l.fn.id l.fn.parent) (take l.row-index l.rows) ≡ false
+abbrev pub invariant-loop-at : goal.invariant-loop-at
+invariant-loop-at l = record {
+  room : length l.known ≡ 2048;
+  right : AreLevels l.rows l.fn.id l.known;
+  none : list_any (nests l.rows l.fn.id l.fn.parent) (take l.at l.rows) ≡ false;
+}

@@ -1,4 +1,4 @@
-use Rattle.std.proofs.Common.{◌≡◌, ◌<◌, ◌∙◌, true, length, get_or, arith, refl, ap, length-set}
+use Rattle.std.proofs.Common.{◌≡◌, ◌<◌, ◌∙◌, Bool, true, false, List, length, get_or, arith, refl, ap, length-set}
 use Rattle.std.proofs.lemmas.List.{get_or_default, take_all}
 use Rattle.mum_tree.specs.declared.channel.Row.{Row}
 use Rattle.mum_base.specs.Channels.{is_among}
@@ -6,7 +6,14 @@ use Rattle.mum_tree.proofs.Marks.{mark_more, none_marked}
 use Rattle.mum_tree.proofs.rows.places_of.Goals as goal
 
 pub loop-id-init : goal.loop-id-init
-loop-id-init c = record { whole = refl; done = λ k d within. none_marked 1024 (get_or c.args.rows.now k d).place }
+loop-id-init c =
+    let cleared = c.clear.ensures in
+    record {
+      whole = ap (λ (marks : List Bool). length marks) cleared;
+      done = λ k d within.
+          let place = (get_or c.args.rows.now k d).place in
+          ap (λ (marks : List Bool). get_or marks place false) cleared ∙ none_marked 2048 place;
+    }
 
 pub loop-id-preserved : goal.loop-id-preserved
 loop-id-preserved c =
@@ -20,12 +27,12 @@ loop-id-preserved c =
     let here = c.index-rows-place_in_rows.is in
     let id = row.channel.id in
     let read = ap (λ (r : Row). r.channel.id) here ∙ c.place_in_rows.ensures.is row ∙ get_or_default ids i _ id c.loop-id-test.true in
-    let seated : (get_or rows at row).place < 1024 = c.requires.seated at row within in
+    let places_fit : (get_or rows at row).place < 2048 = c.requires.places_fit at row within in
     let same : row.place ≡ (get_or rows at row).place = ap (λ (r : Row). r.place) here in
     let inside : row.place < length marks = omega (arith, c.loop-id.invariant.whole) in
     record {
       whole = length-set marks row.place true ∙ c.loop-id.invariant.whole;
-      done = mark_more rows marks ids i id id at row row c.requires.rise c.requires.seats c.loop-id-test.true read within here refl inside c.loop-id.invariant.done;
+      done = mark_more rows marks ids i id id at row row c.requires.rise c.requires.places_apart c.loop-id-test.true read within here refl inside c.loop-id.invariant.done;
     }
 
 pub returns : goal.returns

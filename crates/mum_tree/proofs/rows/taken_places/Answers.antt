@@ -1,23 +1,26 @@
-use Rattle.std.proofs.Common.{◌≡◌, ◌<◌, ◌∙◌, true, length, get_or, arith, refl, ap, length-set}
+use Rattle.std.proofs.Common.{◌≡◌, ◌<◌, ◌∙◌, Bool, true, false, List, length, get_or, arith, refl, ap, subst, length-set}
+use Rattle.std.specs.List.{count_by}
 use Rattle.std.proofs.lemmas.Bool.{false≢true}
 use Rattle.mum_tree.specs.declared.channel.Row.{Row}
 use Rattle.mum_tree.proofs.Places.{count_set, count_none, none_taken, free_more, taken_more}
 use Rattle.mum_tree.proofs.rows.taken_places.Goals as goal
 
 pub loop-row-init : goal.loop-row-init
-loop-row-init c = record {
-  whole = refl;
-  free = λ place inside unset k d below. absurd (omega arith);
-  taken = λ place held free. false≢true (none_taken 1024 place held refl);
-  count = omega (arith, count_none 1024);
-}
+loop-row-init c =
+    let cleared = c.clear.ensures in
+    record {
+      whole = ap (λ (marks : List Bool). length marks) cleared;
+      free = λ place inside unset k d below. absurd (omega arith);
+      taken = λ place held free. false≢true (none_taken 2048 place (subst (λ (marks : List Bool). get_or marks place false ≡ true) cleared held) refl);
+      count = omega (arith, count_none 2048, ap (λ (marks : List Bool). count_by (λ one. one) marks) cleared);
+    }
 
 pub loop-row-preserved : goal.loop-row-preserved
 loop-row-preserved c =
     let row = c.row-item.result in
     let rows = c.args.rows.now in
     let i = c.loop-row.row-index in
-    let seated : (get_or rows i row).place < 1024 = c.requires i row c.loop-row-test.true in
+    let places_fit : (get_or rows i row).place < 2048 = c.requires.places_fit i row c.loop-row-test.true in
     let same : row.place ≡ (get_or rows i row).place = ap (λ (r : Row). r.place) c.row-item.is in
     let inside : row.place < length c.loop-row.taken = omega arith in
     record {

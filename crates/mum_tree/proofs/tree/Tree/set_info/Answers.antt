@@ -1,33 +1,43 @@
-use Rattle.std.proofs.Common.{◌≡◌, List, ap, sym, subst, set, None}
+use Rattle.std.proofs.Common.{◌≡◌, ◌<◌, List, length, refl, ap, sym, subst, set, None}
 use Rattle.mum_tree.specs.declared.channel.Row.{Row}
-use Rattle.mum_tree.specs.declared.channel.TheConstants.{CHANNEL_LIMIT}
+use Rattle.mum_tree.specs.Components.{AreComponents}
 use Rattle.mum_tree.specs.Proper.{IsProper}
 use Rattle.mum_tree.specs.Refusals.{fault_of_set_info}
 use Rattle.mum_tree.specs.State.{TreeState, changed, with_channel}
 use Rattle.mum_tree.proofs.Edits.{informed, informing}
+use Rattle.mum_tree.proofs.Numbered.{components_set}
 use Rattle.mum_tree.proofs.tree.Tree.set_info.Goals as goal
 use Rattle.mum_tree.proofs.tree.Tree.set_info.Goals.{After-index_mut-row}
 
 -- the tree as it was
 abbrev before : After-index_mut-row → TreeState
-before c = record { channels = c.self.inside.rows.items; links = c.self.inside.links.items; greatest = c.self.inside.greatest }
+before c = record { channels = c.self.inside.rows.items; links = c.self.inside.links.items; greatest = c.self.inside.greatest; limit = c.self.inside.limit }
 
 -- the tree with these rows
 abbrev with_rows : After-index_mut-row → List Row → TreeState
-with_rows c rows = record { channels = rows; links = c.self.inside.links.items; greatest = c.self.inside.greatest }
+with_rows c rows = record { channels = rows; links = c.self.inside.links.items; greatest = c.self.inside.greatest; limit = c.self.inside.limit }
 
 -- the rows as they are left
 abbrev left : After-index_mut-row → List Row
 left c = set c.self.inside.rows.items c.in-Some.at (record c.index_mut-row.result.now { channel = informed c.args.info c.index_mut-row.result.now.channel })
 
-done : (c : After-index_mut-row) → (fault_of_set_info (before c) c.args.id ≡ None) × (left c ≡ changed c.args.id (informed c.args.info) c.self.inside.rows.items) × IsProper CHANNEL_LIMIT (with_channel (before c) c.args.id (informed c.args.info))
-done c = informing (before c) _ c.in-Some.at c.args.id c.index_mut-row.result.now c.args.info c.self.invariant c.deref.ensures.value (c.in-Some.ensures {u = tt}) c.index_mut-row.ensures.value
+done : (c : After-index_mut-row) → (fault_of_set_info (before c) c.args.id ≡ None) × (left c ≡ changed c.args.id (informed c.args.info) c.self.inside.rows.items) × IsProper (with_channel (before c) c.args.id (informed c.args.info))
+done c = informing (before c) _ c.in-Some.at c.args.id c.index_mut-row.result.now c.args.info c.self.invariant.proper c.deref.ensures.value (c.in-Some.ensures {u = tt}) c.index_mut-row.ensures.value
 
-proper : (c : After-index_mut-row) → IsProper CHANNEL_LIMIT (with_rows c (left c))
-proper c = let (allowed, made, proper) = done c in subst (λ (rows : List Row). IsProper CHANNEL_LIMIT (with_rows c rows)) (sym made) proper
+proper : (c : After-index_mut-row) → IsProper (with_rows c (left c))
+proper c = let (allowed, made, proper) = done c in subst (λ (rows : List Row). IsProper (with_rows c rows)) (sym made) proper
+
+numbered : (c : After-index_mut-row) → AreComponents (left c) c.self.inside.links.items c.self.inside.components.items
+numbered c =
+    components_set c.self.inside.rows.items c.self.inside.links.items c.self.inside.components.items c.in-Some.at c.index_mut-row.result.now
+    (record c.index_mut-row.result.now { channel = informed c.args.info c.index_mut-row.result.now.channel })
+    (subst (λ (rows : List Row). c.in-Some.at < length rows) c.deref.ensures.value (c.in-Some.ensures {u = tt}).0)
+    c.index_mut-row.ensures.value refl c.self.invariant.numbered
 
 pub invariant_of-self : goal.invariant_of-self
-invariant_of-self c = proper (goal.at.invariant_of-self c).After-index_mut-row
+invariant_of-self c =
+    let end = (goal.at.invariant_of-self c).After-index_mut-row in
+    record { proper = proper end; numbered = numbered end }
 
 pub returns-clause-made : goal.returns-clause-made
 returns-clause-made c =

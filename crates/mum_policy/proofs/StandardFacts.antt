@@ -1,5 +1,5 @@
--- What the Murmur manual says of access control lists and groups, worked out on three channels.
-use Rattle.std.proofs.Common.{◌≡◌, ℕ, ◌+◌, ◌-◌, ◌==◌, true, false, List, [], ◌∷◌, ◌++◌, codes, filter, replicate, Some, None, refl, if◌then◌else◌}
+-- What the Murmur manual says of access control lists and groups, worked out on a chain of channels.
+use Rattle.std.proofs.Common.{◌≡◌, ℕ, ◌+◌, ◌-◌, ◌==◌, Bool, true, false, List, [], ◌∷◌, ◌++◌, codes, filter, map, replicate, take, Some, None, refl, if◌then◌else◌}
 use Rattle.std.specs.List.{slice_split}
 use Rattle.mum_base.specs.declared.number.ChannelId.{ChannelId}
 use Rattle.mum_base.specs.declared.perm.Perm.{Perm}
@@ -10,21 +10,26 @@ use Rattle.mum_policy.specs.declared.policy.Whom.{Whom}
 use Rattle.mum_policy.specs.Limits.{is_large_policy}
 use Rattle.mum_policy.specs.Member.{Asker, PolicyMap, definition, definitions_from, has_token, is_in, is_listed, meets, member, members}
 use Rattle.mum_policy.specs.Name.{asked_by, is_built_in_without_members, meaning, understood_after}
+use Rattle.mum_policy.specs.Subtree.{is_below, offset_of, span_of}
 use Rattle.mum_policy.specs.Walk.{after_channel, after_entries, after_match, along, is_root, matches, perm}
 use Rattle.mum_policy.proofs.Scenes.{account, afresh, channel, defines, defines_and, denies, entry, everybody, grants, group, not_inheritable, not_inheriting, nowhere, one, only_below, only_here, plain, policy, the_account, those_in, two}
 
--- ---- the channels: the root, A below it, and B below A
+-- ---- the channels: the root, A below it, B below A, and C below B
+
+-- the path to the channel of this number
+abbrev path_to : ℕ → List ChannelId
+path_to number = take (number + 1) (map channel (0 ∷ 1 ∷ 2 ∷ 3 ∷ []))
 
 abbrev at_root : List ChannelId
-at_root = channel 0 ∷ []
+at_root = path_to 0
 
 abbrev at_a : List ChannelId
-at_a = channel 0 ∷ channel 1 ∷ []
+at_a = path_to 1
 
 abbrev at_b : List ChannelId
-at_b = channel 0 ∷ channel 1 ∷ channel 2 ∷ []
+at_b = path_to 2
 
--- their policies, from the root down
+-- the policies of the first three, from the root down
 abbrev policies : ChannelPolicy → ChannelPolicy → ChannelPolicy → PolicyMap
 policies root a b id =
     if id.0 == 0 then Some root
@@ -32,16 +37,16 @@ policies root a b id =
     else if id.0 == 2 then Some b
     else None
 
--- ---- askers: in the root, without an account or with this one
+-- ---- sessions: in the root, without an account or with this one
 
 abbrev pub guest : Asker
-guest = record { account = None; channel = channel 0; tokens = [] }
+guest = record { account = None; channel = channel 0; home = at_root; tokens = [] }
 
 abbrev pub holder : ℕ → Asker
 holder number = record guest { account = Some (account number) }
 
 abbrev pub placed_in : ℕ → Asker → Asker
-placed_in number who = record who { channel = channel number }
+placed_in number who = record who { channel = channel number; home = path_to number }
 
 abbrev pub with_tokens : List (List ℕ) → Asker → Asker
 with_tokens tokens who = record who { tokens = tokens }
@@ -92,6 +97,8 @@ pub record WalksGoOn : Type 0 where
       rights (one (entry everybody WRITE WRITE)) (one (denies everybody TRAVERSE)) plain guest ≡ (start, 0, 0)
   pub a_denial_in_the_asked_channel_alone_ends_the_walk :
       rights plain (one (only_here (denies everybody TRAVERSE))) (afresh plain) guest ≡ (start, 0, 0)
+  pub a_channel_may_be_closed_and_one_below_it_open :
+      rights plain (one (denies (those_in (codes "in")) TRAVERSE)) plain (placed_in 1 guest) ≡ (start, 0, start)
 
 pub walks_go_on : WalksGoOn
 unfolding rights
@@ -204,7 +211,7 @@ words text = slice_split (λ letter. letter == 32) text
 
 -- those of the names whose groups the session is in
 pub groups_of : Asker → List (List ℕ) → List (List ℕ)
-unfolding member meets is_in has_token is_listed members definition definitions_from understood_after asked_by meaning is_built_in_without_members
+unfolding member meets is_in has_token is_listed members definition definitions_from understood_after asked_by meaning is_built_in_without_members is_below span_of offset_of
 groups_of who names =
     let in_b = policy (group (codes "admin") (5 ∷ []) [] ∷ group (codes "subs") (5 ∷ []) [] ∷ group (codes "none") (5 ∷ []) [] ∷ []) [] in
     filter (λ name. member (policies plain plain in_b) at_b 1 name who) names
@@ -228,12 +235,12 @@ zoe = codes "zo" ++ small_e
 -- negated (`!`), chosen in A (`~`), a token (`#`), and names that match nobody; a first space is the empty name
 abbrev pub that_hold_of_both : List (List ℕ)
 that_hold_of_both =
-    words (codes "all in !~admin ! !none !out !strong !sub !sub,0,0 ~all ~out !! !!none !!out !~ !~none !~in ~! ~!none ~!in ~~all ~~out !!!~in")
+    words (codes "all in !~admin ! !none !out !strong sub sub, sub,0,0 ~all ~out !! !!none !!out !~ !~none !~in ~! ~!none ~!in ~~all ~~out !!!~in")
     ++ words (codes "#secret #Secret #SECRET !# ~#secret !$ !$all !~$all")
 
 abbrev pub that_hold_of_neither : List (List ℕ)
 that_hold_of_neither =
-    words (codes " none out strong sub sub, sub,0,0 All IN ~admin nobody !all !in ~ ~none ~in !!all !!in !~all !~out ~!all ~!out ~~ ~~none ~~in")
+    words (codes " none out strong !sub !sub,0,0 All IN ~admin nobody !all !in ~ ~none ~in !!all !!in !~all !~out ~!all ~!out ~~ ~~none ~~in")
     ++ words (codes "#secre #secrets # !#Secret !~#secret ##secret #!secret #$ $ $all $#secret ~$ a!")
 
 pub record NamesMean : Type 0 where
@@ -253,6 +260,58 @@ pub record NamesMean : Type 0 where
 pub names_mean : NamesMean
 unfolding groups_of
 names_mean = search
+
+-- ---- groups of subtrees, for an ACL of A
+
+-- whether a session in A, in B and in C is in the group, asked in the channel of this number
+pub in_subtree : ℕ → List ℕ → Bool × Bool × Bool
+unfolding member meets is_listed understood_after asked_by meaning is_built_in_without_members is_below span_of offset_of
+in_subtree asked name =
+    let is_in_group : ℕ → Bool = λ number. member (λ id. None) (path_to asked) 1 name (placed_in number guest) in
+    (is_in_group 1, is_in_group 2, is_in_group 3)
+
+pub record SubtreesMean : Type 0 where
+  pub those_below : in_subtree 2 (codes "sub") ≡ (false, true, true)
+  pub the_channel_itself_too : in_subtree 2 (codes "sub,0,0") ≡ (true, true, true)
+  pub at_one_depth : in_subtree 2 (codes "sub,0,2,2") ≡ (false, false, true)
+  pub those_below_the_channel_one_step_down : in_subtree 2 (codes "sub,1") ≡ (false, false, true)
+  pub no_step_down_where_the_list_is_asked : in_subtree 1 (codes "sub,1") ≡ (false, false, false)
+  pub those_below_the_root : in_subtree 2 (codes "sub,-5") ≡ (true, true, true)
+  pub an_argument_that_is_no_number : in_subtree 2 (codes "sub,x") ≡ (false, false, false)
+  pub all_where_the_path_ends_before : in_subtree 2 (codes "!sub,5") ≡ (true, true, true)
+
+pub subtrees_mean : SubtreesMean
+unfolding in_subtree
+subtrees_mean = search
+
+abbrev all_three : Bool × Bool × Bool
+all_three = (true, true, true)
+
+abbrev none_of_them : Bool × Bool × Bool
+none_of_them = (false, false, false)
+
+pub record ArgumentsAreRead : Type 0 where
+  pub empty_arguments_have_their_defaults :
+      (in_subtree 2 (codes "sub,") ≡ (false, true, true)) × (in_subtree 2 (codes "sub,,,") ≡ (false, true, true))
+      × (in_subtree 2 (codes "sub,,2") ≡ (false, false, true)) × (in_subtree 2 (codes "sub,,,1") ≡ (false, true, false))
+  pub four_arguments : (in_subtree 2 (codes "sub,0,1,9,9") ≡ none_of_them) × (in_subtree 2 (codes "sub,,,,") ≡ none_of_them)
+  pub a_plus_is_no_sign : in_subtree 2 (codes "sub,+1") ≡ none_of_them
+  pub five_digits : (in_subtree 2 (codes "sub,12345") ≡ none_of_them) × (in_subtree 2 (codes "sub,0,-00001") ≡ none_of_them)
+  pub four_digits : (in_subtree 2 (codes "sub,-9999,0000,0009") ≡ all_three)
+  pub a_sign_without_digits : (in_subtree 2 (codes "sub,-") ≡ none_of_them) × (in_subtree 2 (codes "sub,--1") ≡ none_of_them)
+  pub a_space : in_subtree 2 (codes "sub, 1") ≡ none_of_them
+  pub a_negation_of_what_is_no_number : in_subtree 2 (codes "!sub,x") ≡ all_three
+  pub depths_above_the_channel :
+      (in_subtree 2 (codes "sub,0,-3,-1") ≡ none_of_them) × (in_subtree 2 (codes "sub,1,-1") ≡ (false, true, true))
+      × (in_subtree 2 (codes "sub,0,-3,0") ≡ (true, false, false))
+  pub the_prefix_has_no_effect :
+      (in_subtree 2 (codes "~sub") ≡ (false, true, true)) × (in_subtree 2 (codes "~sub,1") ≡ (false, false, true))
+      × (in_subtree 2 (codes "!~sub,1") ≡ (true, true, false))
+  pub other_words_are_groups_of_channels : (in_subtree 2 (codes "subs") ≡ none_of_them) × (in_subtree 2 (codes "Sub") ≡ none_of_them)
+
+pub arguments_are_read : ArgumentsAreRead
+unfolding in_subtree
+arguments_are_read = search
 
 -- ---- which of the accounts 5 to 9 are in `admin`, in the root, in A and in B
 

@@ -7,7 +7,7 @@ ghost use Rattle.mum_policy.specs.Member.{IsFound};
 use crate::policy::{ChannelPolicy, Policies};
 use mum_base::ChannelId;
 
-/// The most channels of a path whose policies are kept while it is walked. A tree has no longer path.
+/// The most policies of a path that are kept during a walk. No path of a tree is longer.
 pub(crate) const KEPT: usize = 33;
 
 /// The policies of the first channels of a path, by their places.
@@ -26,7 +26,7 @@ pub(crate) fn found_on<'a, P: Policies>(
     found
 }
 
-/// The policy of the channel at a place, if it is not among those that were found, looked up.
+/// The policy of the channel at a place, which is looked up where it is not among those that were found.
 pub(crate) fn policy_at<'a, P: Policies>(
     policies: &'a P,
     found: &[Option<&'a ChannelPolicy>],

@@ -9,6 +9,7 @@ ghost use Rattle.mum_policy.specs.Member.{IsFound, asker_of, definition, definit
 use crate::found::policy_at;
 use crate::name::{Asked, understand};
 use crate::policy::{ChannelPolicy, Group, Policies, Who};
+use crate::subtree::is_below;
 use mum_base::{AccountId, ChannelId, Text};
 
 fn is_token(token: &Text, word: &[u8]) -> bool
@@ -37,7 +38,7 @@ fn named<'a>(policy: &'a ChannelPolicy, name: &[u8]) -> Option<&'a Group>
         .find(|group| group.name.as_slice() == name)
 }
 
-// Whether the definition removes the account (false), else adds it (true), else says nothing of it.
+// Whether the definition removes the account (false), else adds it (true), else does not name it.
 fn decides(group: &Group, account: AccountId) -> Option<bool>
     ensures { result ≡ (if lists group.now.remove account then Some false
         else if lists group.now.add account then Some true else None) }
@@ -71,7 +72,7 @@ fn definition_of<'a, P: Policies>(
 }
 
 // Whether the account is in the group that the channels of the path define, the last of them chosen.
-// The nearest definition that speaks of the account decides.
+// The nearest definition that names the account decides.
 fn is_in_defined<'a, P: Policies>(
     policies: &'a P,
     found: &[Option<&'a ChannelPolicy>],
@@ -103,8 +104,10 @@ fn is_in_defined<'a, P: Policies>(
     false
 }
 
-/// Whether the session is in the group of this name, asked for an entry of the channel at `acl_at` of
-/// the path, in the channel that ends the path. The name may have the prefixes `!`, `~`, `#` and `$`.
+/// Whether the session is in the group of this name, evaluated for the channel that ends the path and
+/// an entry of the channel at `acl_at` of it. The name may have the prefixes `!`, `~`, `#` and `$`. The
+/// answer means what the manual says where `who.home` is the path from the root to `who.channel`; it is
+/// taken as it is given.
 pub fn is_member<P: Policies>(
     policies: &P,
     path: &[ChannelId],
@@ -145,7 +148,7 @@ fn is_in(path: &[ChannelId], place: usize, who: &Who) -> bool
     chosen == who.channel
 }
 
-// Whether the session is what is asked. The channel of the ACL is chosen, or the last of the path.
+// Whether the session meets what is asked. The channel of the ACL is chosen, or the last of the path.
 #[tactic(auto, unfolding(crate::specs::Member::meets, crate::specs::Member::is_listed))]
 fn meets_asked<'a, P: Policies>(
     policies: &'a P,
@@ -169,6 +172,7 @@ fn meets_asked<'a, P: Policies>(
         Asked::Inside => is_in(path, chosen, who),
         Asked::Outside => !is_in(path, chosen, who),
         Asked::Token(word) => one_is(who.tokens, word),
+        Asked::Subtree(span) => is_below(path, acl_at, span, who.home),
         Asked::Defined(name) => match who.account {
             Some(account) => is_in_defined(policies, found, &path[..=chosen], name, account),
             None => false,

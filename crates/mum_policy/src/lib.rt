@@ -5,8 +5,10 @@
 
 mod found;
 pub mod group;
+pub mod laws;
 pub mod name;
 pub mod policy;
+mod subtree;
 pub mod walk;
 
 pub use group::is_member;

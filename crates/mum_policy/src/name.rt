@@ -1,7 +1,9 @@
 //! How a group name is understood.
 
 ghost use Rattle.std.specs.Prelude.{◌≡◌};
-ghost use Rattle.mum_policy.specs.Name.{asked_by, asks_of, is_built_in_without_members, meaning, reading_of, understood};
+ghost use Rattle.mum_policy.specs.Name.{asked_by, asks_of, subtree_or_nobody, is_built_in_without_members, meaning, reading_of, understood};
+
+use crate::subtree::{Span, parse_span};
 
 /// What a group name asks of a session, behind its prefixes.
 #[derive(Clone, Copy)]
@@ -16,6 +18,8 @@ pub(crate) enum Asked<'a> {
     Outside,
     /// The session has this token.
     Token(&'a [u8]),
+    /// The session is in a subtree, within a span of depths.
+    Subtree(Span),
     /// The account of the session is in the group that channels define by this name.
     Defined(&'a [u8]),
 }
@@ -24,7 +28,7 @@ pub(crate) enum Asked<'a> {
 #[derive(Clone, Copy)]
 pub(crate) struct GroupName<'a> {
     pub(crate) negated: bool,
-    /// Whether the channel that holds the entry is chosen, and not the one that is asked.
+    /// Whether the channel of the list is chosen, and not the channel whose permissions are asked.
     pub(crate) at_acl: bool,
     pub(crate) asked: Asked<'a>,
 }
@@ -33,10 +37,16 @@ pub(crate) struct GroupName<'a> {
 fn has_no_members(word: &[u8]) -> bool
     ensures { result ≡ is_built_in_without_members word.now }
 {
-    word == b"none".as_slice()
-        || word == b"strong".as_slice()
-        || word == b"sub".as_slice()
-        || word.starts_with(b"sub,")
+    word == b"none".as_slice() || word == b"strong".as_slice()
+}
+
+fn asked_subtree(span: Option<Span>) -> Asked<'static>
+    ensures { asks_of result ≡ subtree_or_nobody span }
+{
+    match span {
+        Some(span) => Asked::Subtree(span),
+        None => Asked::Nobody,
+    }
 }
 
 #[tactic(auto, unfolding(crate::specs::Name::meaning))]
@@ -53,12 +63,16 @@ fn meaning_of(word: &[u8]) -> Asked<'_>
         Asked::Outside
     } else if has_no_members(word) {
         Asked::Nobody
+    } else if word == b"sub".as_slice() {
+        asked_subtree(parse_span(None))
+    } else if word.starts_with(b"sub,") {
+        asked_subtree(parse_span(Some(&word[4..])))
     } else {
         Asked::Defined(word)
     }
 }
 
-// What stands behind the prefixes `!` and `~`.
+// What follows the prefixes `!` and `~`.
 #[tactic(auto, unfolding(crate::specs::Name::asked_by))]
 fn asked_behind(name: &[u8]) -> Asked<'_>
     ensures { asks_of result ≡ asked_by name.now }

@@ -45,7 +45,7 @@ fn copy_of_accounts(alloc: Global, accounts: &[AccountId]) -> Result<Items<Accou
 }
 
 impl Group {
-    /// A group of its own that is equal.
+    /// An equal copy. It shares the text of the name.
     pub fn copy(&self, alloc: Global) -> Result<Group, OutOfMemory>
         ensures { IfOk result (λ copy. copy ≡ self.now) }
     {
@@ -65,7 +65,7 @@ fn is_large(group: &Group) -> bool
     group.add.as_slice().len() > GROUP_ACCOUNTS || group.remove.as_slice().len() > GROUP_ACCOUNTS
 }
 
-/// Whom an entry speaks of.
+/// Whom an entry is for.
 #[derive(Drop)]
 pub enum Whom {
     Account(AccountId),
@@ -74,7 +74,7 @@ pub enum Whom {
 }
 
 impl Whom {
-    /// The same once more, without a copy of the name.
+    /// An equal copy, which shares the text of the name.
     pub fn share(&self) -> Result<Whom, OutOfMemory>
         ensures { IfOk result (λ shared. shared ≡ self.now) }
     {
@@ -108,7 +108,7 @@ pub struct AclEntry {
 }
 
 impl AclEntry {
-    /// The same entry once more, without a copy of the name.
+    /// An equal copy, which shares the text of the name.
     pub fn share(&self) -> Result<AclEntry, OutOfMemory>
         ensures { IfOk result (λ shared. shared ≡ self.now) }
     {
@@ -125,7 +125,7 @@ impl AclEntry {
 /// The groups and the access control list of a channel.
 #[derive(Drop)]
 pub struct ChannelPolicy {
-    /// Whether what the channels above leave holds here at first; else it is the start set.
+    /// Whether the set begins with what the channels above leave; else with the start set.
     pub inherit_acls: bool,
     pub groups: Items<Group>,
     /// The entries in the order in which they are taken.
@@ -165,7 +165,7 @@ fn has_long_name(entries: &[AclEntry]) -> bool
 }
 
 impl ChannelPolicy {
-    /// A policy of its own that is equal.
+    /// An equal copy. It shares the texts of names.
     pub fn copy(&self, alloc: Global) -> Result<ChannelPolicy, OutOfMemory>
         ensures { IfOk result (λ copy. copy ≡ self.now) }
     {
@@ -198,6 +198,8 @@ pub struct Who<'a> {
     pub account: Option<AccountId>,
     /// The channel in which the session is.
     pub channel: ChannelId,
+    /// The path from the root to `channel`. Only the group `sub` depends on it.
+    pub home: &'a [ChannelId],
     /// The access tokens that the session gave.
     pub tokens: &'a [Text],
 }
@@ -208,10 +210,10 @@ pub trait Policies {
     ghost use Rattle.mum_base.specs.declared.number.ChannelId.{ChannelId};
     ghost use Rattle.mum_policy.specs.declared.policy.ChannelPolicy.{ChannelPolicy};
 
-    /// The policy of each channel that is there.
+    /// The policy of each channel that exists.
     ghost policy_of: { Self → ChannelId → Option ChannelPolicy };
 
-    /// The policy of this channel; None exactly where there is no such channel.
+    /// The policy of this channel; None exactly where no such channel exists.
     fn policy(&self, id: ChannelId) -> Option<&ChannelPolicy>
         ensures { option_copied result ≡ policy_of self.now id };
 }

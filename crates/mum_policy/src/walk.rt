@@ -18,7 +18,7 @@ pub(crate) struct Walk {
     pub(crate) set: Perm,
     /// Whether the session may pass the channels so far.
     pub(crate) traverse: bool,
-    /// Whether Write was granted on the way, which lets it pass too.
+    /// Whether Write was granted on the way, with which it may pass too.
     pub(crate) write: bool,
 }
 
@@ -39,7 +39,7 @@ impl Walk {
         self.traverse || self.write
     }
 
-    // Into a channel that inherits, or not.
+    // The walk on entering a channel that inherits, or not.
     fn enter(self, inherit: bool) -> Walk
         ensures { result ≡ entering inherit self }
     {
@@ -53,7 +53,7 @@ impl Walk {
         }
     }
 
-    // Past a matching entry, of the asked channel or of one above.
+    // The walk after an entry that matches, of the asked channel or of one above.
     #[tactic(auto, unfolding(crate::specs::Walk::after_match))]
     fn pass(self, entry: &AclEntry, asked: bool) -> Walk
         ensures { result ≡ after_match asked entry.now self }
@@ -77,7 +77,7 @@ fn is_held(set: Perm, bits: Perm) -> bool
     set.has(bits)
 }
 
-// The mark of a permission: set where it is granted, and then cleared where it is denied.
+// The mark of a permission, which an entry sets where it grants it, and then clears where it denies it.
 fn marked(mark: bool, entry: &AclEntry, bit: Perm) -> bool
     ensures { result ≡ marked mark entry.now bit.0 }
 {
@@ -93,7 +93,7 @@ fn is_of(who: &Who, account: AccountId) -> bool
     }
 }
 
-// Whether an entry of the channel at this place of the path speaks of the session.
+// Whether an entry of the channel at this place of the path matches.
 #[tactic(auto, unfolding(crate::specs::Walk::matches))]
 fn speaks_of<'a, P: Policies>(
     policies: &'a P,
@@ -113,7 +113,7 @@ fn speaks_of<'a, P: Policies>(
     }
 }
 
-// Past the channel at this place of the path, which has this policy. A step is an entry.
+// The walk after the channel at this place of the path, which has this policy. A step is an entry.
 fn pass_channel<'a, P: Policies, L: Ledger>(
     policies: &'a P,
     found: &[Option<&'a ChannelPolicy>],
@@ -151,7 +151,7 @@ fn full_permissions(on_root: bool) -> Perm
     }
 }
 
-// What a set at the end of a walk gives.
+// What the session may do, by the set at the end of a walk.
 fn finish(on_root: bool, set: Perm) -> Perm
     ensures { result.0 ≡ finished on_root set.0 }
 {
@@ -176,7 +176,8 @@ fn ends_at_root(path: &[ChannelId]) -> bool
 }
 
 /// What the session may do in the last channel of the path, which leads there from the root. A step
-/// is counted for each entry that is read.
+/// is counted for each entry that is read. `who.home` is to be the path from the root to `who.channel`,
+/// as in `is_member`.
 pub fn permissions<P: Policies, L: Ledger>(
     policies: &P,
     path: &[ChannelId],
@@ -222,7 +223,7 @@ fn counted<P: Policies, L: Ledger>(
     permissions(policies, path, who, &mut steps)
 }
 
-/// What the session may do in the last channel of the path, for those who count no steps.
+/// The same without a count of steps.
 pub fn permitted<P: Policies>(policies: &P, path: &[ChannelId], who: &Who) -> Perm
     requires root { BeginsAtRoot path.now }
     requires there { All (λ channel. IsSome (P.policy_of policies.now channel)) path.now }

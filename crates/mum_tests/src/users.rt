@@ -1,7 +1,7 @@
 //! A change of several parts of a session, where memory runs out on the way.
 
-use mum_base::{ChannelId, Text};
-use mum_users::{FlagChange, Roster, UserChange, UserFault};
+use mum_base::{ChannelId, Items, Text};
+use mum_users::{ChannelList, FlagChange, Roster, UserChange, UserFault};
 use std::test::Fail;
 
 const NO_FLAG: FlagChange = FlagChange {
@@ -21,6 +21,9 @@ fn a_change_is_whole_or_none(rt: HostRuntime) -> Result<(), Fail> {
     let ann = roster.join("ann", None, &[])?;
     roster.listen(ann, ChannelId(6))?;
     let comment = Text::of(rt.alloc(), "hello")?;
+    let mut named = Items::new(rt.alloc());
+    named.push(ChannelId(6))?;
+    let left = ChannelList::from_items(rt.alloc(), named)?;
     let change = UserChange {
         channel: Some(ChannelId(3)),
         flags: FlagChange {
@@ -30,7 +33,7 @@ fn a_change_is_whole_or_none(rt: HostRuntime) -> Result<(), Fail> {
         comment: Some(&comment),
         context: Some(b"game"),
         listen: &[ChannelId(4), ChannelId(5)],
-        unlisten: &[ChannelId(6)],
+        unlisten: &left,
     };
     let done = match roster.edit(ann, &change) {
         Ok(()) => true,

@@ -26,6 +26,7 @@ use Rattle.mum_users.proofs.Pairs.{Rises-put}
 use Rattle.mum_users.proofs.PairCounts.{count-put, count-put_other}
 use Rattle.mum_users.proofs.Places.{absent_from, present_from}
 use Rattle.mum_users.proofs.Rosters.{IsProper-changed, apart_from, set-changed}
+use Rattle.mum_users.proofs.Silence.{changed_user_keeps}
 
 -- ---- one pair
 
@@ -293,17 +294,19 @@ not_crowded pairs (other ∷ channels) channel none there = split (eqb other.0 c
         omega (arith, few, ap (λ (n : ℕ). count_by (λ (pair : ListenerPair). eqb pair.channel.0 n) pairs) (eqb-true _ _ e))
     split false e rest = rest (rw e at there)
 
-pub IsProper-edited : {limit : ℕ} (state : RosterState) (session : SessionId) (change : UserEdit) → IsProper limit state → list_any (has_number session) state.sessions ≡ true
+pub IsProper-edited : (state : RosterState) (session : SessionId) (change : UserEdit) → IsProper state → list_any (has_number session) state.sessions ≡ true
     → list_any (is_crowded (pairs_after session change state.listeners)) change.listen ≡ false
     → count_by (is_of_session session) (pairs_after session change state.listeners) ≤ LISTENED_CHANNELS
-    → IsProper limit (edited state session change)
-IsProper-edited {limit} state session change proper here uncrowded few =
+    → IsProper (edited state session change)
+IsProper-edited state session change proper here uncrowded few =
     let left : List ChannelId = change.unlisten in
     let stay : ListenerPair → Bool = λ pair. not (is_of_session session pair && is_among left pair.channel) in
-    let changed = IsProper-changed state session (changed_user change) (record { session = λ _. refl; slot = λ _. refl; name = λ _. refl }) proper in
+    let changed = IsProper-changed state session (changed_user change) (changed_user_keeps change) proper in
     let others : (s : SessionId) → eqb session.0 s.0 ≡ false → count_by (is_of_session s) (pairs_after session change state.listeners) ≤ count_by (is_of_session s) state.listeners =
     λ s apart. omega (arith, count_of_other session left s apart change.listen (staying session left state.listeners), count_by-filter-le (is_of_session s) stay state.listeners) in
     record {
+      limit_fits = proper.limit_fits;
+      deaf_are_mute = changed.deaf_are_mute;
       slots = changed.slots;
       numbers = changed.numbers;
       names = changed.names;
@@ -340,12 +343,12 @@ IsProper-edited {limit} state session change proper here uncrowded few =
         nothing true b = refl
         nothing false b = refl
 
--- where nothing stands against it
-pub IsProper-edited_allowed : {limit : ℕ} (state : RosterState) (session : SessionId) (change : UserEdit) → IsProper limit state → list_any (has_number session) state.sessions ≡ true
-    → edit_fault state session change ≡ None → IsProper limit (edited state session change)
-IsProper-edited_allowed {limit} state session change proper here allowed = split _ _ refl refl
+-- where no cause refuses it
+pub IsProper-edited_allowed : (state : RosterState) (session : SessionId) (change : UserEdit) → IsProper state → list_any (has_number session) state.sessions ≡ true
+    → edit_fault state session change ≡ None → IsProper (edited state session change)
+IsProper-edited_allowed state session change proper here allowed = split _ _ refl refl
   where
-    split : (crowded many : Bool) → list_any (is_crowded (pairs_after session change state.listeners)) change.listen ≡ crowded → ltb LISTENED_CHANNELS (count_by (is_of_session session) (pairs_after session change state.listeners)) ≡ many → IsProper limit (edited state session change)
+    split : (crowded many : Bool) → list_any (is_crowded (pairs_after session change state.listeners)) change.listen ≡ crowded → ltb LISTENED_CHANNELS (count_by (is_of_session session) (pairs_after session change state.listeners)) ≡ many → IsProper (edited state session change)
     split true many e f = let refused : edit_fault state session change ≡ Some ListenerLimit = rw (here, e) refl in absurd (cc)
     split false true e f = let refused : edit_fault state session change ≡ Some UserListenerLimit = rw (here, e, f) refl in absurd (cc)
     split false false e f = IsProper-edited state session change proper here e (ltb-false _ _ f)
@@ -356,7 +359,7 @@ module _ (state now : RosterState) (session : SessionId) (change : UserEdit) (se
   pub edit_absent : None ≡ position (has_number session) seen → edit_fault now session change ≡ Some NoSession
   edit_absent none = rw (← same) (rw (absent_from (has_number session) state.sessions (rw e at none)) refl)
 
-  module _ {limit : ℕ} (i : ℕ) (spot : Some i ≡ position (has_number session) seen) (allowed : edit_fault now session change ≡ None) (proper : IsProper limit state) (user : User) (is : user ≡ get_or state.sessions i user) (pairs : List ListenerPair) (pairs_is : pairs ≡ pairs_after session change state.listeners) where
+  module _ (i : ℕ) (spot : Some i ≡ position (has_number session) seen) (allowed : edit_fault now session change ≡ None) (proper : IsProper state) (user : User) (is : user ≡ get_or state.sessions i user) (pairs : List ListenerPair) (pairs_is : pairs ≡ pairs_after session change state.listeners) where
     edited_here : record state { sessions = set state.sessions i (changed_user change user); listeners = pairs } ≡ edited state session change
     edited_here =
         ap (λ (users : List User). record state { sessions = users; listeners = pairs }) (set-changed state session (changed_user change) seen i user proper e spot is)
@@ -365,8 +368,8 @@ module _ (state now : RosterState) (session : SessionId) (change : UserEdit) (se
     pub edited_now : record state { sessions = set state.sessions i (changed_user change user); listeners = pairs } ≡ edited now session change
     edited_now = edited_here ∙ ap (λ (s : RosterState). edited s session change) same
 
-    pub IsProper-edited_here : IsProper limit (record state { sessions = set state.sessions i (changed_user change user); listeners = pairs })
+    pub IsProper-edited_here : IsProper (record state { sessions = set state.sessions i (changed_user change user); listeners = pairs })
     IsProper-edited_here =
-        subst (λ (s : RosterState). IsProper limit s) (sym edited_here)
+        subst (λ (s : RosterState). IsProper s) (sym edited_here)
         (IsProper-edited_allowed state session change proper ((present_from (has_number session) state.sessions i (rw e at spot)).there)
         (subst (λ (s : RosterState). edit_fault s session change ≡ None) (sym same) allowed))

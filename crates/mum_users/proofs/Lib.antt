@@ -8,10 +8,16 @@ pub mod Pairs
 pub mod PairCounts
 pub mod Indexes
 pub mod Numbers
+pub mod MaskRows
+pub mod MaskSets
+pub mod Members
+pub mod ListenerMasks
 pub mod Rosters
+pub mod Silence
 pub mod Edits
 pub mod Told
+pub mod ListenerRows
 pub mod Refusals
-pub mod Seats
+pub mod Placed
 pub mod Scenes
 pub mod StandardFacts

@@ -18,7 +18,7 @@ use Rattle.mum_users.proofs.Indexes.{filter-swap}
 use Rattle.mum_users.proofs.Orders.{Rises-filter}
 use Rattle.mum_users.proofs.Search.{IsBelowAll-at, Rises-at}
 
--- ---- the slot of a session is found by halving
+-- ---- the slot of a session is found by binary search
 
 module _ (session : SessionId) where
   other_above : (own other : SessionSlot) → is_slot_of session own ≡ true → IsTrue (number_below own other) → is_slot_of session other ≡ false

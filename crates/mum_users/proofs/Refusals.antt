@@ -2,7 +2,7 @@
 use Rattle.std.proofs.Common.{◌≡◌, ℕ, ◌+◌, ◌-◌, ◌<◌, ◌≤◌, ◌^◌, ◌↔◌, Bool, true, false, not, cond, eqb, leb, ltb, List, [], ◌∷◌, length, Some, None, refl, sym, ap, subst, ◌∙◌, arith}
 use Rattle.std.specs.List.{count_by, filter, list_any}
 use Rattle.std.specs.Str.{bytes_eq}
-use Rattle.std.proofs.lemmas.Bool.{le-ltb, leb-false, ltb-false, lt-leb, ne_eqb}
+use Rattle.std.proofs.lemmas.Bool.{le-ltb, leb-false, lt-leb, ne_eqb}
 use Rattle.std.proofs.lemmas.Bool.Decides.{nat_tests}
 use Rattle.std.proofs.lemmas.List.Edits.{length-insert}
 use Rattle.std.proofs.lemmas.Slice.Eq.{bytes_eq-Decides}
@@ -34,19 +34,19 @@ none_crowded pairs [] few = refl
 none_crowded pairs (channel ∷ channels) few = let head : is_crowded pairs channel ≡ false = le-ltb _ _ (few channel) in rw head (none_crowded pairs channels few)
 
 pub edits_where_proper_lem : EditsWhereProper
-edits_where_proper_lem limit state session change proper here = (IsProper-edited_allowed state session change proper here, from)
+edits_where_proper_lem state session change proper here = (IsProper-edited_allowed state session change proper here, from)
   where
-    from : IsProper limit (edited state session change) → edit_fault state session change ≡ None
+    from : IsProper (edited state session change) → edit_fault state session change ≡ None
     from after = rw (here, none_crowded (pairs_after session change state.listeners) change.listen after.few_listeners, le-ltb _ _ (after.few_channels session)) refl
 
 -- ---- listening
 
 pub listens_where_proper_lem : ListensWhereProper
-listens_where_proper_lem limit state session channel proper here = cases (listens state session channel) refl
+listens_where_proper_lem state session channel proper here = cases (listens state session channel) refl
   where
-    cases : (b : Bool) → listens state session channel ≡ b → (listen_fault state session channel ≡ None) ↔ IsProper limit (listening state session channel)
+    cases : (b : Bool) → listens state session channel ≡ b → (listen_fault state session channel ≡ None) ↔ IsProper (listening state session channel)
     cases true e = (
-      λ none. subst (λ (ps : List ListenerPair). IsProper limit (record state { listeners = ps })) (sym (listed-stays (record { session = session; channel = channel }) state.listeners proper.listeners_rise e)) proper,
+      λ none. subst (λ (ps : List ListenerPair). IsProper (record state { listeners = ps })) (sym (listed-stays (record { session = session; channel = channel }) state.listeners proper.listeners_rise e)) proper,
       λ after. rw (here, e) refl,
     )
     cases false e = (to _ _ refl refl, from)
@@ -57,7 +57,7 @@ listens_where_proper_lem limit state session channel proper here = cases (listen
         of_session : is_of_session session (record { session = session; channel = channel }) ≡ true
         of_session = grind (arith, nat_tests)
 
-        to : (full many : Bool) → leb CHANNEL_LISTENERS (count_by (is_of_channel channel) state.listeners) ≡ full → leb LISTENED_CHANNELS (count_by (is_of_session session) state.listeners) ≡ many → listen_fault state session channel ≡ None → IsProper limit (listening state session channel)
+        to : (full many : Bool) → leb CHANNEL_LISTENERS (count_by (is_of_channel channel) state.listeners) ≡ full → leb LISTENED_CHANNELS (count_by (is_of_session session) state.listeners) ≡ many → listen_fault state session channel ≡ None → IsProper (listening state session channel)
         to true many f g none = let refused : listen_fault state session channel ≡ Some ListenerLimit = rw (here, e, f) refl in absurd (cc)
         to false true f g none = let refused : listen_fault state session channel ≡ Some UserListenerLimit = rw (here, e, f, g) refl in absurd (cc)
         to false false f g none = IsProper-listening state session channel proper here e (leb-false _ _ f) (leb-false _ _ g)
@@ -65,7 +65,7 @@ listens_where_proper_lem limit state session channel proper here = cases (listen
         one_more : (p : ListenerPair → Bool) → p (record { session = session; channel = channel }) ≡ true → count_by p (with_pair pair_below (record { session = session; channel = channel }) state.listeners) ≡ count_by p state.listeners + 1
         one_more p is = count-put_new p (record { session = session; channel = channel }) state.listeners proper.listeners_rise e ∙ ap (λ (b : Bool). count_by p state.listeners + cond b 1 0) is
 
-        from : IsProper limit (listening state session channel) → listen_fault state session channel ≡ None
+        from : IsProper (listening state session channel) → listen_fault state session channel ≡ None
         from after =
             let room : leb CHANNEL_LISTENERS (count_by (is_of_channel channel) state.listeners) ≡ false = below _ _ (omega (arith, one_more (is_of_channel channel) of_channel, after.few_listeners channel)) in
             let own_room : leb LISTENED_CHANNELS (count_by (is_of_session session) state.listeners) ≡ false = below _ _ (omega (arith, one_more (is_of_session session) of_session, after.few_channels session)) in
@@ -77,23 +77,23 @@ listens_where_proper_lem limit state session channel proper here = cases (listen
 -- ---- joining
 
 pub joins_where_proper_lem : JoinsWhereProper
-joins_where_proper_lem limit state name account tokens proper = (to _ _ _ refl refl refl, from)
+joins_where_proper_lem state name account tokens proper = (to _ _ _ refl refl refl, from)
   where
-    to : (named full used : Bool) → list_any (has_name name) state.sessions ≡ named → leb limit (length state.sessions) ≡ full → leb (2 ^ 32 - 1) state.last ≡ used → join_fault limit state name ≡ None → IsProper limit (joined state name account tokens)
-    to true full used e f g none = let refused : join_fault limit state name ≡ Some NameInUse = rw e refl in absurd (cc)
-    to false true used e f g none = let refused : join_fault limit state name ≡ Some Full = rw (e, f) refl in absurd (cc)
-    to false false true e f g none = let refused : join_fault limit state name ≡ Some SessionsUsedUp = rw (e, f, g) refl in absurd (cc)
-    to false false false e f g none = IsProper-joined limit state name account tokens proper e (leb-false _ _ f) (leb-false _ _ g)
+    to : (named full used : Bool) → list_any (has_name name) state.sessions ≡ named → leb state.limit (length state.sessions) ≡ full → leb (2 ^ 32 - 1) state.last ≡ used → join_fault state name ≡ None → IsProper (joined state name account tokens)
+    to true full used e f g none = let refused : join_fault state name ≡ Some NameInUse = rw e refl in absurd (cc)
+    to false true used e f g none = let refused : join_fault state name ≡ Some Full = rw (e, f) refl in absurd (cc)
+    to false false true e f g none = let refused : join_fault state name ≡ Some SessionsUsedUp = rw (e, f, g) refl in absurd (cc)
+    to false false false e f g none = IsProper-joined state name account tokens proper e (leb-false _ _ f) (leb-false _ _ g)
 
     itself : bytes_eq name name ≡ true
     itself = (bytes_eq-Decides name name).1 refl
 
-    from : IsProper limit (joined state name account tokens) → join_fault limit state name ≡ None
+    from : IsProper (joined state name account tokens) → join_fault state name ≡ None
     from after =
         let named_count : count_by (has_name name) (joined state name account tokens).sessions ≡ count_by (has_name name) state.sessions + cond (bytes_eq name name) 1 0 =
         count_by-insert (has_name name) state.sessions (free_slot state) (joining (next_number state) (next_slot state) name account tokens) in
         let unnamed : list_any (has_name name) state.sessions ≡ false = unused (list_any (has_name name) state.sessions) refl (omega (arith, named_count, after.names name, ap (λ (b : Bool). cond {A = ℕ} b 1 0) itself)) in
-        let room : leb limit (length state.sessions) ≡ false = lt-leb _ _ (omega (arith, SlotsRise-within limit 0 (joined state name account tokens).sessions after.slots, length-insert state.sessions (free_slot state) (joining (next_number state) (next_slot state) name account tokens) (omega (arith, free_slot_from-le 0 state.sessions)))) in
+        let room : leb state.limit (length state.sessions) ≡ false = lt-leb _ _ (omega (arith, SlotsRise-within state.limit 0 (joined state name account tokens).sessions after.slots, length-insert state.sessions (free_slot state) (joining (next_number state) (next_slot state) name account tokens) (omega (arith, free_slot_from-le 0 state.sessions)))) in
         let left : leb (2 ^ 32 - 1) state.last ≡ false = lt-leb _ _ (omega (arith, after.last_fits)) in
         rw (unnamed, room, left) refl
       where
@@ -116,7 +116,7 @@ abbrev row_of : SessionId → ℕ → Target → TargetRow
 row_of session id target = record { session = session; id = id; target = target }
 
 pub targets_where_proper_lem : TargetsWhereProper
-targets_where_proper_lem limit state session id target proper here some = (to _ _ _ refl refl refl, from)
+targets_where_proper_lem state session id target proper here some = (to _ _ _ refl refl refl, from)
   where
     items : eqb (length target.items) 0 ≡ false
     items = ne_eqb _ _ (λ none. omega arith)
@@ -124,18 +124,18 @@ targets_where_proper_lem limit state session id target proper here some = (to _ 
     set_is : targeted state session id target ≡ record state { targets = with_target (row_of session id target) state.targets }
     set_is = rw items refl
 
-    to : (zero last big : Bool) → eqb id 0 ≡ zero → ltb LAST_TARGET id ≡ last → is_oversize target ≡ big → target_fault state session id target ≡ None → IsProper limit (targeted state session id target)
+    to : (zero last big : Bool) → eqb id 0 ≡ zero → ltb LAST_TARGET id ≡ last → is_oversize target ≡ big → target_fault state session id target ≡ None → IsProper (targeted state session id target)
     to true last big e f g none = let refused : target_fault state session id target ≡ Some TargetId = rw (here, e) refl in absurd (cc)
     to false true big e f g none = let refused : target_fault state session id target ≡ Some TargetId = rw (here, e, f) refl in absurd (cc)
     to false false true e f g none = let refused : target_fault state session id target ≡ Some TargetSize = rw (here, e, f, g) refl in absurd (cc)
     to false false false e f g none =
         let sound : is_sound (row_of session id target) ≡ true = rw (e, f, items, g) refl in
-        subst (λ (s : RosterState). IsProper limit s) (sym set_is) (IsProper-with_target state (row_of session id target) proper here sound)
+        subst (λ (s : RosterState). IsProper s) (sym set_is) (IsProper-with_target state (row_of session id target) proper here sound)
 
-    sound_after : IsProper limit (targeted state session id target) → (b : Bool) → is_sound (row_of session id target) ≡ b → b ≡ true
+    sound_after : IsProper (targeted state session id target) → (b : Bool) → is_sound (row_of session id target) ≡ b → b ≡ true
     sound_after after true e = refl
     sound_after after false e =
-        let kept : IsProper limit (record state { targets = with_target (row_of session id target) state.targets }) = subst (λ (s : RosterState). IsProper limit s) set_is after in
+        let kept : IsProper (record state { targets = with_target (row_of session id target) state.targets }) = subst (λ (s : RosterState). IsProper s) set_is after in
         absurd (omega (arith, new_counts (λ r. not (is_sound r)) (row_of session id target) state.targets, kept.targets_sound, ap (λ (b : Bool). cond {A = ℕ} (not b) 1 0) e))
 
     allowed : (zero last big : Bool) → eqb id 0 ≡ zero → ltb LAST_TARGET id ≡ last → is_oversize target ≡ big → is_sound (row_of session id target) ≡ true → target_fault state session id target ≡ None
@@ -144,11 +144,11 @@ targets_where_proper_lem limit state session id target proper here some = (to _ 
     allowed false false true e f g sound = let unsound : is_sound (row_of session id target) ≡ false = rw (e, f, items, g) refl in absurd (cc)
     allowed false false false e f g sound = rw (here, e, f, g) refl
 
-    from : IsProper limit (targeted state session id target) → target_fault state session id target ≡ None
+    from : IsProper (targeted state session id target) → target_fault state session id target ≡ None
     from after = allowed _ _ _ refl refl refl (sound_after after (is_sound (row_of session id target)) refl)
 
 pub unset_stays_proper_lem : UnsetStaysProper
-unset_stays_proper_lem limit state session id target proper none =
+unset_stays_proper_lem state session id target proper none =
     let items : eqb (length target.items) 0 ≡ true = rw none refl in
     let unset : targeted state session id target ≡ record state { targets = filter (λ row. not (is_target session id row)) state.targets } = rw items refl in
-    subst (λ (s : RosterState). IsProper limit s) (sym unset) (IsProper-fewer_targets state (λ row. not (is_target session id row)) proper)
+    subst (λ (s : RosterState). IsProper s) (sym unset) (IsProper-fewer_targets state (λ row. not (is_target session id row)) proper)

@@ -101,7 +101,7 @@ listens_to number to = map (λ one. listen number one) to
 
 -- a session that just joined
 abbrev pub row : ℕ → ℕ → List ℕ → User
-row number seat name = joining (session number) (slot seat) name None []
+row number placement name = joining (session number) (slot placement) name None []
 
 abbrev pub same_flags : FlagChange
 same_flags = record { mute = None; deaf = None; suppress = None; self_mute = None; self_deaf = None; priority = None; recording = None }

@@ -1,12 +1,14 @@
--- A search by halving in rows that rise.
-use Rattle.std.proofs.Common.{◌≡◌, ℕ, zero, suc, ◌+◌, ◌<◌, ◌≤◌, Bool, true, false, not, List, [], ◌∷◌, length, get_or, Some, None, Result, Ok, Err, MatchResult, refl, sym, ap, ◌∙◌, inl, inr, arith}
+-- A binary search in rows that rise.
+use Rattle.std.proofs.Common.{◌≡◌, ℕ, zero, suc, ◌+◌, ◌<◌, ◌≤◌, Bool, true, false, not, List, [], ◌∷◌, length, get_or, Some, None, Result, Ok, Err, MatchResult, refl, sym, ap, ◌∙◌, inl, inr, arith, ◌==◌, eq-eqb}
 use Rattle.std.specs.Prelude.{IsTrue}
-use Rattle.std.specs.List.{find, position_or_len}
+use Rattle.std.specs.List.{find, list_any, position_or_len}
 use Rattle.std.specs.List.Sorted.{IsBinarySearchResult, IsNonDecreasingBy, IsPartitionPoint, IsPartitionedBy, IsSearchInRange}
 use Rattle.std.specs.Ordering.{nat_cmp, ordering_index}
-use Rattle.std.proofs.lemmas.Bool.{cases_lt, not_from_false, not_from_true}
+use Rattle.std.specs.Result.{is_ok}
+use Rattle.std.proofs.lemmas.Bool.{cases_lt, ne_eqb, not_from_false, not_from_true}
 use Rattle.std.proofs.lemmas.Bool.Decides.{nat_tests}
 use Rattle.std.proofs.lemmas.Cmp.{ranked}
+use Rattle.std.proofs.lemmas.List.Folds.{list_any_at, list_any_none}
 use Rattle.std.proofs.lemmas.List.Sums.{position_or_len_is}
 use Rattle.mum_base.specs.declared.number.SessionId.{SessionId}
 use Rattle.mum_users.specs.declared.target.TargetRow.{TargetRow}
@@ -43,19 +45,36 @@ place_between lower xs i d within split =
     (λ k lt. not_from_true _ (split.0 k d (omega arith) lt))
     (λ lt. not_from_false _ (split.1 i d (omega arith) lt)))
 
--- keys that rise are compared with a number as a binary search asks
-module _ {X : Type 0} (key : X → ℕ) (n : ℕ) (xs : List X) (rise : (i j : ℕ) (d : X) → i < j → j < length xs → key (get_or xs i d) < key (get_or xs j d)) where
+-- a search by halving, where keys do not fall
+module _ {X : Type 0} (key : X → ℕ) (n : ℕ) (xs : List X) (up : IsNonDecreasingBy key xs) where
+  -- the keys are compared with a number as a binary search asks
   comparisons_rise : IsNonDecreasingBy (λ x. ordering_index (nat_cmp (key x) n)) xs
   comparisons_rise i j d le within =
-      let below : key (get_or xs i d) ≤ key (get_or xs j d) = grind (arith, rise i j d, λ (same : i ≡ j). ap (λ k. key (get_or xs k d)) same) in
+      let below : key (get_or xs i d) ≤ key (get_or xs j d) = up i j d le within in
       grind (arith, nat_tests)
 
-  pub found_by_halving : (r : Result ℕ ℕ) → IsSearchInRange r (length xs) → IsBinarySearchResult (λ x. nat_cmp (key x) n) xs r → MatchResult r (λ i. (d : X) → key (get_or xs i d) ≡ n) (λ i. (j : ℕ) (d : X) → j < length xs → key (get_or xs j d) ≡ n → ⊥)
-  found_by_halving (Ok i) within equal = λ d. ranked _ n _ (sym (equal d))
-  found_by_halving (Err i) within parted = λ j d lt same. elim (cases_lt j i) [
+  pub found_in_order : (r : Result ℕ ℕ) → IsSearchInRange r (length xs) → IsBinarySearchResult (λ x. nat_cmp (key x) n) xs r → MatchResult r (λ i. (d : X) → key (get_or xs i d) ≡ n) (λ i. (j : ℕ) (d : X) → j < length xs → key (get_or xs j d) ≡ n → ⊥)
+  found_in_order (Ok i) within equal = λ d. ranked _ n _ (sym (equal d))
+  found_in_order (Err i) within parted = λ j d lt same. elim (cases_lt j i) [
     | inl below ↦ omega (arith, same, ranked _ n _ (sym ((parted comparisons_rise).0 j d (omega arith) below)))
     | inr above ↦ omega (arith, same, ranked _ n _ (sym ((parted comparisons_rise).1 j d above lt)))
   ]
+
+-- it answers whether one has the key
+pub any_by_halving : {X : Type 0} (key : X → ℕ) (n : ℕ) (xs : List X) → IsNonDecreasingBy key xs → (r : Result ℕ ℕ) → IsSearchInRange r (length xs) → IsBinarySearchResult (λ x. nat_cmp (key x) n) xs r → is_ok r ≡ list_any (λ x. key x == n) xs
+any_by_halving key n [] up (Ok i) within answer = absurd (omega (arith, within))
+any_by_halving key n (x ∷ xs) up (Ok i) within answer =
+    sym (list_any_at (λ x. key x == n) (x ∷ xs) i x within (eq-eqb _ _ (found_in_order key n (x ∷ xs) up (Ok i) within answer x)))
+any_by_halving key n xs up (Err i) within answer =
+    sym (list_any_none (λ x. key x == n) xs (λ j d lt. ne_eqb _ _ (found_in_order key n xs up (Err i) within answer j d lt)))
+
+-- what is found, where keys rise
+module _ {X : Type 0} (key : X → ℕ) (n : ℕ) (xs : List X) (rise : (i j : ℕ) (d : X) → i < j → j < length xs → key (get_or xs i d) < key (get_or xs j d)) where
+  none_falls : IsNonDecreasingBy key xs
+  none_falls i j d le within = grind (arith, rise i j d, λ (same : i ≡ j). ap (λ k. key (get_or xs k d)) same)
+
+  pub found_by_halving : (r : Result ℕ ℕ) → IsSearchInRange r (length xs) → IsBinarySearchResult (λ x. nat_cmp (key x) n) xs r → MatchResult r (λ i. (d : X) → key (get_or xs i d) ≡ n) (λ i. (j : ℕ) (d : X) → j < length xs → key (get_or xs j d) ≡ n → ⊥)
+  found_by_halving r within answer = found_in_order key n xs none_falls r within answer
 
 module _ (session : SessionId) (id : ℕ) where
   pub below_down : (row other : TargetRow) → IsTrue (row_below row other) → target_below session id other ≡ true → target_below session id row ≡ true

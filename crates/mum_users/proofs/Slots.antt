@@ -83,16 +83,16 @@ module _ (limit : ℕ) where
   IsLeastFree-free_slot_from users rise = record { free = free_from 0 users _ refl rise; least = λ below lt. held_below 0 users below (omega arith) lt }
 
   -- the new row goes where its slot comes in order
-  pub SlotsRise-seated : (low k : ℕ) (users : List User) (new : User) → SlotsRise limit low users → new.slot.0 ≡ free_slot_from low users → free_slot_from low users < limit → low + k ≡ free_slot_from low users → SlotsRise limit low (take k users ++ new ∷ drop k users)
-  SlotsRise-seated low zero [] new rise is few at = (omega arith, omega arith)
-  SlotsRise-seated low (suc k) [] new rise is few at = (omega arith, omega arith)
-  SlotsRise-seated low zero (user ∷ users) new rise is few at = split (eqb user.slot.0 low) refl
+  pub SlotsRise-with_placement : (low k : ℕ) (users : List User) (new : User) → SlotsRise limit low users → new.slot.0 ≡ free_slot_from low users → free_slot_from low users < limit → low + k ≡ free_slot_from low users → SlotsRise limit low (take k users ++ new ∷ drop k users)
+  SlotsRise-with_placement low zero [] new rise is few at = (omega arith, omega arith)
+  SlotsRise-with_placement low (suc k) [] new rise is few at = (omega arith, omega arith)
+  SlotsRise-with_placement low zero (user ∷ users) new rise is few at = split (eqb user.slot.0 low) refl
     where
       split : (b : Bool) → eqb user.slot.0 low ≡ b → SlotsRise limit low (new ∷ user ∷ users)
       split true e = absurd (omega (arith, rw e at at, free_slot_from-ge (low + 1) users))
       split false e = grind (arith, nat_tests)
-  SlotsRise-seated low (suc k) (user ∷ users) new rise is few at =
-      split (eqb user.slot.0 low) refl (SlotsRise-seated (user.slot.0 + 1) k users new rise.1)
+  SlotsRise-with_placement low (suc k) (user ∷ users) new rise is few at =
+      split (eqb user.slot.0 low) refl (SlotsRise-with_placement (user.slot.0 + 1) k users new rise.1)
     where
       split : (b : Bool) → eqb user.slot.0 low ≡ b → (new.slot.0 ≡ free_slot_from (user.slot.0 + 1) users → free_slot_from (user.slot.0 + 1) users < limit → user.slot.0 + 1 + k ≡ free_slot_from (user.slot.0 + 1) users → SlotsRise limit (user.slot.0 + 1) (take k users ++ new ∷ drop k users)) → SlotsRise limit low (user ∷ (take k users ++ new ∷ drop k users))
       split true e rest =
@@ -138,3 +138,8 @@ module _ (limit : ℕ) (users : List User) (rise : SlotsRise limit 0 users) (slo
     where
       slots : (i j : ℕ) (d : User) → i < j → j < length users → (get_or users i d).slot.0 < (get_or users j d).slot.0
       slots i j d = slots_rise_by_place limit 0 users i j d rise
+
+-- slots below a limit are below a higher one
+pub SlotsRise-higher : (limit higher : ℕ) → limit ≤ higher → (low : ℕ) (users : List User) → SlotsRise limit low users → SlotsRise higher low users
+SlotsRise-higher limit higher le low [] rise = omega arith
+SlotsRise-higher limit higher le low (user ∷ users) rise = (rise.0, SlotsRise-higher limit higher le (user.slot.0 + 1) users rise.1)

@@ -1,17 +1,19 @@
 -- Rosters worked out by hand: sessions in their slots, their flags, who listens to what, voice targets.
-use Rattle.std.proofs.Common.{◌≡◌, ℕ, ◌-◌, ◌^◌, Bool, true, false, List, [], ◌∷◌, ◌++◌, codes, map, replicate, Option, Some, None, refl}
+use Rattle.std.proofs.Common.{◌≡◌, ℕ, ◌+◌, ◌-◌, ◌^◌, Bool, true, false, List, [], ◌∷◌, ◌++◌, codes, map, replicate, Option, Some, None, refl}
 use Rattle.mum_users.specs.declared.fault.UserFault.{UserFault}
 use Rattle.mum_users.specs.declared.fault.UserFault.TheVariants.{Full, ListenerLimit, NameInUse, NoSession, SessionsUsedUp, TargetId, TargetSize, UserListenerLimit}
 use Rattle.mum_users.specs.declared.flags.Silence.{Silence}
 use Rattle.mum_users.specs.declared.target.Target.{Target}
 use Rattle.mum_users.specs.declared.target.TargetItem.{TargetItem}
-use Rattle.mum_users.specs.declared.user.TheConstants.{SESSIONS}
 use Rattle.mum_users.specs.declared.user.User.{User}
 use Rattle.mum_users.specs.Edit.{UserEdit, edit_fault}
 use Rattle.mum_users.specs.Flags.{flagged, silence_after}
 use Rattle.mum_users.specs.Listeners.{listen_fault, listeners_of, pairs_of}
-use Rattle.mum_users.specs.Sessions.{absent_fault, join_fault, next_join, session_of}
-use Rattle.mum_users.specs.State.{are_tokens, empty_roster, is_context}
+use Rattle.mum_users.specs.declared.masks.MaskRow.{MaskRow}
+use Rattle.mum_users.specs.Proper.{deaf_is_mute}
+use Rattle.mum_users.specs.SlotMasks.{has_listener_at, has_member_at, mask_at, masks_of, without_slot}
+use Rattle.mum_users.specs.Sessions.{absent_fault, join_fault, joined, next_join, session_of}
+use Rattle.mum_users.specs.State.{RosterState, are_tokens, empty_roster, is_context}
 use Rattle.mum_users.specs.Targets.{target_fault, target_of}
 use Rattle.mum_users.proofs.Scenes.{Step, all_listen, channel, channels, close, edit, item_channel, item_sessions, join, joins, leave, listen, listens_to, numbers_from, place, roster, row, same_flags, session, set_flags, set_target, set_texts, set_tokens, slot, suppress, target, to_channel, to_listen, unchanged, unlisten, with_children, with_group, with_links}
 
@@ -43,16 +45,16 @@ target_in steps number id = target_of (roster steps) (session number) id
 -- ---- sessions come and go
 
 abbrev joining : List Step → List ℕ → Option UserFault
-joining steps name = join_fault SESSIONS (roster steps) name
+joining steps name = join_fault (roster steps) name
 
 pub record SessionsComeAndGo : Type 0 where
   pub a_session_joins : roster (join ann ∷ []) ≡ record empty_roster { sessions = row 1 0 ann ∷ []; last = 1 }
-  pub the_next_after_it : next_join SESSIONS (roster (join ann ∷ [])) ≡ Some (session 2, slot 1)
+  pub the_next_after_it : next_join (roster (join ann ∷ [])) ≡ Some (session 2, slot 1)
   pub a_name_is_in_use : (joining (join ann ∷ []) ann ≡ Some NameInUse) × (joining (join ann ∷ []) bob ≡ None)
-  pub all_slots_are_taken : (joining (joins 127) ann ≡ None) × (joining (joins 128) ann ≡ Some Full) × (next_join SESSIONS (roster (joins 128)) ≡ None)
+  pub all_slots_are_taken : (joining (joins 127) ann ≡ None) × (joining (joins 128) ann ≡ Some Full) × (next_join (roster (joins 128)) ≡ None)
   pub a_name_in_use_comes_first : joining (joins 128) (codes "uuuuuuuuu") ≡ Some NameInUse
-  pub no_number_is_left : join_fault SESSIONS (record empty_roster { last = 2 ^ 32 - 1 }) ann ≡ Some SessionsUsedUp
-  pub a_slot_is_given_again_and_a_number_is_not : next_join SESSIONS (roster (joins 128 ++ leave 5 ∷ [])) ≡ Some (session 129, slot 4)
+  pub no_number_is_left : join_fault (record empty_roster { last = 2 ^ 32 - 1 }) ann ≡ Some SessionsUsedUp
+  pub a_slot_is_given_again_and_a_number_is_not : next_join (roster (joins 128 ++ leave 5 ∷ [])) ≡ Some (session 129, slot 4)
   pub the_least_slot_comes_first :
       slots_in (joins 5 ++ leave 4 ∷ leave 2 ∷ join ann ∷ join bob ∷ []) ≡ (1, 0) ∷ (6, 1) ∷ (3, 2) ∷ (7, 3) ∷ (5, 4) ∷ []
   pub who_is_not_there : (row_in (join ann ∷ leave 1 ∷ []) 1 ≡ None) × (absent_fault (roster (join ann ∷ [])) (session 2) ≡ Some NoSession)
@@ -248,6 +250,62 @@ pub record TargetsAreSet : Type 0 where
 
 pub targets_are_set : TargetsAreSet
 targets_are_set = search
+
+-- ---- the limit of sessions
+
+-- the roster with this limit
+abbrev limited : ℕ → RosterState → RosterState
+limited sessions state = record state { limit = sessions }
+
+pub record LimitsRise : Type 0 where
+  pub it_is_128_at_first : empty_roster.limit ≡ 128
+  pub one_more_session : join_fault (limited 129 (roster (joins 128))) ann ≡ None
+  pub its_slot : next_join (limited 129 (roster (joins 128))) ≡ Some (session 129, slot 128)
+  pub no_more : join_fault (limited 129 (joined (limited 129 (roster (joins 128))) ann None [])) bob ≡ Some Full
+
+pub limits_rise : LimitsRise
+limits_rise = record { it_is_128_at_first = refl; one_more_session = refl; its_slot = refl; no_more = refl }
+
+-- ---- who is deaf is mute
+
+pub record DeafAreMute : Type 0 where
+  pub a_session_that_joined : deaf_is_mute (row 1 0 ann) ≡ true
+  pub deaf_alone : deaf_is_mute (record (row 1 0 ann) { deaf = true }) ≡ false
+  pub deaf_and_mute : deaf_is_mute (record (row 1 0 ann) { mute = true; deaf = true }) ≡ true
+  pub deaf_by_itself_alone : deaf_is_mute (record (row 1 0 ann) { mute = true; self_deaf = true }) ≡ false
+  pub both_by_itself : deaf_is_mute (record (row 1 0 ann) { self_mute = true; self_deaf = true }) ≡ true
+
+pub deaf_are_mute : DeafAreMute
+deaf_are_mute = record { a_session_that_joined = refl; deaf_alone = refl; deaf_and_mute = refl; deaf_by_itself_alone = refl; both_by_itself = refl }
+
+-- ---- masks: the first and the last slot of a word, and the last of all
+
+-- a session in a slot and a channel
+abbrev placed_at : ℕ → ℕ → ℕ → User
+placed_at number placement where_to = record (row number placement ann) { channel = channel where_to }
+
+-- sessions in slots 0, 127 and 128 of channel 5, and in slot 511 of channel 9, which that in slot 128 hears
+abbrev spread : RosterState
+spread = record empty_roster {
+  sessions = placed_at 1 0 5 ∷ placed_at 2 127 5 ∷ placed_at 3 128 5 ∷ placed_at 4 511 9 ∷ [];
+  listeners = record { session = session 3; channel = channel 9 } ∷ [];
+}
+
+abbrev mask_row : ℕ → ℕ → ℕ → MaskRow
+mask_row where_to word mask = record { channel = channel where_to; word = word; mask = mask }
+
+abbrev edges : List ℕ
+edges = 0 ∷ 1 ∷ 127 ∷ 128 ∷ 511 ∷ []
+
+pub record MasksOfSlots : Type 0 where
+  pub members_of_a_channel : map (has_member_at spread (channel 5)) edges ≡ true ∷ false ∷ true ∷ true ∷ false ∷ []
+  pub listeners_of_a_channel : map (has_listener_at spread (channel 9)) edges ≡ false ∷ false ∷ false ∷ true ∷ false ∷ []
+  pub a_bit_for_each_slot : masks_of spread.sessions ≡ mask_row 5 0 (1 + 2 ^ 127) ∷ mask_row 5 1 1 ∷ mask_row 9 3 (2 ^ 127) ∷ []
+  pub no_row_is_empty : without_slot (channel 9) 511 (masks_of spread.sessions) ≡ mask_row 5 0 (1 + 2 ^ 127) ∷ mask_row 5 1 1 ∷ []
+  pub no_row_where_nobody_is : mask_at (channel 5) 3 (masks_of spread.sessions) ≡ 0
+
+pub masks_of_slots : MasksOfSlots
+masks_of_slots = record { members_of_a_channel = refl; listeners_of_a_channel = refl; a_bit_for_each_slot = refl; no_row_is_empty = refl; no_row_where_nobody_is = refl }
 
 -- ---- the limits of tokens and of a context
 

@@ -25,7 +25,7 @@ module _ (session : SessionId) (left : List ChannelId) where
       split true false e f = rw (e, f) refl
       split false s e f = rw e refl
 
-  listed-left : (channel : ChannelId) (pairs : List ListenerPair) → is_among left channel ≡ true → list_any (is_pair session channel) (staying session left pairs) ≡ false
+  pub listed-left : (channel : ChannelId) (pairs : List ListenerPair) → is_among left channel ≡ true → list_any (is_pair session channel) (staying session left pairs) ≡ false
   listed-left channel pairs among =
       let stay : ListenerPair → Bool = λ pair. not (is_of_session session pair && is_among left pair.channel) in
       let none : count_by (is_pair session channel) (filter stay pairs) ≡ 0 = count_by-filter_none (is_pair session channel) stay (λ pair kept. gone channel pair among kept) pairs in
@@ -82,7 +82,7 @@ module _ (session other : SessionId) (apart : eqb session.0 other.0 ≡ false) (
       split true e = differ e
       split false e = let stays : true ≡ false = rw e at out in cc
 
-  others-staying : (pairs : List ListenerPair) → list_any (is_pair other channel) (staying session left pairs) ≡ list_any (is_pair other channel) pairs
+  pub others-staying : (pairs : List ListenerPair) → list_any (is_pair other channel) (staying session left pairs) ≡ list_any (is_pair other channel) pairs
   others-staying pairs =
       let stay : ListenerPair → Bool = λ pair. not (is_of_session session pair && is_among left pair.channel) in
       let same : count_by (is_pair other channel) (filter stay pairs) ≡ count_by (is_pair other channel) pairs = count_by-filter_others (is_pair other channel) stay out_is_own pairs in

@@ -3,7 +3,7 @@ use Rattle.std.specs.Prelude.{ℕ, Option, Some, None}
 use Rattle.mum_users.specs.declared.fault.UserFault.{UserFault}
 use Rattle.mum_users.specs.declared.fault.UserFault.TheVariants.{NameInUse, Full, NoSession, ListenerLimit, UserListenerLimit, TargetId, TargetSize, SessionsUsedUp, OutOfMemory}
 
--- want of memory has no number
+-- the number of each fault; out of memory has none
 abbrev pub fault_code : UserFault → Option ℕ
 fault_code NameInUse = Some 40
 fault_code Full = Some 41
@@ -15,7 +15,7 @@ fault_code TargetSize = Some 46
 fault_code SessionsUsedUp = Some 47
 fault_code OutOfMemory = None
 
--- the cause that a fault names; want of memory names none
+-- the cause that a fault names; out of memory names none
 abbrev pub named_cause : UserFault → Option UserFault
 named_cause OutOfMemory = None
 named_cause fault = Some fault

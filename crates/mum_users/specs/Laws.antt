@@ -16,37 +16,37 @@ use Rattle.mum_users.specs.Targets.{target_fault, targeted}
 -- a session may join exactly where a proper roster stays one with it
 abbrev pub JoinsWhereProper : Type 0
 JoinsWhereProper =
-    (limit : ℕ) (state : RosterState) (name : List ℕ) (account : Option AccountId) (tokens : List (List ℕ)) → IsProper limit state
-    → (join_fault limit state name ≡ None) ↔ IsProper limit (joined state name account tokens)
+    (state : RosterState) (name : List ℕ) (account : Option AccountId) (tokens : List (List ℕ)) → IsProper state
+    → (join_fault state name ≡ None) ↔ IsProper (joined state name account tokens)
 
 -- a session that is here may listen to a channel exactly where a proper roster stays one
 abbrev pub ListensWhereProper : Type 0
 ListensWhereProper =
-    (limit : ℕ) (state : RosterState) (session : SessionId) (channel : ChannelId) → IsProper limit state
+    (state : RosterState) (session : SessionId) (channel : ChannelId) → IsProper state
     → IsTrue (list_any (has_number session) state.sessions)
-    → (listen_fault state session channel ≡ None) ↔ IsProper limit (listening state session channel)
+    → (listen_fault state session channel ≡ None) ↔ IsProper (listening state session channel)
 
 -- several parts of a session that is here may change exactly where a proper roster stays one
 abbrev pub EditsWhereProper : Type 0
 EditsWhereProper =
-    (limit : ℕ) (state : RosterState) (session : SessionId) (change : UserEdit) → IsProper limit state
+    (state : RosterState) (session : SessionId) (change : UserEdit) → IsProper state
     → IsTrue (list_any (has_number session) state.sessions)
-    → (edit_fault state session change ≡ None) ↔ IsProper limit (edited state session change)
+    → (edit_fault state session change ≡ None) ↔ IsProper (edited state session change)
 
 -- a session that is here may set a target that has items exactly where a proper roster stays one
 abbrev pub TargetsWhereProper : Type 0
 TargetsWhereProper =
-    (limit : ℕ) (state : RosterState) (session : SessionId) (id : ℕ) (target : Target) → IsProper limit state
+    (state : RosterState) (session : SessionId) (id : ℕ) (target : Target) → IsProper state
     → IsTrue (list_any (has_number session) state.sessions) → 0 < length target.items
-    → (target_fault state session id target ≡ None) ↔ IsProper limit (targeted state session id target)
+    → (target_fault state session id target ≡ None) ↔ IsProper (targeted state session id target)
 
 -- without items, under any number, a proper roster stays one
 abbrev pub UnsetStaysProper : Type 0
 UnsetStaysProper =
-    (limit : ℕ) (state : RosterState) (session : SessionId) (id : ℕ) (target : Target) → IsProper limit state
-    → length target.items ≡ 0 → IsProper limit (targeted state session id target)
+    (state : RosterState) (session : SessionId) (id : ℕ) (target : Target) → IsProper state
+    → length target.items ≡ 0 → IsProper (targeted state session id target)
 
--- after a change a session listens to what it did or is told to listen to, but for what it is told to leave
+-- after a change a session listens to what it did or is to listen to, but for what it is to leave
 abbrev pub ListensAsTold : Type 0
 ListensAsTold =
     (state : RosterState) (session : SessionId) (change : UserEdit) (channel : ChannelId)

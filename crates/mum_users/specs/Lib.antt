@@ -1,12 +1,14 @@
 pub mod Fault
 pub mod Order
+pub mod ChannelLists
 pub mod Flags
 pub mod State
 pub mod Sessions
-pub mod Seats
+pub mod Placed
 pub mod Listeners
 pub mod Edit
 pub mod Targets
 pub mod Proper
+pub mod SlotMasks
 pub mod Numbers
 pub mod Laws

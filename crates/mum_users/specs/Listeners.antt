@@ -35,6 +35,7 @@ abbrev pub channel_below : ListenerPair → ListenerPair → Bool
 channel_below pair other =
     nat_lt pair.channel.0 other.channel.0 || ((pair.channel.0 == other.channel.0) && nat_lt pair.session.0 other.session.0)
 
+-- the pair comes before the other in this order
 abbrev pub below_in : PairOrder → ListenerPair → ListenerPair → Bool
 below_in BySession pair other = pair_below pair other
 below_in ByChannel pair other = channel_below pair other
@@ -52,10 +53,11 @@ abbrev pub listening : RosterState → SessionId → ChannelId → RosterState
 listening state session channel =
     record state { listeners = with_pair pair_below (record { session = session; channel = channel }) state.listeners }
 
--- the pairs of a session, by their channels, and those of a channel, by their sessions
+-- the pairs of a session, by their channels
 abbrev pub pairs_of : RosterState → SessionId → List ListenerPair
 pairs_of state session = filter (is_of_session session) state.listeners
 
+-- the pairs of a channel, by their sessions
 abbrev pub listeners_of : RosterState → ChannelId → List ListenerPair
 listeners_of state channel = filter (is_of_channel channel) state.listeners
 

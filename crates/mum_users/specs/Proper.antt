@@ -1,7 +1,8 @@
 -- What holds of every roster.
-use Rattle.std.specs.Prelude.{◌≡◌, ℕ, ◌+◌, ◌^◌, ◌<◌, ◌≤◌, ◌==◌, ◌||◌, not, nat_lt, Bool, List, [], ◌∷◌, length, count_by}
+use Rattle.std.specs.Prelude.{◌≡◌, ℕ, ◌+◌, ◌^◌, ◌<◌, ◌≤◌, ◌==◌, ◌&&◌, ◌||◌, not, nat_lt, Bool, List, [], ◌∷◌, length, count_by}
 use Rattle.mum_base.specs.declared.number.SessionId.{SessionId}
 use Rattle.mum_base.specs.declared.number.ChannelId.{ChannelId}
+use Rattle.mum_base.specs.declared.number.TheConstants.{SLOTS}
 use Rattle.mum_users.specs.declared.user.User.{User}
 use Rattle.mum_users.specs.declared.listening.TheConstants.{CHANNEL_LISTENERS, LISTENED_CHANNELS}
 use Rattle.mum_users.specs.declared.target.TheConstants.{LAST_TARGET}
@@ -24,15 +25,23 @@ row_below row other = target_below other.session other.id row
 abbrev pub is_sound : TargetRow → Bool
 is_sound row = not ((row.id == 0) || nat_lt LAST_TARGET row.id || (length row.target.items == 0) || is_oversize row.target)
 
--- a roster in which so many sessions may be
-pub record IsProper (limit : ℕ) (state : RosterState) : Type 0 where
-  -- no two sessions have one slot, number or name
-  pub slots : SlotsRise limit 0 state.sessions
+-- who is deaf is mute, whether others or the session itself made it so
+abbrev pub deaf_is_mute : User → Bool
+deaf_is_mute user = (not user.deaf || user.mute) && (not user.self_deaf || user.self_mute)
+
+-- what holds of every roster
+pub record IsProper (state : RosterState) : Type 0 where
+  -- the limit of sessions is within the greatest
+  pub limit_fits : state.limit ≤ SLOTS
+  -- no two sessions have one slot, number or name, and slots are below the limit
+  pub slots : SlotsRise state.limit 0 state.sessions
   pub numbers : (session : SessionId) → count_by (has_number session) state.sessions ≤ 1
   pub names : (name : List ℕ) → count_by (has_name name) state.sessions ≤ 1
   -- no number is above the last that was given
   pub given : (session : SessionId) → state.last < session.0 → count_by (has_number session) state.sessions ≡ 0
   pub last_fits : state.last < 2 ^ 32
+  -- each session that is deaf is mute
+  pub deaf_are_mute : count_by (λ user. not (deaf_is_mute user)) state.sessions ≡ 0
   -- those who listen are here, no channel has too many of them, and none listens to too many channels
   pub listeners_here : (session : SessionId) → count_by (has_number session) state.sessions ≡ 0 → count_by (is_of_session session) state.listeners ≡ 0
   pub few_listeners : (channel : ChannelId) → count_by (is_of_channel channel) state.listeners ≤ CHANNEL_LISTENERS

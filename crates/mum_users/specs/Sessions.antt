@@ -38,9 +38,9 @@ pub record IsLeastFree (users : List User) (slot : ℕ) : Type 0 where
   pub free : list_any (λ user. user.slot.0 == slot) users ≡ false
   pub least : (below : ℕ) → below < slot → IsTrue (list_any (λ user. user.slot.0 == below) users)
 
--- as many sessions are here as there may be at most
-abbrev pub is_full : ℕ → RosterState → Bool
-is_full limit state = nat_le limit (length state.sessions)
+-- as many sessions are here as the limit says
+abbrev pub is_full : RosterState → Bool
+is_full state = nat_le state.limit (length state.sessions)
 
 -- no session number is left
 abbrev pub is_used_up : RosterState → Bool
@@ -54,17 +54,17 @@ next_number state = record { 0 = state.last + 1 }
 abbrev pub next_slot : RosterState → Slot
 next_slot state = record { 0 = free_slot state }
 
--- what the next join takes, where this many sessions may be here
-abbrev pub next_join : ℕ → RosterState → Option (SessionId × Slot)
-next_join limit state =
-    if is_full limit state || is_used_up state then None
+-- what the next join takes, if there is a slot and a number
+abbrev pub next_join : RosterState → Option (SessionId × Slot)
+next_join state =
+    if is_full state || is_used_up state then None
     else Some (next_number state, next_slot state)
 
--- the first cause that refuses a join, where this many sessions may be here
-abbrev pub join_fault : ℕ → RosterState → List ℕ → Option UserFault
-join_fault limit state name =
+-- the first cause that refuses a join
+abbrev pub join_fault : RosterState → List ℕ → Option UserFault
+join_fault state name =
     if list_any (has_name name) state.sessions then Some NameInUse
-    else if is_full limit state then Some Full
+    else if is_full state then Some Full
     else if is_used_up state then Some SessionsUsedUp
     else None
 
@@ -97,9 +97,11 @@ placed state session channel = changed state session (λ user. record user { cha
 abbrev pub suppressed : RosterState → SessionId → Bool → RosterState
 suppressed state session on = changed state session (λ user. record user { suppress = on })
 
+-- its flags are changed
 abbrev pub with_flags : RosterState → SessionId → FlagChange → RosterState
 with_flags state session change = changed state session (λ user. flagged user change)
 
+-- it has these tokens
 abbrev pub with_tokens : RosterState → SessionId → List (List ℕ) → RosterState
 with_tokens state session tokens = changed state session (λ user. record user { tokens = tokens })
 

@@ -8,10 +8,11 @@ use Rattle.mum_base.specs.declared.number.ChannelId.{ChannelId}
 use Rattle.mum_base.specs.declared.number.Slot.{Slot}
 use Rattle.mum_base.specs.declared.number.TheConstants.ChannelId.{ROOT}
 use Rattle.mum_users.specs.declared.user.User.{User}
-use Rattle.mum_users.specs.declared.user.TheConstants.{CONTEXT_BYTES, TOKEN_BYTES, TOKENS}
+use Rattle.mum_users.specs.declared.user.TheConstants.{CONTEXT_BYTES, DEFAULT_SESSIONS_LIMIT, TOKEN_BYTES, TOKENS}
 use Rattle.mum_users.specs.declared.listening.ListenerPair.{ListenerPair}
 use Rattle.mum_users.specs.declared.target.TargetRow.{TargetRow}
 
+-- a roster as plain lists and numbers
 pub record RosterState : Type 0 where
   -- by their slots
   pub sessions : List User
@@ -21,38 +22,50 @@ pub record RosterState : Type 0 where
   pub targets : List TargetRow
   -- the last session number that was given, or 0
   pub last : ℕ
+  -- the most sessions at a time
+  pub limit : ℕ
 
--- which rows are of a session, a slot, a name, a channel or a number of a target
+-- the row is that of this session
 abbrev pub has_number : SessionId → User → Bool
 has_number session user = user.session.0 == session.0
 
+-- the session is in this slot
 abbrev pub has_slot : Slot → User → Bool
 has_slot slot user = user.slot.0 == slot.0
 
+-- the session has this name
 abbrev pub has_name : List ℕ → User → Bool
 has_name name user = bytes_eq user.name name
 
+-- the session is in this channel
 abbrev pub is_in : ChannelId → User → Bool
 is_in channel user = user.channel.0 == channel.0
 
+-- the pair is that of this session and this channel
 abbrev pub is_pair : SessionId → ChannelId → ListenerPair → Bool
 is_pair session channel pair = (pair.session.0 == session.0) && (pair.channel.0 == channel.0)
 
+-- the pair is one of this session
 abbrev pub is_of_session : SessionId → ListenerPair → Bool
 is_of_session session pair = pair.session.0 == session.0
 
+-- the pair is one of this channel
 abbrev pub is_of_channel : ChannelId → ListenerPair → Bool
 is_of_channel channel pair = pair.channel.0 == channel.0
 
+-- the target is one of this session
 abbrev pub is_of : SessionId → TargetRow → Bool
 is_of session row = row.session.0 == session.0
 
+-- the target is that of this session under this number
 abbrev pub is_target : SessionId → ℕ → TargetRow → Bool
 is_target session id row = (row.session.0 == session.0) && (row.id == id)
 
+-- nobody is here, and nobody was
 abbrev pub empty_roster : RosterState
-empty_roster = record { sessions = []; listeners = []; targets = []; last = 0 }
+empty_roster = record { sessions = []; listeners = []; targets = []; last = 0; limit = DEFAULT_SESSIONS_LIMIT }
 
+-- the token is longer than one may be
 abbrev pub is_long_token : List ℕ → Bool
 is_long_token token = nat_lt TOKEN_BYTES (length token)
 

@@ -10,6 +10,7 @@ use Rattle.mum_users.specs.declared.fault.UserFault.{UserFault}
 use Rattle.mum_users.specs.declared.fault.UserFault.TheVariants.{NoSession, TargetId, TargetSize}
 use Rattle.mum_users.specs.State.{RosterState, has_number, is_target}
 
+-- the voice target of a session under a number
 abbrev pub target_of : RosterState → SessionId → ℕ → Option Target
 target_of state session id = option_map (λ row. row.target) (find (is_target session id) state.targets)
 
@@ -20,6 +21,7 @@ is_oversize target =
     || nat_lt TARGET_SESSIONS (sum_by (λ item. length item.sessions) target.items)
     || list_any (λ item. nat_lt GROUP_BYTES (length item.group)) target.items
 
+-- the first cause that refuses to set a target
 abbrev pub target_fault : RosterState → SessionId → ℕ → Target → Option UserFault
 target_fault state session id target =
     if not (list_any (has_number session) state.sessions) then Some NoSession

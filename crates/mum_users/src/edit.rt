@@ -8,6 +8,7 @@ ghost use Rattle.mum_users.specs.Listeners.{pair_below};
 ghost use Rattle.mum_users.specs.Order.{Rises};
 ghost use Rattle.mum_users.specs.State.{is_of_channel, is_of_session, is_pair};
 
+use crate::channel_list::ChannelList;
 use crate::flags::FlagChange;
 use crate::listeners::Listeners;
 use crate::listening::{CHANNEL_LISTENERS, LISTENED_CHANNELS, ListenerPair};
@@ -26,7 +27,7 @@ pub struct UserChange<'a> {
     /// Channels to listen to. It may listen to some of them already.
     pub listen: &'a [ChannelId],
     /// Channels to leave. One that is among both is left.
-    pub unlisten: &'a [ChannelId],
+    pub unlisten: &'a ChannelList,
 }
 
 fn is_among(channels: &[ChannelId], channel: ChannelId) -> bool
@@ -36,15 +37,15 @@ fn is_among(channels: &[ChannelId], channel: ChannelId) -> bool
 }
 
 // Whether the session listens to the channel only after the change.
-fn is_new(listeners: &Listeners, session: SessionId, channel: ChannelId, left: &[ChannelId]) -> bool
+fn is_new(listeners: &Listeners, session: SessionId, channel: ChannelId, left: &ChannelList) -> bool
     ensures { result ≡ (not (is_among left.now channel)
         && not (list_any (is_pair session channel) listeners.now)) }
 {
-    !left.contains(&channel) && !listeners.has(session, channel)
+    !left.contains(channel) && !listeners.has(session, channel)
 }
 
 // Whether the channel has as many listeners as it may have, and the session would be one more.
-fn crowds(listeners: &Listeners, session: SessionId, channel: ChannelId, left: &[ChannelId]) -> bool
+fn crowds(listeners: &Listeners, session: SessionId, channel: ChannelId, left: &ChannelList) -> bool
     ensures { result ≡ (not (is_among left.now channel)
         && not (list_any (is_pair session channel) listeners.now)
         && nat_le CHANNEL_LISTENERS (count_by (is_of_channel channel) listeners.now)) }
@@ -57,7 +58,7 @@ fn one_crowds(
     listeners: &Listeners,
     session: SessionId,
     channels: &[ChannelId],
-    left: &[ChannelId],
+    left: &ChannelList,
 ) -> bool
     ensures { result ≡ list_any (λ channel. not (is_among left.now channel)
         && not (list_any (is_pair session channel) listeners.now)
@@ -81,12 +82,12 @@ pub(crate) fn crowds_one(listeners: &Listeners, session: SessionId, change: &Use
 }
 
 // How many of the pairs the session does not leave.
-fn staying_count(pairs: &[ListenerPair], left: &[ChannelId]) -> usize
+fn staying_count(pairs: &[ListenerPair], left: &ChannelList) -> usize
     ensures { result ≡ count_by (λ pair. not (is_among left.now pair.channel)) pairs.now }
 {
     pairs
         .iter()
-        .filter(|pair| !left.contains(&pair.channel))
+        .filter(|pair| !left.contains(pair.channel))
         .count()
 }
 
@@ -95,7 +96,7 @@ fn is_one_more(
     listeners: &Listeners,
     session: SessionId,
     channel: ChannelId,
-    left: &[ChannelId],
+    left: &ChannelList,
     later: &[ChannelId],
 ) -> bool
     ensures { result ≡ (not (is_among left.now channel)
@@ -106,6 +107,10 @@ fn is_one_more(
 }
 
 /// Whether the session listens to more channels after the change than it may.
+///
+/// Each channel is sought among those that come later, up to where it comes again. Only those that are
+/// new to the session are, of which 33 differ at most, so all these walks together have at most 33 steps
+/// for each channel of the list. That is a cost, and not proved.
 pub(crate) fn listens_to_too_many(
     listeners: &Listeners,
     session: SessionId,

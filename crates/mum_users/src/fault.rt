@@ -10,7 +10,7 @@ use thiserror::Error;
 pub enum UserFault {
     #[error("a session has this name")]
     NameInUse,
-    #[error("128 sessions are here")]
+    #[error("as many sessions are here as the limit says")]
     Full,
     #[error("no such session is here")]
     NoSession,
@@ -53,7 +53,7 @@ impl<T: Drop> From<AllocFailed<T>> for UserFault {
 impl UserFault {
     ghost use Rattle.mum_users.specs.Fault.{fault_code};
 
-    /// The number of the fault, 40 to 47; none for want of memory.
+    /// The number of the fault, 40 to 47; none for out of memory.
     pub fn code(self) -> Option<u8>
         ensures { result ≡ fault_code self }
     {

@@ -25,8 +25,8 @@ pub fn targets_where_proper()
     ensures unset { UnsetStaysProper }
 {}
 
-/// After a change a session listens exactly to what it listened to or is told to listen to, but for what
-/// it is told to leave. All others listen to what they did.
+/// After a change a session listens exactly to what it listened to or is to listen to, but for what it is
+/// to leave. All others listen to what they did.
 pub fn listens_as_told()
     ensures own { ListensAsTold }
     ensures others { OthersListenAsBefore }

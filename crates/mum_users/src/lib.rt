@@ -3,6 +3,7 @@
 //! Contracts see a roster as plain lists, in `specs/State.antt`.
 #![tactic(auto)]
 
+mod channel_list;
 mod edit;
 pub mod fault;
 pub mod flags;
@@ -10,17 +11,20 @@ pub mod laws;
 pub mod limits;
 mod listeners;
 pub mod listening;
+pub mod masks;
+pub mod placing;
 pub mod roster;
-pub mod seating;
 mod sessions;
 pub mod target;
 pub mod user;
 
+pub use channel_list::ChannelList;
 pub use edit::UserChange;
 pub use fault::UserFault;
 pub use flags::FlagChange;
 pub use listening::{ChannelSet, ListenerPair};
+pub use masks::MaskRow;
+pub use placing::{Placement, Placements};
 pub use roster::Roster;
-pub use seating::{Seat, Seating};
 pub use target::{Target, TargetItem};
 pub use user::User;

@@ -3,12 +3,14 @@
 ghost use Rattle.std.specs.Prelude.{◌≡◌};
 
 use crate::listening::{CHANNEL_LISTENERS, LISTENED_CHANNELS};
+use crate::masks::WORD_SLOTS;
 use crate::target::{GROUP_BYTES, LAST_TARGET, TARGET_ITEMS, TARGET_SESSIONS};
-use crate::user::{CONTEXT_BYTES, SESSIONS, TOKEN_BYTES, TOKENS};
+use crate::user::{CONTEXT_BYTES, DEFAULT_SESSIONS_LIMIT, TOKEN_BYTES, TOKENS};
 
 /// This does nothing: its contract is what the limits are.
 pub fn limits()
-    ensures sessions { SESSIONS ≡ 128 }
+    ensures default_sessions_limit { DEFAULT_SESSIONS_LIMIT ≡ 128 }
+    ensures word_slots { WORD_SLOTS ≡ 128 }
     ensures channel_listeners { CHANNEL_LISTENERS ≡ 64 }
     ensures listened_channels { LISTENED_CHANNELS ≡ 32 }
     ensures last_target { LAST_TARGET ≡ 30 }

@@ -1,6 +1,6 @@
 //! Who listens to which channel, kept in two orders.
 
-ghost use Rattle.std.specs.Prelude.{◌≡◌, ◌+◌, ◌≤◌, ◌<◌, not, [], OnOk, OnErr, IfOk, count_by, filter, length, if◌then◌else◌};
+ghost use Rattle.std.specs.Prelude.{◌≡◌, ◌+◌, ◌≤◌, ◌<◌, not, [], ◌∷◌, OnOk, OnErr, IfOk, count_by, filter, length, if◌then◌else◌};
 ghost use Rattle.std.specs.List.{list_any};
 ghost use Rattle.std.specs.Vec.{vec_capacity, vec_len};
 ghost use Rattle.mum_base.specs.Channels.{is_among};
@@ -8,9 +8,10 @@ ghost use Rattle.mum_users.specs.Edit.{staying, with_channels};
 ghost use Rattle.mum_users.specs.Listeners.{IsIndexed, pair_below, with_pair};
 ghost use Rattle.mum_users.specs.State.{is_of_channel, is_of_session, is_pair};
 
+use crate::channel_list::ChannelList;
 use crate::listening::{
-    ChannelSet, ListenerPair, PairOrder, drop_channels, drop_gone, drop_session, pairs_of_channel,
-    pairs_of_session, put_pair,
+    ChannelSet, ListenerPair, PairOrder, drop_channels, drop_gone, drop_pair, drop_session,
+    pairs_of_channel, pairs_of_session, put_pair,
 };
 use mum_base::{ChannelId, OutOfMemory, SessionId};
 use std::alloc::Global;
@@ -47,7 +48,7 @@ fn put_channel(
     by_session: &mut Vec<ListenerPair>,
     by_channel: &mut Vec<ListenerPair>,
     new: ListenerPair,
-    left: &[ChannelId],
+    left: &ChannelList,
 )
     requires indexed { IsIndexed by_session.old.items by_channel.old.items }
     requires room { vec_len by_session.old < vec_capacity by_session.old }
@@ -60,7 +61,7 @@ fn put_channel(
     ensures channel_len { vec_len by_channel.new ≤ vec_len by_channel.old + 1 }
     ensures channel_room { vec_capacity by_channel.old ≤ vec_capacity by_channel.new }
 {
-    if left.contains(&new.channel) {
+    if left.contains(new.channel) {
         return;
     }
     put_pair(PairOrder::BySession, by_session, new);
@@ -73,7 +74,7 @@ fn put_channels(
     by_channel: &mut Vec<ListenerPair>,
     session: SessionId,
     channels: &[ChannelId],
-    left: &[ChannelId],
+    left: &ChannelList,
 )
     requires indexed { IsIndexed by_session.old.items by_channel.old.items }
     requires room { vec_len by_session.old + length channels.now ≤ vec_capacity by_session.old }
@@ -156,7 +157,7 @@ impl Listeners {
         &mut self,
         session: SessionId,
         channels: &[ChannelId],
-        left: &[ChannelId],
+        left: &ChannelList,
     ) -> Result<(), OutOfMemory>
         ensures ok { OnOk result (self.new
             ≡ with_channels session left.now channels.now (staying session left.now self.old)) }
@@ -176,12 +177,12 @@ impl Listeners {
         Ok(())
     }
 
-    /// The session leaves these channels.
-    pub(crate) fn leave(&mut self, session: SessionId, left: &[ChannelId])
-        ensures { self.new ≡ staying session left.now self.old }
+    /// The session leaves this channel.
+    pub(crate) fn leave(&mut self, session: SessionId, channel: ChannelId)
+        ensures { self.new ≡ staying session (channel ∷ []) self.old }
     {
-        drop_channels(&mut self.by_session, session, left);
-        drop_channels(&mut self.by_channel, session, left);
+        drop_pair(&mut self.by_session, session, channel);
+        drop_pair(&mut self.by_channel, session, channel);
     }
 
     /// The session leaves every channel.

@@ -1,6 +1,6 @@
-//! Pairs of a session and a channel that it listens to, and the two orders in which they stand.
+//! Pairs of a session and a channel that it listens to, and the two orders of such pairs.
 
-ghost use Rattle.std.specs.Prelude.{◌≡◌, ◌+◌, ◌≤◌, ◌<◌, ◌==◌, ◌||◌, ◌&&◌, not, nat_lt, filter, length, position, slice_index_or, IsTrue};
+ghost use Rattle.std.specs.Prelude.{◌≡◌, ◌+◌, ◌≤◌, ◌<◌, ◌==◌, ◌||◌, ◌&&◌, not, nat_lt, filter, length, position, slice_index_or, IsTrue, [], ◌∷◌};
 ghost use Rattle.std.specs.Vec.{vec_capacity, vec_len};
 ghost use Rattle.std.specs.List.{list_any, position_or_len};
 ghost use Rattle.mum_base.specs.Channels.{is_among};
@@ -9,6 +9,7 @@ ghost use Rattle.mum_users.specs.Listeners.{below_in, channel_below, pair_below,
 ghost use Rattle.mum_users.specs.Order.{Rises};
 ghost use Rattle.mum_users.specs.State.{is_of_channel, is_of_session, is_pair};
 
+use crate::channel_list::ChannelList;
 use mum_base::{ChannelId, SessionId};
 
 /// The most sessions that listen to a channel.
@@ -24,7 +25,7 @@ pub struct ListenerPair {
     pub channel: ChannelId,
 }
 
-/// An order in which pairs stand.
+/// An order of pairs.
 #[derive(Clone, Copy)]
 pub(crate) enum PairOrder {
     /// By their sessions, those of one session by their channels.
@@ -58,7 +59,7 @@ fn is_below_by_channel(pair: ListenerPair, other: ListenerPair) -> bool
         || pair.channel.0 == other.channel.0 && pair.session.0 < other.session.0
 }
 
-// How many pairs are below this one, found by halving.
+// How many pairs are below this one, found by binary search.
 fn place_of(order: PairOrder, pairs: &[ListenerPair], new: ListenerPair) -> usize
     requires { Rises (below_in order) pairs.now }
     ensures place { result ≡ position_or_len (λ pair. not (below_in order pair new)) pairs.now }
@@ -137,7 +138,7 @@ fn channel_count(pairs: &[ListenerPair], channel: ChannelId) -> usize
     other_channel(pairs, channel).unwrap_or(pairs.len())
 }
 
-/// The pairs of a session among pairs by their sessions. The first is found by halving.
+/// The pairs of a session among pairs by their sessions. The first is found by binary search.
 pub(crate) fn pairs_of_session(pairs: &[ListenerPair], session: SessionId) -> &[ListenerPair]
     requires { Rises pair_below pairs.now }
     ensures { result.now ≡ filter (is_of_session session) pairs.now }
@@ -148,7 +149,7 @@ pub(crate) fn pairs_of_session(pairs: &[ListenerPair], session: SessionId) -> &[
     &rest[..count]
 }
 
-/// The pairs of a channel among pairs by their channels. The first is found by halving.
+/// The pairs of a channel among pairs by their channels. The first is found by binary search.
 pub(crate) fn pairs_of_channel(pairs: &[ListenerPair], channel: ChannelId) -> &[ListenerPair]
     requires { Rises channel_below pairs.now }
     ensures { result.now ≡ filter (is_of_channel channel) pairs.now }
@@ -166,7 +167,7 @@ pub(crate) fn drop_session(pairs: &mut Vec<ListenerPair>, session: SessionId)
     pairs.retain(|pair| pair.session != session);
 }
 
-/// A set of channels, as whoever removes them tells it.
+/// A set of channels: those that are removed.
 pub trait ChannelSet {
     ghost use Rattle.std.specs.Prelude.{Bool};
     ghost use Rattle.mum_base.specs.declared.number.ChannelId.{ChannelId};
@@ -185,17 +186,24 @@ pub(crate) fn drop_gone<G: ChannelSet>(pairs: &mut Vec<ListenerPair>, gone: &G)
     pairs.retain(|pair| !gone.has(pair.channel));
 }
 
-fn is_left(pair: ListenerPair, session: SessionId, left: &[ChannelId]) -> bool
+fn is_left(pair: ListenerPair, session: SessionId, left: &ChannelList) -> bool
     ensures { result ≡ (is_of_session session pair && is_among left.now pair.channel) }
 {
-    pair.session == session && left.contains(&pair.channel)
+    pair.session == session && left.contains(pair.channel)
 }
 
 /// Leaves out the pairs of a session and these channels.
-pub(crate) fn drop_channels(pairs: &mut Vec<ListenerPair>, session: SessionId, left: &[ChannelId])
+pub(crate) fn drop_channels(pairs: &mut Vec<ListenerPair>, session: SessionId, left: &ChannelList)
     ensures items { pairs.new.items ≡ staying session left.now pairs.old.items }
     ensures len { vec_len pairs.new ≤ vec_len pairs.old }
     ensures room { vec_capacity pairs.new ≡ vec_capacity pairs.old }
 {
     pairs.retain(|pair| !is_left(*pair, session, left));
+}
+
+/// Leaves out the pair of a session and a channel.
+pub(crate) fn drop_pair(pairs: &mut Vec<ListenerPair>, session: SessionId, channel: ChannelId)
+    ensures { pairs.new.items ≡ staying session (channel ∷ []) pairs.old.items }
+{
+    pairs.retain(|pair| !(pair.session == session && pair.channel == channel));
 }

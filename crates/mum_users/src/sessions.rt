@@ -6,11 +6,11 @@ ghost use Rattle.std.specs.Option.{option_copied};
 ghost use Rattle.mum_users.specs.Numbers.{is_slot_of, number_below, IsNumbered};
 ghost use Rattle.mum_users.specs.Order.{Rises};
 ghost use Rattle.mum_users.specs.Sessions.{free_slot_from};
-ghost use Rattle.mum_users.specs.State.{has_name, has_number, has_slot, is_in};
+ghost use Rattle.mum_users.specs.State.{has_name, has_number, has_slot};
 ghost use Rattle.mum_users.specs.Proper.{SlotsRise};
 
-use crate::user::{SESSIONS, User};
-use mum_base::{ChannelId, OutOfMemory, SessionId, Slot};
+use crate::user::User;
+use mum_base::{OutOfMemory, SLOTS, SessionId, Slot};
 use std::alloc::Global;
 
 /// A session with its slot.
@@ -20,7 +20,7 @@ pub(crate) struct SessionSlot {
     pub slot: Slot,
 }
 
-// The slot of a session, found by halving.
+// The slot of a session, found by binary search.
 fn slot_of(slots: &[SessionSlot], session: SessionId) -> Option<Slot>
     requires { Rises number_below slots.now }
     ensures { MatchOption result (filter (is_slot_of session) slots.now ≡ []) (λ slot.
@@ -32,9 +32,9 @@ fn slot_of(slots: &[SessionSlot], session: SessionId) -> Option<Slot>
     }
 }
 
-// The place of the row in a slot, found by halving.
+// The place of the row in a slot, found by binary search.
 fn place_of(users: &[User], slot: Slot) -> Option<usize>
-    requires { SlotsRise SESSIONS 0 users.now }
+    requires { SlotsRise SLOTS 0 users.now }
     ensures { result ≡ position (has_slot slot) users.now }
 {
     match users.binary_search_by_key(&slot.0, |user| user.slot.0) {
@@ -43,9 +43,9 @@ fn place_of(users: &[User], slot: Slot) -> Option<usize>
     }
 }
 
-/// Whether a session is here, found by halving.
+/// Whether a session is here, found by binary search.
 pub(crate) fn is_here(users: &[User], slots: &[SessionSlot], session: SessionId) -> bool
-    requires rise { SlotsRise SESSIONS 0 users.now }
+    requires rise { SlotsRise SLOTS 0 users.now }
     requires numbered { IsNumbered users.now slots.now }
     ensures { result ≡ list_any (has_number session) users.now }
 {
@@ -58,9 +58,9 @@ pub(crate) fn name_in_use(users: &[User], name: &str) -> bool
     users.iter().any(|user| user.name.as_str() == name)
 }
 
-/// The place of the row of a session, found by halving.
+/// The place of the row of a session, found by binary search.
 pub(crate) fn index_of(users: &[User], slots: &[SessionSlot], session: SessionId) -> Option<usize>
-    requires rise { SlotsRise SESSIONS 0 users.now }
+    requires rise { SlotsRise SLOTS 0 users.now }
     requires numbered { IsNumbered users.now slots.now }
     ensures { result ≡ position (has_number session) users.now }
 {
@@ -70,13 +70,13 @@ pub(crate) fn index_of(users: &[User], slots: &[SessionSlot], session: SessionId
     }
 }
 
-/// The row of a session, found by halving.
+/// The row of a session, found by binary search.
 pub(crate) fn row_of<'a>(
     users: &'a [User],
     slots: &[SessionSlot],
     session: SessionId,
 ) -> Option<&'a User>
-    requires rise { SlotsRise SESSIONS 0 users.now }
+    requires rise { SlotsRise SLOTS 0 users.now }
     requires numbered { IsNumbered users.now slots.now }
     ensures { option_copied result ≡ find (has_number session) users.now }
 {
@@ -84,13 +84,6 @@ pub(crate) fn row_of<'a>(
         None => None,
         Some(index) => Some(&users[index]),
     }
-}
-
-/// Whether a session is in the channel.
-pub(crate) fn has_member(users: &[User], channel: ChannelId) -> bool
-    ensures { result ≡ list_any (is_in channel) users.now }
-{
-    users.iter().any(|user| user.channel == channel)
 }
 
 /// Takes the row of a session out.
@@ -111,16 +104,16 @@ pub(crate) fn take_slot(slots: &mut Vec<SessionSlot>, session: SessionId)
 pub(crate) fn copy_of_users(alloc: Global, users: &[User]) -> Result<Vec<User>, OutOfMemory>
     ensures { IfOk result (λ copy. copy.items ≡ users.now) }
 {
-    let mut copies = Vec::with_capacity(alloc, SESSIONS.max(users.len()))?;
+    let mut copies = Vec::with_capacity(alloc, SLOTS.max(users.len()))?;
     for user in users {
         copies.push(user.copy(alloc)?)?;
     }
     Ok(copies)
 }
 
-/// The row in a slot, found by halving.
+/// The row in a slot, found by binary search.
 pub(crate) fn row_at(users: &[User], slot: Slot) -> Option<&User>
-    requires { SlotsRise SESSIONS 0 users.now }
+    requires { SlotsRise SLOTS 0 users.now }
     ensures { option_copied result ≡ find (has_slot slot) users.now }
 {
     match place_of(users, slot) {

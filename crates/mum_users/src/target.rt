@@ -140,7 +140,7 @@ fn is_below(row: &TargetRow, session: SessionId, id: u8) -> bool
     row.session.0 < session.0 || row.session.0 == session.0 && row.id < id
 }
 
-// How many rows are below this number of this session, found by halving.
+// How many rows are below this number of this session, found by binary search.
 fn place_of(rows: &[TargetRow], session: SessionId, id: u8) -> usize
     requires { Rises row_below rows.now }
     ensures place { result ≡ position_or_len (λ row. not (target_below session id row)) rows.now }
@@ -158,7 +158,7 @@ fn is_at(rows: &[TargetRow], place: usize, session: SessionId, id: u8) -> bool
     place < rows.len() && rows[place].session == session && rows[place].id == id
 }
 
-/// The row of this number of this session, found by halving.
+/// The row of this number of this session, found by binary search.
 pub(crate) fn row_of_target(rows: &[TargetRow], session: SessionId, id: u8) -> Option<&TargetRow>
     requires { Rises row_below rows.now }
     ensures { option_copied result ≡ find (is_target session id) rows.now }

@@ -10,8 +10,8 @@ use crate::flags::{FlagChange, Silence, silence_changed};
 use mum_base::{AccountId, ChannelId, Items, Octets, OutOfMemory, SessionId, Slot, Text};
 use std::alloc::Global;
 
-/// The most sessions at a time. Slots are below this number.
-pub const SESSIONS: usize = 128;
+/// The limit of sessions of a new roster.
+pub const DEFAULT_SESSIONS_LIMIT: u16 = 128;
 
 /// The most access tokens of a session.
 pub const TOKENS: usize = 64;
@@ -49,7 +49,7 @@ pub fn is_context(bytes: &[u8]) -> bool
 pub struct User {
     /// Its number, given in order from 1 and never given again.
     pub session: SessionId,
-    /// Its place, below 128. It is given again once the session is gone.
+    /// Its place, below the limit of sessions. It is given again once the session is gone.
     pub slot: Slot,
     pub name: Text,
     pub account: Option<AccountId>,
@@ -65,7 +65,7 @@ pub struct User {
     /// The access tokens that it gave.
     pub tokens: Items<Text>,
     pub comment: Text,
-    /// The plugin context, which tells who hears whose position.
+    /// The plugin context: sessions with equal ones hear each other's positions.
     pub context: Octets,
 }
 

@@ -1,5 +1,5 @@
 use Rattle.std.proofs.Common.{◌∙◌}
-use Rattle.mum_users.specs.declared.user.TheConstants.{SESSIONS}
+use Rattle.mum_base.specs.declared.number.TheConstants.{SLOTS}
 use Rattle.mum_users.proofs.Numbers.{no_row, row_in_slot}
 use Rattle.mum_users.proofs.sessions.index_of.Goals as goal
 
@@ -8,4 +8,4 @@ returns-in-None c = no_row c.args.session c.args.users.now c.args.slots.now c.re
 
 pub returns-in-Some : goal.returns-in-Some
 returns-in-Some c =
-    c.place_of.ensures ∙ row_in_slot SESSIONS c.args.session c.in-Some.slot c.args.users.now c.args.slots.now c.requires.rise c.requires.numbered c.in-Some.ensures
+    c.place_of.ensures ∙ row_in_slot SLOTS c.args.session c.in-Some.slot c.args.users.now c.args.slots.now c.requires.rise c.requires.numbered c.in-Some.ensures

@@ -1,6 +1,6 @@
 use Rattle.std.proofs.Common.{Ok, Err, rules}
 use Rattle.std.proofs.lemmas.List.Sorted.{answers_always}
-use Rattle.mum_users.specs.declared.user.TheConstants.{SESSIONS}
+use Rattle.mum_base.specs.declared.number.TheConstants.{SLOTS}
 use Rattle.mum_users.proofs.Slots.{place_of_slot}
 use Rattle.mum_users.proofs.sessions.place_of.Goals as goal
 
@@ -8,10 +8,10 @@ pub returns-in-Ok : goal.returns-in-Ok
 returns-in-Ok c =
     let facts = c.in-Ok.ensures in
     let by_slot = facts.position (λ user. user.slot.0) (answers_always _ _ _ (λ f a r g called. search rules)) in
-    place_of_slot SESSIONS c.args.users.now c.requires c.args.slot (Ok c.in-Ok.index) facts.bound by_slot
+    place_of_slot SLOTS c.args.users.now c.requires c.args.slot (Ok c.in-Ok.index) facts.bound by_slot
 
 pub returns-in-Err : goal.returns-in-Err
 returns-in-Err c =
     let facts = c.in-Err.ensures in
     let by_slot = facts.position (λ user. user.slot.0) (answers_always _ _ _ (λ f a r g called. search rules)) in
-    place_of_slot SESSIONS c.args.users.now c.requires c.args.slot (Err c.in-Err.field-0) facts.bound by_slot
+    place_of_slot SLOTS c.args.users.now c.requires c.args.slot (Err c.in-Err.field-0) facts.bound by_slot

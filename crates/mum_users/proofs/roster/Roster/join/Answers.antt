@@ -1,27 +1,36 @@
-use Rattle.std.proofs.Common.{◌≡◌, ◌∙◌, ◌+◌, ◌<◌, None, sym, subst, arith}
-use Rattle.mum_users.specs.declared.user.TheConstants.{SESSIONS}
+use Rattle.std.proofs.Common.{ℕ, ap, ◌≡◌, ◌∙◌, ◌+◌, ◌<◌, None, sym, subst, arith}
+use Rattle.std.specs.Vec.{vec_capacity}
 use Rattle.mum_users.specs.Numbers.{IsKept}
-use Rattle.mum_users.specs.Sessions.{join_fault}
+use Rattle.mum_base.specs.declared.number.TheConstants.ChannelId.{ROOT}
+use Rattle.mum_users.specs.Sessions.{free_slot_from, join_fault}
+use Rattle.mum_users.specs.SlotMasks.{with_slot}
 use Rattle.mum_users.specs.State.{RosterState}
 use Rattle.mum_users.proofs.Numbers.{IsNumbered-joined}
-use Rattle.mum_users.proofs.Rosters.{IsProper-joined, join_parts}
+use Rattle.mum_users.proofs.Rosters.{IsKept-joined, join_parts, room_to_join}
 use Rattle.mum_users.proofs.roster.Roster.join.Goals as goal
-use Rattle.mum_users.proofs.roster.Roster.join.Goals.{After-push_reserved}
+use Rattle.mum_users.proofs.roster.Roster.join.Goals.{After-set_slot}
 
 -- what is left is a proper roster with the slots of its sessions
-kept : (c : After-push_reserved) → IsKept SESSIONS (record { sessions = c.insert.new.self.items; listeners = c.self.inside.listeners; targets = c.self.inside.targets.items; last = c.self.inside.last + 1 }) c.push_reserved.new.self.items
+kept : (c : After-set_slot) → IsKept (record { sessions = c.insert.new.self.items; listeners = c.self.inside.listeners; targets = c.self.inside.targets.items; last = c.self.inside.last + 1; limit = c.self.inside.limit }) c.push_reserved.new.self.items c.set_slot.new.rows.items (vec_capacity c.set_slot.new.rows) c.self.inside.listener_rows.items
 kept c =
-    let before : RosterState = record { sessions = c.self.inside.users.items; listeners = c.self.inside.listeners; targets = c.self.inside.targets.items; last = c.self.inside.last } in
-    let allowed = subst (λ (state : RosterState). join_fault SESSIONS state c.args.name.now ≡ None) (sym c.self.view_is) (sym c.cause_against_joining.ensures ∙ c.in_default.is) in
-    let parts = join_parts SESSIONS before c.args.name.now allowed in
+    let before : RosterState = record { sessions = c.self.inside.users.items; listeners = c.self.inside.listeners; targets = c.self.inside.targets.items; last = c.self.inside.last; limit = c.self.inside.limit } in
+    let allowed = subst (λ (state : RosterState). join_fault state c.args.name.now ≡ None) (sym c.self.view_is) (sym c.cause_against_joining.ensures ∙ c.in_default.is) in
+    let parts = join_parts before c.args.name.now allowed in
     let left : c.self.inside.last < 4294967295 = parts.2 in
-    rw (c.in_ok-insert.ensures.items, c.in_ok-user.ensures, c.push_reserved.ensures.items, c.reserve.ensures.items, c.free_slot-place.ensures.least, c.as_slice.ensures.value) (record {
-      proper = IsProper-joined SESSIONS before c.args.name.now c.args.account c.args.tokens.now c.self.invariant.proper parts.0 parts.1 parts.2;
-      numbered = IsNumbered-joined _ _ _ _ _ c.self.invariant.proper.given (omega arith) c.self.invariant.numbered;
-    })
+    rw (c.in_ok-insert.ensures.items, c.in_ok-user.ensures, c.push_reserved.ensures.items, c.reserve.ensures.items, c.free_slot-place.ensures.least, c.as_slice.ensures.value)
+    (IsKept-joined before _ c.self.inside.member_rows.items (vec_capacity c.self.inside.member_rows) c.self.inside.listener_rows.items c.args.name.now c.args.account c.args.tokens.now c.self.invariant parts.0 parts.1 parts.2
+    _ (IsNumbered-joined _ _ _ _ _ c.self.invariant.proper.given (omega arith) c.self.invariant.numbered) _ _ (c.set_slot.ensures.items ∙ ap (λ (k : ℕ). with_slot ROOT k c.self.inside.member_rows.items) (c.free_slot-place.ensures.least ∙ ap (free_slot_from 0) c.as_slice.ensures.value)) c.set_slot.ensures.room)
+
+pub set_slot-requires-clause-room : goal.set_slot-requires-clause-room
+set_slot-requires-clause-room c =
+    let before : RosterState = record { sessions = c.self.inside.users.items; listeners = c.self.inside.listeners; targets = c.self.inside.targets.items; last = c.self.inside.last; limit = c.self.inside.limit } in
+    let allowed = subst (λ (state : RosterState). join_fault state c.args.name.now ≡ None) (sym c.self.view_is) (sym c.cause_against_joining.ensures ∙ c.in_default.is) in
+    let parts = join_parts before c.args.name.now allowed in
+    let room = room_to_join before _ c.self.inside.member_rows.items (vec_capacity c.self.inside.member_rows) c.self.inside.listener_rows.items c.args.name.now c.args.account c.args.tokens.now c.self.invariant parts.0 parts.1 parts.2 in
+    omega (arith, room)
 
 pub invariant_of-self-2 : goal.invariant_of-self-2
-invariant_of-self-2 c = kept (goal.at.invariant_of-self-2 c).After-push_reserved
+invariant_of-self-2 c = kept (goal.at.invariant_of-self-2 c).After-set_slot
 
 pub returns-clause-proper : goal.returns-clause-proper
-returns-clause-proper c = (kept (goal.at.returns-clause-proper c).After-push_reserved).proper
+returns-clause-proper c = (kept (goal.at.returns-clause-proper c).After-set_slot).proper

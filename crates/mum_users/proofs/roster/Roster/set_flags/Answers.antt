@@ -1,8 +1,9 @@
 use Rattle.std.proofs.Common.{refl, set}
-use Rattle.mum_users.specs.declared.user.TheConstants.{SESSIONS}
+use Rattle.std.specs.Vec.{vec_capacity}
 use Rattle.mum_users.specs.Numbers.{IsKept}
 use Rattle.mum_users.specs.Flags.{flagged}
 use Rattle.mum_users.proofs.Rosters.{IsKept-set, found, not_found}
+use Rattle.mum_users.proofs.Silence.{flagged_keeps}
 use Rattle.mum_users.proofs.roster.Roster.set_flags.Goals as goal
 use Rattle.mum_users.proofs.roster.Roster.set_flags.Goals.{After-change_flags}
 
@@ -10,11 +11,11 @@ pub returns-in-None-clause-outcome : goal.returns-in-None-clause-outcome
 returns-in-None-clause-outcome c = (not_found _ _ c.args.session _ c.self.view_is c.as_slice.ensures.value c.in-None.ensures, refl)
 
 -- what is left is a proper roster with the slots of its sessions
-kept : (c : After-change_flags) → IsKept SESSIONS (record { sessions = set c.self.inside.users.items c.in-Some.index c.change_flags.new.user; listeners = c.self.inside.listeners; targets = c.self.inside.targets.items; last = c.self.inside.last }) c.self.inside.slots.items
+kept : (c : After-change_flags) → IsKept (record { sessions = set c.self.inside.users.items c.in-Some.index c.change_flags.new.user; listeners = c.self.inside.listeners; targets = c.self.inside.targets.items; last = c.self.inside.last; limit = c.self.inside.limit }) c.self.inside.slots.items c.self.inside.member_rows.items (vec_capacity c.self.inside.member_rows) c.self.inside.listener_rows.items
 kept c =
     rw c.change_flags.ensures (
-    IsKept-set _ _ c.args.session (λ user. flagged user c.args.change) _ _ c.index_mut.result.now
-    (record { session = λ _. refl; slot = λ _. refl; name = λ _. refl })
+    IsKept-set _ _ _ _ _ c.args.session (λ user. flagged user c.args.change) _ _ c.index_mut.result.now
+    (flagged_keeps c.args.change) (λ _. refl)
     c.self.invariant c.as_slice.ensures.value c.in-Some.ensures c.index_mut.ensures.value)
 
 pub invariant_of-self : goal.invariant_of-self

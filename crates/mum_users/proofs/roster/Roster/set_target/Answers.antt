@@ -1,6 +1,5 @@
 use Rattle.std.proofs.Common.{not, sym}
 use Rattle.mum_users.specs.declared.target.TargetRow.{TargetRow}
-use Rattle.mum_users.specs.declared.user.TheConstants.{SESSIONS}
 use Rattle.mum_users.specs.Proper.{IsProper}
 use Rattle.mum_users.specs.State.{is_target}
 use Rattle.mum_users.proofs.Rosters.{IsProper-fewer_targets, IsProper-with_target, is_sound-from}
@@ -10,11 +9,15 @@ use Rattle.mum_users.proofs.roster.Roster.set_target.Goals.{In_ok-put_target}
 pub invariant_of-self : goal.invariant_of-self
 invariant_of-self c = record {
   proper = rw c.take_target.ensures (IsProper-fewer_targets _ (λ row. not (is_target c.args.session c.args.id row)) c.self.invariant.proper);
+  rise = c.self.invariant.rise;
   numbered = c.self.invariant.numbered;
+  member_masks = c.self.invariant.member_masks;
+  enough = c.self.invariant.enough;
+  listener_masks = c.self.invariant.listener_masks;
 }
 
 -- with the target that is set a roster is proper
-proper : (c : In_ok-put_target) → IsProper SESSIONS (record { sessions = c.self.inside.users.items; listeners = c.self.inside.listeners; targets = c.put_target.new.rows.items; last = c.self.inside.last })
+proper : (c : In_ok-put_target) → IsProper (record { sessions = c.self.inside.users.items; listeners = c.self.inside.listeners; targets = c.put_target.new.rows.items; last = c.self.inside.last; limit = c.self.inside.limit })
 proper c =
     let here = rw c.as_slice.ensures.value at c.if-not-is_here.ensures in
     let some = rw c.as_slice-3.ensures at c.if-is_empty.ensures in
@@ -24,7 +27,7 @@ proper c =
     (is_sound-from row c.if-id-eq0.false c.if-id-gt-LAST_TARGET.false (sym some) (sym c.if-is_oversize.ensures)))
 
 pub invariant_of-self-2 : goal.invariant_of-self-2
-invariant_of-self-2 c = record { proper = proper (goal.at.invariant_of-self-2 c).In_ok-put_target; numbered = c.self.invariant.numbered }
+invariant_of-self-2 c = record { proper = proper (goal.at.invariant_of-self-2 c).In_ok-put_target; rise = c.self.invariant.rise; numbered = c.self.invariant.numbered; member_masks = c.self.invariant.member_masks; enough = c.self.invariant.enough; listener_masks = c.self.invariant.listener_masks }
 
 pub returns-then-is_empty-clause-proper : goal.returns-then-is_empty-clause-proper
 returns-then-is_empty-clause-proper c =

@@ -1,6 +1,6 @@
 use Rattle.std.proofs.Common.{refl, set}
 use Rattle.std.proofs.lemmas.Result.{err_from_is_err_and}
-use Rattle.mum_users.specs.declared.user.TheConstants.{SESSIONS}
+use Rattle.std.specs.Vec.{vec_capacity}
 use Rattle.mum_users.specs.Numbers.{IsKept}
 use Rattle.mum_users.proofs.Rosters.{IsKept-set, found, here_from, not_found}
 use Rattle.mum_users.proofs.roster.Roster.set_tokens.Goals as goal
@@ -10,11 +10,11 @@ pub returns-in-None-clause-outcome : goal.returns-in-None-clause-outcome
 returns-in-None-clause-outcome c = (not_found _ _ c.args.session _ c.self.view_is c.as_slice.ensures.value c.in-None.ensures, refl)
 
 -- what is left is a proper roster with the slots of its sessions
-kept : (c : After-index_mut-user) → IsKept SESSIONS (record { sessions = set c.self.inside.users.items c.in-Some.index (record c.index_mut-user.result.now { tokens = c.in_ok-tokens-in-Some.tokens }); listeners = c.self.inside.listeners; targets = c.self.inside.targets.items; last = c.self.inside.last }) c.self.inside.slots.items
+kept : (c : After-index_mut-user) → IsKept (record { sessions = set c.self.inside.users.items c.in-Some.index (record c.index_mut-user.result.now { tokens = c.in_ok-tokens-in-Some.tokens }); listeners = c.self.inside.listeners; targets = c.self.inside.targets.items; last = c.self.inside.last; limit = c.self.inside.limit }) c.self.inside.slots.items c.self.inside.member_rows.items (vec_capacity c.self.inside.member_rows) c.self.inside.listener_rows.items
 kept c =
     rw c.in_ok-tokens-in-Some.ensures (
-    IsKept-set _ _ c.args.session (λ user. record user { tokens = c.args.tokens.now }) _ _ c.index_mut-user.result.now
-    (record { session = λ _. refl; slot = λ _. refl; name = λ _. refl })
+    IsKept-set _ _ _ _ _ c.args.session (λ user. record user { tokens = c.args.tokens.now }) _ _ c.index_mut-user.result.now
+    (record { session = λ _. refl; slot = λ _. refl; name = λ _. refl; silence = λ _ e. e }) (λ _. refl)
     c.self.invariant c.as_slice.ensures.value c.in-Some.ensures c.index_mut-user.ensures.value)
 
 pub invariant_of-self : goal.invariant_of-self

@@ -1,20 +1,20 @@
 use Rattle.std.proofs.Common.{◌≡◌, ◌∙◌, ◌<◌, ℕ, List, length, get_or, set, ap, sym, arith}
-use Rattle.mum_users.specs.declared.seating.Seat.{Seat}
+use Rattle.mum_users.specs.declared.placing.Placement.{Placement}
 use Rattle.mum_users.specs.declared.user.User.{User}
-use Rattle.mum_users.specs.Seats.{seated}
-use Rattle.mum_users.proofs.Seats.{set-mapped}
-use Rattle.mum_users.proofs.seating.seat_all.Goals as goal
+use Rattle.mum_users.specs.Placed.{with_placement}
+use Rattle.mum_users.proofs.Placed.{set-mapped}
+use Rattle.mum_users.proofs.placing.place_each.Goals as goal
 
 pub loop-user-preserved : goal.loop-user-preserved
 loop-user-preserved g c =
-    let f : User → User = seated (g.S.Seating.seat_of c.args.seating.now) in
+    let f : User → User = with_placement (g.S.Placements.placement_of c.args.placements.now) in
     let users : List User = c.deref_mut-user-items.result.now in
     let i : ℕ = c.loop-user.user-index in
     let user : User = c.user-item.result in
     let at : User = get_or c.loop-user.user-items i user in
-    let moved : c.take_seat.new.user ≡ record at { channel = c.seat-seat.result.channel; suppress = c.seat-seat.result.suppress } = c.take_seat.ensures in
-    let made : c.take_seat.new.user ≡ f at =
-    moved ∙ ap (λ (seat : Seat). record at { channel = seat.channel; suppress = seat.suppress }) c.seat-seat.ensures in
+    let moved : c.apply_placement.new.user ≡ record at { channel = c.placement-placement.result.channel; suppress = c.placement-placement.result.suppress } = c.apply_placement.ensures in
+    let made : c.apply_placement.new.user ≡ f at =
+    moved ∙ ap (λ (placement : Placement). record at { channel = placement.channel; suppress = placement.suppress }) c.placement-placement.ensures in
     let within : i < length users = omega arith in
     ap (λ (one : User). set c.loop-user.user-items i one) made
     ∙ ap (λ (one : User). set c.loop-user.user-items i (f one)) (sym c.user-item.is)

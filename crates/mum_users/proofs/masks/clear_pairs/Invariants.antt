@@ -1,0 +1,17 @@
+use Rattle.std.proofs.Common.{◌≡◌, ◌≤◌, length, drop}
+use Rattle.std.specs.Vec.{vec_capacity, vec_len}
+use Rattle.mum_users.specs.Order.{Rises}
+use Rattle.mum_users.specs.SlotMasks.{mask_below, without_pairs}
+use Rattle.mum_users.proofs.masks.clear_pairs.Given as goal
+
+abbrev pub invariant-pairs : goal.invariant-pairs
+invariant-pairs l = record {
+  rest : l.rest ≤ length l.pairs;
+  items : l.rows.items ≡ without_pairs l.slot.0 (drop l.rest l.pairs) l.initial.rows.items;
+  rise : Rises mask_below l.rows.items;
+  len : vec_len l.rows ≤ vec_len l.initial.rows;
+  room : vec_capacity l.initial.rows ≤ vec_capacity l.rows;
+}
+
+abbrev pub decreases-pairs : goal.decreases-pairs
+decreases-pairs l = l.rest

@@ -1,0 +1,16 @@
+use Rattle.std.proofs.Common.{◌≡◌, ◌+◌, ◌≤◌, length, drop}
+use Rattle.std.specs.Vec.{vec_capacity, vec_len}
+use Rattle.mum_users.specs.Order.{Rises}
+use Rattle.mum_users.specs.SlotMasks.{mask_below, with_pairs}
+use Rattle.mum_users.proofs.masks.set_pairs.Given as goal
+
+abbrev pub invariant-pairs : goal.invariant-pairs
+invariant-pairs l = record {
+  rest : l.rest ≤ length l.pairs;
+  items : l.rows.items ≡ with_pairs l.slot.0 (drop l.rest l.pairs) l.initial.rows.items;
+  rise : Rises mask_below l.rows.items;
+  room : vec_len l.rows + l.rest ≤ vec_capacity l.rows;
+}
+
+abbrev pub decreases-pairs : goal.decreases-pairs
+decreases-pairs l = l.rest

@@ -1,0 +1,7 @@
+use Rattle.std.proofs.Common.{◌∙◌, ap}
+use Rattle.mum_users.specs.SlotMasks.{mask_at}
+use Rattle.mum_users.proofs.Members.{bits_of_word}
+use Rattle.mum_users.proofs.roster.Roster.listeners.Goals as goal
+
+pub returns : goal.returns
+returns c = rw (← c.self.view_is) (bits_of_word _ _ c.args.channel c.args.word _ c.self.invariant.listener_masks (c.mask_at.ensures ∙ ap (mask_at c.args.channel c.args.word) c.as_slice.ensures.value))

@@ -1,0 +1,13 @@
+-- The placement of all sessions at once.
+use Rattle.std.specs.Prelude.{map}
+use Rattle.mum_users.specs.declared.placing.Placement.{Placement}
+use Rattle.mum_users.specs.declared.user.User.{User}
+use Rattle.mum_users.specs.State.{RosterState}
+
+-- the session has its placement: in this channel, and it may speak there or not
+abbrev pub with_placement : (User → Placement) → User → User
+with_placement placement_of user = let placement : Placement = placement_of user in record user { channel = placement.channel; suppress = placement.suppress }
+
+-- each session has its placement, and nothing else is changed
+abbrev pub with_placements : (User → Placement) → RosterState → RosterState
+with_placements placement_of state = record state { sessions = map (with_placement placement_of) state.sessions }

@@ -1,44 +1,51 @@
 -- The lines that a draft has taken, and how each line leads to the next draft.
-use Rattle.std.proofs.Common.{◌≡◌, ℕ, ◌+◌, ◌<◌, ◌≤◌, Bool, true, false, List, [], ◌∷◌, ◌++◌, map, length, get_or, Option, Some, refl, sym, ap, subst, ◌∙◌, arith, lit<, cond, append_assoc, zero-add, length-append}
+use Rattle.std.proofs.Common.{◌≡◌, ℕ, ◌+◌, ◌<◌, ◌≤◌, Bool, true, false, List, [], ◌∷◌, ◌++◌, map, length, get_or, Option, Some, None, refl, sym, ap, subst, ◌∙◌, arith, lit<, cond, append_assoc, zero-add, length-append}
 use Rattle.std.proofs.lemmas.Option.{option_and_then_some}
 use Rattle.std.proofs.lemmas.Bool.{ltb-true, ltb-false, lt-ltb, le-ltb, false_from_ne_true}
 use Rattle.std.proofs.lemmas.Slice.Eq.{bytes_eq-Decides}
 use Rattle.std.proofs.lemmas.List.{append-nil, map-append}
 use Rattle.std.proofs.lemmas.List.Splits.{join_with_byte-slice_split}
-use Rattle.std.specs.Prelude.{nat_lt}
+use Rattle.std.specs.Prelude.{nat_lt, IfSome}
 use Rattle.std.specs.Option.{option_and_then}
 use Rattle.std.specs.List.{join_with_byte}
 use Rattle.std.specs.Str.{bytes_eq}
 use Rattle.hex.specs.Hex.{IsBytes}
 use Rattle.mum_record.specs.Words.{words_in}
-use Rattle.mum_record.specs.Head.{workers_of, config_of, workers_line, config_line}
+use Rattle.mum_record.specs.Head.{journal_line, journal_version, workers_of, limits_of, config_of, workers_line, limits_line, limits_lines, config_line, version_with, head_lines, AreLimits, IsWorkersLine}
+use Rattle.mum_record.specs.declared.head.Version.{Version}
+use Rattle.mum_record.specs.declared.head.Version.TheVariants.{One, Two}
 use Rattle.mum_record.specs.declared.head.TheConstants.{WORKERS_LIMIT}
-use Rattle.mum_record.specs.Journal.{control_words, entry_words, control_line, entry_line, journal_head, worker_line, end_line, lines_from, lines_of, IsControl, IsEntry, Each, IsJournal}
-use Rattle.mum_record.specs.JournalReading.{control_of, entry_of, is_worker_line, ends_entries, with_entries, with_control, with_entry, taken_at, taken, no_draft, journal_in}
+use Rattle.mum_record.specs.Journal.{control_words, entry_words, control_line, entry_line, worker_line, end_line, lines_from, lines_of, IsControl, IsEntry, Each, IsJournal}
+use Rattle.mum_record.specs.JournalReading.{control_of, entry_of, is_worker_line, ends_entries, with_entries, with_control, with_entry, after_workers, taken_at, taken, no_draft, journal_in}
 use Rattle.mum_record.specs.declared.journal.ControlEntry.{ControlEntry}
 use Rattle.mum_record.specs.declared.journal.WorkerEntry.{WorkerEntry}
 use Rattle.mum_record.specs.declared.journal.WorkerEntry.TheVariants.{Voice, Closed}
 use Rattle.mum_record.specs.declared.journal.Journal.{Journal}
 use Rattle.mum_record.specs.declared.draft.Draft.{Draft}
 use Rattle.mum_record.specs.declared.draft.Stage.{Stage}
-use Rattle.mum_record.specs.declared.draft.Stage.TheVariants.{Version, Workers, Config, Controls, Entries, Over}
+use Rattle.mum_record.specs.declared.draft.Stage.TheVariants.{Head, Workers, Limits, Config, Controls, Entries, Over}
 use Rattle.mum_record.proofs.Fits.{Each-append}
-use Rattle.mum_record.proofs.HeadLemmas.{workers_of-found, workers_of-line}
+use Rattle.mum_record.proofs.HeadLemmas.{journal_version-found, workers_of-found, workers_of-line, limits_of-found, limits_of-line}
 use Rattle.mum_record.proofs.ConfigLaws.{config_of-found, config_of-line}
 use Rattle.mum_record.proofs.Laws.{chosen, mapped}
 use Rattle.mum_record.proofs.EntryLaws.{control_of-found, control_of-line, entry_of-found, entry_of-line}
 
 -- ---- the lines
 
+-- the head without the configuration
+abbrev pub begun_lines : ℕ → Option (ℕ × ℕ) → List (List ℕ)
+begun_lines workers limits = journal_line (version_with limits) ∷ workers_line workers ∷ limits_lines limits
+
 -- the head and the control entries
 abbrev pub top_lines : Draft → List (List ℕ)
-top_lines d = journal_head ∷ workers_line d.workers ∷ config_line d.config ∷ map control_line d.controls
+top_lines d = head_lines journal_line d.workers d.limits d.config ++ map control_line d.controls
 
 -- the lines that a draft has taken
 abbrev pub lines_at : Stage → Draft → List (List ℕ)
-lines_at Version d = []
-lines_at Workers d = journal_head ∷ []
-lines_at Config d = journal_head ∷ workers_line d.workers ∷ []
+lines_at Head d = []
+lines_at (Workers v) d = journal_line v ∷ []
+lines_at Limits d = journal_line Two ∷ workers_line d.workers ∷ []
+lines_at Config d = begun_lines d.workers d.limits
 lines_at Controls d = top_lines d
 lines_at Entries d = top_lines d ++ lines_from 0 d.by_worker ++ worker_line (length d.by_worker) ∷ map entry_line d.entries
 lines_at Over d = lines_of (journal_in d)
@@ -46,17 +53,19 @@ lines_at Over d = lines_of (journal_in d)
 abbrev pub IsBegun : Draft → Type 0
 IsBegun d = (d.controls ≡ []) × (d.by_worker ≡ []) × (d.entries ≡ [])
 
-abbrev pub HasWorkers : Draft → Type 0
-HasWorkers d = (1 ≤ d.workers) × (d.workers ≤ WORKERS_LIMIT)
+-- 1 to 8 workers, and limits in their ranges if there are any
+abbrev pub HasHead : Draft → Type 0
+HasHead d = (1 ≤ d.workers) × (d.workers ≤ WORKERS_LIMIT) × IfSome d.limits AreLimits
 
 -- what a draft holds could be written
 abbrev pub SoundAt : Stage → Draft → Type 0
-SoundAt Version d = IsBegun d
-SoundAt Workers d = IsBegun d
-SoundAt Config d = IsBegun d × HasWorkers d
-SoundAt Controls d = HasWorkers d × IsBytes d.config × Each IsControl d.controls × (d.by_worker ≡ []) × (d.entries ≡ [])
+SoundAt Head d = IsBegun d × (d.limits ≡ None)
+SoundAt (Workers v) d = IsBegun d × (d.limits ≡ None)
+SoundAt Limits d = IsBegun d × (1 ≤ d.workers) × (d.workers ≤ WORKERS_LIMIT)
+SoundAt Config d = IsBegun d × HasHead d
+SoundAt Controls d = HasHead d × IsBytes d.config × Each IsControl d.controls × (d.by_worker ≡ []) × (d.entries ≡ [])
 SoundAt Entries d =
-    HasWorkers d × IsBytes d.config × Each IsControl d.controls × (length d.by_worker + 1 ≤ d.workers) × Each (Each IsEntry) d.by_worker × Each IsEntry d.entries
+    HasHead d × IsBytes d.config × Each IsControl d.controls × (length d.by_worker + 1 ≤ d.workers) × Each (Each IsEntry) d.by_worker × Each IsEntry d.entries
 SoundAt Over d = IsJournal (journal_in d)
 
 pub lines_from-append : (n : ℕ) (xs ys : List (List WorkerEntry)) → lines_from n (xs ++ ys) ≡ lines_from n xs ++ lines_from (n + length xs) ys
@@ -124,6 +133,7 @@ ended-sound false d line h test same =
         least = h.0.0;
         greatest = h.0.1;
         lists = lists;
+        limits = h.0.2;
         config = h.1;
         controls = h.2;
         entries = Each-append (Each IsEntry) d.by_worker (d.entries ∷ []) h.4 (h.5, tt);
@@ -131,19 +141,31 @@ ended-sound false d line h test same =
       rw is (ended_lines_are d end_line),
     )
 
+-- a line of workers
+workers-sound : (v : Version) (d : Draft) (line : List ℕ) (w : ℕ) → SoundAt (Workers v) d → IsWorkersLine line w
+    → let next : Draft = record d { stage = after_workers v; workers = w } in SoundAt (after_workers v) next × (lines_at (after_workers v) next ≡ lines_at (Workers v) d ++ line ∷ [])
+workers-sound One d line w h is = rw (h.1, is.2) ((h.0, (is.0, is.1, tt)), refl)
+workers-sound Two d line w h is = rw is.2 ((h.0, is.0, is.1), refl)
+
 taken_at-sound : (st : Stage) (d : Draft) (line : List ℕ) (next : Draft) → d.stage ≡ st → SoundAt st d → taken_at st d line ≡ Some next
     → SoundAt next.stage next × (lines_at next.stage next ≡ lines_at st d ++ line ∷ [])
 unfolding lines_from ended
-taken_at-sound Version d line next at h e =
-    chosen line journal_head _ _ next (λ w e1. let is : record d { stage = Workers } ≡ next = cc in rw (← is, w) (h, refl)) (λ e1. cc) e
-taken_at-sound Workers d line next at h e =
-    mapped (λ (w : ℕ). record d { stage = Config; workers = w }) (workers_of line) next (λ w w_is e1.
-    let found = workers_of-found line w w_is in
-    rw (← e1, found.2) ((h, (found.0, found.1)), refl)) e
+taken_at-sound Head d line next at h e =
+    mapped (λ (v : Version). record d { stage = Workers v }) (journal_version line) next (λ v v_is e1.
+    rw (← e1, journal_version-found line v v_is) (h, refl)) e
+taken_at-sound (Workers v) d line next at h e =
+    mapped (λ (w : ℕ). record d { stage = after_workers v; workers = w }) (workers_of line) next (λ w w_is e1.
+    rw (← e1) (workers-sound v d line w h (workers_of-found line w w_is))) e
+taken_at-sound Limits d line next at h e =
+    mapped (λ (limits : ℕ × ℕ). record d { stage = Config; limits = Some limits }) (limits_of line) next (λ limits is e1.
+    let found = limits_of-found line limits is in
+    rw (← e1, found.1) ((h.0, (h.1, h.2, found.0)), refl)) e
 taken_at-sound Config d line next at h e =
     mapped (λ (document : List ℕ). record d { stage = Controls; config = document }) (config_of line) next (λ document is e1.
     let found = config_of-found line document is in
-    rw (← e1, found.1, h.0.0) ((h.1, found.0, tt, h.0.1, h.0.2), refl)) e
+    let lines : head_lines journal_line d.workers d.limits document ++ [] ≡ begun_lines d.workers d.limits ++ config_line document ∷ [] =
+    append-nil (head_lines journal_line d.workers d.limits document) in
+    rw (← e1, found.1, h.0.0) ((h.1, found.0, tt, h.0.1, h.0.2), lines)) e
 taken_at-sound Controls d line next at h e =
     chosen line (worker_line 0) _ _ next
     (λ w e1.
@@ -153,10 +175,11 @@ taken_at-sound Controls d line next at h e =
     (mapped (with_control d) (control_of (words_in line)) next (λ entry is e1.
     let found = control_of-found (words_in line) entry is in
     let one = line_is line (control_words entry) found.1 in
+    let head : List (List ℕ) = head_lines journal_line d.workers d.limits d.config in
     let more = map-append control_line d.controls (entry ∷ []) ∙ ap (λ (l : List ℕ). map control_line d.controls ++ l ∷ []) (sym one) in
     rw (← e1) (subst (λ (s : Stage). SoundAt s (with_control d entry) × (lines_at s (with_control d entry) ≡ lines_at Controls d ++ line ∷ [])) (sym at) (
       (h.0, h.1, Each-append IsControl d.controls (entry ∷ []) h.2 (found.0, tt), h.3, h.4),
-      ap (λ (ls : List (List ℕ)). journal_head ∷ workers_line d.workers ∷ config_line d.config ∷ ls) more,
+      ap (λ (ls : List (List ℕ)). head ++ ls) more ∙ sym (append_assoc head (map control_line d.controls) (line ∷ [])),
     ))))
     e
 taken_at-sound Entries d line next at h e =
@@ -212,14 +235,14 @@ run-front (x ∷ xs) ys d last h =
 
 -- ---- the lines of a journal are taken
 
-abbrev pub at_controls : ℕ → List ℕ → List ControlEntry → Draft
-at_controls w c cs = record { stage = Controls; workers = w; config = c; controls = cs; by_worker = []; entries = [] }
+abbrev pub at_controls : ℕ → Option (ℕ × ℕ) → List ℕ → List ControlEntry → Draft
+at_controls w l c cs = record { stage = Controls; workers = w; limits = l; config = c; controls = cs; by_worker = []; entries = [] }
 
-abbrev pub at_entries : ℕ → List ℕ → List ControlEntry → List (List WorkerEntry) → List WorkerEntry → Draft
-at_entries w c cs done es = record { stage = Entries; workers = w; config = c; controls = cs; by_worker = done; entries = es }
+abbrev pub at_entries : ℕ → Option (ℕ × ℕ) → List ℕ → List ControlEntry → List (List WorkerEntry) → List WorkerEntry → Draft
+at_entries w l c cs done es = record { stage = Entries; workers = w; limits = l; config = c; controls = cs; by_worker = done; entries = es }
 
-abbrev pub at_end : ℕ → List ℕ → List ControlEntry → List (List WorkerEntry) → Draft
-at_end w c cs lists = record { stage = Over; workers = w; config = c; controls = cs; by_worker = lists; entries = [] }
+abbrev pub at_end : ℕ → Option (ℕ × ℕ) → List ℕ → List ControlEntry → List (List WorkerEntry) → Draft
+at_end w l c cs lists = record { stage = Over; workers = w; limits = l; config = c; controls = cs; by_worker = lists; entries = [] }
 
 -- lines that begin with other letters differ
 other_first : (a b : List ℕ) (x y : ℕ) → get_or a 0 0 ≡ x → get_or b 0 0 ≡ y → x < y → bytes_eq a b ≡ false
@@ -255,79 +278,85 @@ both_false : (b x y : Bool) → x ≡ false → y ≡ false → cond b x y ≡ f
 both_false true x y one two = one
 both_false false x y one two = two
 
-run-controls : (w : ℕ) (c : List ℕ) (before cs : List ControlEntry) → Each IsControl cs → run (at_controls w c before) (map control_line cs) ≡ Some (at_controls w c (before ++ cs))
+run-controls : (w : ℕ) (l : Option (ℕ × ℕ)) (c : List ℕ) (before cs : List ControlEntry) → Each IsControl cs → run (at_controls w l c before) (map control_line cs) ≡ Some (at_controls w l c (before ++ cs))
 unfolding taken
-run-controls w c before [] h = ap (λ (xs : List ControlEntry). Some (at_controls w c xs)) (sym (append-nil before))
-run-controls w c before (e ∷ es) h =
+run-controls w l c before [] h = ap (λ (xs : List ControlEntry). Some (at_controls w l c xs)) (sym (append-nil before))
+run-controls w l c before (e ∷ es) h =
     rw (control_is_no_worker e, control_of-line e h.0)
-    (run-controls w c (before ++ e ∷ []) es h.1 ∙ ap (λ (xs : List ControlEntry). Some (at_controls w c xs)) (append_assoc before (e ∷ []) es))
+    (run-controls w l c (before ++ e ∷ []) es h.1 ∙ ap (λ (xs : List ControlEntry). Some (at_controls w l c xs)) (append_assoc before (e ∷ []) es))
 
-run-entries : (w : ℕ) (c : List ℕ) (cs : List ControlEntry) (done : List (List WorkerEntry)) (before es : List WorkerEntry) → Each IsEntry es
-    → run (at_entries w c cs done before) (map entry_line es) ≡ Some (at_entries w c cs done (before ++ es))
+run-entries : (w : ℕ) (l : Option (ℕ × ℕ)) (c : List ℕ) (cs : List ControlEntry) (done : List (List WorkerEntry)) (before es : List WorkerEntry) → Each IsEntry es
+    → run (at_entries w l c cs done before) (map entry_line es) ≡ Some (at_entries w l c cs done (before ++ es))
 unfolding taken
-run-entries w c cs done before [] h = ap (λ (xs : List WorkerEntry). Some (at_entries w c cs done xs)) (sym (append-nil before))
-run-entries w c cs done before (e ∷ es) h =
-    let other : ends_entries (at_entries w c cs done before) (entry_line e) ≡ false = both_false (nat_lt (length done + 1) w) _ _ (entry_is_no_worker (length done + 1) e) (entry_is_no_end e) in
+run-entries w l c cs done before [] h = ap (λ (xs : List WorkerEntry). Some (at_entries w l c cs done xs)) (sym (append-nil before))
+run-entries w l c cs done before (e ∷ es) h =
+    let other : ends_entries (at_entries w l c cs done before) (entry_line e) ≡ false = both_false (nat_lt (length done + 1) w) _ _ (entry_is_no_worker (length done + 1) e) (entry_is_no_end e) in
     rw (other, entry_of-line e h.0)
-    (run-entries w c cs done (before ++ e ∷ []) es h.1 ∙ ap (λ (xs : List WorkerEntry). Some (at_entries w c cs done xs)) (append_assoc before (e ∷ []) es))
+    (run-entries w l c cs done (before ++ e ∷ []) es h.1 ∙ ap (λ (xs : List WorkerEntry). Some (at_entries w l c cs done xs)) (append_assoc before (e ∷ []) es))
 
 same_line : (line : List ℕ) → bytes_eq line line ≡ true
 same_line line = (bytes_eq-Decides line line).1 refl
 
-take_end : (w : ℕ) (c : List ℕ) (cs : List ControlEntry) (done : List (List WorkerEntry)) (es : List WorkerEntry) → length done + 1 ≡ w
-    → taken (at_entries w c cs done es) end_line ≡ Some (at_end w c cs (done ++ es ∷ []))
+take_end : (w : ℕ) (l : Option (ℕ × ℕ)) (c : List ℕ) (cs : List ControlEntry) (done : List (List WorkerEntry)) (es : List WorkerEntry) → length done + 1 ≡ w
+    → taken (at_entries w l c cs done es) end_line ≡ Some (at_end w l c cs (done ++ es ∷ []))
 unfolding taken
-take_end w c cs done es last =
+take_end w l c cs done es last =
     let full : nat_lt (length done + 1) w ≡ false = le-ltb (length done + 1) w (omega arith) in
     rw full refl
 
-take_worker : (w : ℕ) (c : List ℕ) (cs : List ControlEntry) (done : List (List WorkerEntry)) (es : List WorkerEntry) → length done + 1 < w
-    → taken (at_entries w c cs done es) (worker_line (length done + 1)) ≡ Some (at_entries w c cs (done ++ es ∷ []) [])
+take_worker : (w : ℕ) (l : Option (ℕ × ℕ)) (c : List ℕ) (cs : List ControlEntry) (done : List (List WorkerEntry)) (es : List WorkerEntry) → length done + 1 < w
+    → taken (at_entries w l c cs done es) (worker_line (length done + 1)) ≡ Some (at_entries w l c cs (done ++ es ∷ []) [])
 unfolding taken
-take_worker w c cs done es more =
+take_worker w l c cs done es more =
     let room : nat_lt (length done + 1) w ≡ true = lt-ltb (length done + 1) w more in
     rw (room, same_line (worker_line (length done + 1))) refl
 
 -- the entries of a worker and all behind them
-run-workers : (others : List (List WorkerEntry)) (w : ℕ) (c : List ℕ) (cs : List ControlEntry) (done : List (List WorkerEntry)) (es : List WorkerEntry)
+run-workers : (others : List (List WorkerEntry)) (w : ℕ) (l : Option (ℕ × ℕ)) (c : List ℕ) (cs : List ControlEntry) (done : List (List WorkerEntry)) (es : List WorkerEntry)
     → Each IsEntry es → Each (Each IsEntry) others → length done + 1 + length others ≡ w
-    → run (at_entries w c cs done []) (map entry_line es ++ (lines_from (length done + 1) others ++ end_line ∷ [])) ≡ Some (at_end w c cs (done ++ es ∷ others))
+    → run (at_entries w l c cs done []) (map entry_line es ++ (lines_from (length done + 1) others ++ end_line ∷ [])) ≡ Some (at_end w l c cs (done ++ es ∷ others))
 unfolding lines_from
-run-workers [] w c cs done es here there count =
-    run-some (map entry_line es) (end_line ∷ []) (at_entries w c cs done []) (at_entries w c cs done es) (run-entries w c cs done [] es here)
-    ∙ rw (take_end w c cs done es (omega arith)) refl
-run-workers (next ∷ more) w c cs done es here there count =
+run-workers [] w l c cs done es here there count =
+    run-some (map entry_line es) (end_line ∷ []) (at_entries w l c cs done []) (at_entries w l c cs done es) (run-entries w l c cs done [] es here)
+    ∙ rw (take_end w l c cs done es (omega arith)) refl
+run-workers (next ∷ more) w l c cs done es here there count =
     let pushed = length-push done es in
     let room : length done + 1 < w = omega arith in
-    let rest = run-workers more w c cs (done ++ es ∷ []) next there.0 there.1 (omega arith) in
+    let rest = run-workers more w l c cs (done ++ es ∷ []) next there.0 there.1 (omega arith) in
     let index : length (done ++ es ∷ []) + 1 ≡ length done + 1 + 1 = omega arith in
     let behind : List (List ℕ) = lines_from (length done + 1 + 1) more ++ end_line ∷ [] in
-    let moved : run (at_entries w c cs (done ++ es ∷ []) []) (map entry_line next ++ behind) ≡ Some (at_end w c cs ((done ++ es ∷ []) ++ next ∷ more)) =
-    ap (λ (k : ℕ). run (at_entries w c cs (done ++ es ∷ []) []) (map entry_line next ++ (lines_from k more ++ end_line ∷ []))) (sym index) ∙ rest in
+    let moved : run (at_entries w l c cs (done ++ es ∷ []) []) (map entry_line next ++ behind) ≡ Some (at_end w l c cs ((done ++ es ∷ []) ++ next ∷ more)) =
+    ap (λ (k : ℕ). run (at_entries w l c cs (done ++ es ∷ []) []) (map entry_line next ++ (lines_from k more ++ end_line ∷ []))) (sym index) ∙ rest in
     let cut : (map entry_line next ++ lines_from (length done + 1 + 1) more) ++ end_line ∷ [] ≡ map entry_line next ++ behind = append_assoc (map entry_line next) (lines_from (length done + 1 + 1) more) (end_line ∷ []) in
-    run-some (map entry_line es) _ (at_entries w c cs done []) (at_entries w c cs done es) (run-entries w c cs done [] es here)
-    ∙ rw (take_worker w c cs done es room, cut)
-    (moved ∙ ap (λ (lists : List (List WorkerEntry)). Some (at_end w c cs lists)) (append_assoc done (es ∷ []) (next ∷ more)))
+    run-some (map entry_line es) _ (at_entries w l c cs done []) (at_entries w l c cs done es) (run-entries w l c cs done [] es here)
+    ∙ rw (take_worker w l c cs done es room, cut)
+    (moved ∙ ap (λ (lists : List (List WorkerEntry)). Some (at_end w l c cs lists)) (append_assoc done (es ∷ []) (next ∷ more)))
 
-run-lists : (w : ℕ) (c : List ℕ) (cs : List ControlEntry) (lists : List (List WorkerEntry)) → 1 ≤ w → length lists ≡ w → Each (Each IsEntry) lists
-    → run (at_controls w c cs) (lines_from 0 lists ++ end_line ∷ []) ≡ Some (at_end w c cs lists)
+run-lists : (w : ℕ) (l : Option (ℕ × ℕ)) (c : List ℕ) (cs : List ControlEntry) (lists : List (List WorkerEntry)) → 1 ≤ w → length lists ≡ w → Each (Each IsEntry) lists
+    → run (at_controls w l c cs) (lines_from 0 lists ++ end_line ∷ []) ≡ Some (at_end w l c cs lists)
 unfolding lines_from taken
-run-lists w c cs [] some count h = absurd (omega arith)
-run-lists w c cs (es ∷ others) some count h =
-    rw (same_line (worker_line 0), append_assoc (map entry_line es) (lines_from 1 others) (end_line ∷ [])) (run-workers others w c cs [] es h.0 h.1 (omega arith))
+run-lists w l c cs [] some count h = absurd (omega arith)
+run-lists w l c cs (es ∷ others) some count h =
+    rw (same_line (worker_line 0), append_assoc (map entry_line es) (lines_from 1 others) (end_line ∷ [])) (run-workers others w l c cs [] es h.0 h.1 (omega arith))
 
-take_head : (w : ℕ) (c : List ℕ) (more : List (List ℕ)) → 1 ≤ w → w ≤ WORKERS_LIMIT → IsBytes c
-    → run no_draft (journal_head ∷ workers_line w ∷ config_line c ∷ more) ≡ run (at_controls w c []) more
-unfolding taken
-take_head w c more least greatest small = rw (workers_of-line (workers_line w) w (least, greatest, refl), config_of-line c small) refl
+take_head : (w : ℕ) (l : Option (ℕ × ℕ)) (c : List ℕ) (more : List (List ℕ)) → 1 ≤ w → w ≤ WORKERS_LIMIT → IfSome l AreLimits → IsBytes c
+    → run no_draft (head_lines journal_line w l c ++ more) ≡ run (at_controls w l c []) more
+unfolding taken journal_version
+take_head w None c more least greatest fit small = rw (workers_of-line (workers_line w) w (least, greatest, refl), config_of-line c small) refl
+take_head w (Some l) c more least greatest fit small =
+    rw (workers_of-line (workers_line w) w (least, greatest, refl), limits_of-line (limits_line l) l (fit, refl), config_of-line c small) refl
 
-pub run-journal : (j : Journal) → IsJournal j → run no_draft (lines_of j) ≡ Some (at_end j.workers j.config j.controls j.by_worker)
+pub run-journal : (j : Journal) → IsJournal j → run no_draft (lines_of j) ≡ Some (at_end j.workers j.limits j.config j.controls j.by_worker)
 unfolding lines_of
 run-journal j h =
-    let behind : List (List ℕ) = lines_from 0 j.by_worker ++ end_line ∷ [] in
-    let cut : (map control_line j.controls ++ lines_from 0 j.by_worker) ++ end_line ∷ [] ≡ map control_line j.controls ++ behind =
-    append_assoc (map control_line j.controls) (lines_from 0 j.by_worker) (end_line ∷ []) in
-    take_head j.workers j.config ((map control_line j.controls ++ lines_from 0 j.by_worker) ++ end_line ∷ []) h.least h.greatest h.config
-    ∙ ap (run (at_controls j.workers j.config [])) cut
-    ∙ run-some (map control_line j.controls) behind (at_controls j.workers j.config []) (at_controls j.workers j.config j.controls) (run-controls j.workers j.config [] j.controls h.controls)
-    ∙ run-lists j.workers j.config j.controls j.by_worker h.least h.lists h.entries
+    let head : List (List ℕ) = head_lines journal_line j.workers j.limits j.config in
+    let controls : List (List ℕ) = map control_line j.controls in
+    let lists : List (List ℕ) = lines_from 0 j.by_worker in
+    let behind : List (List ℕ) = lists ++ end_line ∷ [] in
+    let begun : Draft = at_controls j.workers j.limits j.config [] in
+    let cut : ((head ++ controls) ++ lists) ++ end_line ∷ [] ≡ head ++ (controls ++ behind) =
+    append_assoc (head ++ controls) lists (end_line ∷ []) ∙ append_assoc head controls behind in
+    ap (run no_draft) cut
+    ∙ take_head j.workers j.limits j.config (controls ++ behind) h.least h.greatest h.limits h.config
+    ∙ run-some controls behind begun (at_controls j.workers j.limits j.config j.controls) (run-controls j.workers j.limits j.config [] j.controls h.controls)
+    ∙ run-lists j.workers j.limits j.config j.controls j.by_worker h.least h.lists h.entries

@@ -39,6 +39,7 @@ journal_fits j h config controls entries = record {
   least = h.least;
   greatest = h.greatest;
   lists = h.lists;
+  limits = h.limits;
   config = config;
   controls = Each-both FitsControl IsWritableControl j.controls controls h.controls;
   entries = Each-all j.by_worker entries h.entries;

@@ -15,7 +15,8 @@ use Rattle.mum_record.specs.declared.journal.WorkerEntry.TheVariants.{Voice, Clo
 use Rattle.mum_record.specs.Words.{words_in, number_within, bytes_of}
 use Rattle.mum_record.specs.Grammar.{words_of, line_of}
 use Rattle.mum_record.specs.Reading.{frame_of, told_of, cause_of, step_of_verb, step_naming, step_with, step_of_words, step_of}
-use Rattle.mum_record.specs.Head.{is_head_line, workers_line, workers_of, config_line, config_of}
+use Rattle.mum_record.specs.Head.{recording_line, recording_version, journal_line, journal_version, workers_line, workers_of, limits_line, limits_of, config_line, config_of, head_lines, version_with, first_step_line}
+use Rattle.mum_record.specs.declared.head.Version.TheVariants.{One, Two}
 use Rattle.mum_record.specs.Journal.{control_words, copy_word, entry_words, control_line, entry_line, lines_from, lines_of, ended_lines}
 use Rattle.mum_record.specs.JournalReading.{version_of, command_of, verdict_with, lack_of, verdict_of, control_with, control_of, mark_of, copy_with, copy_of, copies_of, closing_cause_of, closed_of, voice_with, voice_of, entry_of, taken, reading_from, journal_of}
 
@@ -87,16 +88,67 @@ IsConfig line document = (config_line document ≡ codes line) × (config_of (co
 abbrev IsNoConfig : String → Type 0
 IsNoConfig line = config_of (codes line) ≡ None
 
+abbrev IsLimits : String → ℕ × ℕ → Type 0
+IsLimits line limits = (limits_line limits ≡ codes line) × (limits_of (codes line) ≡ Some limits)
+
+abbrev IsNoLimits : String → Type 0
+IsNoLimits line = limits_of (codes line) ≡ None
+
 pub record AreHeads : Type 0 where
-  pub a_recording : is_head_line (codes "recording 1") ≡ true
-  pub another_version : is_head_line (codes "recording 2") ≡ false
+  pub the_first_version : recording_version (codes "recording 1") ≡ Some One
+  pub the_second_version : recording_version (codes "recording 2") ≡ Some Two
+  pub no_third_version : recording_version (codes "recording 3") ≡ None
+  pub no_version : recording_version (codes "recording") ≡ None
+  pub a_zero_before_a_version : recording_version (codes "recording 02") ≡ None
+  pub a_space_behind_a_version : recording_version (codes "recording 2 ") ≡ None
+  pub a_journal_is_no_recording : recording_version (codes "journal 2") ≡ None
+  pub the_first_version_of_a_journal : journal_version (codes "journal 1") ≡ Some One
+  pub the_second_version_of_a_journal : journal_version (codes "journal 2") ≡ Some Two
+  pub a_recording_is_no_journal : journal_version (codes "recording 2") ≡ None
+  pub a_head_of_version_1 : head_lines recording_line 4 None [] ≡ map codes ("recording 1" ∷ "workers 4" ∷ "config -" ∷ [])
+  pub a_head_of_version_2 : head_lines recording_line 1 (Some (129, 1024)) (codes "{}")
+      ≡ map codes ("recording 2" ∷ "workers 1" ∷ "limits 129 1024" ∷ "config 7b7d" ∷ [])
+  pub the_head_of_a_journal : head_lines journal_line 4 None [] ≡ map codes ("journal 1" ∷ "workers 4" ∷ "config -" ∷ [])
+  pub the_head_of_a_journal_of_version_2 : head_lines journal_line 4 (Some (512, 2048)) []
+      ≡ map codes ("journal 2" ∷ "workers 4" ∷ "limits 512 2048" ∷ "config -" ∷ [])
+  pub steps_of_version_1_begin_at_line_4 : first_step_line (version_with None) ≡ 4
+  pub steps_of_version_2_begin_at_line_5 : first_step_line (version_with (Some (128, 1024))) ≡ 5
   pub eight_workers : (workers_line 8 ≡ codes "workers 8") × (workers_of (codes "workers 8") ≡ Some 8)
   pub nine : workers_of (codes "workers 9") ≡ None
   pub none : workers_of (codes "workers 0") ≡ None
 
 pub heads : AreHeads
-unfolding lines workers_of config_of
+unfolding lines recording_version journal_version workers_of config_of
 heads = search
+
+pub record AreLimitsLines : Type 0 where
+  pub the_greatest : IsLimits "limits 512 2048" (512, 2048)
+  pub the_least : IsLimits "limits 128 1024" (128, 1024)
+  pub one_session_more : IsLimits "limits 129 1024" (129, 1024)
+  pub a_session_too_few : IsNoLimits "limits 127 1024"
+  pub a_session_too_many : IsNoLimits "limits 513 1024"
+  pub a_channel_too_few : IsNoLimits "limits 128 1023"
+  pub a_channel_too_many : IsNoLimits "limits 128 2049"
+  pub a_zero_before_the_sessions : IsNoLimits "limits 0128 1024"
+  pub a_zero_before_the_channels : IsNoLimits "limits 128 01024"
+  pub a_sign : IsNoLimits "limits +128 1024"
+  pub a_point : IsNoLimits "limits 128 1024.0"
+  pub no_channels : IsNoLimits "limits 128"
+  pub an_empty_word_for_the_channels : IsNoLimits "limits 128 "
+  pub a_word_alone : IsNoLimits "limits"
+  pub a_word_too_many : IsNoLimits "limits 128 1024 1"
+  pub a_space_at_the_end : IsNoLimits "limits 128 1024 "
+  pub two_spaces : IsNoLimits "limits  128 1024"
+  pub another_word : IsNoLimits "limit 128 1024"
+  pub the_channels_first : IsNoLimits "limits 1024 128"
+  pub the_workers : IsNoLimits "workers 1"
+  pub the_configuration : IsNoLimits "config -"
+  pub an_empty_line : IsNoLimits ""
+  pub bytes_that_are_no_text : limits_of (hex "ff") ≡ None
+
+pub limits_lines : AreLimitsLines
+unfolding lines limits_of
+limits_lines = search
 
 pub record AreConfigs : Type 0 where
   pub no_document : IsConfig "config -" []
@@ -281,21 +333,34 @@ IsText text journal = (lines_of journal ≡ map codes text) × (said_by text ≡
 abbrev of_two_users : Journal
 of_two_users = record {
   workers = 1;
+  limits = None;
   config = [];
   controls = control 1 None (asks "0002000000050a03616e6e") (Accepted 1) ∷ control 2 None (asks "0002000000050a03626f62") (Accepted 2) ∷ [];
   by_worker = (Voice 1 2 (hex "800103aabbcc") (copy 2 0 true ∷ []) ∷ Closed 1 causes.End ∷ Closed 2 causes.End ∷ []) ∷ [];
 }
 
 abbrev of_two_workers : Journal
-of_two_workers = record { workers = 2; config = codes "{}"; controls = []; by_worker = (Closed 2 causes.End ∷ []) ∷ (Closed 1 causes.End ∷ []) ∷ [] }
+of_two_workers = record { workers = 2; limits = None; config = codes "{}"; controls = []; by_worker = (Closed 2 causes.End ∷ []) ∷ (Closed 1 causes.End ∷ []) ∷ [] }
 
 abbrev of_an_idle_worker : Journal
-of_an_idle_worker = record { workers = 2; config = []; controls = []; by_worker = [] ∷ (Closed 1 causes.End ∷ []) ∷ [] }
+of_an_idle_worker = record { workers = 2; limits = None; config = []; controls = []; by_worker = [] ∷ (Closed 1 causes.End ∷ []) ∷ [] }
 
 abbrev of_eight_workers : Journal
-of_eight_workers = record { workers = 8; config = []; controls = []; by_worker = [] ∷ [] ∷ [] ∷ [] ∷ [] ∷ [] ∷ [] ∷ [] ∷ [] }
+of_eight_workers = record { workers = 8; limits = None; config = []; controls = []; by_worker = [] ∷ [] ∷ [] ∷ [] ∷ [] ∷ [] ∷ [] ∷ [] ∷ [] }
+
+abbrev of_many_sessions : Journal
+of_many_sessions = record {
+  workers = 1;
+  limits = Some (512, 2048);
+  config = codes "{}";
+  controls = control 1 None (asks "0002000000050a03616e6e") (Accepted 1) ∷ [];
+  by_worker = (Closed 1 causes.End ∷ []) ∷ [];
+}
 
 pub record AreJournals : Type 0 where
+  pub version_2 : IsText
+      ("journal 2" ∷ "workers 1" ∷ "limits 512 2048" ∷ "config 7b7d" ∷ "c 1 - 0002000000050a03616e6e accepted 1" ∷ "worker 0" ∷ "x 1 end" ∷ "end" ∷ [])
+      of_many_sessions
   pub eight_workers : IsText
       ("journal 1" ∷ "workers 8" ∷ "config -" ∷ "worker 0" ∷ "worker 1" ∷ "worker 2" ∷ "worker 3" ∷ "worker 4" ∷ "worker 5" ∷ "worker 6" ∷ "worker 7" ∷ "end" ∷ [])
       of_eight_workers
@@ -306,7 +371,7 @@ pub record AreJournals : Type 0 where
   pub an_idle_worker : IsText ("journal 1" ∷ "workers 2" ∷ "config -" ∷ "worker 0" ∷ "worker 1" ∷ "x 1 end" ∷ "end" ∷ []) of_an_idle_worker
 
 pub journals : AreJournals
-unfolding lines frame_of cause_of workers_of config_of control_words copy_word entry_words lines_from lines_of version_of command_of verdict_with lack_of verdict_of control_with control_of mark_of copy_with copy_of copies_of closing_cause_of closed_of voice_with voice_of entry_of taken reading_from journal_of
+unfolding lines frame_of cause_of journal_version workers_of limits_of config_of control_words copy_word entry_words lines_from lines_of version_of command_of verdict_with lack_of verdict_of control_with control_of mark_of copy_with copy_of copies_of closing_cause_of closed_of voice_with voice_of entry_of taken reading_from journal_of
 journals = search
 
 -- the first line that may not come there, counted from 1
@@ -315,7 +380,15 @@ pub record AreNoJournals : Type 0 where
   pub no_workers : said_by ("journal 1" ∷ "workers 0" ∷ "config -" ∷ []) ≡ Err 2
   pub no_text : said_by [] ≡ Err 1
   pub a_recording : said_by ("recording 1" ∷ "workers 1" ∷ "config -" ∷ "end" ∷ []) ≡ Err 1
-  pub another_version : said_by ("journal 2" ∷ "workers 1" ∷ "config -" ∷ "worker 0" ∷ "end" ∷ []) ≡ Err 1
+  pub another_version : said_by ("journal 3" ∷ "workers 1" ∷ "config -" ∷ "worker 0" ∷ "end" ∷ []) ≡ Err 1
+  pub version_2_without_limits : said_by ("journal 2" ∷ "workers 1" ∷ "config -" ∷ "worker 0" ∷ "end" ∷ []) ≡ Err 3
+  pub limits_in_version_1 : said_by ("journal 1" ∷ "workers 1" ∷ "limits 512 2048" ∷ "config -" ∷ "worker 0" ∷ "end" ∷ []) ≡ Err 3
+  pub limits_before_the_workers : said_by ("journal 2" ∷ "limits 512 2048" ∷ "workers 1" ∷ "config -" ∷ "worker 0" ∷ "end" ∷ []) ≡ Err 2
+  pub limits_behind_the_configuration : said_by ("journal 2" ∷ "workers 1" ∷ "config -" ∷ "limits 512 2048" ∷ "worker 0" ∷ "end" ∷ []) ≡ Err 3
+  pub limits_twice : said_by ("journal 2" ∷ "workers 1" ∷ "limits 512 2048" ∷ "limits 512 2048" ∷ "config -" ∷ "worker 0" ∷ "end" ∷ []) ≡ Err 4
+  pub a_session_too_few : said_by ("journal 2" ∷ "workers 1" ∷ "limits 127 1024" ∷ "config -" ∷ "worker 0" ∷ "end" ∷ []) ≡ Err 3
+  pub the_first_entry_of_version_2_is_none : said_by ("journal 2" ∷ "workers 1" ∷ "limits 128 1024" ∷ "config -" ∷ "c" ∷ "worker 0" ∷ "end" ∷ []) ≡ Err 5
+  pub a_head_of_version_2_alone : said_by ("journal 2" ∷ "workers 1" ∷ "limits 128 1024" ∷ "config -" ∷ []) ≡ Err 5
   pub no_line_of_workers : said_by ("journal 1" ∷ "config -" ∷ "worker 0" ∷ "end" ∷ []) ≡ Err 2
   pub no_line_of_the_configuration : said_by ("journal 1" ∷ "workers 1" ∷ "worker 0" ∷ "end" ∷ []) ≡ Err 3
   pub a_worker_before_its_turn : said_by ("journal 1" ∷ "workers 2" ∷ "config -" ∷ "worker 1" ∷ "worker 0" ∷ "end" ∷ []) ≡ Err 4
@@ -333,5 +406,5 @@ pub record AreNoJournals : Type 0 where
   pub the_first_of_two_faults : said_by ("journal 1" ∷ "workers 1" ∷ "config -" ∷ "c" ∷ "c" ∷ "worker 0" ∷ "end" ∷ []) ≡ Err 4
 
 pub no_journals : AreNoJournals
-unfolding lines frame_of cause_of workers_of config_of control_words copy_word entry_words lines_from lines_of version_of command_of verdict_with lack_of verdict_of control_with control_of mark_of copy_with copy_of copies_of closing_cause_of closed_of voice_with voice_of entry_of taken reading_from journal_of
+unfolding lines frame_of cause_of journal_version workers_of limits_of config_of control_words copy_word entry_words lines_from lines_of version_of command_of verdict_with lack_of verdict_of control_with control_of mark_of copy_with copy_of copies_of closing_cause_of closed_of voice_with voice_of entry_of taken reading_from journal_of
 no_journals = search

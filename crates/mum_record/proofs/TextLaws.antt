@@ -3,14 +3,16 @@ use Rattle.std.proofs.Common.{◌≡◌, ℕ, zero, suc, ◌+◌, ◌-◌, ◌<�
 use Rattle.std.proofs.lemmas.Option.{option_and_then_some}
 use Rattle.std.proofs.lemmas.List.{append-nil}
 use Rattle.std.proofs.lemmas.List.Splits.{join_with_byte-slice_split, length-slice_split}
-use Rattle.std.specs.Prelude.{if◌then◌else◌}
+use Rattle.std.specs.Prelude.{if◌then◌else◌, IfSome}
 use Rattle.std.specs.Option.{option_and_then}
 use Rattle.std.specs.Fmt.{decimal}
 use Rattle.std.specs.List.{join_with_byte}
 use Rattle.hex.specs.Hex.{IsBytes}
-use Rattle.mum_record.specs.Head.{workers_line, config_line, config_word}
+use Rattle.mum_record.specs.Head.{journal_line, workers_line, limits_line, limits_lines, config_line, config_word, version_with, head_lines, AreLimits}
+use Rattle.mum_record.specs.declared.head.Version.{Version}
+use Rattle.mum_record.specs.declared.head.Version.TheVariants.{One, Two}
 use Rattle.mum_record.specs.declared.head.TheConstants.{WORKERS_LIMIT}
-use Rattle.mum_record.specs.Journal.{control_words, entry_words, control_line, entry_line, journal_head, worker_line, end_line, lines_from, lines_of, ended_lines, IsControl, IsEntry, Each, IsJournal, IsTextOf, BeginJournal}
+use Rattle.mum_record.specs.Journal.{control_words, entry_words, control_line, entry_line, worker_line, end_line, lines_from, lines_of, ended_lines, IsControl, IsEntry, Each, IsJournal, IsTextOf, BeginJournal}
 use Rattle.mum_record.specs.JournalReading.{taken, no_draft, journal_in, is_over, ending, goes_on, reading_from, pieces_of, journal_of}
 use Rattle.mum_record.specs.Lines.{is_line_feed}
 use Rattle.mum_record.specs.JournalAnswers.{ReadsText, AnswersBy, IsFirstFault, NamesFirstFault, Takes, StopsAt}
@@ -23,12 +25,12 @@ use Rattle.mum_record.specs.declared.journal.JournalFault.{JournalFault}
 use Rattle.mum_record.specs.declared.journal.JournalFault.TheVariants.{NotALine, OutOfMemory}
 use Rattle.mum_record.specs.declared.draft.Draft.{Draft}
 use Rattle.mum_record.specs.declared.draft.Stage.{Stage}
-use Rattle.mum_record.specs.declared.draft.Stage.TheVariants.{Version, Workers, Config, Controls, Entries, Over}
+use Rattle.mum_record.specs.declared.draft.Stage.TheVariants.{Head, Workers, Limits, Config, Controls, Entries, Over}
 use Rattle.mum_record.proofs.Graphic.{IsPart, split_parts, line_IsPart, literal_IsPart, literal_graphic, decimal_graphic}
 use Rattle.mum_record.proofs.Fits.{Each-append}
 use Rattle.mum_record.proofs.ConfigLaws.{config_words_graphic}
 use Rattle.mum_record.proofs.EntryLaws.{control_graphic, entry_graphic}
-use Rattle.mum_record.proofs.DraftLaws.{SoundAt, top_lines, lines_at, lines_from-append, run, run-sound, run-some, run-front, run-journal, at_end}
+use Rattle.mum_record.proofs.DraftLaws.{SoundAt, begun_lines, top_lines, lines_at, lines_from-append, run, run-sound, run-some, run-front, run-journal, at_end}
 
 -- ---- a draft can be completed
 
@@ -50,14 +52,36 @@ no_bytes : IsBytes []
 no_bytes i = lit< tt
 
 -- a journal of the lines that are there, with nothing more
-plain_journal : (w : ℕ) (c : List ℕ) (cs : List ControlEntry) (lists : List (List WorkerEntry)) → Journal
-plain_journal w c cs lists = record { workers = w; config = c; controls = cs; by_worker = lists }
+plain_journal : (w : ℕ) (l : Option (ℕ × ℕ)) (c : List ℕ) (cs : List ControlEntry) (lists : List (List WorkerEntry)) → Journal
+plain_journal w l c cs lists = record { workers = w; limits = l; config = c; controls = cs; by_worker = lists }
 
-plain : (w : ℕ) (c : List ℕ) (cs : List ControlEntry) (lists : List (List WorkerEntry)) → 1 ≤ w → w ≤ WORKERS_LIMIT → length lists ≡ w → IsBytes c → Each IsControl cs → Each (Each IsEntry) lists
-    → IsJournal (plain_journal w c cs lists)
+plain : (w : ℕ) (l : Option (ℕ × ℕ)) (c : List ℕ) (cs : List ControlEntry) (lists : List (List WorkerEntry)) → 1 ≤ w → w ≤ WORKERS_LIMIT → IfSome l AreLimits → length lists ≡ w → IsBytes c → Each IsControl cs
+    → Each (Each IsEntry) lists → IsJournal (plain_journal w l c cs lists)
 unfolding plain_journal
-plain w c cs lists least greatest count small controls entries =
-    record { least = least; greatest = greatest; lists = count; config = small; controls = controls; entries = entries }
+plain w l c cs lists least greatest limits count small controls entries =
+    record { least = least; greatest = greatest; lists = count; limits = limits; config = small; controls = controls; entries = entries }
+
+-- limits that any journal of version 2 may have
+least_limits : ℕ × ℕ
+least_limits = (128, 1024)
+
+least_are_limits : AreLimits least_limits
+unfolding least_limits
+least_are_limits = (lit≤ tt, lit≤ tt, lit≤ tt, lit≤ tt)
+
+limits_for : Version → Option (ℕ × ℕ)
+limits_for One = None
+limits_for Two = Some least_limits
+
+limits_for-fit : (v : Version) → IfSome (limits_for v) AreLimits
+unfolding limits_for
+limits_for-fit One = tt
+limits_for-fit Two = least_are_limits
+
+limits_for-version : (v : Version) → version_with (limits_for v) ≡ v
+unfolding limits_for
+limits_for-version One = refl
+limits_for-version Two = refl
 
 -- the lines of workers that are there, of one more, and of others
 lists_cut : (done : List (List WorkerEntry)) (es : List WorkerEntry) (others : List (List WorkerEntry))
@@ -67,19 +91,42 @@ lists_cut done es others =
     lines_from-append 0 done (es ∷ others)
     ∙ ap (λ (k : ℕ). lines_from 0 done ++ ((worker_line k ∷ map entry_line es) ++ lines_from (k + 1) others)) (zero-add (length done))
 
+-- a head without its configuration, and what comes behind
+config_cut : (w : ℕ) (l : Option (ℕ × ℕ)) (behind : List (List ℕ))
+    → ((head_lines journal_line w l [] ++ []) ++ behind) ++ end_line ∷ [] ≡ begun_lines w l ++ config_line [] ∷ (behind ++ end_line ∷ [])
+config_cut w None behind = refl
+config_cut w (Some l) behind = refl
+
 pub completed : (st : Stage) (d : Draft) → SoundAt st d → BeginJournal (lines_at st d)
 unfolding lines_of lines_from plain_journal blanks
-completed Version d h = (plain_journal 1 [] [] (blanks 1), _, plain 1 [] [] (blanks 1) (lit≤ tt) (lit≤ tt) refl no_bytes tt (Each-blanks 1), refl)
-completed Workers d h =
-    (plain_journal 1 [] [] (blanks 1), workers_line 1 ∷ config_line [] ∷ worker_line 0 ∷ end_line ∷ [], plain 1 [] [] (blanks 1) (lit≤ tt) (lit≤ tt) refl no_bytes tt (Each-blanks 1), refl)
+completed Head d h = (plain_journal 1 None [] [] (blanks 1), _, plain 1 None [] [] (blanks 1) (lit≤ tt) (lit≤ tt) tt refl no_bytes tt (Each-blanks 1), refl)
+completed (Workers v) d h =
+    let l : Option (ℕ × ℕ) = limits_for v in (
+      plain_journal 1 l [] [] (blanks 1),
+      workers_line 1 ∷ ((limits_lines l ++ config_line [] ∷ []) ++ []) ++ (lines_from 0 (blanks 1)) ++ end_line ∷ [],
+      plain 1 l [] [] (blanks 1) (lit≤ tt) (lit≤ tt) (limits_for-fit v) refl no_bytes tt (Each-blanks 1),
+      ap (λ (u : Version). journal_line u ∷ workers_line 1 ∷ ((limits_lines l ++ config_line [] ∷ []) ++ []) ++ (lines_from 0 (blanks 1)) ++ end_line ∷ []) (limits_for-version v),
+    )
+completed Limits d h =
+    let w : ℕ = d.workers in (
+      plain_journal w (Some least_limits) [] [] (blanks w),
+      limits_line least_limits ∷ config_line [] ∷ (lines_from 0 (blanks w) ++ end_line ∷ []),
+      plain w (Some least_limits) [] [] (blanks w) h.1 h.2 least_are_limits (length-blanks w) no_bytes tt (Each-blanks w),
+      refl,
+    )
 completed Config d h =
     let w : ℕ = d.workers in
-    (plain_journal w [] [] (blanks w), config_line [] ∷ (lines_from 0 (blanks w) ++ end_line ∷ []), plain w [] [] (blanks w) h.1.0 h.1.1 (length-blanks w) no_bytes tt (Each-blanks w), refl)
+    let behind : List (List ℕ) = lines_from 0 (blanks w) in (
+      plain_journal w d.limits [] [] (blanks w),
+      config_line [] ∷ (behind ++ end_line ∷ []),
+      plain w d.limits [] [] (blanks w) h.1.0 h.1.1 h.1.2 (length-blanks w) no_bytes tt (Each-blanks w),
+      config_cut w d.limits behind,
+    )
 completed Controls d h =
     let w : ℕ = d.workers in (
-      plain_journal w d.config d.controls (blanks w),
+      plain_journal w d.limits d.config d.controls (blanks w),
       lines_from 0 (blanks w) ++ end_line ∷ [],
-      plain w d.config d.controls (blanks w) h.0.0 h.0.1 (length-blanks w) h.1 h.2 (Each-blanks w),
+      plain w d.limits d.config d.controls (blanks w) h.0.0 h.0.1 h.0.2 (length-blanks w) h.1 h.2 (Each-blanks w),
       append_assoc (top_lines d) (lines_from 0 (blanks w)) (end_line ∷ []),
     )
 completed Entries d h =
@@ -95,9 +142,9 @@ completed Entries d h =
     let joined : (top_lines d ++ (lines_from 0 d.by_worker ++ (here ++ behind))) ++ end_line ∷ [] ≡ (before ++ here) ++ (behind ++ end_line ∷ []) =
     ap (λ (ls : List (List ℕ)). ls ++ end_line ∷ []) (sym (append_assoc (top_lines d) (lines_from 0 d.by_worker) (here ++ behind)) ∙ sym (append_assoc before here behind))
     ∙ append_assoc (before ++ here) behind (end_line ∷ []) in (
-      plain_journal w d.config d.controls lists,
+      plain_journal w d.limits d.config d.controls lists,
       behind ++ end_line ∷ [],
-      plain w d.config d.controls lists h.0.0 h.0.1 count h.1 h.2 (Each-append (Each IsEntry) d.by_worker (d.entries ∷ blanks k) h.4 (h.5, Each-blanks k)),
+      plain w d.limits d.config d.controls lists h.0.0 h.0.1 h.0.2 count h.1 h.2 (Each-append (Each IsEntry) d.by_worker (d.entries ∷ blanks k) h.4 (h.5, Each-blanks k)),
       ap (λ (ls : List (List ℕ)). (top_lines d ++ ls) ++ end_line ∷ []) cut ∙ joined,
     )
 completed Over d h = (journal_in d, [], h, sym (append-nil (lines_of (journal_in d))))
@@ -147,20 +194,45 @@ lists_parts n [] count h = tt
 lists_parts n (es ∷ others) count h =
     (worker_part n (omega arith), parts_joined (map entry_line es) (lines_from (n + 1) others) (entries_parts es h.0) (lists_parts (n + 1) others (omega arith) h.1))
 
-lines_parts : (j : Journal) → IsJournal j → AreParts (lines_of j)
-unfolding lines_of AreParts
-lines_parts j h = (
-  literal_IsPart journal_head refl,
+end_part : AreParts (end_line ∷ [])
+unfolding AreParts
+end_part = (literal_IsPart end_line refl, tt)
+
+version_part : (v : Version) → IsPart 10 (journal_line v)
+version_part One = literal_IsPart (journal_line One) refl
+version_part Two = literal_IsPart (journal_line Two) refl
+
+limits_parts : (l : Option (ℕ × ℕ)) → IfSome l AreLimits → AreParts (limits_lines l)
+unfolding AreParts
+limits_parts None h = tt
+limits_parts (Some l) h = (
+  line_IsPart (codes "limits" ∷ decimal l.0 ∷ decimal l.1 ∷ [])
+      (literal_graphic (codes "limits") refl, (decimal_graphic l.0 (omega (arith, h.1)), (decimal_graphic l.1 (omega (arith, h.3)), tt))),
+  tt,
+)
+
+head_parts : (j : Journal) → IsJournal j → AreParts (head_lines journal_line j.workers j.limits j.config)
+unfolding AreParts
+head_parts j h = (
+  version_part (version_with j.limits),
   (
     line_IsPart (codes "workers" ∷ decimal j.workers ∷ []) (literal_graphic (codes "workers") refl, (decimal_graphic j.workers (omega (arith, h.greatest)), tt)),
-    (
-      line_IsPart (codes "config" ∷ config_word j.config ∷ []) (config_words_graphic j.config h.config),
-      parts_joined (map control_line j.controls ++ lines_from 0 j.by_worker) (end_line ∷ [])
-          (parts_joined (map control_line j.controls) (lines_from 0 j.by_worker) (controls_parts j.controls h.controls) (lists_parts 0 j.by_worker (omega (arith, h.lists, h.greatest)) h.entries))
-          (literal_IsPart end_line refl, tt),
-    ),
+    parts_joined (limits_lines j.limits) (config_line j.config ∷ []) (limits_parts j.limits h.limits)
+        (line_IsPart (codes "config" ∷ config_word j.config ∷ []) (config_words_graphic j.config h.config), tt),
   ),
 )
+
+lines_parts : (j : Journal) → IsJournal j → AreParts (lines_of j)
+unfolding lines_of
+lines_parts j h =
+    let head : List (List ℕ) = head_lines journal_line j.workers j.limits j.config in
+    let controls : List (List ℕ) = map control_line j.controls in
+    let lists : List (List ℕ) = lines_from 0 j.by_worker in
+    parts_joined ((head ++ controls) ++ lists) (end_line ∷ [])
+    (parts_joined (head ++ controls) lists
+    (parts_joined head controls (head_parts j h) (controls_parts j.controls h.controls))
+    (lists_parts 0 j.by_worker (omega (arith, h.lists, h.greatest)) h.entries))
+    end_part
 
 pub text-pieces : (j : Journal) → IsJournal j → pieces_of (ended_lines (lines_of j)) ≡ lines_of j ++ [] ∷ []
 text-pieces j h = pieces-lines (lines_of j) (lines_parts j h)
@@ -215,16 +287,18 @@ took (line ∷ next ∷ more) d n j h =
     }
 
 over_is : (st : Stage) → is_over st ≡ true → st ≡ Over
-over_is Version h = cc
-over_is Workers h = cc
+over_is Head h = cc
+over_is (Workers v) h = cc
+over_is Limits h = cc
 over_is Config h = cc
 over_is Controls h = cc
 over_is Entries h = cc
 over_is Over h = refl
 
 sound_over : (st : Stage) (d : Draft) (lines : List (List ℕ)) → st ≡ Over → SoundAt st d → lines_at st d ≡ lines → IsJournal (journal_in d) × (lines_of (journal_in d) ≡ lines)
-sound_over Version d lines is h e = cc
-sound_over Workers d lines is h e = cc
+sound_over Head d lines is h e = cc
+sound_over (Workers v) d lines is h e = cc
+sound_over Limits d lines is h e = cc
 sound_over Config d lines is h e = cc
 sound_over Controls d lines is h e = cc
 sound_over Entries d lines is h e = cc
@@ -235,7 +309,7 @@ pub journal_of-found : (text : List ℕ) (j : Journal) → journal_of text ≡ O
 unfolding journal_of
 journal_of-found text j h =
     let all = took (pieces_of text) no_draft 1 j h in
-    let sound = run-sound all.lines no_draft all.last (refl, refl, refl) all.went in
+    let sound = run-sound all.lines no_draft all.last ((refl, refl, refl), refl) all.went in
     let over = sound_over all.last.stage all.last all.lines (over_is all.last.stage all.over) sound.0 sound.1 in
     let recordable : IsJournal j = subst IsJournal all.is over.0 in
     let lines : lines_of j ≡ all.lines = ap lines_of (sym all.is) ∙ over.1 in
@@ -264,7 +338,7 @@ pub journal_of-text : (j : Journal) → IsJournal j → journal_of (ended_lines 
 unfolding journal_of
 journal_of-text j h =
     ap (reading_from no_draft 1) (text-pieces j h)
-    ∙ reading-run (lines_of j) no_draft (at_end j.workers j.config j.controls j.by_worker) 1 (run-journal j h) refl
+    ∙ reading-run (lines_of j) no_draft (at_end j.workers j.limits j.config j.controls j.by_worker) 1 (run-journal j h) refl
 
 pub texts_say_one : (text : List ℕ) (a b : Journal) → IsTextOf text a → IsTextOf text b → a ≡ b
 texts_say_one text a b one two =
@@ -343,9 +417,9 @@ push_parts (a ∷ more) (b ∷ bs) x y h =
 no_line_after : (front : List (List ℕ)) (piece : List ℕ) (middle : Draft) → run no_draft front ≡ Some middle → taken middle piece ≡ None → BeginJournal (front ++ piece ∷ []) → ⊥
 no_line_after front piece middle went refused begun =
     let j : Journal = begun.0 in
-    let whole : run no_draft ((front ++ piece ∷ []) ++ begun.1) ≡ Some (at_end j.workers j.config j.controls j.by_worker) =
+    let whole : run no_draft ((front ++ piece ∷ []) ++ begun.1) ≡ Some (at_end j.workers j.limits j.config j.controls j.by_worker) =
     ap (run no_draft) (sym begun.3) ∙ run-journal j begun.2 in
-    let some = run-front (front ++ piece ∷ []) begun.1 no_draft (at_end j.workers j.config j.controls j.by_worker) whole in
+    let some = run-front (front ++ piece ∷ []) begun.1 no_draft (at_end j.workers j.limits j.config j.controls j.by_worker) whole in
     let next : run middle (piece ∷ []) ≡ Some some.0 = sym (run-some front (piece ∷ []) no_draft middle went) ∙ some.1 in
     let none : run middle (piece ∷ []) ≡ None = ap (option_and_then (λ (after : Draft). run after [])) refused in
     cc
@@ -355,8 +429,8 @@ no_text_of : (front : List (List ℕ)) (piece : List ℕ) (middle : Draft) (text
 no_text_of front piece middle text j all went unended is =
     let pieces : front ++ piece ∷ [] ≡ lines_of j ++ [] ∷ [] = sym all ∙ ap pieces_of is.written ∙ text-pieces j is.recordable in
     let parts = push_parts front (lines_of j) piece [] pieces in
-    let whole : run no_draft front ≡ Some (at_end j.workers j.config j.controls j.by_worker) = ap (run no_draft) parts.0 ∙ run-journal j is.recordable in
-    let same : middle ≡ at_end j.workers j.config j.controls j.by_worker = cc in
+    let whole : run no_draft front ≡ Some (at_end j.workers j.limits j.config j.controls j.by_worker) = ap (run no_draft) parts.0 ∙ run-journal j is.recordable in
+    let same : middle ≡ at_end j.workers j.limits j.config j.controls j.by_worker = cc in
     unended parts.1 (ap (λ (d : Draft). is_over d.stage) same)
 
 nothing_behind : {X : Type 0} (xs : List X) → length xs ≡ 0 → xs ≡ []
@@ -371,7 +445,7 @@ journal_of-fault text n h =
     let piece : List ℕ = where_it_is.piece in
     let back : List (List ℕ) = where_it_is.back in
     let size : length (pieces_of text) ≡ length front + length (piece ∷ back) = ap length where_it_is.all ∙ length-append front (piece ∷ back) in
-    let sound = run-sound front no_draft where_it_is.middle (refl, refl, refl) where_it_is.went in
+    let sound = run-sound front no_draft where_it_is.middle ((refl, refl, refl), refl) where_it_is.went in
     let begun : BeginJournal front = subst BeginJournal sound.1 (completed where_it_is.middle.stage where_it_is.middle sound.0) in
     let less : n - 1 ≡ length front = omega (arith, where_it_is.counted) in
     let more : n ≡ suc (length front) = omega (arith, where_it_is.counted) in

@@ -8,16 +8,18 @@ use Rattle.std.specs.Str.{bytes_eq, IsUtf8}
 use Rattle.std.specs.Fmt.{decimal, digits, digits_onto, digit_glyph}
 use Rattle.std.specs.List.{join_with_byte}
 use Rattle.mum_record.specs.Words.{words_in}
-use Rattle.mum_record.specs.Head.{workers_of, config_of, config_word}
-use Rattle.mum_record.specs.Journal.{control_words, entry_words, journal_head, worker_line, end_line}
-use Rattle.mum_record.specs.JournalReading.{control_of, entry_of, is_worker_line, ends_entries, with_control, with_entry, taken_at, taken}
+use Rattle.mum_record.specs.Head.{journal_line, journal_version, workers_of, limits_of, config_of, config_word}
+use Rattle.mum_record.specs.declared.head.Version.{Version}
+use Rattle.mum_record.specs.declared.head.Version.TheVariants.{One, Two}
+use Rattle.mum_record.specs.Journal.{control_words, entry_words, worker_line, end_line}
+use Rattle.mum_record.specs.JournalReading.{control_of, entry_of, is_worker_line, ends_entries, with_control, with_entry, after_workers, taken_at, taken}
 use Rattle.mum_record.specs.declared.draft.Draft.{Draft}
 use Rattle.mum_record.specs.declared.draft.Stage.{Stage}
-use Rattle.mum_record.specs.declared.draft.Stage.TheVariants.{Version, Workers, Config, Controls, Entries, Over}
+use Rattle.mum_record.specs.declared.draft.Stage.TheVariants.{Head, Workers, Limits, Config, Controls, Entries, Over}
 use Rattle.mum_record.proofs.Numbers.{none_unless}
 use Rattle.mum_record.proofs.Splits.{join-IsAscii}
 use Rattle.mum_record.proofs.Laws.{chosen, mapped}
-use Rattle.mum_record.proofs.HeadLemmas.{workers_of-found}
+use Rattle.mum_record.proofs.HeadLemmas.{journal_version-found, workers_of-found, limits_of-found}
 use Rattle.mum_record.proofs.Graphic.{IsGraphic, AreGraphic, graphic_AreAllWords, literal_graphic}
 use Rattle.mum_record.proofs.ConfigLaws.{config_of-found, config_words_graphic}
 use Rattle.mum_record.proofs.EntryLaws.{control_of-found, control_graphic, entry_of-found, entry_graphic}
@@ -53,11 +55,20 @@ ends_text : (more : Bool) (n : ℕ) (line : List ℕ) → cond more (is_worker_l
 ends_text true n line same = worker_text n line same
 ends_text false n line same = end_text line same
 
+version_text : (v : Version) (line : List ℕ) → line ≡ journal_line v → IsUtf8 line
+version_text One line is = words_text line (codes "journal" ∷ codes "1" ∷ []) (literal_graphic (codes "journal") refl, (literal_graphic (codes "1") refl, tt)) is
+version_text Two line is = words_text line (codes "journal" ∷ codes "2" ∷ []) (literal_graphic (codes "journal") refl, (literal_graphic (codes "2") refl, tt)) is
+
 taken_at-text : (st : Stage) (d : Draft) (line : List ℕ) (next : Draft) → taken_at st d line ≡ Some next → IsUtf8 line
-taken_at-text Version d line next e =
-    chosen line journal_head _ _ next (λ w e1. words_text line (codes "journal" ∷ codes "1" ∷ []) (literal_graphic (codes "journal") refl, (literal_graphic (codes "1") refl, tt)) w) (λ e1. cc) e
-taken_at-text Workers d line next e =
-    mapped (λ (w : ℕ). record d { stage = Config; workers = w }) (workers_of line) next (λ w w_is e1.
+taken_at-text Head d line next e =
+    mapped (λ (v : Version). record d { stage = Workers v }) (journal_version line) next (λ v v_is e1. version_text v line (journal_version-found line v v_is)) e
+taken_at-text Limits d line next e =
+    mapped (λ (limits : ℕ × ℕ). record d { stage = Config; limits = Some limits }) (limits_of line) next (λ limits is e1.
+    let found = limits_of-found line limits is in
+    words_text line (codes "limits" ∷ decimal limits.0 ∷ decimal limits.1 ∷ [])
+    (literal_graphic (codes "limits") refl, (numeral_graphic limits.0, (numeral_graphic limits.1, tt))) found.1) e
+taken_at-text (Workers v) d line next e =
+    mapped (λ (w : ℕ). record d { stage = after_workers v; workers = w }) (workers_of line) next (λ w w_is e1.
     let found = workers_of-found line w w_is in
     words_text line (codes "workers" ∷ decimal w ∷ []) (literal_graphic (codes "workers") refl, (numeral_graphic w, tt)) found.2) e
 taken_at-text Config d line next e =

@@ -1,8 +1,8 @@
 -- The text of a journal, part by part.
-use Rattle.std.proofs.Common.{◌≡◌, ℕ, ◌+◌, ◌<◌, List, [], ◌∷◌, ◌++◌, map, length, get_or, take, cond, Result, Ok, Err, IfOk, is_ok, refl, sym, ap, ◌∙◌, append_assoc, codes, arith, length-take}
-use Rattle.std.proofs.lemmas.List.{take_more, map-append, flat_map_more}
-use Rattle.mum_record.specs.Head.{workers_line, config_line}
-use Rattle.mum_record.specs.Journal.{control_line, entry_line, worker_line, journal_head, lines_from, lines_of, ended_lines, IsJournal}
+use Rattle.std.proofs.Common.{◌≡◌, ℕ, ◌+◌, ◌<◌, List, [], ◌∷◌, ◌++◌, map, length, get_or, take, cond, None, Result, Ok, Err, IfOk, is_ok, refl, sym, ap, ◌∙◌, append_assoc, codes, arith, length-take}
+use Rattle.std.proofs.lemmas.List.{take_more, map-append, flat_map_more, append-nil}
+use Rattle.mum_record.specs.Head.{journal_line, limits_lines, head_lines}
+use Rattle.mum_record.specs.Journal.{control_line, entry_line, worker_line, lines_from, lines_of, ended_lines, IsJournal}
 use Rattle.mum_record.specs.JournalReading.{journal_of}
 use Rattle.mum_record.specs.declared.journal.Journal.{Journal}
 use Rattle.mum_record.specs.declared.journal.WorkerEntry.{WorkerEntry}
@@ -15,11 +15,11 @@ ended-append (x ∷ xs) ys =
     ap (λ (t : List ℕ). (x ++ 10 ∷ []) ++ t) (ended-append xs ys) ∙ sym (append_assoc (x ++ 10 ∷ []) (ended_lines xs) (ended_lines ys))
 
 -- the head, the control entries, the workers and the end
-pub whole_text : (j : Journal) → ((ended_lines (journal_head ∷ workers_line j.workers ∷ config_line j.config ∷ []) ++ ended_lines (map control_line j.controls)) ++ ended_lines (lines_from 0 j.by_worker)) ++ codes "end\n"
+pub whole_text : (j : Journal) → ((ended_lines (head_lines journal_line j.workers j.limits j.config) ++ ended_lines (map control_line j.controls)) ++ ended_lines (lines_from 0 j.by_worker)) ++ codes "end\n"
     ≡ ended_lines (lines_of j)
 unfolding lines_of
 whole_text j =
-    let head : List (List ℕ) = journal_head ∷ workers_line j.workers ∷ config_line j.config ∷ [] in
+    let head : List (List ℕ) = head_lines journal_line j.workers j.limits j.config in
     let controls : List (List ℕ) = map control_line j.controls in
     let lists : List (List ℕ) = lines_from 0 j.by_worker in
     sym (ended-append (head ++ controls ++ lists) (codes "end" ∷ [])
@@ -43,12 +43,28 @@ pub appended : {X E : Type 0} (r : Result X E) (text more old : List ℕ) → te
 appended (Ok x) text more old h = h
 appended (Err e) text more old h = tt
 
--- three lines, of which the first came with its line feed
-pub three_lines : (old one two three a b c d e : List ℕ) → a ≡ old ++ (one ++ 10 ∷ []) → b ≡ a ++ two → c ≡ b ++ 10 ∷ [] → d ≡ c ++ three → e ≡ d ++ 10 ∷ []
-    → e ≡ old ++ ended_lines (one ∷ two ∷ three ∷ [])
-three_lines old one two three a b c d e a_is b_is c_is d_is e_is =
-    e_is ∙ ap (λ (t : List ℕ). t ++ 10 ∷ []) (d_is ∙ ap (λ (t : List ℕ). t ++ three) (c_is ∙ ap (λ (t : List ℕ). t ++ 10 ∷ []) (b_is ∙ ap (λ (t : List ℕ). t ++ two) a_is)))
-    ∙ simp append_assoc
+-- one line behind a text, and its line feed
+line_behind : (a b c line : List ℕ) → b ≡ a ++ line → c ≡ b ++ 10 ∷ [] → c ≡ a ++ ended_lines (line ∷ [])
+line_behind a b c line b_is c_is = c_is ∙ ap (λ (t : List ℕ). t ++ 10 ∷ []) b_is ∙ simp append_assoc
+
+joined : (old text more : List ℕ) (xs ys : List (List ℕ)) → text ≡ old ++ ended_lines xs → more ≡ text ++ ended_lines ys → more ≡ old ++ ended_lines (xs ++ ys)
+joined old text more xs ys text_is more_is =
+    more_is ∙ ap (λ (t : List ℕ). t ++ ended_lines ys) text_is ∙ append_assoc old (ended_lines xs) (ended_lines ys)
+    ∙ ap (λ (t : List ℕ). old ++ t) (sym (ended-append xs ys))
+
+-- a line, another, lines, and a last line
+pub head_text : (old one two last a b c d e f g : List ℕ) (lines : List (List ℕ)) → a ≡ old ++ one → b ≡ a ++ 10 ∷ [] → c ≡ b ++ two → d ≡ c ++ 10 ∷ []
+    → e ≡ d ++ ended_lines lines → f ≡ e ++ last → g ≡ f ++ 10 ∷ [] → g ≡ old ++ ended_lines (one ∷ two ∷ lines ++ last ∷ [])
+head_text old one two last a b c d e f g lines a_is b_is c_is d_is e_is f_is g_is =
+    joined old e g (one ∷ two ∷ lines) (last ∷ [])
+    (joined old d e (one ∷ two ∷ []) lines
+    (joined old b d (one ∷ []) (two ∷ []) (line_behind old a b one a_is b_is) (line_behind b c d two c_is d_is))
+    e_is)
+    (line_behind e f g last f_is g_is)
+
+-- the line of the limits, or nothing
+pub no_limits_text : (old : List ℕ) → old ≡ old ++ ended_lines (limits_lines None)
+no_limits_text old = sym (append-nil old)
 
 -- the lines of one worker more: that of its number, and those of its entries
 one_worker : (lists : List (List WorkerEntry)) (i : ℕ) (entries : List WorkerEntry) → i < length lists → entries ≡ get_or lists i entries

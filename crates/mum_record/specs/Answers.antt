@@ -20,6 +20,6 @@ is_lower_digit letter = is_ascii_hexdigit letter && not (is_ascii_uppercase lett
 abbrev pub TestsFrame : List ℕ → Bool → Type 0
 TestsFrame word tested = (bytes : List ℕ) → IsBytes bytes → word ≡ encode_lower bytes → tested ≡ is_one_frame bytes
 
--- a digit stands first, and a zero only alone
+-- the first letter is a digit, and a zero only where it is alone
 abbrev pub BeginsPlainly : List ℕ → Type 0
 BeginsPlainly word = (0 < length word) × (48 ≤ slice_index word 0) × (slice_index word 0 ≤ 57) × (slice_index word 0 ≡ 48 → length word ≡ 1)

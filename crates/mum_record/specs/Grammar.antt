@@ -1,4 +1,4 @@
--- The lines of a recording, version 1: words parted by one space.
+-- The lines of the steps of a recording: words separated by one space.
 use Rattle.std.specs.Prelude.{◌≡◌, ℕ, ◌^◌, ◌<◌, List, [], ◌∷◌, Option, Some, None, IfSome, codes}
 use Rattle.std.specs.Fmt.{decimal}
 use Rattle.hex.specs.Hex.{encode_lower, IsBytes}

@@ -1,5 +1,5 @@
--- The lines of a journal, version 1: what the control owner decided, and then, worker by worker,
--- what each of them sent and closed.
+-- The lines of a journal: what the control owner decided, and then, worker by worker, what each of them sent and
+-- closed.
 use Rattle.std.specs.Prelude.{◌≡◌, ℕ, ◌+◌, ◌^◌, ◌<◌, ◌≤◌, ◌==◌, Bool, true, false, IsTrue, List, [], ◌∷◌, ◌++◌, length, map, Option, Some, None, IfSome, codes}
 use Rattle.std.specs.Fmt.{decimal}
 use Rattle.std.specs.List.{flat_map, join_with_byte}
@@ -10,7 +10,7 @@ use Rattle.mum_frame.specs.Frame.{IsOneFrame, kind_of}
 use Rattle.mum_frame.specs.declared.kind.TheConstants.{AUTHENTICATE}
 use Rattle.mum_record.specs.Words.{line_of_words}
 use Rattle.mum_record.specs.Grammar.{cause_word, revision_word}
-use Rattle.mum_record.specs.Head.{workers_line, config_line}
+use Rattle.mum_record.specs.Head.{journal_line, head_lines, AreLimits}
 use Rattle.mum_record.specs.declared.head.TheConstants.{WORKERS_LIMIT}
 use Rattle.mum_record.specs.declared.journal.ControlEntry.{ControlEntry}
 use Rattle.mum_record.specs.declared.journal.Marked.{Marked}
@@ -20,7 +20,7 @@ use Rattle.mum_record.specs.declared.journal.Journal.{Journal}
 
 -- ---- what the control owner decided
 
--- a verdict, in the words in which a transcript tells it
+-- a verdict, in the words in which a transcript prints it
 abbrev pub verdict_words : Mark → List (List ℕ)
 verdict_words (Accepted revision) = codes "accepted" ∷ decimal revision ∷ []
 verdict_words (Lacks perm channel) = codes "lacks" ∷ decimal perm.0 ∷ decimal channel.0 ∷ []
@@ -34,6 +34,7 @@ abbrev pub command_word : Option (List ℕ) → List ℕ
 command_word None = codes "leave"
 command_word (Some frame) = encode_lower frame
 
+-- the words of a control entry
 unfoldable pub control_words : ControlEntry → List (List ℕ)
 control_words entry =
     codes "c" ∷ decimal entry.connection ∷ revision_word entry.version ∷ command_word entry.frame ∷ verdict_words entry.verdict
@@ -45,13 +46,15 @@ abbrev pub mark_word : Bool → List ℕ
 mark_word true = codes "s"
 mark_word false = codes "f"
 
--- the session that a copy is for, its context and its mark, parted by `/`
+-- the session that a copy is for, its context and its mark, separated by `/`
 unfoldable pub copy_word : Marked → List ℕ
 copy_word copy = join_with_byte 47 (decimal copy.session.0 ∷ decimal copy.context ∷ mark_word copy.sent ∷ [])
 
+-- a copy after a space
 abbrev pub behind_copy : Marked → List ℕ
 behind_copy copy = 32 ∷ copy_word copy
 
+-- the words of an entry of a worker
 unfoldable pub entry_words : WorkerEntry → List (List ℕ)
 entry_words (Voice connection revision packet copies) =
     codes "v" ∷ decimal connection ∷ decimal revision ∷ encode_lower packet ∷ decimal (length copies) ∷ map copy_word copies
@@ -59,19 +62,19 @@ entry_words (Closed connection cause) = codes "x" ∷ decimal connection ∷ cau
 
 -- ---- the lines, without their line feeds
 
+-- the line of a control entry
 abbrev pub control_line : ControlEntry → List ℕ
 control_line entry = line_of_words (control_words entry)
 
+-- the line of an entry of a worker
 abbrev pub entry_line : WorkerEntry → List ℕ
 entry_line entry = line_of_words (entry_words entry)
-
-abbrev pub journal_head : List ℕ
-journal_head = codes "journal 1"
 
 -- the entries of worker n follow
 abbrev pub worker_line : ℕ → List ℕ
 worker_line n = line_of_words (codes "worker" ∷ decimal n ∷ [])
 
+-- the last line
 abbrev pub end_line : List ℕ
 end_line = codes "end"
 
@@ -83,8 +86,8 @@ lines_from n (entries ∷ others) = worker_line n ∷ map entry_line entries ++ 
 -- the lines of a journal
 unfoldable pub lines_of : Journal → List (List ℕ)
 lines_of journal =
-    journal_head ∷ workers_line journal.workers ∷ config_line journal.config
-    ∷ map control_line journal.controls ++ lines_from 0 journal.by_worker ++ end_line ∷ []
+    head_lines journal_line journal.workers journal.limits journal.config
+    ++ map control_line journal.controls ++ lines_from 0 journal.by_worker ++ end_line ∷ []
 
 -- lines as a text, each ended by a line feed
 abbrev pub ended_lines : List (List ℕ) → List ℕ
@@ -110,9 +113,11 @@ FitsVerdict (Ignored why) = why < 2 ^ 8
 abbrev pub FitsControl : ControlEntry → Type 0
 FitsControl entry = (entry.connection < 2 ^ 32) × IfSome entry.version (λ v. v < 2 ^ 32) × IfSome entry.frame IsBytes × FitsVerdict entry.verdict
 
+-- the session fits 32 bits and the context 8
 abbrev pub FitsCopy : Marked → Type 0
 FitsCopy copy = (copy.session.0 < 2 ^ 32) × (copy.context < 2 ^ 8)
 
+-- connections fit 32 bits, revisions and counts of copies 64
 abbrev pub FitsEntry : WorkerEntry → Type 0
 FitsEntry (Voice connection revision packet copies) =
     (connection < 2 ^ 32) × (revision < 2 ^ 64) × IsBytes packet × (length copies < 2 ^ 64) × Each FitsCopy copies
@@ -137,14 +142,17 @@ IsWritableEntry (Closed connection cause) = Unit {0}
 abbrev pub IsControl : ControlEntry → Type 0
 IsControl entry = FitsControl entry × IsWritableControl entry
 
+-- an entry of a worker that has a line
 abbrev pub IsEntry : WorkerEntry → Type 0
 IsEntry entry = FitsEntry entry × IsWritableEntry entry
 
--- what no type says of a journal: it has 1 to 8 workers and a list for each, and entries that can be written
+-- what no type says of a journal: it has 1 to 8 workers and a list for each, limits in their ranges if it has any,
+-- and entries that can be written
 pub record IsWritableJournal (journal : Journal) : Type 0 where
   pub least : 1 ≤ journal.workers
   pub greatest : journal.workers ≤ WORKERS_LIMIT
   pub lists : length journal.by_worker ≡ journal.workers
+  pub limits : IfSome journal.limits AreLimits
   pub controls : Each IsWritableControl journal.controls
   pub entries : Each (Each IsWritableEntry) journal.by_worker
 
@@ -153,6 +161,7 @@ pub record IsJournal (journal : Journal) : Type 0 where
   pub least : 1 ≤ journal.workers
   pub greatest : journal.workers ≤ WORKERS_LIMIT
   pub lists : length journal.by_worker ≡ journal.workers
+  pub limits : IfSome journal.limits AreLimits
   pub config : IsBytes journal.config
   pub controls : Each IsControl journal.controls
   pub entries : Each (Each IsEntry) journal.by_worker

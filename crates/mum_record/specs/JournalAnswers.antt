@@ -1,7 +1,5 @@
 -- What reading a journal answers.
-use Rattle.std.specs.Prelude.{◌≡◌, ℕ, ◌-◌, ◌<◌, ◌≤◌, List, [], ◌∷◌, length, take, ⊤, Option, Some, None, Result, Ok, Err}
-use Rattle.std.specs.Borrow.{Bor}
-use Rattle.std.specs.List.{slice_split}
+use Rattle.std.specs.Prelude.{◌≡◌, ℕ, ◌-◌, ◌<◌, ◌≤◌, List, length, take, ⊤, Option, Some, None, Result, Ok, Err}
 use Rattle.mum_record.specs.declared.step.LineFault.{LineFault}
 use Rattle.mum_record.specs.declared.step.LineFault.TheVariants as line
 use Rattle.mum_record.specs.declared.journal.Journal.{Journal}
@@ -28,13 +26,15 @@ ChangesTo read (Err line.OutOfMemory) new = Unit {0}
 abbrev pub Takes : Draft → List ℕ → Result ⊤ LineFault → Draft → Type 0
 Takes old line result new = ChangesTo (taken old line) result new
 
+-- the same, where the draft is at a stage
 abbrev pub TakesAt : Stage → Draft → List ℕ → Result ⊤ LineFault → Draft → Type 0
 TakesAt stage old line result new = ChangesTo (taken_at stage old line) result new
 
+-- the entries of a worker are all there
 abbrev pub EndsEntries : Draft → Result ⊤ LineFault → Draft → Type 0
 EndsEntries old result new = ChangesTo (Some (with_entries old)) result new
 
--- the fault of a line as that of the journal in which it stands
+-- the fault of a line as that of the journal that it is in
 abbrev pub StopsAt : ℕ → LineFault → JournalFault → Type 0
 StopsAt n line.NotALine fault = fault ≡ journal.NotALine n
 StopsAt n line.OutOfMemory fault = fault ≡ journal.OutOfMemory
@@ -45,10 +45,11 @@ AnswersBy read (Ok value) = read ≡ Ok value
 AnswersBy read (Err (journal.NotALine n)) = read ≡ Err n
 AnswersBy read (Err journal.OutOfMemory) = Unit {0}
 
+-- the journal that a text says, or the number of its first faulty line
 abbrev pub ReadsText : List ℕ → Result Journal JournalFault → Type 0
 ReadsText text result = AnswersBy (journal_of text) result
 
--- line n of a text, counted from 1, is the first that is in no journal behind the lines before it;
+-- line n of a text, counted from 1, is the first that no journal has after the lines before it;
 -- the last piece of a text is no line, and where the fault is there the journal has not ended, or
 -- something follows its end
 pub record IsFirstFault (text : List ℕ) (n : ℕ) : Type 0 where
@@ -58,6 +59,7 @@ pub record IsFirstFault (text : List ℕ) (n : ℕ) : Type 0 where
   pub there : n < length (pieces_of text) → BeginJournal (take n (pieces_of text)) → ⊥
   pub missing : n ≡ length (pieces_of text) → (journal : Journal) → IsTextOf text journal → ⊥
 
+-- a fault names the first faulty line
 abbrev pub NamesFirstFault : List ℕ → JournalFault → Type 0
 NamesFirstFault text (journal.NotALine n) = IsFirstFault text n
 NamesFirstFault text journal.OutOfMemory = Unit {0}

@@ -9,8 +9,10 @@ use Rattle.mum_base.specs.declared.reply.Mark.TheVariants.{Accepted, Lacks, Refu
 use Rattle.mum_record.specs.Words.{words_in, place_of, revision_of, byte_of, bytes_of}
 use Rattle.mum_record.specs.Reading.{frame_of, cause_of}
 use Rattle.mum_record.specs.Lines.{is_line_feed}
-use Rattle.mum_record.specs.Head.{workers_of, config_of}
-use Rattle.mum_record.specs.Journal.{may_carry, journal_head, worker_line, end_line}
+use Rattle.mum_record.specs.Head.{journal_version, workers_of, limits_of, config_of}
+use Rattle.mum_record.specs.declared.head.Version.{Version}
+use Rattle.mum_record.specs.declared.head.Version.TheVariants.{One, Two}
+use Rattle.mum_record.specs.Journal.{may_carry, worker_line, end_line}
 use Rattle.mum_record.specs.declared.journal.ControlEntry.{ControlEntry}
 use Rattle.mum_record.specs.declared.journal.Marked.{Marked}
 use Rattle.mum_record.specs.declared.journal.WorkerEntry.{WorkerEntry}
@@ -18,7 +20,7 @@ use Rattle.mum_record.specs.declared.journal.WorkerEntry.TheVariants.{Voice, Clo
 use Rattle.mum_record.specs.declared.journal.Journal.{Journal}
 use Rattle.mum_record.specs.declared.draft.Draft.{Draft}
 use Rattle.mum_record.specs.declared.draft.Stage.{Stage}
-use Rattle.mum_record.specs.declared.draft.Stage.TheVariants.{Version, Workers, Config, Controls, Entries, Over}
+use Rattle.mum_record.specs.declared.draft.Stage.TheVariants.{Head, Workers, Limits, Config, Controls, Entries, Over}
 
 -- ---- a control entry
 
@@ -44,6 +46,7 @@ unfoldable pub lack_of : List ℕ → List ℕ → Option Mark
 lack_of perm channel =
     option_and_then (λ (p : ℕ). option_map (λ (c : ℕ). Lacks (record { 0 = p }) (record { 0 = c })) (place_of channel)) (place_of perm)
 
+-- the verdict that the last words of a line say
 unfoldable pub verdict_of : List (List ℕ) → Option Mark
 verdict_of [] = None
 verdict_of (name ∷ []) = if bytes_eq name (codes "answer") then Some Answer else None
@@ -55,6 +58,7 @@ verdict_of (name ∷ perm ∷ channel ∷ more ∷ others) = None
 abbrev pub carried : ControlEntry → Option ControlEntry
 carried entry = if may_carry entry.version entry.frame then Some entry else None
 
+-- the control entry of a connection, a Version number, a command and the words of a verdict
 unfoldable pub control_with : List ℕ → List ℕ → List ℕ → List (List ℕ) → Option ControlEntry
 control_with connection version command verdict =
     option_and_then (λ (c : ℕ). option_and_then (λ (v : Option ℕ). option_and_then (λ (f : Option (List ℕ)). option_and_then (λ (m : Mark).
@@ -72,21 +76,25 @@ control_of (mark ∷ connection ∷ version ∷ command ∷ verdict) =
 
 -- ---- an entry of a worker
 
+-- the byte between the parts of a copy
 abbrev pub is_slash : ℕ → Bool
 is_slash byte = byte == 47
 
+-- whether a copy was sent
 unfoldable pub mark_of : List ℕ → Option Bool
 mark_of word =
     if bytes_eq word (codes "s") then Some true
     else if bytes_eq word (codes "f") then Some false
     else None
 
+-- the copy that three parts of a word say
 unfoldable pub copy_with : List ℕ → List ℕ → List ℕ → Option Marked
 copy_with session context mark =
     option_and_then (λ (s : ℕ). option_and_then (λ (c : ℕ). option_map (λ (m : Bool).
     record { session = record { 0 = s }; context = c; sent = m })
     (mark_of mark)) (byte_of context)) (place_of session)
 
+-- the copy that the parts of a word say, which are three
 abbrev pub copy_in : List (List ℕ) → Option Marked
 copy_in [] = None
 copy_in (session ∷ []) = None
@@ -98,6 +106,7 @@ copy_in (session ∷ context ∷ mark ∷ more ∷ others) = None
 unfoldable pub copy_of : List ℕ → Option Marked
 copy_of word = copy_in (slice_split is_slash word)
 
+-- the copies that words say, each one
 unfoldable pub copies_of : List (List ℕ) → Option (List Marked)
 copies_of [] = Some []
 copies_of (word ∷ words) = option_and_then (λ (copy : Marked). option_map (λ (copies : List Marked). copy ∷ copies) (copies_of words)) (copy_of word)
@@ -106,6 +115,7 @@ copies_of (word ∷ words) = option_and_then (λ (copy : Marked). option_map (λ
 unfoldable pub closing_cause_of : List ℕ → Option Cause
 closing_cause_of word = if bytes_eq word (codes "memory") then Some causes.Memory else cause_of word
 
+-- the end of a connection, of the connection and the cause
 unfoldable pub closed_of : List (List ℕ) → Option WorkerEntry
 closed_of [] = None
 closed_of (connection ∷ []) = None
@@ -116,12 +126,14 @@ closed_of (connection ∷ cause ∷ more ∷ others) = None
 abbrev pub counted : ℕ → ℕ → ℕ → List ℕ → List Marked → Option WorkerEntry
 counted n connection revision packet copies = if n == length copies then Some (Voice connection revision packet copies) else None
 
+-- the voice entry of a connection, a revision, a packet, a count and copies
 unfoldable pub voice_with : List ℕ → List ℕ → List ℕ → List ℕ → List (List ℕ) → Option WorkerEntry
 voice_with connection revision packet count copies =
     option_and_then (λ (c : ℕ). option_and_then (λ (r : ℕ). option_and_then (λ (p : List ℕ). option_and_then (λ (n : ℕ). option_and_then (λ (all : List Marked).
     counted n c r p all)
     (copies_of copies)) (revision_of count)) (bytes_of packet)) (revision_of revision)) (place_of connection)
 
+-- the voice entry that the words after its mark say
 unfoldable pub voice_of : List (List ℕ) → Option WorkerEntry
 voice_of [] = None
 voice_of (connection ∷ []) = None
@@ -144,6 +156,7 @@ abbrev pub worker_in : List (List ℕ) → Option ℕ
 worker_in (name ∷ word ∷ []) = if bytes_eq name (codes "worker") then revision_of word else None
 worker_in others = None
 
+-- whether the entries of worker n follow a line
 abbrev pub is_worker_line : ℕ → List ℕ → Bool
 is_worker_line n line = bytes_eq line (worker_line n)
 
@@ -152,6 +165,7 @@ abbrev pub ends_entries : Draft → List ℕ → Bool
 ends_entries draft line =
     if nat_lt (length draft.by_worker + 1) draft.workers then is_worker_line (length draft.by_worker + 1) line else bytes_eq line end_line
 
+-- after the entries of a worker, those of the next follow or the journal is over
 abbrev pub stage_after : Draft → Stage
 stage_after draft = if nat_lt (length draft.by_worker + 1) draft.workers then Entries else Over
 
@@ -159,15 +173,24 @@ stage_after draft = if nat_lt (length draft.by_worker + 1) draft.workers then En
 abbrev pub with_entries : Draft → Draft
 with_entries draft = record draft { stage = stage_after draft; by_worker = draft.by_worker ++ draft.entries ∷ []; entries = [] }
 
+-- the draft with one control entry more
 abbrev pub with_control : Draft → ControlEntry → Draft
 with_control draft entry = record draft { controls = draft.controls ++ entry ∷ [] }
 
+-- the draft with one entry of its worker more
 abbrev pub with_entry : Draft → WorkerEntry → Draft
 with_entry draft entry = record draft { entries = draft.entries ++ entry ∷ [] }
 
+-- after the workers, version 2 has the line of the limits
+abbrev pub after_workers : Version → Stage
+after_workers One = Config
+after_workers Two = Limits
+
+-- the draft with one line more at a stage, if that line may come there
 abbrev pub taken_at : Stage → Draft → List ℕ → Option Draft
-taken_at Version draft line = if bytes_eq line journal_head then Some (record draft { stage = Workers }) else None
-taken_at Workers draft line = option_map (λ (w : ℕ). record draft { stage = Config; workers = w }) (workers_of line)
+taken_at Head draft line = option_map (λ (v : Version). record draft { stage = Workers v }) (journal_version line)
+taken_at (Workers v) draft line = option_map (λ (w : ℕ). record draft { stage = after_workers v; workers = w }) (workers_of line)
+taken_at Limits draft line = option_map (λ (limits : ℕ × ℕ). record draft { stage = Config; limits = Some limits }) (limits_of line)
 taken_at Config draft line = option_map (λ (document : List ℕ). record draft { stage = Controls; config = document }) (config_of line)
 taken_at Controls draft line =
     if is_worker_line 0 line then Some (record draft { stage = Entries })
@@ -183,20 +206,29 @@ taken draft line = taken_at draft.stage draft line
 
 -- before the first line
 abbrev pub no_draft : Draft
-no_draft = record { stage = Version; workers = 0; config = []; controls = []; by_worker = []; entries = [] }
+no_draft = record { stage = Head; workers = 0; limits = None; config = []; controls = []; by_worker = []; entries = [] }
 
+-- the journal that a draft holds
 abbrev pub journal_in : Draft → Journal
-journal_in draft = record { workers = draft.workers; config = draft.config; controls = draft.controls; by_worker = draft.by_worker }
+journal_in draft = record {
+  workers = draft.workers;
+  limits = draft.limits;
+  config = draft.config;
+  controls = draft.controls;
+  by_worker = draft.by_worker;
+}
 
+-- whether the journal has ended
 abbrev pub is_over : Stage → Bool
 is_over Over = true
 is_over stage = false
 
--- behind the last line feed: the journal has ended, and nothing follows
+-- after the last line feed: the journal has ended, and nothing follows
 abbrev pub ending : Draft → ℕ → List ℕ → Result Journal ℕ
 ending draft n [] = if is_over draft.stage then Ok (journal_in draft) else Err n
 ending draft n (byte ∷ rest) = Err n
 
+-- a line that may not come at line n ends the reading; else it goes on with the draft
 abbrev pub goes_on : ℕ → Option Draft → (Draft → Result Journal ℕ) → Result Journal ℕ
 goes_on n None rest = Err n
 goes_on n (Some draft) rest = rest draft

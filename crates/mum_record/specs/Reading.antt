@@ -14,9 +14,11 @@ use Rattle.mum_record.specs.declared.step.Step.TheVariants.{Open, Frame, Edit, P
 unfoldable pub frame_of : List ℕ → Option (List ℕ)
 frame_of word = option_and_then (λ bytes. if bytes_eq word (encode_lower bytes) && is_one_frame bytes then Some bytes else None) (result_ok (decode_of word))
 
+-- a revision, or none
 unfoldable pub told_of : List ℕ → Option (Option ℕ)
 told_of word = if bytes_eq word (codes "-") then Some None else option_map Some (revision_of word)
 
+-- the cause that a word of a recording says
 unfoldable pub cause_of : List ℕ → Option Cause
 cause_of word =
     if bytes_eq word (codes "end") then Some causes.End
@@ -54,6 +56,7 @@ step_with verb number word =
     else if bytes_eq verb (codes "close") then option_map (Close number) (cause_of word)
     else None
 
+-- the step that the words of a line say
 unfoldable pub step_of_words : List (List ℕ) → Option Step
 step_of_words [] = None
 step_of_words (verb ∷ []) = step_of_verb verb

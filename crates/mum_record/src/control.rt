@@ -22,7 +22,7 @@ use mum_base::{ChannelId, Mark, Octets, OutOfMemory, Perm};
 use mum_frame::{kind, whole_frame};
 use std::alloc::Global;
 
-/// The Version number that a word says, or that it says none.
+// The Version number that a word says, or that it says none.
 #[tactic(auto, unfolding(crate::specs::JournalReading::version_of))]
 fn version_in(word: &str) -> Option<Option<u32>>
     ensures { result ≡ version_of word.now }
@@ -33,7 +33,7 @@ fn version_in(word: &str) -> Option<Option<u32>>
     }
 }
 
-/// The frame of a command that a word says, or that it says a leave.
+// The frame of a command that a word says, or that it says a leave.
 #[tactic(auto, unfolding(crate::specs::JournalReading::command_of))]
 fn command_in(alloc: Global, word: &str) -> Result<Option<Octets>, LineFault>
     ensures { ReadsOrTires result (command_of word.now) }
@@ -44,7 +44,7 @@ fn command_in(alloc: Global, word: &str) -> Result<Option<Octets>, LineFault>
     }
 }
 
-/// A verdict of a word and a number.
+// A verdict of a word and a number.
 #[tactic(auto, unfolding(crate::specs::JournalReading::verdict_with))]
 fn verdict_with(name: &str, word: &str) -> Option<Mark>
     ensures { result ≡ spec.verdict_with name.now word.now }
@@ -58,7 +58,7 @@ fn verdict_with(name: &str, word: &str) -> Option<Mark>
     }
 }
 
-/// The verdict that a permission was missing in a channel.
+// The verdict that a permission was missing in a channel.
 #[tactic(auto, unfolding(crate::specs::JournalReading::lack_of))]
 fn lack_in(perm: &str, channel: &str) -> Option<Mark>
     ensures { result ≡ lack_of perm.now channel.now }
@@ -71,7 +71,7 @@ fn lack_in(perm: &str, channel: &str) -> Option<Mark>
     })
 }
 
-/// The verdict that words say.
+// The verdict that words say.
 #[tactic(auto, unfolding(crate::specs::JournalReading::verdict_of))]
 fn verdict_in(words: &str) -> Option<Mark>
     ensures { result ≡ verdict_of (words_in words.now) }
@@ -86,7 +86,7 @@ fn verdict_in(words: &str) -> Option<Mark>
     }
 }
 
-/// The words of a control entry as they stand in its line.
+/// The words of a control entry in its line.
 #[derive(Clone, Copy)]
 struct ControlWords<'a> {
     connection: &'a str,
@@ -95,7 +95,7 @@ struct ControlWords<'a> {
     verdict: &'a str,
 }
 
-/// The words of the line of a control entry, where it has so many.
+// The words of a line as those of a control entry, where it has enough of them.
 #[tactic(auto, unfolding(crate::specs::JournalReading::control_of))]
 fn control_words(line: &str) -> Option<ControlWords<'_>>
     ensures { MatchOption result (control_of (words_in line.now) ≡ None)
@@ -116,7 +116,7 @@ fn control_words(line: &str) -> Option<ControlWords<'_>>
     })
 }
 
-/// Whether a frame is a login: an Authenticate message.
+// Whether a frame is a login: an Authenticate message.
 fn is_login(frame: &[u8]) -> bool
     requires { IsOneFrame frame.now }
     ensures { result ≡ (kind_of frame.now == AUTHENTICATE) }
@@ -127,7 +127,7 @@ fn is_login(frame: &[u8]) -> bool
     }
 }
 
-/// Whether a command may carry this Version number: a login may, and others may carry none.
+// Whether a command may carry this Version number: a login may, and others may carry none.
 fn may_carry_version(version: Option<u32>, frame: &Option<Octets>) -> bool
     requires { IfSome frame.now IsOneFrame }
     ensures { result ≡ may_carry version frame.now }
@@ -162,7 +162,7 @@ pub(crate) fn control_in(alloc: Global, line: &str) -> Result<ControlEntry, Line
     })
 }
 
-/// Appends a verdict, each of its words behind a space.
+// Appends a verdict, each of its words after a space.
 fn push_verdict(alloc: Global, text: &mut String, verdict: &Mark) -> Result<(), OutOfMemory>
     ensures text { IfOk result (λ _. string_bytes text.new ≡ string_bytes text.old ++ flat_map behind_word (verdict_words verdict.now)) }
     ensures fits { OnOk result (FitsVerdict verdict.now) }
@@ -197,7 +197,7 @@ fn push_verdict(alloc: Global, text: &mut String, verdict: &Mark) -> Result<(), 
     }
 }
 
-/// The word for a Version number, or for none.
+// The word for a Version number, or for none.
 fn version_word(version: Option<u32>) -> Word<'static>
     ensures word { spelled_word result ≡ revision_word version }
     ensures fits { IfSome version (λ v. v < 2 ^ 32) }
@@ -208,7 +208,7 @@ fn version_word(version: Option<u32>) -> Word<'static>
     }
 }
 
-/// The word for the frame of a command, or for a leave.
+// The word for the frame of a command, or for a leave.
 fn command_word(frame: &Option<Octets>) -> Word<'_>
     ensures word { spelled_word result ≡ spec_journal.command_word frame.now }
     ensures fits { IfSome frame.now IsBytes }

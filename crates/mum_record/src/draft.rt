@@ -9,7 +9,7 @@ ghost use Rattle.mum_record.specs.JournalAnswers.{Takes, TakesAt, EndsEntries};
 
 use crate::control::control_in;
 use crate::entry::entry_in;
-use crate::head::{config_in, workers_in};
+use crate::head::{Version, config_in, journal_version_in, limits_in, workers_in};
 use crate::journal::{ControlEntry, Journal, WorkerEntry};
 use crate::step::LineFault;
 use crate::words::{Words, number_in, words_in};
@@ -18,13 +18,15 @@ use std::alloc::Global;
 use std::mem;
 
 /// Which line comes next.
-#[derive(Clone, Copy, PartialEq, Eq)]
+#[derive(Clone, Copy)]
 pub(crate) enum Stage {
-    /// The first: `journal 1`.
-    Version,
-    /// The second: `workers W`.
-    Workers,
-    /// The third: `config -` or `config HEX`.
+    /// The first: `journal 1` or `journal 2`.
+    Head,
+    /// The second, in this version: `workers W`.
+    Workers(Version),
+    /// The third of version 2: `limits SESSIONS CHANNELS`.
+    Limits,
+    /// The last of the head: `config -` or `config HEX`.
     Config,
     /// A control entry, or `worker 0`.
     Controls,
@@ -39,6 +41,7 @@ pub(crate) enum Stage {
 pub(crate) struct Draft {
     pub(crate) stage: Stage,
     pub(crate) workers: u8,
+    pub(crate) limits: Option<(u16, u32)>,
     pub(crate) config: Octets,
     pub(crate) controls: Items<ControlEntry>,
     /// The entries of the workers that are read to their ends.
@@ -47,7 +50,7 @@ pub(crate) struct Draft {
     pub(crate) entries: Items<WorkerEntry>,
 }
 
-/// The worker that a line names: `worker NUMBER`.
+// The worker that a line names: `worker NUMBER`.
 fn worker_in(line: &str) -> Option<u64>
     ensures { result ≡ spec.worker_in (words_in line.now) }
 {
@@ -57,7 +60,7 @@ fn worker_in(line: &str) -> Option<u64>
     number_in(word)
 }
 
-/// Whether the entries of worker `number` follow a line: `worker NUMBER`.
+// Whether the entries of worker `number` follow a line: `worker NUMBER`.
 fn is_worker_line(number: u64, line: &str) -> bool
     ensures { result ≡ spec.is_worker_line number line.now }
 {
@@ -73,8 +76,9 @@ impl Draft {
         ensures { result ≡ no_draft }
     {
         Draft {
-            stage: Stage::Version,
+            stage: Stage::Head,
             workers: 0,
+            limits: None,
             config: Octets::from_vec(Vec::new(alloc)),
             controls: Items::new(alloc),
             by_worker: Items::new(alloc),
@@ -82,27 +86,38 @@ impl Draft {
         }
     }
 
-    /// The first line.
-    fn take_version(&mut self, line: &str) -> Result<(), LineFault>
-        ensures { TakesAt stages.Version self.old line.now result self.new }
+    // The first line.
+    fn take_head(&mut self, line: &str) -> Result<(), LineFault>
+        ensures { TakesAt stages.Head self.old line.now result self.new }
     {
-        if line != "journal 1" {
-            return Err(LineFault::NotALine);
-        }
-        self.stage = Stage::Workers;
+        let version = journal_version_in(line).ok_or(LineFault::NotALine)?;
+        self.stage = Stage::Workers(version);
         Ok(())
     }
 
-    /// The second line.
-    fn take_workers(&mut self, line: &str) -> Result<(), LineFault>
-        ensures { TakesAt stages.Workers self.old line.now result self.new }
+    // The second line.
+    fn take_workers(&mut self, version: Version, line: &str) -> Result<(), LineFault>
+        ensures { TakesAt (stages.Workers version) self.old line.now result self.new }
     {
         self.workers = workers_in(line).ok_or(LineFault::NotALine)?;
+        self.stage = match version {
+            Version::One => Stage::Config,
+            Version::Two => Stage::Limits,
+        };
+        Ok(())
+    }
+
+    // The third line of version 2.
+    fn take_limits(&mut self, line: &str) -> Result<(), LineFault>
+        ensures { TakesAt stages.Limits self.old line.now result self.new }
+    {
+        let limits = limits_in(line).ok_or(LineFault::NotALine)?;
+        self.limits = Some(limits);
         self.stage = Stage::Config;
         Ok(())
     }
 
-    /// The third line.
+    // The last line of the head.
     fn take_config(&mut self, alloc: Global, line: &str) -> Result<(), LineFault>
         ensures { TakesAt stages.Config self.old line.now result self.new }
     {
@@ -111,7 +126,7 @@ impl Draft {
         Ok(())
     }
 
-    /// A control entry, or the line behind them.
+    // A control entry, or the line after them.
     fn take_control(&mut self, alloc: Global, line: &str) -> Result<(), LineFault>
         ensures { TakesAt stages.Controls self.old line.now result self.new }
     {
@@ -124,15 +139,15 @@ impl Draft {
         Ok(())
     }
 
-    /// Whether a worker follows the one whose entries are read.
+    // Whether a worker follows the one whose entries are read.
     fn has_next_worker(&self) -> bool
         ensures { result ≡ nat_lt (length self.now.by_worker + 1) self.now.workers }
     {
         self.by_worker.as_slice().len() + 1 < usize::from(self.workers)
     }
 
-    /// Whether a line ends the entries of a worker: that of the next worker, or behind the last one
-    /// that of the end.
+    // Whether a line ends the entries of a worker: that of the next worker, or after the last one
+    // that of the end.
     fn ends_entries(&self, line: &str) -> bool
         ensures { result ≡ spec.ends_entries self.now line.now }
     {
@@ -143,7 +158,7 @@ impl Draft {
         }
     }
 
-    /// The entries of the worker are all there.
+    // The entries of the worker are all there.
     fn end_entries(&mut self, alloc: Global) -> Result<(), LineFault>
         ensures { EndsEntries self.old result self.new }
     {
@@ -157,7 +172,7 @@ impl Draft {
         Ok(())
     }
 
-    /// An entry of a worker, or the line behind them.
+    // An entry of a worker, or the line after them.
     fn take_entry(&mut self, alloc: Global, line: &str) -> Result<(), LineFault>
         ensures { TakesAt stages.Entries self.old line.now result self.new }
     {
@@ -169,14 +184,15 @@ impl Draft {
         Ok(())
     }
 
-    /// The next line, if it is one that may come.
+    // The next line, if it is one that may come.
     #[tactic(auto, unfolding(crate::specs::JournalReading::taken))]
     fn take_text(&mut self, alloc: Global, line: &str) -> Result<(), LineFault>
         ensures { Takes self.old line.now result self.new }
     {
         match self.stage {
-            Stage::Version => self.take_version(line),
-            Stage::Workers => self.take_workers(line),
+            Stage::Head => self.take_head(line),
+            Stage::Workers(version) => self.take_workers(version, line),
+            Stage::Limits => self.take_limits(line),
             Stage::Config => self.take_config(alloc, line),
             Stage::Controls => self.take_control(alloc, line),
             Stage::Entries => self.take_entry(alloc, line),
@@ -200,6 +216,7 @@ impl Draft {
     {
         let Draft {
             workers,
+            limits,
             config,
             controls,
             by_worker,
@@ -207,6 +224,7 @@ impl Draft {
         } = self;
         Journal {
             workers,
+            limits,
             config,
             controls,
             by_worker,

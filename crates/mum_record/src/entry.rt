@@ -20,7 +20,7 @@ use crate::write::cause_name;
 use mum_base::{Cause, Items, Octets, OutOfMemory, SessionId};
 use std::alloc::Global;
 
-/// Whether the word of a mark says that the copy was sent.
+// Whether the word of a mark says that the copy was sent.
 #[tactic(auto, unfolding(crate::specs::JournalReading::mark_of))]
 fn mark_in(word: &str) -> Option<bool>
     ensures { result ≡ mark_of word.now }
@@ -32,7 +32,7 @@ fn mark_in(word: &str) -> Option<bool>
     }
 }
 
-/// The copy that the parts of a word say.
+// The copy that the parts of a word say.
 #[tactic(auto, unfolding(crate::specs::JournalReading::copy_with))]
 fn copy_with(session: &str, context: &str, mark: &str) -> Option<Marked>
     ensures { result ≡ spec.copy_with session.now context.now mark.now }
@@ -47,7 +47,7 @@ fn copy_with(session: &str, context: &str, mark: &str) -> Option<Marked>
     })
 }
 
-/// What stands before the first slash of a word and behind it, where there is one.
+// The part of a word before its first slash and the part after it, where there is one.
 fn split_slash(word: &str) -> Option<(&str, &str)>
     ensures { MatchOption result (slice_split is_slash word.now ≡ word.now ∷ [])
         (λ parts. slice_split is_slash word.now ≡ parts.0.now ∷ slice_split is_slash parts.1.now) }
@@ -55,7 +55,7 @@ fn split_slash(word: &str) -> Option<(&str, &str)>
     word.split_once('/')
 }
 
-/// The copy that a word says: `SESSION/CONTEXT/MARK`.
+// The copy that a word says: `SESSION/CONTEXT/MARK`.
 #[tactic(auto, unfolding(crate::specs::JournalReading::copy_of))]
 fn copy_in(word: &str) -> Option<Marked>
     ensures { result ≡ copy_of word.now }
@@ -65,7 +65,7 @@ fn copy_in(word: &str) -> Option<Marked>
     copy_with(session, context, mark)
 }
 
-/// The copies that the words of the rest of a line say, if there is more of it.
+// The copies that the words of the rest of a line say, if there is more of it.
 fn copies_in(alloc: Global, mut rest: Option<&str>) -> Result<Items<Marked>, LineFault>
     ensures { ReadsOrTires result (copies_of (words_after (option_copied rest.entry))) }
 {
@@ -79,7 +79,7 @@ fn copies_in(alloc: Global, mut rest: Option<&str>) -> Result<Items<Marked>, Lin
     Ok(copies)
 }
 
-/// The words of a voice entry as they stand in its line, behind its mark.
+/// The words of a voice entry in its line, after its mark.
 #[derive(Clone, Copy)]
 struct VoiceWords<'a> {
     connection: &'a str,
@@ -89,7 +89,7 @@ struct VoiceWords<'a> {
     copies: Option<&'a str>,
 }
 
-/// The words of a voice entry, where there are so many.
+// The words of a voice entry, where there are enough of them.
 #[tactic(auto, unfolding(crate::specs::JournalReading::voice_of))]
 fn voice_words(words: &str) -> Option<VoiceWords<'_>>
     ensures { MatchOption result (voice_of (words_in words.now) ≡ None)
@@ -109,7 +109,7 @@ fn voice_words(words: &str) -> Option<VoiceWords<'_>>
     })
 }
 
-/// The voice entry that the words behind its mark say.
+// The voice entry that the words after its mark say.
 #[tactic(auto, unfolding(crate::specs::JournalReading::voice_of, crate::specs::JournalReading::voice_with))]
 fn voice_in(alloc: Global, words: &str) -> Result<WorkerEntry, LineFault>
     ensures { ReadsOrTires result (voice_of (words_in words.now)) }
@@ -131,7 +131,7 @@ fn voice_in(alloc: Global, words: &str) -> Result<WorkerEntry, LineFault>
     })
 }
 
-/// The cause that a word of a journal says.
+// The cause that a word of a journal says.
 #[tactic(auto, unfolding(crate::specs::JournalReading::closing_cause_of))]
 fn closing_cause_in(word: &str) -> Option<Cause>
     ensures { result ≡ closing_cause_of word.now }
@@ -142,7 +142,7 @@ fn closing_cause_in(word: &str) -> Option<Cause>
     }
 }
 
-/// The end of a connection that the words behind its mark say.
+// The end of a connection that the words after its mark say.
 #[tactic(auto, unfolding(crate::specs::JournalReading::closed_of))]
 fn closed_in(words: &str) -> Option<WorkerEntry>
     ensures { result ≡ closed_of (words_in words.now) }
@@ -168,14 +168,14 @@ pub(crate) fn entry_in(alloc: Global, line: &str) -> Result<WorkerEntry, LineFau
     }
 }
 
-/// The word for whether a copy was sent.
+// The word for whether a copy was sent.
 fn mark_name(sent: bool) -> &'static str
     ensures { result.now ≡ mark_word sent }
 {
     if sent { "s" } else { "f" }
 }
 
-/// Appends a copy: `SESSION/CONTEXT/MARK`.
+// Appends a copy: `SESSION/CONTEXT/MARK`.
 fn push_copy(alloc: Global, text: &mut String, copy: &Marked) -> Result<(), OutOfMemory>
     ensures text { IfOk result (λ _. string_bytes text.new ≡ string_bytes text.old ++ copy_word copy.now) }
     ensures fits { OnOk result (FitsCopy copy.now) }
@@ -187,7 +187,7 @@ fn push_copy(alloc: Global, text: &mut String, copy: &Marked) -> Result<(), OutO
     text.push_str(mark_name(copy.sent))
 }
 
-/// Appends copies, each behind a space.
+// Appends copies, each after a space.
 fn push_copies(alloc: Global, text: &mut String, copies: &[Marked]) -> Result<(), OutOfMemory>
     ensures text { IfOk result (λ _. string_bytes text.new ≡ string_bytes text.old ++ flat_map behind_copy copies.now) }
     ensures fits { OnOk result (Each FitsCopy copies.now) }
@@ -199,7 +199,7 @@ fn push_copies(alloc: Global, text: &mut String, copies: &[Marked]) -> Result<()
     Ok(())
 }
 
-/// Appends the line of a voice entry, without a line feed.
+// Appends the line of a voice entry, without a line feed.
 fn push_voice(
     alloc: Global,
     text: &mut String,

@@ -12,6 +12,9 @@ use thiserror::Error;
 pub struct Journal {
     /// How many workers there were, 1 to 8.
     pub workers: u8,
+    /// The limit of sessions, 128 to 512, and that of channels, 1,024 to 2,048, in version 2; in version 1
+    /// none are named.
+    pub limits: Option<(u16, u32)>,
     /// The document of the configuration, or no bytes where there was none.
     pub config: Octets,
     /// What was decided, in the order of the control owner.
@@ -66,7 +69,7 @@ pub struct Marked {
 /// Why a text gave no journal.
 #[derive(Clone, Copy, Debug, PartialEq, Eq, Error)]
 pub enum JournalFault {
-    /// The first line that is in no journal behind the lines before it, counted from 1. Where a text
+    /// The first line that no journal has after the lines before it, counted from 1. Where a text
     /// ends before its journal does, it is the line that is missing.
     #[error("line {line} is no line of a journal")]
     NotALine { line: u64 },

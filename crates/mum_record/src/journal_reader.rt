@@ -11,7 +11,7 @@ use crate::split::split_line;
 use crate::step::LineFault;
 use std::alloc::Global;
 
-/// The fault of a line as that of the journal in which it stands.
+// The fault of a line as that of the journal that it is in.
 fn fault_at(line: u64, fault: LineFault) -> JournalFault
     ensures { StopsAt line fault result }
 {
@@ -21,11 +21,11 @@ fn fault_at(line: u64, fault: LineFault) -> JournalFault
     }
 }
 
-/// The journal of a draft, if it has ended and nothing follows.
+// The journal of a draft, if it has ended and nothing follows.
 fn ended(draft: Draft, line: u64, rest: &[u8]) -> Result<Journal, JournalFault>
     ensures { AnswersBy (ending draft line rest.now) result }
 {
-    if draft.stage == Stage::Over && rest.is_empty() {
+    if matches!(draft.stage, Stage::Over) && rest.is_empty() {
         Ok(draft.into_journal())
     } else {
         Err(JournalFault::NotALine { line })
@@ -38,7 +38,7 @@ pub fn read_journal(alloc: Global, text: &[u8]) -> Result<Journal, JournalFault>
     ensures exact { ReadsText text.now result }
     // What is read is a journal whose text this is.
     ensures found { IfOk result (IsTextOf text.now) }
-    // A text is refused at the first line that is in no journal behind the lines before it.
+    // A text is refused at the first line that no journal has after the lines before it.
     ensures refused { IfErr result (NamesFirstFault text.now) }
 {
     let mut draft = Draft::new(alloc);

@@ -2,37 +2,65 @@
 
 ghost use Rattle.std.specs.Prelude.{◌≡◌, ◌++◌, ◌∷◌, [], Ok, IfOk, OnOk, map, string_bytes};
 ghost use Rattle.hex.specs.Hex.{IsBytes};
-ghost use Rattle.mum_record.specs.Head.{workers_line, config_line};
-ghost use Rattle.mum_record.specs.Journal.{journal_head, control_line, entry_line, end_line, lines_from, lines_of, ended_lines, Each, FitsControl, FitsEntry, IsWritableJournal};
+ghost use Rattle.mum_record.specs.Head.{journal_line, limits_lines, head_lines};
+ghost use Rattle.mum_record.specs.Journal.{control_line, entry_line, end_line, lines_from, lines_of, ended_lines, Each, FitsControl, FitsEntry, IsWritableJournal};
 ghost use Rattle.mum_record.specs.JournalReading.{journal_of};
 
 use crate::control::push_control;
 use crate::entry::push_entry;
-use crate::head::push_config_line;
+use crate::head::{Version, push_config_line, push_limits_line};
 use crate::journal::{ControlEntry, Journal, WorkerEntry};
 use crate::line::{Word, byte_word, push_line};
 use mum_base::{Items, Octets, OutOfMemory};
 use std::alloc::Global;
 
-/// Appends the three lines above the entries.
+// The first line of a journal of a version.
+fn first_line(version: Version) -> &'static str
+    ensures { result.now ≡ journal_line version }
+{
+    match version {
+        Version::One => "journal 1",
+        Version::Two => "journal 2",
+    }
+}
+
+// Appends the line of the limits, where there are any.
+fn push_limits(
+    alloc: Global,
+    text: &mut String,
+    limits: Option<(u16, u32)>,
+) -> Result<(), OutOfMemory>
+    ensures { IfOk result (λ _. string_bytes text.new ≡ string_bytes text.old ++ ended_lines (limits_lines limits)) }
+{
+    let Some(limits) = limits else {
+        return Ok(());
+    };
+    push_limits_line(alloc, text, limits)?;
+    text.push_str("\n")
+}
+
+// Appends the lines above the entries.
 fn push_head(
     alloc: Global,
     text: &mut String,
     workers: u8,
+    limits: Option<(u16, u32)>,
     config: &[u8],
 ) -> Result<(), OutOfMemory>
     ensures text { IfOk result (λ _. string_bytes text.new ≡ string_bytes text.old
-        ++ ended_lines (journal_head ∷ workers_line workers ∷ config_line config.now ∷ [])) }
+        ++ ended_lines (head_lines journal_line workers limits config.now)) }
     ensures fits { OnOk result (IsBytes config.now) }
 {
-    text.push_str("journal 1\n")?;
+    text.push_str(first_line(Version::with_limits(limits)))?;
+    text.push_str("\n")?;
     push_line(alloc, text, "workers", &[byte_word(workers)])?;
     text.push_str("\n")?;
+    push_limits(alloc, text, limits)?;
     push_config_line(alloc, text, config)?;
     text.push_str("\n")
 }
 
-/// Appends the lines of control entries.
+// Appends the lines of control entries.
 fn push_controls(
     alloc: Global,
     text: &mut String,
@@ -48,7 +76,7 @@ fn push_controls(
     Ok(())
 }
 
-/// Appends the lines of the entries of a worker.
+// Appends the lines of the entries of a worker.
 fn push_entries(
     alloc: Global,
     text: &mut String,
@@ -64,7 +92,7 @@ fn push_entries(
     Ok(())
 }
 
-/// Appends the lines of all workers, each below the line of its number.
+// Appends the lines of all workers, each below the line of its number.
 fn push_workers(
     alloc: Global,
     text: &mut String,
@@ -89,7 +117,13 @@ pub fn write_journal(alloc: Global, journal: &Journal) -> Result<Octets, OutOfMe
     ensures read_back { IfOk result (λ text. journal_of text ≡ Ok journal.now) }
 {
     let mut text = String::new(alloc);
-    push_head(alloc, &mut text, journal.workers, journal.config.as_slice())?;
+    push_head(
+        alloc,
+        &mut text,
+        journal.workers,
+        journal.limits,
+        journal.config.as_slice(),
+    )?;
     push_controls(alloc, &mut text, journal.controls.as_slice())?;
     push_workers(alloc, &mut text, journal.by_worker.as_slice())?;
     text.push_str("end\n")?;

@@ -12,7 +12,7 @@ use std::alloc::Global;
 /// A word of a line.
 #[derive(Clone, Copy)]
 pub enum Word<'a> {
-    /// A word as it stands.
+    /// A word as it is.
     Name(&'a str),
     /// A number in decimal.
     Number(u64),
@@ -63,7 +63,7 @@ pub fn push_word(alloc: Global, text: &mut String, word: &Word<'_>) -> Result<()
     }
 }
 
-/// Appends words, each behind a space.
+/// Appends words, each after a space.
 pub fn push_words(alloc: Global, text: &mut String, words: &[Word<'_>]) -> Result<(), OutOfMemory>
     ensures { IfOk result (λ _. string_bytes text.new ≡ string_bytes text.old ++ flat_map behind_space words.now) }
 {

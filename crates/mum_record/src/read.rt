@@ -16,7 +16,7 @@ use mum_base::{Cause, Octets};
 use mum_frame::{HEADER_LENGTH, PAYLOAD_LIMIT};
 use std::alloc::Global;
 
-/// The revision that a word says, or that it says none.
+// The revision that a word says, or that it says none.
 #[tactic(auto, unfolding(crate::specs::Reading::told_of))]
 fn told_in(word: &str) -> Option<Option<u64>>
     ensures { result ≡ told_of word.now }
@@ -43,7 +43,7 @@ pub(crate) fn cause_in(word: &str) -> Option<Cause>
     }
 }
 
-/// Whether as many digits follow those of a frame's header as it names, within the limit.
+// Whether as many digits follow those of a frame's header as it names, within the limit.
 fn has_named_length(word: &[u8]) -> bool
     ensures pairs { IsTrue result → length word.now % 2 ≡ 0 }
     ensures named { TestsFrame word.now result }
@@ -58,7 +58,7 @@ fn has_named_length(word: &[u8]) -> bool
     length <= PAYLOAD_LIMIT && word.len() == 2 * (HEADER_LENGTH + length)
 }
 
-/// Whether a word is the digits of exactly one frame. It takes no memory.
+// Whether a word is the digits of exactly one frame. It takes no memory.
 fn is_frame(word: &[u8]) -> bool
     ensures { result ≡ is_some (frame_of word.now) }
 {
@@ -78,7 +78,7 @@ pub(crate) fn frame_in(alloc: Global, word: &str) -> Result<Octets, LineFault>
     }
 }
 
-/// The step of a line of one word.
+// The step of a line of one word.
 #[tactic(auto, unfolding(crate::specs::Reading::step_of_verb))]
 fn step_of_verb(verb: &str) -> Option<Step>
     ensures { result ≡ spec.step_of_verb verb.now }
@@ -91,7 +91,7 @@ fn step_of_verb(verb: &str) -> Option<Step>
     }
 }
 
-/// The step of a line of two words, which names a connection or a worker.
+// The step of a line of two words, which names a connection or a worker.
 #[tactic(auto, unfolding(crate::specs::Reading::step_naming))]
 fn step_naming(verb: &str, number: u32) -> Option<Step>
     ensures { result ≡ spec.step_naming verb.now number }
@@ -105,7 +105,7 @@ fn step_naming(verb: &str, number: u32) -> Option<Step>
     }
 }
 
-/// The step of a line of three words, which names a connection or a worker.
+// The step of a line of three words, which names a connection or a worker.
 #[tactic(auto, unfolding(crate::specs::Reading::step_with))]
 fn step_with(alloc: Global, verb: &str, number: u32, word: &str) -> Result<Step, LineFault>
     ensures { Reads result (spec.step_with verb.now number word.now) }
@@ -139,7 +139,7 @@ fn step_with(alloc: Global, verb: &str, number: u32, word: &str) -> Result<Step,
     step.ok_or(LineFault::NotALine)
 }
 
-/// The step of a line that is a text.
+// The step of a line that is a text.
 #[tactic(auto, unfolding(crate::specs::Reading::step_of, crate::specs::Reading::step_of_words))]
 fn step_in(alloc: Global, line: &str) -> Result<Step, LineFault>
     ensures { Reads result (step_of line.now) }
@@ -158,7 +158,7 @@ fn step_in(alloc: Global, line: &str) -> Result<Step, LineFault>
     }
 }
 
-/// The step that a line says. The line stands without its line feed, and may be any bytes. Only the
+/// The step that a line says. The line comes without its line feed, and may be any bytes. Only the
 /// bytes of a frame take memory, and only once the whole line is known to say a step: a line that
 /// says none is `NotALine` whatever memory there is.
 pub fn read_step(alloc: Global, line: &[u8]) -> Result<Step, LineFault>

@@ -1,8 +1,21 @@
-//! The lines of a text, one by one.
+//! The lines of a text, one by one, and how long they may be.
 
 ghost use Rattle.std.specs.Prelude.{◌≡◌, ◌+◌, IfSome, length, position};
 ghost use Rattle.mum_record.specs.Lines.{IsCut, is_line_feed};
 
+/// The most bytes of a line, its line feed not counted.
+pub const LINE_LIMIT: usize = 131_200;
+
+/// The most bytes of a recording or a journal.
+pub const INPUT_LIMIT: usize = 67_108_864;
+
+/// The limits of texts. This does nothing: its contract is what they are.
+pub fn limits()
+    ensures line { LINE_LIMIT ≡ 131200 }
+    ensures input { INPUT_LIMIT ≡ 67108864 }
+{}
+
+// Where the first line feed is.
 fn first_line_feed(bytes: &[u8]) -> Option<usize>
     ensures { result ≡ position is_line_feed bytes.now }
 {

@@ -1,4 +1,4 @@
-//! The words of a line, parted by one space, and the numbers that words say.
+//! The words of a line, separated by one space, and the numbers that words say.
 
 ghost use Rattle.std.specs.Prelude.{◌≡◌, ◌∷◌, ◌<◌, [], length, IfSome, MatchOption, is_some};
 ghost use Rattle.std.specs.Option.{option_copied};
@@ -67,7 +67,7 @@ const GREATEST_PLACE: u64 = 0xFFFF_FFFF;
 /// The greatest type, reason or context, which fits 8 bits.
 const GREATEST_BYTE: u64 = 0xFF;
 
-/// Whether a word begins as a number does: with a digit, and with no zero before another one.
+// Whether a word begins as a number does: with a digit, and with no zero before another one.
 fn begins_plainly(word: &[u8]) -> bool
     ensures { IsTrue result ↔ BeginsPlainly word.now }
 {
@@ -118,7 +118,7 @@ pub(crate) fn are_lower_digits(word: &[u8]) -> bool
     word.iter().all(|letter| letter.is_ascii_hexdigit() && !letter.is_ascii_uppercase())
 }
 
-/// Whether a word is the digits of bytes, of one at least. It takes no memory.
+// Whether a word is the digits of bytes, of one at least. It takes no memory.
 fn is_bytes(word: &[u8]) -> bool
     ensures { result ≡ is_some (bytes_of word.now) }
 {

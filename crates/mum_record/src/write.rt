@@ -23,7 +23,7 @@ pub fn cause_name(cause: Cause) -> &'static str
     }
 }
 
-/// The text of the line of a step.
+// The text of the line of a step.
 #[tactic(auto, unfolding(crate::specs::Grammar::words_of))]
 fn text_of(alloc: Global, step: &Step) -> Result<String, OutOfMemory>
     ensures text { IfOk result (λ text. string_bytes text ≡ line_of step.now) }

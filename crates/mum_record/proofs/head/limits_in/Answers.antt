@@ -1,0 +1,13 @@
+use Rattle.std.proofs.Common.{◌∙◌, sym, arith}
+use Rattle.mum_record.proofs.Numbers.{number_within-found}
+use Rattle.mum_record.proofs.head.limits_in.Goals as goal
+
+pub overflow_cast-result : goal.overflow_cast-result
+overflow_cast-result c =
+    let found = number_within-found _ _ _ c.in_ok-sessions.sessions (sym c.number_within.ensures ∙ c.in_ok-sessions.was) in
+    omega (arith, found.1)
+
+pub overflow_cast-result-2 : goal.overflow_cast-result-2
+overflow_cast-result-2 c =
+    let found = number_within-found _ _ _ c.in_ok-channels.channels (sym c.number_within-2.ensures ∙ c.in_ok-channels.was) in
+    omega (arith, found.1)

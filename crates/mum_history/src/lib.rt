@@ -10,6 +10,6 @@ mod twin;
 mod view;
 
 pub use history::History;
-pub use opening::state_after;
+pub use opening::{state_after, state_from};
 pub use twin::Twin;
 pub use view::{View, readers};

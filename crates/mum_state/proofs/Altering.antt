@@ -16,7 +16,7 @@ use Rattle.mum_users.proofs.Refusals.{edits_where_proper_lem}
 use Rattle.mum_state.specs.Fits.{holds_of_given}
 use Rattle.mum_state.specs.Named.{given}
 use Rattle.mum_state.specs.Proper.{IsProper, is_short, is_sound_user, is_text}
-use Rattle.mum_state.specs.State.{StateValue, session_limit}
+use Rattle.mum_state.specs.State.{StateValue}
 use Rattle.mum_state.proofs.Givens.{holds_of_list, is_none_of, none_is, unwrap_back, unwrap_good}
 use Rattle.mum_state.proofs.Listed.{all_changed, all_filter, changed_passes}
 use Rattle.mum_state.proofs.Parted.{with_roster}
@@ -84,7 +84,7 @@ alter_to state session change proper here named may =
     let (entered, listened) = and_parts (list_all there (given change.channel)) (list_all there change.listen)
     (sym (list_all-append there (given change.channel) change.listen) ∙ front) in
     with_roster state (edited state.roster session change) proper
-    ((edits_where_proper_lem (session_limit state) state.roster session change proper.roster here).0 (none_is (edit_fault state.roster session change) allowed))
+    ((edits_where_proper_lem state.roster session change proper.roster here).0 (none_is (edit_fault state.roster session change) allowed))
     (all_changed is_sound_user (has_number session) (changed_user change) (sound_changed change comment context) state.roster.sessions proper.users)
     (all_changed (λ user. there user.channel) (has_number session) (changed_user change) (λ user was. unwrap_good there change.channel user.channel (holds_of_list there change.channel entered) was) state.roster.sessions proper.inside)
     (all_with_channels there session change.unlisten change.listen (staying session change.unlisten state.roster.listeners) listened
@@ -98,7 +98,7 @@ alter_from state session change proper here after =
     let (comment, context) = texts_of change user sound in
     and_from (none && holds_of_given is_text change.comment) (holds_of_given is_context change.context)
     (and_from none (holds_of_given is_text change.comment)
-    (is_none_of (edit_fault state.roster session change) ((edits_where_proper_lem (session_limit state) state.roster session change proper.roster here).1 after.roster))
+    (is_none_of (edit_fault state.roster session change) ((edits_where_proper_lem state.roster session change proper.roster here).1 after.roster))
     comment)
     context
 

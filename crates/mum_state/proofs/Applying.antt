@@ -17,7 +17,7 @@ use Rattle.mum_state.specs.Kinds.{changes_paths, changes_routes, is_of_configura
 use Rattle.mum_state.specs.Proper.{IsProper}
 use Rattle.mum_state.specs.Renewed.{heard_again, is_renewed_slot}
 use Rattle.mum_state.specs.Set.{set_by}
-use Rattle.mum_state.specs.State.{Counts, StateValue, session_limit}
+use Rattle.mum_state.specs.State.{Counts, StateValue}
 use Rattle.mum_state.specs.Suppression.{heard_anew, is_renewed, is_set_anew, with_clearing, with_suppression}
 use Rattle.mum_state.proofs.Keeping.{fit_proper}
 use Rattle.mum_state.proofs.Leftover.{IsClosed, alone_heard, closed_by, left_alone}
@@ -92,7 +92,7 @@ module _ (state : StateValue) (edit : Edit) (proper : IsProper state) (fit : fit
       (λ k d within.
       let user : User = get_or set.roster.sessions k d in
       ap (λ (b : Bool). cond (b || sets_policy edit) (heard_anew set user) user)
-      (same user.slot.0 ∙ slot_alone (is_renewed state.roster.sessions edit) (session_limit set) 0 set.roster.sessions set_proper.roster.slots k d within)))
+      (same user.slot.0 ∙ slot_alone (is_renewed state.roster.sessions edit) set.roster.limit 0 set.roster.sessions set_proper.roster.slots k d within)))
 
   kept_proper : IsProper (with_heard silent set)
   kept_proper = heard_proper silent set set_proper

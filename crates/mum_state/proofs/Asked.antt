@@ -11,9 +11,9 @@ use Rattle.mum_state.specs.Permissions.{asker, granted_to, perm_of}
 use Rattle.mum_state.specs.State.{StateValue}
 
 pub asked_of : (state : StateValue) (session : SessionId) (channel : ChannelId) (user : User) → session_of state.roster session ≡ Some user
-    → granted_where_in (channels_of state) (asker user) channel ≡ perm_of state session channel
+    → granted_where_in (channels_of state) (asker state.tree user) channel ≡ perm_of state session channel
 asked_of state session channel user found = step (is_there state.tree.channels channel)
   where
-    step : (b : Bool) → cond b (Some (granted_to state (asker user) channel)) None ≡ option_map (λ who. granted_to state who channel) (cond b (option_map asker (session_of state.roster session)) None)
-    step true = sym (ap (λ (o : Option User). option_map (λ who. granted_to state who channel) (option_map asker o)) found)
+    step : (b : Bool) → cond b (Some (granted_to state (asker state.tree user) channel)) None ≡ option_map (λ who. granted_to state who channel) (cond b (option_map (asker state.tree) (session_of state.roster session)) None)
+    step true = sym (ap (λ (o : Option User). option_map (λ who. granted_to state who channel) (option_map (asker state.tree) o)) found)
     step false = refl

@@ -53,7 +53,7 @@ same_id rows id row found = ap (λ n. record { 0 = n }) (number_found rows id ro
 still_found : (stays : ChannelId → Bool) (rows : List Row) (id : ChannelId) (row : Row) → row_of rows id ≡ Some row → stays id ≡ true → row_of (rows_of stays rows) id ≡ Some row
 still_found stays rows id row found stay = kept_row (λ one. stays one.channel.id) rows id row found (ap stays (same_id rows id row found) ∙ stay)
 
-up_of : (rows : List Row) (stays : ChannelId → Bool) → AreClosed rows stays → (steps : ℕ) (id : ChannelId) → Contains (upward rows steps id) the_root → stays id ≡ true → upward (rows_of stays rows) steps id ≡ upward rows steps id
+pub up_of : (rows : List Row) (stays : ChannelId → Bool) → AreClosed rows stays → (steps : ℕ) (id : ChannelId) → Contains (upward rows steps id) the_root → stays id ≡ true → upward (rows_of stays rows) steps id ≡ upward rows steps id
 up_of rows stays closed zero id lead stay = upward_zero (rows_of stays rows) id ∙ sym (upward_zero rows id)
 up_of rows stays closed (suc steps) id lead stay =
     let (row, found) = there_from_lead rows (suc steps) id lead in
@@ -91,8 +91,8 @@ links_of rows kept links are =
     (λ pair passes is. let (here, there) = and_parts (is_there kept pair.0) (is_there kept pair.1) passes in (here, there, is.2))
     are
 
-pub closed_proper : {limit : ℕ} (tree : TreeState) (stays : ChannelId → Bool) → AreClosed tree.channels stays → IsProperTree limit tree → IsProperTree limit (without_rows tree (rows_of stays tree.channels))
-closed_proper {limit} tree stays closed proper =
+pub closed_proper : (tree : TreeState) (stays : ChannelId → Bool) → AreClosed tree.channels stays → IsProperTree tree → IsProperTree (without_rows tree (rows_of stays tree.channels))
+closed_proper tree stays closed proper =
     let rows : List Row = tree.channels in
     let q : Row → Bool = λ row. stays row.channel.id in
     let (root, found, is) = proper.root in
@@ -102,11 +102,12 @@ closed_proper {limit} tree stays closed proper =
       lead = lead_of rows stays closed proper.rise proper.lead;
       apart = AllPairs-filter AreApart q rows proper.apart;
       lasting = lasting_of rows stays closed proper.rise proper.lead proper.lasting;
-      seated = All-filter q (λ one. one.place < limit) rows proper.seated;
-      seats = AllPairs-filter (λ one other. one.place ≢ other.place) q rows proper.seats;
+      places_fit = All-filter q (λ one. one.place < tree.limit) rows proper.places_fit;
+      places_apart = AllPairs-filter (λ one other. one.place ≢ other.place) q rows proper.places_apart;
       few = omega (arith, length-filter q rows, count_by-le-length q rows, proper.few);
       known = All-filter q (λ one. number one ≤ tree.greatest) rows proper.known;
       joined = links_of rows (rows_of stays rows) tree.links proper.joined;
+      limited = proper.limited;
     }
 
 -- ---- channels that are not emptied
@@ -130,7 +131,7 @@ rows_not_left before after rows rise =
 kept_lasting : (before after : List User) (rows : List Row) (id : ChannelId) → is_temporary rows id ≡ false → is_kept before after rows id ≡ true
 kept_lasting before after rows id lasts = ap (λ b. not (b && has_member before id && not (has_member after id))) lasts
 
-pub kept_closed : {limit : ℕ} (before after : List User) (tree : TreeState) → IsProperTree limit tree → AreClosed tree.channels (is_kept before after tree.channels)
+pub kept_closed : (before after : List User) (tree : TreeState) → IsProperTree tree → AreClosed tree.channels (is_kept before after tree.channels)
 kept_closed before after tree proper =
     let rows : List Row = tree.channels in
     let (root, found, is) = proper.root in

@@ -1,5 +1,5 @@
 -- A channel of which several parts become others.
-use Rattle.std.proofs.Common.{◌≡◌, ℕ, ◌↔◌, ◌&&◌, ◌++◌, Bool, true, false, cond, eqb, List, ◌∷◌, map, refl, sym, ap, ◌∙◌, Option, Some, None, is_none}
+use Rattle.std.proofs.Common.{◌≡◌, ◌↔◌, ◌&&◌, ◌++◌, Bool, true, false, cond, eqb, List, ◌∷◌, map, refl, sym, ap, ◌∙◌, Option, Some, None, is_none}
 use Rattle.std.specs.List.{list_all}
 use Rattle.std.proofs.lemmas.Bool.{and_from, and_parts, eq-eqb}
 use Rattle.std.proofs.lemmas.List.Folds.{list_all-append, list_all-map}
@@ -17,7 +17,7 @@ use Rattle.mum_tree.proofs.Edits.{some_row}
 use Rattle.mum_state.specs.Fits.{holds_of_given}
 use Rattle.mum_state.specs.Named.{given}
 use Rattle.mum_state.specs.Proper.{IsProper, is_name, is_sound_channel, is_text}
-use Rattle.mum_state.specs.State.{StateValue, channel_limit}
+use Rattle.mum_state.specs.State.{StateValue}
 use Rattle.mum_state.proofs.Closed.{found_passes}
 use Rattle.mum_state.proofs.Givens.{given_back, given_good, holds_of_list, is_none_of, none_is}
 use Rattle.mum_state.proofs.Gone.{parent_there}
@@ -25,12 +25,12 @@ use Rattle.mum_state.proofs.Listed.{all_at, all_map, all_too, map_same, map_twic
 use Rattle.mum_state.proofs.Parted.{with_channels}
 
 -- each channel that the change names is there, as the tree says it
-parent_named : {limit : ℕ} (tree : TreeState) (id : ChannelId) (parent : Option ChannelId) → IsProperTree limit tree → is_there tree.channels id ≡ true → holds_of_given (is_there tree.channels) parent ≡ true
+parent_named : (tree : TreeState) (id : ChannelId) (parent : Option ChannelId) → IsProperTree tree → is_there tree.channels id ≡ true → holds_of_given (is_there tree.channels) parent ≡ true
     → is_there tree.channels (given_or parent (parent_of tree id)) ≡ true
 parent_named tree id None proper there named = parent_there tree id proper there
 parent_named tree id (Some parent) proper there named = named
 
-pub named_in_tree : {limit : ℕ} (tree : TreeState) (id : ChannelId) (change : Change) → IsProperTree limit tree
+pub named_in_tree : (tree : TreeState) (id : ChannelId) (change : Change) → IsProperTree tree
     → list_all (is_there tree.channels) (id ∷ (given change.parent ++ change.links_add ++ change.links_remove)) ≡ true → names_there tree id change ≡ true
 named_in_tree tree id change proper named =
     let there : ChannelId → Bool = is_there tree.channels in
@@ -83,7 +83,7 @@ edit_to state id change proper named may =
     let rows : List Row = state.tree.channels in
     let after : List Row = changed id (with_given change) rows in
     with_channels state (with_change state.tree id change) state.policies proper
-    ((edits_both_ways (channel_limit state) state.tree id change proper.tree named).0 (none_is (fault_of_edit state.tree id change) allowed))
+    ((edits_both_ways state.tree id change proper.tree named).0 (none_is (fault_of_edit state.tree id change) allowed))
     (all_map is_sound_channel is_sound_channel (change_row id (with_given change)) (sound_given id change name text) rows proper.channels)
     (proper.policies ∙ sym (same_ids id change rows))
     proper.sound_policies
@@ -105,7 +105,7 @@ edit_from state id change proper named there after =
     let none : Bool = is_none (fault_of_edit state.tree id change) in
     and_from (none && holds_of_given is_name change.name) (holds_of_given is_text change.description)
     (and_from none (holds_of_given is_name change.name)
-    (is_none_of (fault_of_edit state.tree id change) ((edits_both_ways (channel_limit state) state.tree id change proper.tree named).1 after.tree))
+    (is_none_of (fault_of_edit state.tree id change) ((edits_both_ways state.tree id change proper.tree named).1 after.tree))
     (given_back is_name change.name row.channel.name name))
     (given_back is_text change.description row.channel.info.description text)
 

@@ -21,7 +21,7 @@ use Rattle.mum_state.proofs.Closed.{found_passes, is_kept, is_left, rows_not_lef
 use Rattle.mum_state.proofs.Listed.{filter_same}
 use Rattle.mum_state.proofs.Quiet.{rows_there}
 
-module _ {limit : ℕ} (tree : TreeState) (top : ChannelId) (proper : IsProperTree limit tree) (temporary : is_temporary tree.channels top ≡ true) where
+module _ (tree : TreeState) (top : ChannelId) (proper : IsProperTree tree) (temporary : is_temporary tree.channels top ≡ true) where
   -- no parent is the temporary channel
   other_parent : (id : ChannelId) (row : Row) → row_of tree.channels id ≡ Some row → eqb id.0 0 ≡ false → eqb row.channel.parent.0 top.0 ≡ false
   other_parent id row found under = step (eqb row.channel.parent.0 top.0) refl

@@ -1,5 +1,5 @@
 -- Which edits fit a state, worked out on small states.
-use Rattle.std.proofs.Common.{◌≡◌, ℕ, zero, suc, ◌+◌, ◌-◌, ◌^◌, Bool, true, false, List, [], ◌∷◌, ◌++◌, codes, map, replicate, Some, None, refl}
+use Rattle.std.proofs.Common.{◌≡◌, ℕ, zero, suc, ◌-◌, ◌^◌, Bool, true, false, List, [], ◌∷◌, ◌++◌, codes, map, replicate, Some, None, refl}
 use Rattle.mum_base.specs.declared.perm.TheConstants.Perm.{ALL, SPEAK}
 use Rattle.mum_policy.proofs.Scenes.{defines, denies, entry, everybody, grants, group, one, plain, policy, the_account}
 use Rattle.mum_tree.specs.State.{TreeState, plain_info}
@@ -9,8 +9,9 @@ use Rattle.mum_state.specs.declared.account.Account.{Account}
 use Rattle.mum_state.specs.declared.edit.Edit.{Edit}
 use Rattle.mum_state.specs.declared.edit.Edit.TheVariants.{Kick, MakeChannel, SetServer, Text}
 use Rattle.mum_state.specs.Fits.{fits}
+use Rattle.mum_state.specs.Set.{with_limits}
 use Rattle.mum_state.specs.State.{StateValue, empty_state}
-use Rattle.mum_state.proofs.Scenes.{add_account, digest, edit, edit_by, enter, join, join_as, kick, leave, make, make_by, make_temporary, move, remove, set_policy, set_policy_by, set_target, set_tokens, set_user, set_user_by, state}
+use Rattle.mum_state.proofs.Scenes.{add_account, digest, edit, edit_by, enter, join, join_as, kick, leave, make, make_by, make_temporary, move, remove, set_limits, set_policy, set_policy_by, set_target, set_tokens, set_user, set_user_by, state}
 
 abbrev ann : List ℕ
 ann = codes "ann"
@@ -210,6 +211,34 @@ there_is_room = record {
   for_64_tokens_of_128_bytes = refl;
   for_as_many_of_one_that_joins = refl;
   for_two_to_the_62_edits = (refl, refl);
+}
+
+-- ---- limits
+
+-- this number of sessions, under these limits
+abbrev limited_with : ℕ → ℕ → ℕ → StateValue
+limited_with count sessions channels = with_limits (with_sessions count) sessions channels
+
+-- this number of channels below the root, under a limit of 1,025
+abbrev with_channels : ℕ → StateValue
+with_channels count = with_limits (with_tree (tree (beside 1 count))) 128 1025
+
+pub record LimitsFit : Type 0 where
+  pub up_to_512_sessions_and_2048_channels :
+      fit_after [] (set_limits 128 1024 ∷ set_limits 512 2048 ∷ set_limits 513 2048 ∷ set_limits 512 2049 ∷ []) ≡ true ∷ true ∷ false ∷ false ∷ []
+  pub none_that_falls :
+      fit_after (set_limits 200 1500 ∷ []) (set_limits 199 1500 ∷ set_limits 200 1499 ∷ set_limits 200 1500 ∷ []) ≡ false ∷ false ∷ true ∷ []
+  pub as_many_sessions_as_they_say :
+      (fits (limited_with 128 129 1024) (join 129 128 ann) ≡ true) × (fits (limited_with 129 129 1024) (join 130 129 ann) ≡ false)
+  pub as_many_channels_as_they_say : (fits (with_channels 1023) (make 1024 0 a) ≡ true) × (fits (with_channels 1024) (make 1025 0 a) ≡ false)
+
+pub limits_fit : LimitsFit
+unfolding state tree
+limits_fit = record {
+  up_to_512_sessions_and_2048_channels = refl;
+  none_that_falls = refl;
+  as_many_sessions_as_they_say = (refl, refl);
+  as_many_channels_as_they_say = (refl, refl);
 }
 
 -- ---- how long texts may be, and how large policies and targets

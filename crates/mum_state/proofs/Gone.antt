@@ -77,7 +77,7 @@ record IsUnder (rows : List Row) (id : ChannelId) (parent : ChannelId) : Type 0 
   there : is_there rows parent ≡ true
   off : is_below rows id parent ≡ false
 
-under_parent : {limit : ℕ} (tree : TreeState) (id : ChannelId) (row : Row) → IsProperTree limit tree → row_of tree.channels id ≡ Some row → eqb id.0 0 ≡ false → IsUnder tree.channels id row.channel.parent
+under_parent : (tree : TreeState) (id : ChannelId) (row : Row) → IsProperTree tree → row_of tree.channels id ≡ Some row → eqb id.0 0 ≡ false → IsUnder tree.channels id row.channel.parent
 under_parent tree id row proper found under =
     let rows : List Row = tree.channels in
     let lead : Contains (upward rows 33 id) the_root = proper.lead id (ap is_some found) in
@@ -101,7 +101,7 @@ parent_is : (tree : TreeState) (id : ChannelId) (row : Row) → row_of tree.chan
 parent_is tree id row found = ap (λ (o : Option Row). option_map_or (λ r. r.channel.parent) o id) found
 
 -- the parent of a channel that is there, is there: the root is its own
-pub parent_there : {limit : ℕ} (tree : TreeState) (id : ChannelId) → IsProperTree limit tree → is_there tree.channels id ≡ true → is_there tree.channels (parent_of tree id) ≡ true
+pub parent_there : (tree : TreeState) (id : ChannelId) → IsProperTree tree → is_there tree.channels id ≡ true → is_there tree.channels (parent_of tree id) ≡ true
 parent_there tree id proper there =
     let rows : List Row = tree.channels in
     let (row, found) = some_row (row_of rows id) there in
@@ -117,7 +117,7 @@ parent_there tree id proper there =
     (cases_Bool (eqb id.0 0))
 
 -- the parent of a removed channel stays
-pub parent_stays : {limit : ℕ} (tree : TreeState) (id : ChannelId) → IsProperTree limit tree → is_there tree.channels id ≡ true → eqb id.0 0 ≡ false → is_there (without_subtree tree id).channels (parent_of tree id) ≡ true
+pub parent_stays : (tree : TreeState) (id : ChannelId) → IsProperTree tree → is_there tree.channels id ≡ true → eqb id.0 0 ≡ false → is_there (without_subtree tree id).channels (parent_of tree id) ≡ true
 parent_stays tree id proper there under =
     let rows : List Row = tree.channels in
     let (row, found) = some_row (row_of rows id) there in
@@ -137,14 +137,14 @@ moved_there tree id user channels parent other = step (is_below tree.channels id
     step false off = other off
 
 -- members that moved up are in channels that were there
-pub moved_were : {limit : ℕ} (tree : TreeState) (id : ChannelId) (users : List User) → IsProperTree limit tree → is_there tree.channels id ≡ true → list_all (λ user. is_there tree.channels user.channel) users ≡ true
+pub moved_were : (tree : TreeState) (id : ChannelId) (users : List User) → IsProperTree tree → is_there tree.channels id ≡ true → list_all (λ user. is_there tree.channels user.channel) users ≡ true
     → list_all (λ user. is_there tree.channels user.channel) (map (moved_up tree id) users) ≡ true
 moved_were tree id users proper there inside =
     all_map (λ user. is_there tree.channels user.channel) (λ user. is_there tree.channels user.channel) (moved_up tree id)
     (λ user here. moved_there tree id user tree.channels (parent_there tree id proper there) (λ off. here)) users inside
 
 -- and in channels that stay
-pub moved_stay : {limit : ℕ} (tree : TreeState) (id : ChannelId) (users : List User) → IsProperTree limit tree → is_there tree.channels id ≡ true → eqb id.0 0 ≡ false → list_all (λ user. is_there tree.channels user.channel) users ≡ true
+pub moved_stay : (tree : TreeState) (id : ChannelId) (users : List User) → IsProperTree tree → is_there tree.channels id ≡ true → eqb id.0 0 ≡ false → list_all (λ user. is_there tree.channels user.channel) users ≡ true
     → list_all (λ user. is_there (without_subtree tree id).channels user.channel) (map (moved_up tree id) users) ≡ true
 moved_stay tree id users proper there under inside =
     all_map (λ user. is_there tree.channels user.channel) (λ user. is_there (without_subtree tree id).channels user.channel) (moved_up tree id)

@@ -1,8 +1,9 @@
 -- What calls on channels leave, as the code has it, is what contracts say.
-use Rattle.std.proofs.Common.{◌≡◌, ℕ, zero, suc, ◌+◌, ◌<◌, ◌++◌, not, Bool, true, false, cond, List, [], ◌∷◌, length, length-set, get_or, set, refl, sym, ap, subst, ◌∙◌, arith, Some, None, inl, inr}
+use Rattle.std.proofs.Common.{◌≡◌, ℕ, zero, suc, ◌+◌, ◌<◌, ◌≤◌, ◌&&◌, ◌⊎◌, ◌++◌, not, Bool, true, false, cond, List, [], ◌∷◌, length, length-set, get_or, set, refl, sym, ap, subst, ◌∙◌, arith, Some, None, inl, inr}
 use Rattle.std.specs.Option.{option_map}
-use Rattle.std.proofs.lemmas.Bool.{both_ways, cases_eq}
-use Rattle.std.proofs.lemmas.List.{get_or-set_other, get_or-set_same}
+use Rattle.std.proofs.lemmas.Bool.{both_ways, cases_eq, cases_lt}
+use Rattle.std.proofs.Math.Bool.{and-false}
+use Rattle.std.proofs.lemmas.List.{get_or-set_other, get_or-set_same, get_or_past}
 use Rattle.mum_base.specs.declared.number.ChannelId.{ChannelId}
 use Rattle.mum_policy.specs.declared.policy.ChannelPolicy.{ChannelPolicy}
 use Rattle.mum_tree.specs.declared.channel.ChannelInfo.{ChannelInfo}
@@ -17,8 +18,9 @@ use Rattle.mum_tree.specs.State.{TreeState, new_row, with_info, with_new, withou
 use Rattle.mum_state.specs.Channels.{ChannelsState, with_channel_made, without_channel}
 use Rattle.mum_state.specs.Set.{with_policy}
 use Rattle.mum_state.specs.State.{PolicyRow, open_policy}
-use Rattle.mum_state.specs.Stored.{policies_by_place}
-use Rattle.mum_state.proofs.Listed.{last_passes}
+use Rattle.mum_state.specs.Stored.{is_left, policies_by_place}
+use Rattle.mum_state.proofs.ByPlace.{laid}
+use Rattle.mum_state.proofs.Listed.{last_passes, map_same}
 use Rattle.mum_state.proofs.Quiet.{rows_there}
 use Rattle.mum_state.proofs.Laid.{IsOpenWhereFree, free_changed, laid_changed, laid_left, laid_made, laid_set}
 
@@ -51,7 +53,7 @@ removed_value before after tree left id is kept =
     (laid_left before after tree.channels (λ channel. not (is_below tree.channels id channel))
     (subst (λ (t : TreeState). (place : ℕ) → has_place t.channels place ≡ true → get_or after place open_policy ≡ get_or before place open_policy) is kept))
 
-pub set_value : {limit : ℕ} (stored : List ChannelPolicy) (tree : TreeState) (id : ChannelId) (policy : ChannelPolicy) (place : ℕ) → IsProperTree limit tree → length stored ≡ limit
+pub set_value : (stored : List ChannelPolicy) (tree : TreeState) (id : ChannelId) (policy : ChannelPolicy) (place : ℕ) → IsProperTree tree → length stored ≡ tree.limit
     → option_map (λ row. row.place) (row_of tree.channels id) ≡ Some place → governed (set stored place policy) tree ≡ record (governed stored tree) { policies = with_policy id policy (policies_by_place stored tree.channels) }
 set_value stored tree id policy place proper whole placed =
     ap (λ (policies : List PolicyRow). record { tree = tree; policies = policies }) (laid_set stored tree id policy place proper whole placed)
@@ -72,38 +74,79 @@ open_pushed [] all (suc place) = refl
 open_pushed (policy ∷ policies) all zero = all 0
 open_pushed (policy ∷ policies) all (suc place) = open_pushed policies (λ k. all (suc k)) place
 
--- so far as the places were gone over, the free ones are open, and the taken ones are as they were
-pub record AreOpened (taken : List Bool) (before after : List ChannelPolicy) (places limit : ℕ) : Type 0 where
-  pub whole : length after ≡ limit
-  pub kept : (place : ℕ) → get_or taken place false ≡ true → get_or after place open_policy ≡ get_or before place open_policy
-  pub free : (place : ℕ) → place < places → get_or taken place false ≡ false → get_or after place open_policy ≡ open_policy
+-- an open policy behind others is what lies behind them anyway
+pub open_behind : (policies further : List ChannelPolicy) → ((place : ℕ) → get_or further place open_policy ≡ open_policy)
+    → (place : ℕ) → get_or (policies ++ further) place open_policy ≡ get_or policies place open_policy
+open_behind [] further all place = all place
+open_behind (policy ∷ policies) further all zero = refl
+open_behind (policy ∷ policies) further all (suc place) = open_behind policies further all place
 
-pub opened_none : (taken : List Bool) (before : List ChannelPolicy) (limit : ℕ) → length before ≡ limit → AreOpened taken before before 0 limit
-opened_none taken before limit whole = record { whole = whole; kept = λ place on. refl; free = λ place under off. absurd (omega arith) }
+pub raised_value : (stored further : List ChannelPolicy) (tree : TreeState) (limit : ℕ) → ((place : ℕ) → get_or further place open_policy ≡ open_policy)
+    → governed (stored ++ further) (record tree { limit = limit }) ≡ record (governed stored tree) { tree = record tree { limit = limit } }
+raised_value stored further tree limit all =
+    ap (λ (policies : List PolicyRow). record { tree = record tree { limit = limit }; policies = policies })
+    (map_same (laid (stored ++ further)) (laid stored)
+    (λ row. ap (λ (policy : ChannelPolicy). record { channel = row.channel.id; policy = policy }) (open_behind stored further all row.place)) tree.channels)
 
-pub opened_more : (taken : List Bool) (before middle after : List ChannelPolicy) (place limit : ℕ) → place < limit → AreOpened taken before middle place limit
-    → after ≡ cond (not (get_or taken place false)) (set middle place open_policy) middle → AreOpened taken before after (place + 1) limit
-opened_more taken before middle after place limit within are is = step (get_or taken place false) refl is
+pub raised_free : (stored further : List ChannelPolicy) (tree : TreeState) → ((place : ℕ) → get_or further place open_policy ≡ open_policy)
+    → IsOpenWhereFree stored tree.channels → IsOpenWhereFree (stored ++ further) tree.channels
+raised_free stored further tree all free place none = open_behind stored further all place ∙ free place none
+
+-- ---- places whose channels are gone
+
+-- as far as places were visited, those that are left are open, and all others are as they were
+pub record AreOpened (before : List Bool) (rows : List Row) (first now : List ChannelPolicy) (places : ℕ) : Type 0 where
+  pub whole : length now ≡ length first
+  pub opened : (place : ℕ) → place < places → is_left before rows place ≡ true → get_or now place open_policy ≡ open_policy
+  pub kept : (place : ℕ) → is_left before rows place ≡ false → get_or now place open_policy ≡ get_or first place open_policy
+
+pub opened_none : (before : List Bool) (rows : List Row) (first : List ChannelPolicy) → AreOpened before rows first first 0
+opened_none before rows first = record { whole = refl; opened = λ place under on. absurd (omega arith); kept = λ place off. refl }
+
+pub opened_more : (before : List Bool) (rows : List Row) (first middle now : List ChannelPolicy) (place : ℕ) (left : Bool)
+    → place < length first → AreOpened before rows first middle place → left ≡ is_left before rows place
+    → now ≡ cond left (set middle place open_policy) middle → AreOpened before rows first now (place + 1)
+opened_more before rows first middle now place true within are is same = record {
+  whole = ap length same ∙ simp length-set are.whole;
+  opened = λ other under on. ap (λ (ps : List ChannelPolicy). get_or ps other open_policy) same ∙ elim (cases_eq other place) [
+    | inl here ↦
+        let inside : place < length middle = (let whole : length middle ≡ length first = are.whole in omega arith) in
+        ap (λ (k : ℕ). get_or (set middle place open_policy) k open_policy) here ∙ get_or-set_same middle place open_policy open_policy inside
+    | inr apart ↦ get_or-set_other middle place other open_policy open_policy apart ∙ are.opened other (omega arith) on
+  ];
+  kept = λ other off.
+      ap (λ (ps : List ChannelPolicy). get_or ps other open_policy) same
+      ∙ get_or-set_other middle place other open_policy open_policy (λ here. both_ways (is_left before rows other) off (ap (is_left before rows) here ∙ sym is))
+      ∙ are.kept other off;
+}
+opened_more before rows first middle now place false within are is same = record {
+  whole = ap length same ∙ are.whole;
+  opened = λ other under on. ap (λ (ps : List ChannelPolicy). get_or ps other open_policy) same ∙ elim (cases_eq other place) [
+    | inl here ↦ absurd (both_ways (is_left before rows other) (ap (is_left before rows) here ∙ sym is) on)
+    | inr apart ↦ are.opened other (omega arith) on
+  ];
+  kept = λ other off. ap (λ (ps : List ChannelPolicy). get_or ps other open_policy) same ∙ are.kept other off;
+}
+
+-- behind the last policy lies the open one too
+pub opened_all : (before : List Bool) (rows : List Row) (first now : List ChannelPolicy) (places : ℕ) → AreOpened before rows first now places → length first ≤ places
+    → (place : ℕ) → is_left before rows place ≡ true → get_or now place open_policy ≡ open_policy
+opened_all before rows first now places are done place on = step (cases_lt place (length first))
   where
-    step : (b : Bool) → get_or taken place false ≡ b → after ≡ cond (not b) (set middle place open_policy) middle → AreOpened taken before after (place + 1) limit
-    step true on same = record {
-      whole = ap length same ∙ are.whole;
-      kept = λ other taken_there. ap (λ (ps : List ChannelPolicy). get_or ps other open_policy) same ∙ are.kept other taken_there;
-      free = λ other under off. ap (λ (ps : List ChannelPolicy). get_or ps other open_policy) same ∙ elim (cases_eq other place) [
-        | inl here ↦ absurd (both_ways (get_or taken other false) off (ap (λ (k : ℕ). get_or taken k false) here ∙ on))
-        | inr apart ↦ are.free other (omega arith) off
-      ];
-    }
-    step false off same = record {
-      whole = ap length same ∙ simp length-set are.whole;
-      kept = λ other taken_there.
-          ap (λ (ps : List ChannelPolicy). get_or ps other open_policy) same
-          ∙ get_or-set_other middle place other open_policy open_policy (λ here. both_ways (get_or taken other false) (ap (λ (k : ℕ). get_or taken k false) here ∙ off) taken_there)
-          ∙ are.kept other taken_there;
-      free = λ other under off_there. ap (λ (ps : List ChannelPolicy). get_or ps other open_policy) same ∙ elim (cases_eq other place) [
-        | inl here ↦
-            let inside : place < length middle = (let whole : length middle ≡ limit = are.whole in omega arith) in
-            ap (λ (k : ℕ). get_or (set middle place open_policy) k open_policy) here ∙ get_or-set_same middle place open_policy open_policy inside
-        | inr apart ↦ get_or-set_other middle place other open_policy open_policy apart ∙ are.free other (omega arith) off_there
-      ];
-    }
+    step : (place < length first) ⊎ (length first ≤ place) → get_or now place open_policy ≡ open_policy
+    step (inl under) = are.opened place (omega arith) on
+    step (inr past) = get_or_past now place open_policy (let whole : length now ≡ length first = are.whole in omega arith)
+
+module _ (before : List Bool) (rows left : List Row) (first now : List ChannelPolicy)
+    (opened : (place : ℕ) → is_left before left place ≡ true → get_or now place open_policy ≡ open_policy)
+    (kept : (place : ℕ) → is_left before left place ≡ false → get_or now place open_policy ≡ get_or first place open_policy) where
+  pub kept_there : (place : ℕ) → has_place left place ≡ true → get_or now place open_policy ≡ get_or first place open_policy
+  kept_there place there = kept place (ap (λ b. get_or before place false && not b) there ∙ and-false (get_or before place false))
+
+  -- a place that is free is left, or was free before
+  pub free_left : ((place : ℕ) → get_or before place false ≡ has_place rows place) → IsOpenWhereFree first rows → IsOpenWhereFree now left
+  free_left marks free place none = step (get_or before place false) refl
+    where
+      step : (b : Bool) → get_or before place false ≡ b → get_or now place open_policy ≡ open_policy
+      step true had = opened place (ap (λ b. b && not (has_place left place)) had ∙ ap not none)
+      step false unhad = kept place (ap (λ b. b && not (has_place left place)) unhad) ∙ free place (sym (marks place) ∙ unhad)

@@ -3,17 +3,19 @@ use Rattle.std.proofs.Common.{◌≡◌, ℕ, ◌+◌, ◌<◌, ◌≤◌, ◌==
 use Rattle.std.specs.Option.{option_map}
 use Rattle.std.proofs.lemmas.Bool.{and_parts, eq-eqb, eqb-true, not-false, or_parts}
 use Rattle.std.proofs.lemmas.Option.{slice_get-get_or}
+use Rattle.mum_base.specs.declared.number.TheConstants.{SLOTS}
 use Rattle.mum_base.specs.declared.number.ChannelId.{ChannelId}
 use Rattle.mum_base.specs.declared.number.SessionId.{SessionId}
 use Rattle.mum_base.specs.declared.number.Slot.{Slot}
 use Rattle.mum_policy.specs.Member.{Asker}
 use Rattle.mum_policy.specs.Walk.{perm}
 use Rattle.mum_tree.specs.Rows.{is_there, path}
-use Rattle.mum_tree.specs.State.{Pair}
+use Rattle.mum_tree.specs.State.{Pair, TreeState}
 use Rattle.mum_users.specs.declared.user.User.{User}
 use Rattle.mum_users.specs.Proper.{SlotsRise}
 use Rattle.mum_users.specs.Sessions.{session_of}
 use Rattle.mum_users.specs.State.{has_number, is_in}
+use Rattle.mum_users.proofs.Rosters.{slots_below_greatest}
 use Rattle.mum_users.proofs.Slots.{SlotsRise-within}
 use Rattle.mum_state.specs.declared.edit.Edit.{Edit}
 use Rattle.mum_state.specs.After.{led_to}
@@ -25,7 +27,7 @@ use Rattle.mum_state.specs.Laws.{PermissionsStand}
 use Rattle.mum_state.specs.Permissions.{asker, perm_of}
 use Rattle.mum_state.specs.Proper.{IsProper}
 use Rattle.mum_state.specs.Set.{set_by}
-use Rattle.mum_state.specs.State.{PolicyRow, StateValue, session_limit}
+use Rattle.mum_state.specs.State.{PolicyRow, StateValue}
 use Rattle.mum_state.specs.Suppression.{is_newcomer, is_renewed}
 use Rattle.mum_state.proofs.Counting.{counts_never_fall_lem}
 use Rattle.mum_state.proofs.Descent.{Descends, applied_descends, set_descends}
@@ -157,12 +159,16 @@ granted_by : List PolicyRow → List ChannelId → Bool → Option Asker → Opt
 granted_by policies way there who =
     option_map (λ one. perm (λ id. option_map (λ row. row.policy) (find (λ row. row.channel.0 == id.0) policies)) way one) (if there then who else None)
 
-asker_as : (first user : User) → IsAs first user → asker first ≡ asker user
-asker_as first user same_as = sym (λ i. record { account = same_as.account i; channel = same_as.channel i; tokens = same_as.tokens i })
+-- the channels above its own are the same where the ways are
+asker_as : (tree later : TreeState) (first user : User) → map edge tree.channels ≡ map edge later.channels → IsAs first user → asker tree first ≡ asker later user
+asker_as tree later first user ways same_as =
+    let homes : path later.channels user.channel ≡ path tree.channels first.channel =
+    ap (path later.channels) same_as.channel ∙ sym (path_alike tree.channels later.channels first.channel ways) in
+    sym (λ i. record { account = same_as.account i; channel = same_as.channel i; tokens = same_as.tokens i; home = homes i })
 
 perm_alike : (state later : StateValue) (session : SessionId) (channel : ChannelId) → state.policies ≡ later.policies
     → path state.tree.channels channel ≡ path later.tree.channels channel → is_there state.tree.channels channel ≡ is_there later.tree.channels channel
-    → option_map asker (session_of state.roster session) ≡ option_map asker (session_of later.roster session)
+    → option_map (asker state.tree) (session_of state.roster session) ≡ option_map (asker later.tree) (session_of later.roster session)
     → perm_of state session channel ≡ perm_of later session channel
 unfolding granted_by
 perm_alike state later session channel policies way there who = λ i. granted_by (policies i) (way i) (there i) (who i)
@@ -176,9 +182,9 @@ slot_within limit low (user ∷ users) rise =
 slot_counted : (state : StateValue) (session : SessionId) (user : User) → IsProper state → session_of state.roster session ≡ Some user
     → slot_count state user.slot ≡ Some (get_or state.counts.slots user.slot.0 0)
 slot_counted state session user proper found =
-    let (within, is) = each_find (λ user. user.slot.0 < session_limit state) (has_number session) state.roster.sessions user
-    (slot_within (session_limit state) 0 state.roster.sessions proper.roster.slots) found in
-    let one_each : length state.counts.slots ≡ session_limit state = proper.counts.one_each in
+    let (within, is) = each_find (λ user. user.slot.0 < SLOTS) (has_number session) state.roster.sessions user
+    (slot_within SLOTS 0 state.roster.sessions (slots_below_greatest state.roster proper.roster)) found in
+    let one_each : length state.counts.slots ≡ SLOTS = proper.counts.one_each in
     slice_get-get_or state.counts.slots user.slot.0 0 (omega (arith, within, one_each))
 
 pub permissions_stand_lem : PermissionsStand
@@ -202,6 +208,6 @@ permissions_stand_lem state edits session slot channel proper fit here there pol
     perm_alike state (led_to state edits) session channel (sym stands.ways.rules)
     (path_alike state.tree.channels (led_to state edits).tree.channels channel ways)
     (there_alike state.tree.channels (led_to state edits).tree.channels channel ways)
-    (ap (option_map asker) found
-    ∙ ap (λ (one : Asker). Some one) (asker_as first now (same_as (eqb-true _ _ passes ∙ sym number)))
-    ∙ sym (ap (option_map asker) again))
+    (ap (option_map (asker state.tree)) found
+    ∙ ap (λ (one : Asker). Some one) (asker_as state.tree (led_to state edits).tree first now ways (same_as (eqb-true _ _ passes ∙ sym number)))
+    ∙ sym (ap (option_map (asker (led_to state edits).tree)) again))

@@ -23,7 +23,7 @@ use Rattle.mum_users.proofs.Refusals.{targets_where_proper_lem, unset_stays_prop
 use Rattle.mum_users.proofs.Rosters.{IsProper-changed}
 use Rattle.mum_state.specs.Proper.{IsProper, is_short, is_sound_policy, is_sound_user, is_text}
 use Rattle.mum_state.specs.Set.{set_policy, with_policy}
-use Rattle.mum_state.specs.State.{PolicyRow, StateValue, session_limit}
+use Rattle.mum_state.specs.State.{PolicyRow, StateValue}
 use Rattle.mum_state.proofs.Listed.{all_changed, all_map, changed_passes, map_same, map_twice}
 use Rattle.mum_state.proofs.Parted.{with_channels, with_roster}
 
@@ -53,7 +53,7 @@ pub tokens_both_ways : (state : StateValue) (session : SessionId) (tokens : List
 tokens_both_ways state session tokens proper here = (
   λ are.
       with_roster state (with_tokens state.roster session tokens) proper
-      (IsProper-changed state.roster session (tokened tokens) (record { session = λ user. refl; slot = λ user. refl; name = λ user. refl }) proper.roster)
+      (IsProper-changed state.roster session (tokened tokens) (record { session = λ user. refl; slot = λ user. refl; name = λ user. refl; silence = λ user mute. mute }) proper.roster)
       (all_changed is_sound_user (has_number session) (tokened tokens) (sound_tokened tokens are) state.roster.sessions proper.users)
       (all_changed (λ user. is_there state.tree.channels user.channel) (has_number session) (tokened tokens) (λ user there. there) state.roster.sessions proper.inside)
       proper.listening,
@@ -65,13 +65,13 @@ tokens_both_ways state session tokens proper here = (
 -- ---- voice targets
 
 targets_either : (state : StateValue) (b : Bool) (one other : List TargetRow) → IsProper state
-    → IsProperRoster (session_limit state) (cond b (record state.roster { targets = one }) (record state.roster { targets = other }))
+    → IsProperRoster (cond b (record state.roster { targets = one }) (record state.roster { targets = other }))
     → IsProper (record state { roster = cond b (record state.roster { targets = one }) (record state.roster { targets = other }) })
 targets_either state true one other proper good = with_roster state (record state.roster { targets = one }) proper good proper.users proper.inside proper.listening
 targets_either state false one other proper good = with_roster state (record state.roster { targets = other }) proper good proper.users proper.inside proper.listening
 
 -- where its targets are as they may be, so is the state
-target_keeps : (state : StateValue) (session : SessionId) (id : ℕ) (target : Target) → IsProper state → IsProperRoster (session_limit state) (targeted state.roster session id target) → IsProper (record state { roster = targeted state.roster session id target })
+target_keeps : (state : StateValue) (session : SessionId) (id : ℕ) (target : Target) → IsProper state → IsProperRoster (targeted state.roster session id target) → IsProper (record state { roster = targeted state.roster session id target })
 target_keeps state session id target proper good =
     targets_either state (eqb (length target.items) 0) (filter (λ row. not (is_target session id row)) state.roster.targets) (with_target (record { session = session; id = id; target = target }) state.roster.targets) proper good
 
@@ -99,10 +99,10 @@ module _ (state : StateValue) (session : SessionId) (id : ℕ) (target : Target)
   target_to : not (is_oversize target) ≡ true → IsProper (record state { roster = targeted state.roster session id target })
   target_to fine = target_keeps state session id target proper (step (eqb (length target.items) 0) refl)
     where
-      step : (b : Bool) → eqb (length target.items) 0 ≡ b → IsProperRoster (session_limit state) (targeted state.roster session id target)
-      step true none = unset_stays_proper_lem (session_limit state) state.roster session id target proper.roster (eqb-true (length target.items) 0 none)
+      step : (b : Bool) → eqb (length target.items) 0 ≡ b → IsProperRoster (targeted state.roster session id target)
+      step true none = unset_stays_proper_lem state.roster session id target proper.roster (eqb-true (length target.items) 0 none)
       step false some =
-          (targets_where_proper_lem (session_limit state) state.roster session id target proper.roster here (some_items (length target.items) some)).0
+          (targets_where_proper_lem state.roster session id target proper.roster here (some_items (length target.items) some)).0
           (fault_is ∙ ap (λ (b : Bool). cond b (Some TargetSize) None) (not-true (is_oversize target) fine))
 
   target_from : IsProper (record state { roster = targeted state.roster session id target }) → not (is_oversize target) ≡ true
@@ -112,7 +112,7 @@ module _ (state : StateValue) (session : SessionId) (id : ℕ) (target : Target)
       step true none = ap not (empty_fits target.items (eqb-true (length target.items) 0 none))
       step false some =
           not_big (is_oversize target)
-          (sym fault_is ∙ (targets_where_proper_lem (session_limit state) state.roster session id target proper.roster here (some_items (length target.items) some)).1 after.roster)
+          (sym fault_is ∙ (targets_where_proper_lem state.roster session id target proper.roster here (some_items (length target.items) some)).1 after.roster)
 
 -- a target is within the limits exactly where the state stays proper with it
 pub targets_both_ways : (state : StateValue) (session : SessionId) (id : ℕ) (target : Target) → IsProper state → list_any (has_number session) state.roster.sessions ≡ true

@@ -8,7 +8,7 @@ use Rattle.mum_users.specs.Sessions.{free_slot, join_fault, joined, next_number,
 use Rattle.mum_users.specs.State.{are_tokens, is_context, joining}
 use Rattle.mum_users.proofs.Refusals.{joins_where_proper_lem}
 use Rattle.mum_state.specs.Proper.{IsProper, is_short, is_sound_user, is_text}
-use Rattle.mum_state.specs.State.{StateValue, session_limit}
+use Rattle.mum_state.specs.State.{StateValue}
 use Rattle.mum_state.proofs.Givens.{is_none_of, none_is}
 use Rattle.mum_state.proofs.Listed.{all_insert, inserted_passes}
 use Rattle.mum_state.proofs.Parted.{with_roster}
@@ -19,18 +19,18 @@ new_user state name account tokens = joining (next_number state.roster) (next_sl
 
 -- nothing stands against it, its name is short, and its tokens are within the limits
 abbrev may_join : StateValue → List ℕ → List (List ℕ) → Bool
-may_join state name tokens = is_none (join_fault (session_limit state) state.roster name) && is_short name && are_tokens tokens
+may_join state name tokens = is_none (join_fault state.roster name) && is_short name && are_tokens tokens
 
 join_to : (state : StateValue) (name : List ℕ) (account : Option AccountId) (tokens : List (List ℕ)) → IsProper state → may_join state name tokens ≡ true → IsProper (record state { roster = joined state.roster name account tokens })
 join_to state name account tokens proper may =
-    let none : Bool = is_none (join_fault (session_limit state) state.roster name) in
+    let none : Bool = is_none (join_fault state.roster name) in
     let both = and_parts (none && is_short name) (are_tokens tokens) may in
     let parts = and_parts none (is_short name) both.0 in
-    let law = joins_where_proper_lem (session_limit state) state.roster name account tokens proper.roster in
+    let law = joins_where_proper_lem state.roster name account tokens proper.roster in
     let (root, found, is) = proper.tree.root in
     let new : User = new_user state name account tokens in
     with_roster state (joined state.roster name account tokens) proper
-    (law.0 (none_is (join_fault (session_limit state) state.roster name) parts.0))
+    (law.0 (none_is (join_fault state.roster name) parts.0))
     (all_insert is_sound_user state.roster.sessions (free_slot state.roster) new
     (and_from (is_short name && are_tokens tokens && is_text []) (is_context []) (and_from (is_short name && are_tokens tokens) (is_text []) (and_from (is_short name) (are_tokens tokens) parts.1 both.1) refl) refl)
     proper.users)
@@ -39,14 +39,14 @@ join_to state name account tokens proper may =
 
 join_from : (state : StateValue) (name : List ℕ) (account : Option AccountId) (tokens : List (List ℕ)) → IsProper state → IsProper (record state { roster = joined state.roster name account tokens }) → may_join state name tokens ≡ true
 join_from state name account tokens proper after =
-    let none : Bool = is_none (join_fault (session_limit state) state.roster name) in
-    let law = joins_where_proper_lem (session_limit state) state.roster name account tokens proper.roster in
+    let none : Bool = is_none (join_fault state.roster name) in
+    let law = joins_where_proper_lem state.roster name account tokens proper.roster in
     let sound : is_sound_user (new_user state name account tokens) ≡ true = inserted_passes is_sound_user state.roster.sessions (free_slot state.roster) (new_user state name account tokens) after.users in
     let both = and_parts (is_short name && are_tokens tokens && is_text []) (is_context []) sound in
     let more = and_parts (is_short name && are_tokens tokens) (is_text []) both.0 in
     let parts = and_parts (is_short name) (are_tokens tokens) more.0 in
     and_from (none && is_short name) (are_tokens tokens)
-    (and_from none (is_short name) (is_none_of (join_fault (session_limit state) state.roster name) (law.1 after.roster)) parts.0)
+    (and_from none (is_short name) (is_none_of (join_fault state.roster name) (law.1 after.roster)) parts.0)
     parts.1
 
 -- a session may join exactly where the state stays proper with it

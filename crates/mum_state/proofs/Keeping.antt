@@ -8,7 +8,7 @@ use Rattle.mum_base.specs.declared.number.SessionId.{SessionId}
 use Rattle.mum_tree.specs.Rows.{is_there}
 use Rattle.mum_users.specs.State.{has_number}
 use Rattle.mum_state.specs.declared.edit.Edit.{Edit}
-use Rattle.mum_state.specs.declared.edit.Edit.TheVariants.{AddAccount, EditChannel, Join, Kick, Leave, MakeChannel, RemoveChannel, SetAcl, SetServer, SetTarget, SetTokens, SetUser, Text}
+use Rattle.mum_state.specs.declared.edit.Edit.TheVariants.{AddAccount, EditChannel, Join, Kick, Leave, MakeChannel, RemoveChannel, SetAcl, SetLimits, SetServer, SetTarget, SetTokens, SetUser, Text}
 use Rattle.mum_state.specs.After.{all_fit}
 use Rattle.mum_state.specs.Applied.{applied}
 use Rattle.mum_state.specs.Counts.{counts_after}
@@ -19,7 +19,7 @@ use Rattle.mum_state.specs.Named.{named_account, named_channels, named_sessions,
 use Rattle.mum_state.specs.Parts.{channel_parts, user_parts}
 use Rattle.mum_state.specs.Proper.{IsProper}
 use Rattle.mum_state.specs.Set.{set_by}
-use Rattle.mum_state.specs.State.{StateValue, has_account, session_limit}
+use Rattle.mum_state.specs.State.{StateValue, has_account}
 use Rattle.mum_state.specs.Suppression.{with_clearing, with_suppression}
 use Rattle.mum_state.proofs.Accounted.{accounts_both_ways}
 use Rattle.mum_state.proofs.Altering.{alters_both_ways}
@@ -29,6 +29,7 @@ use Rattle.mum_state.proofs.Fitting.{fit_from, fit_parts}
 use Rattle.mum_state.proofs.Holding.{policies_both_ways, targets_both_ways, tokens_both_ways}
 use Rattle.mum_state.proofs.Joining.{joins_both_ways}
 use Rattle.mum_state.proofs.Leaving.{left_proper}
+use Rattle.mum_state.proofs.Limiting.{limits_both_ways}
 use Rattle.mum_state.proofs.Making.{making_from, making_to}
 use Rattle.mum_state.proofs.Parted.{with_counts}
 use Rattle.mum_state.proofs.Removing.{removals_both_ways}
@@ -60,6 +61,7 @@ head_passes p x xs all = (and_parts (p x) (list_all p xs) all).0
 pub sets_both_ways : (state : StateValue) (edit : Edit) → IsProper state → names_there state edit ≡ true → gives_right_numbers state edit ≡ true
     → (sets_properly state edit ≡ true) ↔ IsProper (set_by state edit)
 sets_both_ways state (SetServer welcome bandwidth password) proper there right = servers_both_ways state (record { welcome = welcome; bandwidth = bandwidth; password = password }) proper
+sets_both_ways state (SetLimits sessions channels) proper there right = limits_both_ways state sessions channels proper right
 sets_both_ways state (AddAccount account name digest) proper there right = accounts_both_ways state (record { account = account; name = name; digest = digest }) proper
 sets_both_ways state (Join session slot name account tokens) proper there right = joins_both_ways state name account tokens proper
 sets_both_ways state (Leave session) proper there right = (λ sets. left_proper state session proper, λ after. refl)
@@ -95,7 +97,7 @@ pub applied_proper : (state : StateValue) (edit : Edit) → IsProper state → I
 applied_proper state edit proper set countable =
     with_counts (without_emptied state (with_clearing edit (with_suppression state edit (set_by state edit)))) (counts_after state edit)
     (emptied_proper state (with_clearing edit (with_suppression state edit (set_by state edit))) (heard_set state edit set))
-    (counts_fit (session_limit state) state edit proper.counts countable)
+    (counts_fit state edit proper.counts countable)
 
 -- ---- the laws
 
@@ -120,6 +122,6 @@ fits_where_proper_lem state edit proper there right = (
         named = there;
         numbers = right;
         sets = (sets_both_ways state edit proper there right).1 after.0;
-        countable = counts_back (session_limit state) state edit after.1.counts;
+        countable = counts_back state edit after.1.counts;
       }),
 )

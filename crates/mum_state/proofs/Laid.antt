@@ -109,7 +109,7 @@ stands_at (first ∷ rows) id row found = step (number first == id.0) refl (stan
         let rest = later (sym (ap (λ (b : Bool). cond b (Some first) (row_of rows id)) is) ∙ found) in
         record { at = suc rest.at; within = (let lt : rest.at < length rows = rest.within in omega arith); is = rest.is }
 
-module _ {limit : ℕ} (stored : List ChannelPolicy) (tree : TreeState) (id : ChannelId) (policy : ChannelPolicy) (place : ℕ) (proper : IsProperTree limit tree) (whole : length stored ≡ limit) (placed : option_map (λ row. row.place) (row_of tree.channels id) ≡ Some place) where
+module _ (stored : List ChannelPolicy) (tree : TreeState) (id : ChannelId) (policy : ChannelPolicy) (place : ℕ) (proper : IsProperTree tree) (whole : length stored ≡ tree.limit) (placed : option_map (λ row. row.place) (row_of tree.channels id) ≡ Some place) where
   rows : List Row
   rows = tree.channels
 
@@ -125,7 +125,7 @@ module _ {limit : ℕ} (stored : List ChannelPolicy) (tree : TreeState) (id : Ch
 
   pub within : place < length stored
   within =
-      let seated : (get_or tree.channels spot.at own.0).place < limit = proper.seated spot.at own.0 spot.within in
+      let places_fit : (get_or tree.channels spot.at own.0).place < tree.limit = proper.places_fit spot.at own.0 spot.within in
       let is : (get_or tree.channels spot.at own.0).place ≡ own.0.place = ap (λ (row : Row). row.place) spot.is in
       let same : own.0.place ≡ place = own.2 in
       omega arith
@@ -141,8 +141,8 @@ module _ {limit : ℕ} (stored : List ChannelPolicy) (tree : TreeState) (id : Ch
             let here : row ≡ own.0 = ap (λ (i : ℕ). get_or tree.channels i d) equal ∙ mine in
             both_ways (number row == id.0) differs (eq-eqb (number row) id.0 (ap number here ∙ number_found tree.channels id own.0 own.1))
         | inr apart ↦ elim apart [
-          | inl below ↦ proper.seats k at d below spot.within (sym same ∙ sym own.2 ∙ ap (λ (one : Row). one.place) (sym mine))
-          | inr above ↦ proper.seats at k d above in_rows (ap (λ (one : Row). one.place) mine ∙ own.2 ∙ same)
+          | inl below ↦ proper.places_apart k at d below spot.within (sym same ∙ sym own.2 ∙ ap (λ (one : Row). one.place) (sym mine))
+          | inr above ↦ proper.places_apart at k d above in_rows (ap (λ (one : Row). one.place) mine ∙ own.2 ∙ same)
         ]
       ]
 

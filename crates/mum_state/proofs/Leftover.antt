@@ -23,7 +23,7 @@ use Rattle.mum_users.specs.declared.user.User.{User}
 use Rattle.mum_users.specs.Edit.{changed_user}
 use Rattle.mum_users.specs.State.{has_number, is_in}
 use Rattle.mum_state.specs.declared.edit.Edit.{Edit}
-use Rattle.mum_state.specs.declared.edit.Edit.TheVariants.{AddAccount, EditChannel, Join, Kick, Leave, MakeChannel, RemoveChannel, SetAcl, SetServer, SetTarget, SetTokens, SetUser, Text}
+use Rattle.mum_state.specs.declared.edit.Edit.TheVariants.{AddAccount, EditChannel, Join, Kick, Leave, MakeChannel, RemoveChannel, SetAcl, SetLimits, SetServer, SetTarget, SetTokens, SetUser, Text}
 use Rattle.mum_state.specs.Emptied.{empties, has_member, is_emptied, without_emptied}
 use Rattle.mum_state.specs.Followed.{is_left_empty, left_by, temporary_around, with_left_closed}
 use Rattle.mum_state.specs.Parts.{user_parts}
@@ -265,6 +265,7 @@ unmoved state session change keeps =
 
 pub left_alone : (state : StateValue) (edit : Edit) → IsProper state → IsLeftAlone state.roster.sessions (set_by state edit).roster.sessions (set_by state edit).tree.channels (left_by state edit)
 left_alone state (SetServer welcome bandwidth password) proper = same_left state _ _ refl
+left_alone state (SetLimits sessions channels) proper = same_left state _ _ refl
 left_alone state (AddAccount account name digest) proper = same_left state _ _ refl
 left_alone state (Join session slot name account tokens) proper =
     none_left state.roster.sessions _ _ (λ other kind member. any_inserted (is_in other) state.roster.sessions _ _ ∙ or_right _ (has_member state.roster.sessions other) member)

@@ -19,6 +19,7 @@ pub mod Serving
 pub mod Accounted
 pub mod Joining
 pub mod Leaving
+pub mod Limiting
 pub mod Making
 pub mod Editing
 pub mod Removing
@@ -35,7 +36,11 @@ pub mod Insertion
 pub mod Staged
 pub mod Raised
 pub mod Routes
+pub mod RowsStay
 pub mod Seats
+pub mod Present
+pub mod Alike
+pub mod Silent
 pub mod Tidy
 pub mod Ways
 pub mod Governed

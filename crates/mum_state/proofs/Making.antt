@@ -23,7 +23,7 @@ use Rattle.mum_users.specs.State.{has_number}
 use Rattle.mum_users.proofs.Rosters.{IsProper-changed}
 use Rattle.mum_state.specs.Proper.{IsProper, is_name, is_sound_channel, is_sound_policy, is_sound_user, is_text}
 use Rattle.mum_state.specs.Set.{with_made, with_maker_in}
-use Rattle.mum_state.specs.State.{PolicyRow, StateValue, channel_limit, policy_row}
+use Rattle.mum_state.specs.State.{PolicyRow, StateValue, policy_row}
 use Rattle.mum_state.proofs.Givens.{is_none_of, none_is}
 use Rattle.mum_state.proofs.Listed.{all_changed, all_push, all_too, last_passes}
 use Rattle.mum_state.proofs.Parted.{with_channels, with_roster}
@@ -48,7 +48,7 @@ changed_last rows last id change others is =
     ∙ ap (λ (front : List Row). front ++ changed id change (last ∷ [])) (changed_none rows id change others)
     ∙ ap (λ (b : Bool). rows ++ cond b (record last { channel = change last.channel }) last ∷ []) is
 
-module _ {limit : ℕ} (tree : TreeState) (id parent : ChannelId) (name : List ℕ) (temporary : Bool) (info : ChannelInfo) (proper : IsProperTree limit tree) (above : tree.greatest < id.0) where
+module _ (tree : TreeState) (id parent : ChannelId) (name : List ℕ) (temporary : Bool) (info : ChannelInfo) (proper : IsProperTree tree) (above : tree.greatest < id.0) where
   others : (k : ℕ) (d : Row) → k < length tree.channels → number (get_or tree.channels k d) ≢ id.0
   others k d within same = let known : number (get_or tree.channels k d) ≤ tree.greatest = proper.known k d within in absurd (omega arith)
 
@@ -59,15 +59,15 @@ module _ {limit : ℕ} (tree : TreeState) (id parent : ChannelId) (name : List �
   plain_again : changed id (informed plain_info) (tree.channels ++ made_row tree id parent name temporary info ∷ []) ≡ (with_new tree id parent name temporary).channels
   plain_again = changed_last tree.channels (made_row tree id parent name temporary info) id (informed plain_info) others (eq-eqb id.0 id.0 refl)
 
-  tree_to : fault_of_add limit tree id parent name ≡ None → IsProperTree limit (made_tree tree id parent name temporary info)
-  tree_to none = informed_proper (with_new tree id parent name temporary) id info ((adds_both_ways limit tree id parent name temporary proper above).0 none)
+  tree_to : fault_of_add tree id parent name ≡ None → IsProperTree (made_tree tree id parent name temporary info)
+  tree_to none = informed_proper (with_new tree id parent name temporary) id info ((adds_both_ways tree id parent name temporary proper above).0 none)
 
-  tree_from : IsProperTree limit (made_tree tree id parent name temporary info) → fault_of_add limit tree id parent name ≡ None
+  tree_from : IsProperTree (made_tree tree id parent name temporary info) → fault_of_add tree id parent name ≡ None
   tree_from after =
-      let plain : IsProperTree limit (record { channels = changed id (informed plain_info) (made_tree tree id parent name temporary info).channels; links = tree.links; greatest = id.0 }) =
+      let plain : IsProperTree (record { channels = changed id (informed plain_info) (made_tree tree id parent name temporary info).channels; links = tree.links; greatest = id.0; limit = tree.limit }) =
       informed_proper (made_tree tree id parent name temporary info) id plain_info after in
-      (adds_both_ways limit tree id parent name temporary proper above).1
-      (subst (λ (rows : List Row). IsProperTree limit (record { channels = rows; links = tree.links; greatest = id.0 }))
+      (adds_both_ways tree id parent name temporary proper above).1
+      (subst (λ (rows : List Row). IsProperTree (record { channels = rows; links = tree.links; greatest = id.0; limit = tree.limit }))
       (ap (changed id (informed plain_info)) rows_made ∙ plain_again) plain)
 
   -- what was there is there, and the new channel is
@@ -86,7 +86,7 @@ module _ {limit : ℕ} (tree : TreeState) (id parent : ChannelId) (name : List �
 -- nothing stands against the new channel, and its texts are as they may be
 abbrev pub may_make : StateValue → ChannelId → ChannelId → List ℕ → ChannelInfo → Bool
 may_make state id parent name info =
-    is_none (fault_of_add (channel_limit state) state.tree id parent name) && is_name name && is_text info.description
+    is_none (fault_of_add state.tree id parent name) && is_name name && is_text info.description
 
 module _ (state : StateValue) (id parent : ChannelId) (name : List ℕ) (temporary : Bool) (info : ChannelInfo) (proper : IsProper state) (above : state.tree.greatest < id.0) where
   governed : map (λ row. row.channel) (state.policies ++ policy_row id ∷ []) ≡ map (λ row. row.channel.id) (made_tree state.tree id parent name temporary info).channels
@@ -98,11 +98,11 @@ module _ (state : StateValue) (id parent : ChannelId) (name : List ℕ) (tempora
 
   made_to : may_make state id parent name info ≡ true → IsProper (with_made state (made_tree state.tree id parent name temporary info) id)
   made_to may =
-      let none : Bool = is_none (fault_of_add (channel_limit state) state.tree id parent name) in
+      let none : Bool = is_none (fault_of_add state.tree id parent name) in
       let both = and_parts (none && is_name name) (is_text info.description) may in
       let parts = and_parts none (is_name name) both.0 in
       with_channels state (made_tree state.tree id parent name temporary info) (state.policies ++ policy_row id ∷ []) proper
-      (tree_to state.tree id parent name temporary info proper.tree above (none_is (fault_of_add (channel_limit state) state.tree id parent name) parts.0))
+      (tree_to state.tree id parent name temporary info proper.tree above (none_is (fault_of_add state.tree id parent name) parts.0))
       (subst (λ (rows : List Row). list_all is_sound_channel rows ≡ true) (sym (rows_made state.tree id parent name temporary info proper.tree above))
       (all_push is_sound_channel state.tree.channels (made_row state.tree id parent name temporary info) (and_from (is_name name) (is_text info.description) parts.1 both.1) proper.channels))
       governed
@@ -110,14 +110,14 @@ module _ (state : StateValue) (id parent : ChannelId) (name : List ℕ) (tempora
       (all_too (λ user. is_there state.tree.channels user.channel) (λ user. is_there (made_tree state.tree id parent name temporary info).channels user.channel) (λ user. there_made state.tree id parent name temporary info proper.tree above user.channel) state.roster.sessions proper.inside)
       (all_too (λ pair. is_there state.tree.channels pair.channel) (λ pair. is_there (made_tree state.tree id parent name temporary info).channels pair.channel) (λ pair. there_made state.tree id parent name temporary info proper.tree above pair.channel) state.roster.listeners proper.listening)
 
-  made_from : IsProperTree (channel_limit state) (made_tree state.tree id parent name temporary info) → list_all is_sound_channel (made_tree state.tree id parent name temporary info).channels ≡ true → may_make state id parent name info ≡ true
+  made_from : IsProperTree (made_tree state.tree id parent name temporary info) → list_all is_sound_channel (made_tree state.tree id parent name temporary info).channels ≡ true → may_make state id parent name info ≡ true
   made_from tree sound =
-      let none : Bool = is_none (fault_of_add (channel_limit state) state.tree id parent name) in
+      let none : Bool = is_none (fault_of_add state.tree id parent name) in
       let parts = and_parts (is_name name) (is_text info.description)
       (last_passes is_sound_channel state.tree.channels (made_row state.tree id parent name temporary info)
       (subst (λ (rows : List Row). list_all is_sound_channel rows ≡ true) (rows_made state.tree id parent name temporary info proper.tree above) sound)) in
       and_from (none && is_name name) (is_text info.description)
-      (and_from none (is_name name) (is_none_of (fault_of_add (channel_limit state) state.tree id parent name) (tree_from state.tree id parent name temporary info proper.tree above tree)) parts.0)
+      (and_from none (is_name name) (is_none_of (fault_of_add state.tree id parent name) (tree_from state.tree id parent name temporary info proper.tree above tree)) parts.0)
       parts.1
 
 -- a session enters a channel that is there
@@ -125,7 +125,7 @@ pub placed_proper : (state : StateValue) (session : SessionId) (channel : Channe
 placed_proper state session channel proper there =
     let enter : User → User = λ user. record user { channel = channel } in
     with_roster state (placed state.roster session channel) proper
-    (IsProper-changed state.roster session enter (record { session = λ user. refl; slot = λ user. refl; name = λ user. refl }) proper.roster)
+    (IsProper-changed state.roster session enter (record { session = λ user. refl; slot = λ user. refl; name = λ user. refl; silence = λ user mute. mute }) proper.roster)
     (all_changed is_sound_user (has_number session) enter (λ user sound. sound) state.roster.sessions proper.users)
     (all_changed (λ user. is_there state.tree.channels user.channel) (has_number session) enter (λ user was. there) state.roster.sessions proper.inside)
     proper.listening

@@ -5,6 +5,7 @@ use Rattle.std.proofs.lemmas.Bool.{and_parts, cases_eq, eq-eqb, false≢true, lt
 use Rattle.std.proofs.lemmas.List.{get_or-set_other, get_or-set_same}
 use Rattle.std.proofs.lemmas.List.Folds.{list_any_more}
 use Rattle.std.specs.Prelude.{nat_lt}
+use Rattle.mum_base.specs.declared.number.TheConstants.{SLOTS}
 use Rattle.mum_base.specs.declared.number.AccountId.{AccountId}
 use Rattle.mum_base.specs.declared.number.ChannelId.{ChannelId}
 use Rattle.mum_base.specs.declared.number.SessionId.{SessionId}
@@ -12,11 +13,11 @@ use Rattle.mum_tree.specs.declared.channel.ChannelInfo.{ChannelInfo}
 use Rattle.mum_tree.specs.Change.{Change, fault_of_edit}
 use Rattle.mum_tree.specs.Refusals.{fault_of_add, fault_of_remove}
 use Rattle.mum_tree.specs.Rows.{is_there}
-use Rattle.mum_users.specs.declared.seating.Seat.{Seat}
+use Rattle.mum_users.specs.declared.placing.Placement.{Placement}
 use Rattle.mum_users.specs.declared.user.User.{User}
 use Rattle.mum_users.specs.Edit.{UserEdit, edit_fault}
 use Rattle.mum_users.specs.Proper.{SlotsRise}
-use Rattle.mum_users.specs.Seats.{seated, seated_anew}
+use Rattle.mum_users.specs.Placed.{with_placement, with_placements}
 use Rattle.mum_state.specs.declared.account.TheConstants.{ACCOUNT_LIMIT}
 use Rattle.mum_state.specs.declared.edit.Edit.TheVariants.{AddAccount, EditChannel, MakeChannel, RemoveChannel, SetUser}
 use Rattle.mum_state.specs.declared.renewed.Renewed.{Renewed}
@@ -29,7 +30,7 @@ use Rattle.mum_state.specs.Permissions.{may_speak}
 use Rattle.mum_state.specs.Proper.{is_name, is_short, is_text}
 use Rattle.mum_users.specs.State.{is_context}
 use Rattle.mum_state.specs.Renewed.{heard_again, is_nobody, is_renewed_slot}
-use Rattle.mum_state.specs.State.{StateValue, channel_limit, has_account, is_named, is_numbered}
+use Rattle.mum_state.specs.State.{StateValue, has_account, is_named, is_numbered}
 use Rattle.mum_state.specs.Suppression.{heard_anew}
 use Rattle.mum_state.proofs.Fitting.{fit_parts}
 use Rattle.mum_state.proofs.Givens.{none_is}
@@ -81,9 +82,9 @@ slots_within limit low (user ∷ users) rise zero d within =
 slots_within limit low (user ∷ users) rise (suc k) d within = slots_within limit (user.slot.0 + 1) users rise.1 k d (omega arith)
 
 pub marked_more : (p : User → Bool) (users : List User) (i : ℕ) (user : User) (marks after : List Bool) (is_marked : Bool) → i < length users → user ≡ get_or users i user → user.slot.0 < length marks
-    → length marks ≡ 128 → ((slot : ℕ) → get_or marks slot false ≡ list_any (λ (one : User). (one.slot.0 == slot) && p one) (take i users)) → is_marked ≡ p user
+    → length marks ≡ SLOTS → ((slot : ℕ) → get_or marks slot false ≡ list_any (λ (one : User). (one.slot.0 == slot) && p one) (take i users)) → is_marked ≡ p user
     → after ≡ set marks user.slot.0 (get_or marks user.slot.0 false || is_marked)
-    → (length after ≡ 128) × ((slot : ℕ) → get_or after slot false ≡ list_any (λ (one : User). (one.slot.0 == slot) && p one) (take (i + 1) users))
+    → (length after ≡ SLOTS) × ((slot : ℕ) → get_or after slot false ≡ list_any (λ (one : User). (one.slot.0 == slot) && p one) (take (i + 1) users))
 marked_more p users i user marks after is_marked within is room whole so_far marked after_is =
     (ap length after_is ∙ simp length-set whole, λ slot. by slot (cases_eq slot user.slot.0))
   where
@@ -123,17 +124,17 @@ heard_nobody (One slot) all state is = absurd (false≢true is)
 heard_nobody (Those marks) all state is = absurd (false≢true is)
 
 -- where each session is told to sit that is heard again, or not
-abbrev pub hearing_seat : Renewed → Bool → StateValue → User → Seat
+abbrev pub hearing_seat : Renewed → Bool → StateValue → User → Placement
 hearing_seat renewed all state user = record {
   channel = user.channel;
   suppress = (cond (is_renewed_slot renewed user.slot.0 || all) (not (speaks_where_in (channels_of state) user)) user.suppress);
 }
 
 pub heard_seats : (renewed : Renewed) (all : Bool) (state : StateValue) → list_all (λ user. is_there state.tree.channels user.channel) state.roster.sessions ≡ true
-    → seated_anew (hearing_seat renewed all state) state.roster ≡ (heard_again renewed all state).roster
+    → with_placements (hearing_seat renewed all state) state.roster ≡ (heard_again renewed all state).roster
 heard_seats renewed all state inside =
     ap (λ (users : List User). record state.roster { sessions = users })
-    (map_agree (seated (hearing_seat renewed all state)) (λ user. cond (is_renewed_slot renewed user.slot.0 || all) (heard_anew state user) user) state.roster.sessions
+    (map_agree (with_placement (hearing_seat renewed all state)) (λ user. cond (is_renewed_slot renewed user.slot.0 || all) (heard_anew state user) user) state.roster.sessions
     (λ k d within.
     let user : User = get_or state.roster.sessions k d in
     by user (is_renewed_slot renewed user.slot.0 || all) (all_at (λ one. is_there state.tree.channels one.channel) state.roster.sessions inside k d within)))
@@ -179,10 +180,10 @@ account_fits state account name digest fit =
 
 pub making_fits : (state : StateValue) (id parent : ChannelId) (name : List ℕ) (temporary : Bool) (info : ChannelInfo) (maker : Option SessionId)
     → fits state (MakeChannel id parent name temporary info maker) ≡ true
-    → (state.tree.greatest < id.0) × (fault_of_add (channel_limit state) state.tree id parent name ≡ None)
+    → (state.tree.greatest < id.0) × (fault_of_add state.tree id parent name ≡ None)
 making_fits state id parent name temporary info maker fit =
     let parts = fit_parts state (MakeChannel id parent name temporary info maker) fit in
-    let fault = fault_of_add (channel_limit state) state.tree id parent name in
+    let fault = fault_of_add state.tree id parent name in
     let front = and_parts (is_none fault && is_name name) (is_text info.description) parts.sets in
     (ltb-true state.tree.greatest id.0 parts.numbers, none_is fault (and_parts (is_none fault) (is_name name) front.0).0)
 

@@ -11,13 +11,13 @@ use Rattle.mum_users.specs.State.{RosterState}
 use Rattle.mum_users.proofs.Rosters.{IsProper-fewer_listeners}
 use Rattle.mum_state.specs.Proper.{AreCounts, IsProper, is_sound_channel, is_sound_policy, is_sound_user}
 use Rattle.mum_state.specs.Set.{with_tree}
-use Rattle.mum_state.specs.State.{Counts, PolicyRow, StateValue, channel_limit, session_limit}
+use Rattle.mum_state.specs.State.{Counts, PolicyRow, StateValue}
 use Rattle.mum_state.proofs.Gone.{rows_of, there_of}
 use Rattle.mum_state.proofs.Listed.{all_filter, all_passing, filter_same, map_filter}
 use Rattle.mum_state.proofs.Quiet.{rows_there}
 
 -- another roster
-pub with_roster : (state : StateValue) (roster : RosterState) → IsProper state → IsProperRoster (session_limit state) roster → list_all is_sound_user roster.sessions ≡ true
+pub with_roster : (state : StateValue) (roster : RosterState) → IsProper state → IsProperRoster roster → list_all is_sound_user roster.sessions ≡ true
     → list_all (λ user. is_there state.tree.channels user.channel) roster.sessions ≡ true
     → list_all (λ pair. is_there state.tree.channels pair.channel) roster.listeners ≡ true
     → IsProper (record state { roster = roster })
@@ -39,7 +39,7 @@ with_roster state roster proper good sound inside listening = record {
 }
 
 -- other channels and policies, where what was there is there
-pub with_channels : (state : StateValue) (tree : TreeState) (policies : List PolicyRow) → IsProper state → IsProperTree (channel_limit state) tree → list_all is_sound_channel tree.channels ≡ true
+pub with_channels : (state : StateValue) (tree : TreeState) (policies : List PolicyRow) → IsProper state → IsProperTree tree → list_all is_sound_channel tree.channels ≡ true
     → map (λ row. row.channel) policies ≡ map (λ row. row.channel.id) tree.channels
     → list_all (λ row. is_sound_policy row.policy) policies ≡ true
     → list_all (λ user. is_there tree.channels user.channel) state.roster.sessions ≡ true
@@ -63,7 +63,7 @@ with_channels state tree policies proper good sound same sound_policies inside l
 }
 
 -- other counts
-pub with_counts : (state : StateValue) (counts : Counts) → IsProper state → AreCounts (session_limit state) counts → IsProper (record state { counts = counts })
+pub with_counts : (state : StateValue) (counts : Counts) → IsProper state → AreCounts counts → IsProper (record state { counts = counts })
 with_counts state counts proper are = record {
   welcome = proper.welcome;
   names = proper.names;
@@ -97,7 +97,7 @@ not_not true on = refl
 not_not false on = on
 
 -- only some channels stay, and everybody is in one of them
-pub cut : (state : StateValue) (stays : ChannelId → Bool) → IsProper state → IsProperTree (channel_limit state) (without_rows state.tree (rows_of stays state.tree.channels))
+pub cut : (state : StateValue) (stays : ChannelId → Bool) → IsProper state → IsProperTree (without_rows state.tree (rows_of stays state.tree.channels))
     → list_all (λ user. is_there (rows_of stays state.tree.channels) user.channel) state.roster.sessions ≡ true
     → IsProper (with_tree state (without_rows state.tree (rows_of stays state.tree.channels)))
 cut state stays proper good inside =

@@ -8,15 +8,15 @@ use Rattle.mum_tree.specs.State.{TreeState, without_subtree}
 use Rattle.mum_tree.proofs.Back.{removes_both_ways}
 use Rattle.mum_tree.proofs.Edits.{none_stands}
 use Rattle.mum_users.specs.declared.user.User.{User}
-use Rattle.mum_users.proofs.Rosters.{KeepsIdentity}
+use Rattle.mum_users.specs.Proper.{deaf_is_mute}
+use Rattle.mum_users.proofs.Rosters.{IsProper-mapped, KeepsIdentity}
 use Rattle.mum_state.specs.Proper.{IsProper, is_sound_user}
 use Rattle.mum_state.specs.Set.{moved_up, with_members_moved_up, with_tree}
-use Rattle.mum_state.specs.State.{StateValue, channel_limit}
+use Rattle.mum_state.specs.State.{StateValue}
 use Rattle.mum_state.proofs.Givens.{is_none_of, none_is}
 use Rattle.mum_state.proofs.Gone.{moved_stay, moved_were}
 use Rattle.mum_state.proofs.Listed.{all_map}
 use Rattle.mum_state.proofs.Parted.{cut, with_roster}
-use Rattle.mum_state.proofs.Suppressed.{roster_mapped}
 
 -- moving up changes the channel alone
 moved_keeps : (tree : TreeState) (id : ChannelId) → KeepsIdentity (moved_up tree id)
@@ -24,6 +24,7 @@ moved_keeps tree id = record {
   session = λ user. session_of user (is_below tree.channels id user.channel);
   slot = λ user. slot_of user (is_below tree.channels id user.channel);
   name = λ user. name_of user (is_below tree.channels id user.channel);
+  silence = λ user. mute_of user (is_below tree.channels id user.channel);
 }
   where
     session_of : (user : User) (b : Bool) → (cond b (record user { channel = parent_of tree id }) user).session ≡ user.session
@@ -38,6 +39,10 @@ moved_keeps tree id = record {
     name_of user true = refl
     name_of user false = refl
 
+    mute_of : (user : User) (b : Bool) → deaf_is_mute user ≡ true → deaf_is_mute (cond b (record user { channel = parent_of tree id }) user) ≡ true
+    mute_of user true mute = mute
+    mute_of user false mute = mute
+
 moved_sound : (tree : TreeState) (id : ChannelId) (user : User) → is_sound_user user ≡ true → is_sound_user (moved_up tree id user) ≡ true
 moved_sound tree id user sound = step (is_below tree.channels id user.channel)
   where
@@ -49,7 +54,7 @@ moved_sound tree id user sound = step (is_below tree.channels id user.channel)
 pub moved_proper : (state : StateValue) (id : ChannelId) → IsProper state → is_there state.tree.channels id ≡ true → IsProper (with_members_moved_up state id)
 moved_proper state id proper there =
     with_roster state (record state.roster { sessions = map (moved_up state.tree id) state.roster.sessions }) proper
-    (roster_mapped state.roster (moved_up state.tree id) (moved_keeps state.tree id) proper.roster)
+    (IsProper-mapped state.roster (moved_up state.tree id) (moved_keeps state.tree id) proper.roster)
     (all_map is_sound_user is_sound_user (moved_up state.tree id) (moved_sound state.tree id) state.roster.sessions proper.users)
     (moved_were state.tree id state.roster.sessions proper.tree there proper.inside)
     proper.listening
@@ -60,7 +65,7 @@ remove_to state id proper there allowed =
     let (named, rest) = none_stands (not (is_there state.tree.channels id)) NoChannel (cond (eqb id.0 0) (Some RootFixed) None) allowed in
     let (under, end) = none_stands (eqb id.0 0) RootFixed None rest in
     cut (with_members_moved_up state id) (λ channel. not (is_below state.tree.channels id channel)) (moved_proper state id proper there)
-    ((removes_both_ways (channel_limit state) state.tree id proper.tree there).0 allowed)
+    ((removes_both_ways state.tree id proper.tree there).0 allowed)
     (moved_stay state.tree id state.roster.sessions proper.tree there under proper.inside)
 
 -- nothing stands against a removal exactly where the state after it is proper
@@ -68,5 +73,5 @@ pub removals_both_ways : (state : StateValue) (id : ChannelId) → IsProper stat
     → (is_none (fault_of_remove state.tree id) ≡ true) ↔ IsProper (with_tree (with_members_moved_up state id) (without_subtree state.tree id))
 removals_both_ways state id proper there = (
   λ allowed. remove_to state id proper there (none_is (fault_of_remove state.tree id) allowed),
-  λ after. is_none_of (fault_of_remove state.tree id) ((removes_both_ways (channel_limit state) state.tree id proper.tree there).1 after.tree),
+  λ after. is_none_of (fault_of_remove state.tree id) ((removes_both_ways state.tree id proper.tree there).1 after.tree),
 )

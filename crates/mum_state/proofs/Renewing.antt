@@ -23,7 +23,7 @@ use Rattle.mum_users.specs.Targets.{targeted}
 use Rattle.mum_users.specs.declared.target.Target.{Target}
 use Rattle.mum_users.proofs.Counts.{some_from}
 use Rattle.mum_state.specs.declared.edit.Edit.{Edit}
-use Rattle.mum_state.specs.declared.edit.Edit.TheVariants.{AddAccount, EditChannel, Join, Kick, Leave, MakeChannel, RemoveChannel, SetAcl, SetServer, SetTarget, SetTokens, SetUser, Text}
+use Rattle.mum_state.specs.declared.edit.Edit.TheVariants.{AddAccount, EditChannel, Join, Kick, Leave, MakeChannel, RemoveChannel, SetAcl, SetLimits, SetServer, SetTarget, SetTokens, SetUser, Text}
 use Rattle.mum_state.specs.Counts.{renews}
 use Rattle.mum_state.specs.Fits.{fits}
 use Rattle.mum_state.specs.Followed.{enters, is_slot_of_maker, may_renew}
@@ -140,7 +140,7 @@ renews_user state session actor channel mute deaf clear_suppress priority self_m
 -- ---- a maker that enters its channel
 
 -- a channel that is there has a number that was given
-pub there_known : {limit : ℕ} (tree : TreeState) (id : ChannelId) → IsProperTree limit tree → is_there tree.channels id ≡ true → id.0 ≤ tree.greatest
+pub there_known : (tree : TreeState) (id : ChannelId) → IsProperTree tree → is_there tree.channels id ≡ true → id.0 ≤ tree.greatest
 there_known tree id proper there =
     let (row, found) = some_row (row_of tree.channels id) there in
     let known : number row ≤ tree.greatest = found_passes (λ one. number one ≤ tree.greatest) tree.channels id row proper.known found in
@@ -185,7 +185,7 @@ maker_moves state edit maker id proper above set_is no_tokens slot =
 -- ---- members that are moved up
 
 -- nobody is below a channel who is in its parent
-pub parent_off : {limit : ℕ} (tree : TreeState) (id : ChannelId) → IsProperTree limit tree → is_there tree.channels id ≡ true → (id.0 == 0) ≡ false → is_below tree.channels id (parent_of tree id) ≡ false
+pub parent_off : (tree : TreeState) (id : ChannelId) → IsProperTree tree → is_there tree.channels id ≡ true → (id.0 == 0) ≡ false → is_below tree.channels id (parent_of tree id) ≡ false
 parent_off tree id proper there under =
     let stays : (is_there tree.channels (parent_of tree id) && not (is_below tree.channels id (parent_of tree id))) ≡ true =
     sym (there_without_subtree tree id (parent_of tree id)) ∙ parent_stays tree id proper there under in
@@ -267,6 +267,7 @@ renews_maker state id parent name true info (Some maker) proper fit slot =
 
 pub renews_nobody : (state : StateValue) (edit : Edit) → IsProper state → may_renew edit ≡ false → (slot : ℕ) → false ≡ renews state edit slot
 renews_nobody state (SetServer welcome bandwidth password) proper none slot = sym (nobody_renewed state (SetServer welcome bandwidth password) state.roster.sessions (all_old state proper) refl (λ user. refl) slot)
+renews_nobody state (SetLimits sessions channels) proper none slot = sym (nobody_renewed state (SetLimits sessions channels) state.roster.sessions (all_old state proper) refl (λ user. refl) slot)
 renews_nobody state (AddAccount account name digest) proper none slot = sym (nobody_renewed state (AddAccount account name digest) state.roster.sessions (all_old state proper) refl (λ user. refl) slot)
 renews_nobody state (Leave session) proper none slot = sym (leavers state (Leave session) session proper refl (λ user. refl) slot)
 renews_nobody state (Kick session actor reason ban) proper none slot = sym (leavers state (Kick session actor reason ban) session proper refl (λ user. refl) slot)

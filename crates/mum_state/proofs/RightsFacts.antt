@@ -1,11 +1,11 @@
 -- What a session may do in a channel of a state, worked out on small states.
 use Rattle.std.proofs.Common.{◌≡◌, ℕ, zero, suc, ◌+◌, ◌-◌, List, [], ◌∷◌, ◌++◌, codes, map, Option, Some, None, refl}
 use Rattle.std.specs.Option.{option_map}
-use Rattle.mum_base.specs.declared.perm.TheConstants.Perm.{ALL, ENTER, MAKE_CHANNEL, MOVE, START, TRAVERSE, WHISPER}
+use Rattle.mum_base.specs.declared.perm.TheConstants.Perm.{ALL, ENTER, MAKE_CHANNEL, MOVE, SPEAK, START, TRAVERSE, WHISPER}
 use Rattle.mum_policy.specs.declared.policy.ChannelPolicy.{ChannelPolicy}
 use Rattle.mum_policy.specs.Member.{Asker}
 use Rattle.mum_policy.proofs.Scenes.{afresh, defines, denies, everybody, grants, group, one, plain, the_account, those_in, two}
-use Rattle.mum_tree.specs.Rows.{row_of}
+use Rattle.mum_tree.specs.Rows.{path, row_of}
 use Rattle.mum_tree.proofs.Scenes.{two_letters}
 use Rattle.mum_users.proofs.Scenes.{account, channel}
 use Rattle.mum_state.specs.declared.edit.Edit.{Edit}
@@ -77,6 +77,13 @@ pub record SessionsMay : Type 0 where
       let made = join 1 0 ann ∷ make 1 0 a ∷ make 2 0 b ∷ make 3 1 c ∷ set_policy 1 (one (denies everybody ENTER)) ∷ [] in
       (rights_in made 1 3 ≡ Some (start - ENTER.0)) × (rights_in (made ++ move 3 2 ∷ []) 1 3 ≡ Some start)
       × (rights_in (made ++ move 3 2 ∷ move 2 1 ∷ []) 1 3 ≡ Some (start - ENTER.0))
+  pub below_a_channel_that_it_enters :
+      let made = join 1 0 ann ∷ make 1 0 a ∷ make 2 1 b ∷ set_policy 1 (one (grants (those_in (codes "sub")) MOVE)) ∷ [] in
+      (rights_in made 1 1 ≡ Some start) × (rights_in (made ++ enter 1 1 ∷ []) 1 1 ≡ Some start)
+      × (rights_in (made ++ enter 1 2 ∷ []) 1 1 ≡ Some (start + MOVE.0))
+  pub below_a_channel_under_which_its_own_is_moved :
+      let made = join 1 0 ann ∷ make 1 0 a ∷ make 2 1 b ∷ make 4 0 c ∷ enter 1 4 ∷ set_policy 2 (one (denies (those_in (codes "sub,-1")) SPEAK)) ∷ [] in
+      (rights_in made 1 2 ≡ Some 0xB0E) × (rights_in (made ++ move 4 1 ∷ []) 1 2 ≡ Some 0xB06)
 
 pub sessions_may : SessionsMay
 unfolding state
@@ -91,12 +98,15 @@ sessions_may = record {
   along_a_path_of_33 = (refl, refl, refl);
   where_numbers_and_places_are_not_the_same = (refl, refl);
   a_channel_takes_its_policy_along = (refl, refl, refl);
+  below_a_channel_that_it_enters = (refl, refl, refl);
+  below_a_channel_under_which_its_own_is_moved = (refl, refl);
 }
 
 -- ---- the same of any asker: with these tokens, by this account or none, from this channel
 
 abbrev asker : Option ℕ → ℕ → List (List ℕ) → Asker
-asker owner where_from tokens = record { account = option_map account owner; channel = channel where_from; tokens = tokens }
+asker owner where_from tokens =
+    record { account = option_map account owner; channel = channel where_from; tokens = tokens; home = path (state (make 1 0 a ∷ [])).tree.channels (channel where_from) }
 
 abbrev guest : Asker
 guest = asker None 0 []

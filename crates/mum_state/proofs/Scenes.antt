@@ -5,6 +5,7 @@ use Rattle.std.specs.Option.{option_map}
 use Rattle.mum_policy.specs.declared.policy.ChannelPolicy.{ChannelPolicy}
 use Rattle.mum_policy.specs.Member.{definition, definitions_from, has_token, is_in, is_listed, meets, member, members}
 use Rattle.mum_policy.specs.Name.{asked_by, is_built_in_without_members, meaning, understood_after}
+use Rattle.mum_policy.specs.Subtree.{is_below, offset_of, span_of}
 use Rattle.mum_policy.specs.Walk.{after_channel, after_entries, after_match, along, is_root, matches, perm}
 use Rattle.mum_tree.specs.declared.channel.Channel.{Channel}
 use Rattle.mum_tree.specs.Change.{Change}
@@ -19,15 +20,19 @@ use Rattle.mum_users.specs.Listeners.{pairs_of}
 use Rattle.mum_users.specs.Sessions.{session_of}
 use Rattle.mum_users.proofs.Scenes.{account, channel, session, slot, target, to_channel, to_listen, unchanged}
 use Rattle.mum_state.specs.declared.edit.Edit.{Edit}
-use Rattle.mum_state.specs.declared.edit.Edit.TheVariants.{AddAccount, EditChannel, Join, Kick, Leave, MakeChannel, RemoveChannel, SetAcl, SetTarget, SetTokens, SetUser}
+use Rattle.mum_state.specs.declared.edit.Edit.TheVariants.{AddAccount, EditChannel, Join, Kick, Leave, MakeChannel, RemoveChannel, SetAcl, SetLimits, SetTarget, SetTokens, SetUser}
 use Rattle.mum_state.specs.After.{after}
 use Rattle.mum_state.specs.Permissions.{perm_of}
 use Rattle.mum_state.specs.State.{StateValue, policy_of}
 
 -- the state to which edits lead from the empty one; this opens all that it computes with
 unfoldable pub state : List Edit → StateValue
-unfolding first_place upward perm is_root along after_channel after_entries after_match matches member meets is_in has_token is_listed members definition definitions_from understood_after asked_by meaning is_built_in_without_members
+unfolding first_place upward perm is_root along after_channel after_entries after_match matches member meets is_in has_token is_listed members definition definitions_from understood_after asked_by meaning is_built_in_without_members is_below span_of offset_of
 state edits = after edits
+
+-- these limits of sessions and of channels
+abbrev pub set_limits : ℕ → ℕ → Edit
+set_limits sessions channels = SetLimits sessions channels
 
 -- ---- accounts and sessions
 

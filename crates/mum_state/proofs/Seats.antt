@@ -1,36 +1,27 @@
 -- While a session is there it keeps its slot, and a channel keeps its place.
-use Rattle.std.proofs.Common.{◌≡◌, ℕ, ◌<◌, ◌≤◌, ◌==◌, not, Bool, true, false, cond, List, [], ◌∷◌, ◌++◌, refl, sym, ap, subst, ◌∙◌, arith, Some, None, nat_lt, IsTrue, inl, inr}
+use Rattle.std.proofs.Common.{◌≡◌, ℕ, ◌<◌, ◌≤◌, ◌==◌, true, List, [], ◌∷◌, sym, ap, ◌∙◌, arith, Some, IsTrue, inl, inr}
 use Rattle.std.specs.List.{count_by}
-use Rattle.std.proofs.lemmas.Bool.{and_parts, cases_lt, eq-eqb, eqb-true, ltb-true}
+use Rattle.std.proofs.lemmas.Bool.{cases_lt, eq-eqb, eqb-true}
 use Rattle.std.proofs.lemmas.Option.{same_Some}
 use Rattle.mum_base.specs.declared.number.ChannelId.{ChannelId}
 use Rattle.mum_base.specs.declared.number.SessionId.{SessionId}
 use Rattle.mum_base.specs.declared.number.Slot.{Slot}
-use Rattle.mum_tree.specs.declared.channel.Channel.{Channel}
 use Rattle.mum_tree.specs.declared.channel.Row.{Row}
-use Rattle.mum_tree.specs.Change.{with_given}
-use Rattle.mum_tree.specs.Places.{least_place}
-use Rattle.mum_tree.specs.Rows.{is_below, number, row_of}
-use Rattle.mum_tree.specs.State.{TreeState, changed, new_row}
+use Rattle.mum_tree.specs.Rows.{number, row_of}
 use Rattle.mum_tree.proofs.Find.{row_of_at}
 use Rattle.mum_users.specs.declared.user.User.{User}
 use Rattle.mum_users.specs.Sessions.{session_of}
 use Rattle.mum_users.specs.State.{has_number}
 use Rattle.mum_state.specs.declared.edit.Edit.{Edit}
-use Rattle.mum_state.specs.declared.edit.Edit.TheVariants.{EditChannel, MakeChannel, RemoveChannel}
 use Rattle.mum_state.specs.After.{all_fit, led_to}
 use Rattle.mum_state.specs.Applied.{applied}
-use Rattle.mum_state.specs.Fits.{fits, gives_right_numbers}
 use Rattle.mum_state.specs.Laws.{HasPlace, IsInSlot, SeatsStand}
-use Rattle.mum_state.specs.Parts.{channel_parts}
 use Rattle.mum_state.specs.Proper.{IsProper}
-use Rattle.mum_state.specs.Set.{set_by}
 use Rattle.mum_state.specs.State.{StateValue}
-use Rattle.mum_state.specs.Suppression.{with_suppression}
 use Rattle.mum_state.proofs.Descent.{Descends, applied_descends, set_descends}
-use Rattle.mum_state.proofs.Each.{Each, each_append, each_filter, each_find, each_from_all, each_map, each_so, found_counts, only_found, shown}
-use Rattle.mum_state.proofs.Heard.{clearing_tree}
-use Rattle.mum_state.proofs.Numbers.{greatest_rises, last_rises, numbers_of_fitting}
+use Rattle.mum_state.proofs.Each.{Each, each_find, each_from_all, each_so, found_counts, only_found, shown}
+use Rattle.mum_state.proofs.Numbers.{last_rises}
+use Rattle.mum_state.proofs.RowsStay.{IsOfRows, rows_stay}
 
 -- ---- sessions
 
@@ -90,55 +81,12 @@ slots_stand state edits session slot later proper first last =
 abbrev IsPlaced : ℕ → ℕ → Row → Type 0
 IsPlaced channel place row = number row ≡ channel → row.place ≡ place
 
-module _ (channel place : ℕ) where
-  one_changed : (b : Bool) (row : Row) (change : Channel) → change.id ≡ row.channel.id → IsPlaced channel place row
-      → IsPlaced channel place (cond b (record row { channel = change }) row)
-  one_changed true row change same placed is = placed (ap (λ (id : ChannelId). id.0) (sym same) ∙ is)
-  one_changed false row change same placed is = placed is
+placed_keeps : (channel place : ℕ) → IsOfRows (IsPlaced channel place)
+placed_keeps channel place row change same placed is = placed (ap (λ (id : ChannelId). id.0) (sym same) ∙ is)
 
-  rows_changed : (id : ChannelId) (change : Channel → Channel) → ((one : Channel) → (change one).id ≡ one.id) → (rows : List Row)
-      → Each (IsPlaced channel place) rows → Each (IsPlaced channel place) (changed id change rows)
-  rows_changed id change same rows all =
-      each_map (IsPlaced channel place) (IsPlaced channel place) (λ row. cond (number row == id.0) (record row { channel = change row.channel }) row)
-      (λ row placed. one_changed (number row == id.0) row (change row.channel) (same row.channel) placed) rows all
-
-  rows_made : (tree : TreeState) (id parent : ChannelId) (name : List ℕ) (temporary : Bool) (change : Channel → Channel) → ((one : Channel) → (change one).id ≡ one.id)
-      → channel ≤ tree.greatest → IsTrue (nat_lt tree.greatest id.0) → Each (IsPlaced channel place) tree.channels
-      → Each (IsPlaced channel place) (changed id change (tree.channels ++ new_row (least_place tree.channels) id parent name temporary ∷ []))
-  rows_made tree id parent name temporary change same known above all =
-      let new : Row = new_row (least_place tree.channels) id parent name temporary in
-      let other : IsPlaced channel place new = λ is. absurd (omega (arith, known, ltb-true _ _ above, is)) in
-      rows_changed id change same (tree.channels ++ new ∷ [])
-      (each_append (IsPlaced channel place) tree.channels (new ∷ []) all (other, tt))
-
-  set_places : (state : StateValue) (edit : Edit) → IsTrue (gives_right_numbers state edit) → channel ≤ state.tree.greatest
-      → Each (IsPlaced channel place) state.tree.channels → Each (IsPlaced channel place) (set_by state edit).tree.channels
-  set_places state (MakeChannel id parent name temporary info None) right known all =
-      rows_made state.tree id parent name temporary (λ one. record one { info = info }) (λ one. refl) known right all
-  set_places state (MakeChannel id parent name true info (Some maker)) right known all =
-      rows_made state.tree id parent name true (λ one. record one { info = info }) (λ one. refl) known right all
-  set_places state (MakeChannel id parent name false info (Some maker)) right known all =
-      rows_made state.tree id parent name false (λ one. record one { info = info }) (λ one. refl) known right all
-  set_places state (EditChannel id actor name parent description position max_users links_add links_remove) right known all =
-      rows_changed id (with_given (channel_parts name parent description position max_users links_add links_remove)) (λ one. refl) state.tree.channels all
-  set_places state (RemoveChannel id actor) right known all =
-      each_filter (IsPlaced channel place) (λ row. not (is_below state.tree.channels id row.channel.id)) state.tree.channels all
-  set_places state edit right known all = all
-
-  place_stays : (state : StateValue) (edit : Edit) → IsTrue (fits state edit) → channel ≤ state.tree.greatest
-      → Each (IsPlaced channel place) state.tree.channels → Each (IsPlaced channel place) (applied state edit).tree.channels
-  place_stays state edit fit known all =
-      each_filter (IsPlaced channel place) _ _
-      (subst (λ (tree : TreeState). Each (IsPlaced channel place) tree.channels) (sym (clearing_tree edit (with_suppression state edit (set_by state edit))))
-      (set_places state edit (numbers_of_fitting state edit fit) known all))
-
-  places_stay : (state : StateValue) (edits : List Edit) → IsTrue (all_fit state edits) → channel ≤ state.tree.greatest
-      → Each (IsPlaced channel place) state.tree.channels → Each (IsPlaced channel place) (led_to state edits).tree.channels
-  places_stay state [] fit known all = all
-  places_stay state (edit ∷ edits) fit known all =
-      let (first, rest) = and_parts (fits state edit) (all_fit (applied state edit) edits) fit in
-      let rises : state.tree.greatest ≤ (applied state edit).tree.greatest = greatest_rises state edit first in
-      places_stay (applied state edit) edits rest (omega (arith, known, rises)) (place_stays state edit first known all)
+places_stay : (channel place : ℕ) (state : StateValue) (edits : List Edit) → IsTrue (all_fit state edits) → channel ≤ state.tree.greatest
+    → Each (IsPlaced channel place) state.tree.channels → Each (IsPlaced channel place) (led_to state edits).tree.channels
+places_stay channel place = rows_stay (IsPlaced channel place) (placed_keeps channel place) channel (λ row above is. absurd (omega (arith, above, is)))
 
 places_stand : (state : StateValue) (edits : List Edit) (channel : ChannelId) (place later : ℕ) → IsProper state → IsTrue (all_fit state edits)
     → HasPlace state channel place → HasPlace (led_to state edits) channel later → place ≡ later

@@ -9,7 +9,7 @@ use Rattle.mum_tree.specs.Refusals.{fault_of_remove}
 use Rattle.mum_tree.specs.Rows.{is_there}
 use Rattle.mum_tree.specs.State.{TreeState}
 use Rattle.mum_users.specs.declared.user.User.{User}
-use Rattle.mum_users.specs.declared.user.TheConstants.{SESSIONS}
+use Rattle.mum_base.specs.declared.number.TheConstants.{SLOTS}
 use Rattle.mum_users.specs.Edit.{UserEdit, changed_user}
 use Rattle.mum_users.specs.State.{has_number}
 use Rattle.mum_state.specs.declared.edit.Edit.{Edit}
@@ -111,7 +111,7 @@ pub record HaveRoom (counts : Counts) : Type 0 where
   pub policy : counts.policy ≤ 2 ^ 63
   pub routing : counts.routing ≤ 2 ^ 63
   pub slots : All (λ count. count ≤ 2 ^ 63) counts.slots
-  pub whole : length counts.slots ≡ SESSIONS
+  pub whole : length counts.slots ≡ SLOTS
 
 pub have_room : (state : StateValue) → IsProper state → HaveRoom state.counts
 have_room state proper =

@@ -1,9 +1,10 @@
 -- What each edit sets, what it leaves as it was, and what it counts, worked out on small states.
-use Rattle.std.proofs.Common.{◌≡◌, ℕ, true, false, List, [], ◌∷◌, ◌++◌, codes, map, replicate, Option, Some, None}
+use Rattle.std.proofs.Common.{◌≡◌, ℕ, true, false, List, [], ◌∷◌, ◌++◌, codes, map, replicate, Option, Some, None, refl}
 use Rattle.std.specs.Option.{option_map}
 use Rattle.mum_base.specs.declared.perm.TheConstants.Perm.{MOVE, SPEAK, ENTER}
 use Rattle.mum_policy.proofs.Scenes.{denies, everybody, grants, one, plain}
 use Rattle.mum_tree.proofs.Scenes.{to_links, to_name, to_parent, unchanged as same_channel}
+use Rattle.mum_tree.specs.State.{root_alone}
 use Rattle.mum_users.specs.declared.flags.FlagChange.{FlagChange}
 use Rattle.mum_users.specs.Targets.{target_of}
 use Rattle.mum_users.proofs.Scenes.{account, channel, item_channel, item_sessions, row, same_flags, session, target, to_listen, unchanged}
@@ -12,8 +13,8 @@ use Rattle.mum_users.specs.State.{empty_roster}
 use Rattle.mum_state.specs.declared.account.Account.{Account}
 use Rattle.mum_state.specs.declared.edit.Edit.{Edit}
 use Rattle.mum_state.specs.declared.edit.Edit.TheVariants.{SetServer, Text}
-use Rattle.mum_state.specs.State.{StateValue, account_named, empty_state}
-use Rattle.mum_state.proofs.Scenes.{add_account, channels_in, counts_in, digest, edit, edit_by, enter, join, join_as, kick, leave, link, listen, listened_in, make, make_by, make_temporary, move, places_in, policy_in, remove, row_in, sessions_in, set_policy, set_policy_by, set_target, set_tokens, set_user, set_user_by, slots_in, state, suppressed_in}
+use Rattle.mum_state.specs.State.{StateValue, account_named, empty_state, no_counts}
+use Rattle.mum_state.proofs.Scenes.{add_account, channels_in, counts_in, digest, edit, edit_by, enter, join, join_as, kick, leave, link, listen, listened_in, make, make_by, make_temporary, move, places_in, policy_in, remove, row_in, sessions_in, set_limits, set_policy, set_policy_by, set_target, set_tokens, set_user, set_user_by, slots_in, state, suppressed_in}
 
 abbrev ann : List ℕ
 ann = codes "ann"
@@ -58,6 +59,21 @@ pub configurations_set : ConfigurationsSet
 unfolding state
 configurations_set = search
 
+-- ---- limits: the routing count
+
+pub record LimitsRise : Type 0 where
+  pub both_and_the_routing_count :
+      state (set_limits 512 2048 ∷ [])
+      ≡ record empty_state {
+        tree = record root_alone { limit = 2048 };
+        roster = record empty_roster { limit = 512 };
+        counts = record no_counts { routing = 1 };
+      }
+
+pub limits_rise : LimitsRise
+unfolding state
+limits_rise = record { both_and_the_routing_count = refl }
+
 -- ---- sessions come and go: the revision, the routing count, and the count of the slot of one that joins
 
 abbrev two_joined : List Edit
@@ -71,7 +87,7 @@ pub record SessionsComeAndGo : Type 0 where
       state (join 1 0 ann ∷ [])
       ≡ record empty_state {
         roster = record empty_roster { sessions = row 1 0 ann ∷ []; last = 1 };
-        counts = record { revision = 1; policy = 0; routing = 1; slots = 1 ∷ replicate 127 0 };
+        counts = record { revision = 1; policy = 0; routing = 1; slots = 1 ∷ replicate 511 0 };
       }
   pub with_an_account_and_tokens :
       row_in (add_account 7 (codes "zoe") ∷ join_as 1 0 (codes "zoe") (Some 7) (codes "key" ∷ codes "word" ∷ []) ∷ []) 1

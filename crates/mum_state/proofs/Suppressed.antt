@@ -1,15 +1,10 @@
 -- Suppression, set anew or cleared, changes whether sessions may speak, and nothing else.
-use Rattle.std.proofs.Common.{◌≡◌, ℕ, ◌==◌, not, Bool, true, false, cond, List, [], ◌∷◌, map, refl, sym, ap, ◌∙◌, count_by}
-use Rattle.std.specs.Str.{bytes_eq}
+use Rattle.std.proofs.Common.{◌≡◌, not, Bool, true, false, cond, List, [], ◌∷◌, map, refl, ap, ◌∙◌}
 use Rattle.mum_base.specs.declared.number.ChannelId.{ChannelId}
-use Rattle.mum_base.specs.declared.number.SessionId.{SessionId}
 use Rattle.mum_tree.specs.Rows.{is_there}
 use Rattle.mum_users.specs.declared.user.User.{User}
-use Rattle.mum_users.specs.Proper.{IsProper as IsProperRoster}
-use Rattle.mum_users.specs.State.{RosterState, has_name, has_number, is_in}
-use Rattle.mum_users.proofs.Counts.{count_by-map}
-use Rattle.mum_users.proofs.Rosters.{KeepsIdentity}
-use Rattle.mum_users.proofs.Slots.{SlotsRise-map}
+use Rattle.mum_users.specs.State.{has_number, is_in}
+use Rattle.mum_users.proofs.Rosters.{IsProper-mapped}
 use Rattle.mum_state.specs.declared.edit.Edit.{Edit}
 use Rattle.mum_state.specs.declared.edit.Edit.TheVariants.{SetUser}
 use Rattle.mum_state.specs.Emptied.{has_member}
@@ -18,28 +13,6 @@ use Rattle.mum_state.specs.Proper.{IsProper, is_sound_user}
 use Rattle.mum_state.specs.State.{StateValue}
 use Rattle.mum_state.specs.Suppression.{heard_anew, is_set_anew, with_clearing, with_suppression}
 use Rattle.mum_state.proofs.Listed.{all_map, any_map, map_same, map_twice}
-
--- a roster stays proper where each row changes and keeps what it is found by
-pub roster_mapped : {limit : ℕ} (roster : RosterState) (f : User → User) → KeepsIdentity f → IsProperRoster limit roster → IsProperRoster limit (record roster { sessions = map f roster.sessions })
-roster_mapped {limit} roster f keeps proper =
-    let counts : (s : SessionId) → count_by (has_number s) (map f roster.sessions) ≡ count_by (has_number s) roster.sessions =
-    λ s. count_by-map (has_number s) f (λ user. ap (λ (n : SessionId). n.0 == s.0) (keeps.session user)) roster.sessions in
-    let names : (n : List ℕ) → count_by (has_name n) (map f roster.sessions) ≡ count_by (has_name n) roster.sessions =
-    λ n. count_by-map (has_name n) f (λ user. ap (λ (m : List ℕ). bytes_eq m n) (keeps.name user)) roster.sessions in
-    record {
-      slots = SlotsRise-map limit f (λ user. ap (λ s. s.0) (keeps.slot user)) 0 roster.sessions proper.slots;
-      numbers = λ s. rw (counts s) (proper.numbers s);
-      names = λ n. rw (names n) (proper.names n);
-      given = λ s lt. counts s ∙ proper.given s lt;
-      last_fits = proper.last_fits;
-      listeners_here = λ s none. proper.listeners_here s (sym (counts s) ∙ none);
-      few_listeners = proper.few_listeners;
-      few_channels = proper.few_channels;
-      listeners_rise = proper.listeners_rise;
-      targets_here = λ s none. proper.targets_here s (sym (counts s) ∙ none);
-      targets_sound = proper.targets_sound;
-      targets_rise = proper.targets_rise;
-    }
 
 -- a session that may speak or not
 abbrev pub heard : (User → Bool) → User → User
@@ -108,7 +81,7 @@ heard_proper silent state proper = record {
   channels = proper.channels;
   policies = proper.policies;
   sound_policies = proper.sound_policies;
-  roster = roster_mapped state.roster (heard silent) (record { session = λ user. refl; slot = λ user. refl; name = λ user. refl }) proper.roster;
+  roster = IsProper-mapped state.roster (heard silent) (record { session = λ user. refl; slot = λ user. refl; name = λ user. refl; silence = λ user mute. mute }) proper.roster;
   users = all_map is_sound_user is_sound_user (heard silent) (λ user sound. sound) state.roster.sessions proper.users;
   inside = all_map (λ user. is_there state.tree.channels user.channel) (λ user. is_there state.tree.channels user.channel) (heard silent) (λ user there. there) state.roster.sessions proper.inside;
   listening = proper.listening;

@@ -9,7 +9,7 @@ use Rattle.mum_users.specs.declared.user.User.{User}
 use Rattle.mum_users.specs.State.{has_number, is_in}
 use Rattle.mum_state.specs.declared.count.TheConstants.{EDIT_LIMIT}
 use Rattle.mum_state.specs.declared.edit.Edit.{Edit}
-use Rattle.mum_state.specs.declared.edit.Edit.TheVariants.{AddAccount, EditChannel, MakeChannel, SetAcl, SetServer, SetTokens, Text}
+use Rattle.mum_state.specs.declared.edit.Edit.TheVariants.{AddAccount, EditChannel, MakeChannel, SetAcl, SetLimits, SetServer, SetTokens, Text}
 use Rattle.mum_state.specs.Counts.{counts_after, raised_slots, raised_where, renews}
 use Rattle.mum_state.specs.Emptied.{empties, has_member, is_emptied}
 use Rattle.mum_state.specs.Fits.{has_room_for, is_countable}
@@ -72,10 +72,10 @@ or_false : (a b : Bool) → b ≡ false → (a || b) ≡ a
 or_false true b off = refl
 or_false false b off = off
 
-tally : (slots : ℕ) (counts : Counts) (configured paths emptied routes : Bool) (renewed : ℕ → Bool) → AreCounts slots counts
+tally : (counts : Counts) (configured paths emptied routes : Bool) (renewed : ℕ → Bool) → AreCounts counts
     → (configured ≡ true → emptied ≡ false) → (configured ≡ true → (slot : ℕ) → renewed slot ≡ false)
-    → has_room counts configured paths routes ≡ true → AreCounts slots (tallied counts configured paths emptied routes renewed)
-tally slots counts true paths emptied routes renewed are quiet still room =
+    → has_room counts configured paths routes ≡ true → AreCounts (tallied counts configured paths emptied routes renewed)
+tally counts true paths emptied routes renewed are quiet still room =
     let rooms = and_parts (has_room_for paths counts.revision counts.policy) (has_room_for routes counts.revision counts.routing) room in
     record {
       revision = are.revision;
@@ -84,7 +84,7 @@ tally slots counts true paths emptied routes renewed are quiet still room =
       each = subst (λ (each : List ℕ). All (IsNear counts.revision) each) (sym (none_raised renewed 0 counts.slots (still refl))) are.each;
       one_each = length_raised renewed 0 counts.slots ∙ are.one_each;
     }
-tally slots counts false paths emptied routes renewed are quiet still room =
+tally counts false paths emptied routes renewed are quiet still room =
     let below : counts.revision < EDIT_LIMIT = ltb-true counts.revision EDIT_LIMIT room in
     record {
       revision = next counts.revision EDIT_LIMIT below;
@@ -102,13 +102,13 @@ raised_more true b count limit most = most
 raised_more false true count limit most = omega arith
 raised_more false false count limit most = most
 
-tally_back : (slots : ℕ) (counts : Counts) (configured paths emptied routes : Bool) (renewed : ℕ → Bool)
-    → AreCounts slots (tallied counts configured paths emptied routes renewed) → has_room counts configured paths routes ≡ true
-tally_back slots counts true paths emptied routes renewed are =
+tally_back : (counts : Counts) (configured paths emptied routes : Bool) (renewed : ℕ → Bool)
+    → AreCounts (tallied counts configured paths emptied routes renewed) → has_room counts configured paths routes ≡ true
+tally_back counts true paths emptied routes renewed are =
     and_from (has_room_for paths counts.revision counts.policy) (has_room_for routes counts.revision counts.routing)
     (room_back EDIT_LIMIT counts.revision counts.policy paths (raised_more paths emptied counts.policy (counts.revision + EDIT_LIMIT) are.policy))
     (room_back EDIT_LIMIT counts.revision counts.routing routes are.routing)
-tally_back slots counts false paths emptied routes renewed are = next counts.revision EDIT_LIMIT are.revision
+tally_back counts false paths emptied routes renewed are = next counts.revision EDIT_LIMIT are.revision
   where
     next : (n limit : ℕ) → n + 1 ≤ limit → ltb n limit ≡ true
     next n limit most = lt-ltb n limit (omega arith)
@@ -117,6 +117,7 @@ tally_back slots counts false paths emptied routes renewed are = next counts.rev
 
 same_sessions : (state : StateValue) (edit : Edit) → is_of_configuration edit ≡ true → (set_by state edit).roster.sessions ≡ state.roster.sessions
 same_sessions state (SetServer welcome bandwidth password) is = refl
+same_sessions state (SetLimits sessions channels) is = refl
 same_sessions state (AddAccount account name digest) is = refl
 same_sessions state (MakeChannel id parent name temporary info None) is = refl
 same_sessions state (EditChannel id actor name parent description position max_users links_add links_remove) is = refl
@@ -165,11 +166,11 @@ quiet_slots state edit is slot =
 
 -- ---- both ways
 
-pub counts_fit : (slots : ℕ) (state : StateValue) (edit : Edit) → AreCounts slots state.counts → is_countable state edit ≡ true → AreCounts slots (counts_after state edit)
-counts_fit slots state edit are room =
-    tally slots state.counts (is_of_configuration edit) (changes_paths edit) (empties state (set_by state edit)) (changes_routes edit) (renews state edit) are
+pub counts_fit : (state : StateValue) (edit : Edit) → AreCounts state.counts → is_countable state edit ≡ true → AreCounts (counts_after state edit)
+counts_fit state edit are room =
+    tally state.counts (is_of_configuration edit) (changes_paths edit) (empties state (set_by state edit)) (changes_routes edit) (renews state edit) are
     (quiet_channels state edit) (quiet_slots state edit) room
 
-pub counts_back : (slots : ℕ) (state : StateValue) (edit : Edit) → AreCounts slots (counts_after state edit) → is_countable state edit ≡ true
-counts_back slots state edit are =
-    tally_back slots state.counts (is_of_configuration edit) (changes_paths edit) (empties state (set_by state edit)) (changes_routes edit) (renews state edit) are
+pub counts_back : (state : StateValue) (edit : Edit) → AreCounts (counts_after state edit) → is_countable state edit ≡ true
+counts_back state edit are =
+    tally_back state.counts (is_of_configuration edit) (changes_paths edit) (empties state (set_by state edit)) (changes_routes edit) (renews state edit) are

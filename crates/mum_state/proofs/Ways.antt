@@ -91,7 +91,7 @@ each_starts rows =
     (λ row here. any_map (λ (one : Pair). one.0.0 == number row) (λ one. number one == number row) edge (λ one. refl) rows ∙ here)
     rows (each_self (λ row one. number one == number row) (λ row. eq-eqb (number row) (number row) refl) rows)
 
-each_of_mapped : {X Y : Type 0} (P : Y → Type 0) (f : X → Y) (xs : List X) → Each P (map f xs) → Each (λ x. P (f x)) xs
+pub each_of_mapped : {X Y : Type 0} (P : Y → Type 0) (f : X → Y) (xs : List X) → Each P (map f xs) → Each (λ x. P (f x)) xs
 each_of_mapped P f [] all = tt
 each_of_mapped P f (x ∷ xs) all = (all.0, each_of_mapped P f xs all.1)
 

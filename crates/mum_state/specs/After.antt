@@ -13,11 +13,11 @@ led_to state edits = fold applied state edits
 abbrev pub after : List Edit → StateValue
 after edits = led_to empty_state edits
 
--- the state after so many of the accepted edits
+-- the state after the first of the accepted edits, as many as this
 abbrev pub at : StateValue → List Edit → ℕ → StateValue
 at opening accepted revision = led_to opening (take revision accepted)
 
--- each edit fits where it stands
+-- each edit fits at its place
 abbrev pub all_fit : StateValue → List Edit → Bool
 all_fit state [] = true
 all_fit state (edit ∷ edits) = fits state edit && all_fit (applied state edit) edits

@@ -6,7 +6,7 @@ use Rattle.mum_state.specs.Set.{set_by}
 use Rattle.mum_state.specs.State.{StateValue}
 use Rattle.mum_state.specs.Suppression.{with_clearing, with_suppression}
 
--- What the edit sets; who may speak, set anew, and cleared where the same edit asks for it; without a temporary
+-- What the edit sets; who may speak, set again, and cleared where the same edit asks for it; without a temporary
 -- channel that it emptied; and counted.
 abbrev pub applied : StateValue → Edit → StateValue
 applied state edit =

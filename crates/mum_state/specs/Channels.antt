@@ -30,7 +30,7 @@ root_channel = record { tree = root_alone; policies = policy_row ROOT ∷ [] }
 abbrev pub policy_map : ChannelsState → PolicyMap
 policy_map channels id = option_map (λ row. row.policy) (find (λ row. row.channel.0 == id.0) channels.policies)
 
--- what whoever asks may do in a channel
+-- what the asker may do in a channel
 abbrev pub granted_in : ChannelsState → Asker → ChannelId → ℕ
 granted_in channels who channel = perm (policy_map channels) (path channels.tree.channels channel) who
 
@@ -46,7 +46,7 @@ visits_in channels who channel =
 
 -- the session may speak where it is
 abbrev pub speaks_in : ChannelsState → User → Bool
-speaks_in channels user = holds (granted_in channels (asker user) user.channel) SPEAK.0
+speaks_in channels user = holds (granted_in channels (asker channels.tree user) user.channel) SPEAK.0
 
 -- the same, where that channel is there
 abbrev pub speaks_where_in : ChannelsState → User → Bool

@@ -1,7 +1,8 @@
 -- Which edits fit a state.
-use Rattle.std.specs.Prelude.{ℕ, ◌+◌, ◌==◌, ◌&&◌, ◌||◌, not, nat_lt, Bool, true, length, Option, is_none, if◌then◌else◌}
+use Rattle.std.specs.Prelude.{ℕ, ◌+◌, ◌==◌, ◌&&◌, ◌||◌, not, nat_le, nat_lt, Bool, true, length, Option, is_none, if◌then◌else◌}
 use Rattle.std.specs.List.{list_any}
 use Rattle.std.specs.Option.{option_map_or}
+use Rattle.mum_base.specs.declared.number.TheConstants.{PLACES, SLOTS}
 use Rattle.mum_tree.specs.Change.{fault_of_edit}
 use Rattle.mum_tree.specs.Refusals.{fault_of_add, fault_of_remove}
 use Rattle.mum_users.specs.declared.target.TheConstants.{LAST_TARGET}
@@ -12,36 +13,38 @@ use Rattle.mum_users.specs.Targets.{is_oversize}
 use Rattle.mum_state.specs.declared.account.TheConstants.{ACCOUNT_LIMIT}
 use Rattle.mum_state.specs.declared.count.TheConstants.{EDIT_LIMIT}
 use Rattle.mum_state.specs.declared.edit.Edit.{Edit}
-use Rattle.mum_state.specs.declared.edit.Edit.TheVariants.{AddAccount, EditChannel, Join, MakeChannel, RemoveChannel, SetAcl, SetServer, SetTarget, SetTokens, SetUser}
+use Rattle.mum_state.specs.declared.edit.Edit.TheVariants.{AddAccount, EditChannel, Join, MakeChannel, RemoveChannel, SetAcl, SetLimits, SetServer, SetTarget, SetTokens, SetUser}
 use Rattle.mum_state.specs.Kinds.{changes_paths, changes_routes, is_of_configuration}
 use Rattle.mum_state.specs.Named.{names_there}
 use Rattle.mum_state.specs.Parts.{channel_parts, user_parts}
 use Rattle.mum_state.specs.Proper.{is_name, is_short, is_sound_policy, is_text}
-use Rattle.mum_state.specs.State.{StateValue, channel_limit, has_account, is_named, session_limit}
+use Rattle.mum_state.specs.State.{StateValue, has_account, is_named}
 
 -- it holds of the value that is given, if one is
 abbrev pub holds_of_given : {X : Type 0} → (X → Bool) → Option X → Bool
 holds_of_given test value = option_map_or test value true
 
--- a new session has the next number and the least free slot, a new channel a number above all that channels had, and
--- a voice target a number from 1 to 30
+-- a new session has the next number and the least free slot, a new channel a number above all that channels had, a
+-- voice target a number from 1 to 30, and no limit falls
 abbrev pub gives_right_numbers : StateValue → Edit → Bool
 gives_right_numbers state (Join session slot name account tokens) =
     (session.0 == (next_number state.roster).0) && (slot.0 == (next_slot state.roster).0)
 gives_right_numbers state (MakeChannel id parent name temporary info maker) = nat_lt state.tree.greatest id.0
 gives_right_numbers state (SetTarget session id target) = not ((id == 0) || nat_lt LAST_TARGET id)
+gives_right_numbers state (SetLimits sessions channels) = nat_le state.roster.limit sessions && nat_le state.tree.limit channels
 gives_right_numbers state edit = true
 
 -- what it sets is as it may be: where this holds of an edit that names what is there, the state stays proper
 abbrev pub sets_properly : StateValue → Edit → Bool
 sets_properly state (SetServer welcome bandwidth password) = is_text welcome
+sets_properly state (SetLimits sessions channels) = nat_le sessions SLOTS && nat_le channels PLACES
 sets_properly state (AddAccount account name digest) =
     not (has_account state account) && not (list_any (is_named name) state.accounts)
     && is_short name && nat_lt (length state.accounts) ACCOUNT_LIMIT
 sets_properly state (Join session slot name account tokens) =
-    is_none (join_fault (session_limit state) state.roster name) && is_short name && are_tokens tokens
+    is_none (join_fault state.roster name) && is_short name && are_tokens tokens
 sets_properly state (MakeChannel id parent name temporary info maker) =
-    is_none (fault_of_add (channel_limit state) state.tree id parent name) && is_name name && is_text info.description
+    is_none (fault_of_add state.tree id parent name) && is_name name && is_text info.description
 sets_properly state (EditChannel id actor name parent description position max_users links_add links_remove) =
     is_none (fault_of_edit state.tree id (channel_parts name parent description position max_users links_add links_remove))
     && holds_of_given is_name name && holds_of_given is_text description
@@ -58,7 +61,7 @@ sets_properly state edit = true
 abbrev pub has_room_for : Bool → ℕ → ℕ → Bool
 has_room_for raises revision count = not raises || nat_lt count (revision + EDIT_LIMIT)
 
--- it can be counted: sessions make so many edits, and a configuration raises no count far above them
+-- it can be counted: sessions make no more edits than the limit, and a configuration raises no count far above them
 abbrev pub is_countable : StateValue → Edit → Bool
 is_countable state edit =
     if is_of_configuration edit

@@ -3,11 +3,12 @@ use Rattle.std.specs.Prelude.{◌==◌, ◌&&◌, not, Bool, true, false, List, 
 use Rattle.mum_users.specs.declared.user.User.{User}
 use Rattle.mum_users.specs.State.{has_number}
 use Rattle.mum_state.specs.declared.edit.Edit.{Edit}
-use Rattle.mum_state.specs.declared.edit.Edit.TheVariants.{AddAccount, EditChannel, MakeChannel, RemoveChannel, SetAcl, SetServer, SetTokens, SetUser, Text}
+use Rattle.mum_state.specs.declared.edit.Edit.TheVariants.{AddAccount, EditChannel, Kick, Leave, MakeChannel, RemoveChannel, SetAcl, SetLimits, SetServer, SetTokens, SetUser, Text}
 
 -- it is a configuration's, which has no actor and no maker, and no session's
 abbrev pub is_of_configuration : Edit → Bool
 is_of_configuration (SetServer welcome bandwidth password) = true
+is_of_configuration (SetLimits sessions channels) = true
 is_of_configuration (AddAccount account name digest) = true
 is_of_configuration (MakeChannel id parent name temporary info maker) = is_none maker
 is_of_configuration (EditChannel id actor name parent description position max_users links_add links_remove) = is_none actor
@@ -21,6 +22,14 @@ changes_channels (EditChannel id actor name parent description position max_user
 changes_channels (RemoveChannel id actor) = true
 changes_channels (SetAcl channel actor policy) = true
 changes_channels edit = false
+
+-- what it sets takes no memory
+abbrev pub needs_no_memory : Edit → Bool
+needs_no_memory (Leave session) = true
+needs_no_memory (Kick session actor reason ban) = true
+needs_no_memory (RemoveChannel id actor) = true
+needs_no_memory (Text actor sessions channels trees message) = true
+needs_no_memory edit = false
 
 -- it sets a policy
 abbrev pub sets_policy : Edit → Bool

@@ -1,22 +1,26 @@
 -- What holds of all edits and of all lists of edits.
-use Rattle.std.specs.Prelude.{◌≡◌, ℕ, ◌≤◌, ◌↔◌, List, [], ◌∷◌, Some, IsTrue, ⊤}
+use Rattle.std.specs.Prelude.{◌≡◌, ℕ, ◌≤◌, ◌↔◌, false, not, List, [], ◌∷◌, Some, IsTrue, ⊤}
+use Rattle.std.specs.List.{list_any}
 use Rattle.std.specs.Option.{option_map}
 use Rattle.mum_base.specs.declared.number.ChannelId.{ChannelId}
 use Rattle.mum_base.specs.declared.number.SessionId.{SessionId}
 use Rattle.mum_base.specs.declared.number.Slot.{Slot}
-use Rattle.mum_tree.specs.Rows.{row_of}
+use Rattle.mum_tree.specs.Rows.{is_there, row_of}
+use Rattle.mum_users.specs.declared.user.User.{User}
 use Rattle.mum_users.specs.Sessions.{session_of}
+use Rattle.mum_users.specs.State.{has_number}
 use Rattle.mum_state.specs.declared.edit.Edit.{Edit}
 use Rattle.mum_state.specs.After.{all_fit, led_to}
 use Rattle.mum_state.specs.Applied.{applied}
 use Rattle.mum_state.specs.Counts.{slot_count}
 use Rattle.mum_state.specs.Fits.{fits, gives_right_numbers}
 use Rattle.mum_state.specs.Named.{names_there}
-use Rattle.mum_state.specs.Permissions.{perm_of}
+use Rattle.mum_state.specs.Permissions.{may_speak, perm_of}
 use Rattle.mum_state.specs.Proper.{IsProper}
 use Rattle.mum_state.specs.Routed.{route_inputs}
 use Rattle.mum_state.specs.Set.{set_by}
 use Rattle.mum_state.specs.State.{Counts, StateValue}
+use Rattle.mum_state.specs.Suppression.{is_cleared, is_set_anew}
 
 -- edits that fit lead from a proper state to a proper one
 abbrev pub KeepsProper : Type 0
@@ -66,6 +70,24 @@ abbrev pub NumbersNeverFall : Type 0
 NumbersNeverFall =
     (state : StateValue) (edits : List Edit) → IsTrue (all_fit state edits)
     → (state.tree.greatest ≤ (led_to state edits).tree.greatest) × (state.roster.last ≤ (led_to state edits).roster.last)
+
+-- who joins, enters another channel or has its tokens set is suppressed exactly where it may not speak in its channel
+-- after the edit, and so is everybody where a policy is set; but for whom the same edit lets speak
+abbrev pub SuppressedWhereSilent : Type 0
+SuppressedWhereSilent =
+    (state : StateValue) (edit : Edit) (session : SessionId) (user : User) → IsProper state → IsTrue (fits state edit)
+    → session_of (applied state edit).roster session ≡ Some user
+    → IsTrue (is_set_anew state.roster.sessions edit user) → is_cleared edit user ≡ false
+    → user.suppress ≡ not (may_speak (applied state edit) user)
+
+-- a session or a channel that is there, under a number not above the greatest that was given before, was there before
+abbrev pub PresentWasPresent : Type 0
+PresentWasPresent =
+    (state : StateValue) (edits : List Edit) → IsTrue (all_fit state edits)
+    → ((session : SessionId) → session.0 ≤ state.roster.last
+    → IsTrue (list_any (has_number session) (led_to state edits).roster.sessions) → IsTrue (list_any (has_number session) state.roster.sessions))
+    × ((channel : ChannelId) → channel.0 ≤ state.tree.greatest
+    → IsTrue (is_there (led_to state edits).tree.channels channel) → IsTrue (is_there state.tree.channels channel))
 
 -- what a session may do in a channel is the same while it is there, its slot's count is the same and the policy count is
 abbrev pub PermissionsStand : Type 0

@@ -1,5 +1,5 @@
 -- What a session may do in a channel.
-use Rattle.std.specs.Prelude.{ℕ, Bool, Option, Some, None, unwrap_or, if◌then◌else◌}
+use Rattle.std.specs.Prelude.{ℕ, Bool, List, Option, Some, None, unwrap_or, if◌then◌else◌}
 use Rattle.std.specs.Option.{option_map}
 use Rattle.mum_base.specs.declared.number.ChannelId.{ChannelId}
 use Rattle.mum_base.specs.declared.number.SessionId.{SessionId}
@@ -7,23 +7,36 @@ use Rattle.mum_base.specs.declared.perm.TheConstants.Perm.{SPEAK}
 use Rattle.mum_policy.specs.Member.{Asker}
 use Rattle.mum_policy.specs.Walk.{holds, perm, visits}
 use Rattle.mum_tree.specs.Rows.{is_there, path}
+use Rattle.mum_tree.specs.State.{TreeState}
 use Rattle.mum_users.specs.declared.user.User.{User}
 use Rattle.mum_users.specs.Sessions.{session_of}
 use Rattle.mum_state.specs.State.{StateValue, policy_of}
 
--- a session as entries and groups see it
-abbrev pub asker : User → Asker
-asker user = record { account = user.account; channel = user.channel; tokens = user.tokens }
+-- the channels from the root to that of a session
+abbrev pub home : TreeState → User → List ChannelId
+home tree user = path tree.channels user.channel
 
--- what whoever asks may do in a channel
+-- a session as entries and groups see it, where it has these tokens and these channels lead to its own
+abbrev pub asker_at : List ChannelId → User → List (List ℕ) → Asker
+asker_at home user tokens = record { account = user.account; channel = user.channel; tokens = tokens; home = home }
+
+-- a session in a tree, with these tokens in place of its own
+abbrev pub asker_with : TreeState → User → List (List ℕ) → Asker
+asker_with tree user tokens = asker_at (home tree user) user tokens
+
+-- a session in a tree
+abbrev pub asker : TreeState → User → Asker
+asker tree user = asker_with tree user user.tokens
+
+-- what the asker may do in a channel
 abbrev pub granted_to : StateValue → Asker → ChannelId → ℕ
 granted_to state who channel = perm (policy_of state) (path state.tree.channels channel) who
 
 -- the session may speak where it is
 abbrev pub may_speak : StateValue → User → Bool
-may_speak state user = holds (granted_to state (asker user) user.channel) SPEAK.0
+may_speak state user = holds (granted_to state (asker state.tree user) user.channel) SPEAK.0
 
--- what whoever asks may do in a channel that is there
+-- what the asker may do in a channel that is there
 abbrev pub granted_where_there : StateValue → Asker → ChannelId → Option ℕ
 granted_where_there state who channel =
     if is_there state.tree.channels channel then Some (granted_to state who channel) else None
@@ -31,7 +44,7 @@ granted_where_there state who channel =
 -- the session, where it and the channel are there
 abbrev pub asker_in : StateValue → SessionId → ChannelId → Option Asker
 asker_in state session channel =
-    if is_there state.tree.channels channel then option_map asker (session_of state.roster session) else None
+    if is_there state.tree.channels channel then option_map (asker state.tree) (session_of state.roster session) else None
 
 -- what a session may do in a channel; nothing is said where one of the two is not there
 abbrev pub perm_of : StateValue → SessionId → ChannelId → Option ℕ

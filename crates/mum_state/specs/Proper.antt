@@ -15,11 +15,12 @@ use Rattle.mum_tree.specs.declared.channel.Row.{Row}
 use Rattle.mum_users.specs.Order.{Rises}
 use Rattle.mum_users.specs.Proper.{IsProper as IsProperRoster}
 use Rattle.mum_users.specs.State.{are_tokens, is_context}
+use Rattle.mum_base.specs.declared.number.TheConstants.{SLOTS}
 use Rattle.mum_users.specs.declared.user.User.{User}
 use Rattle.mum_state.specs.declared.account.Account.{Account}
 use Rattle.mum_state.specs.declared.account.TheConstants.{ACCOUNT_LIMIT}
 use Rattle.mum_state.specs.declared.count.TheConstants.{EDIT_LIMIT}
-use Rattle.mum_state.specs.State.{Counts, StateValue, account_below, channel_limit, session_limit}
+use Rattle.mum_state.specs.State.{Counts, StateValue, account_below}
 
 -- a name of a channel or a group, and a text, that would not be refused
 abbrev pub is_name : List ℕ → Bool
@@ -59,13 +60,13 @@ AreApart account other = account.account.0 ≢ other.account.0
 abbrev pub IsNear : ℕ → ℕ → Type 0
 IsNear revision count = count ≤ revision + EDIT_LIMIT
 
--- as many slots as there are sessions at most are counted
-pub record AreCounts (slots : ℕ) (counts : Counts) : Type 0 where
+-- each slot that there may be has its count, whatever the limit of sessions is
+pub record AreCounts (counts : Counts) : Type 0 where
   pub revision : counts.revision ≤ EDIT_LIMIT
   pub policy : IsNear counts.revision counts.policy
   pub routing : IsNear counts.revision counts.routing
   pub each : All (IsNear counts.revision) counts.slots
-  pub one_each : length counts.slots ≡ slots
+  pub one_each : length counts.slots ≡ SLOTS
 
 pub record IsProper (state : StateValue) : Type 0 where
   pub welcome : IsTrue (is_text state.server.welcome)
@@ -74,14 +75,14 @@ pub record IsProper (state : StateValue) : Type 0 where
   pub accounts : AllPairs AreApart state.accounts
   pub few_accounts : length state.accounts ≤ ACCOUNT_LIMIT
   pub short_names : IsTrue (list_all (λ account. is_short account.name) state.accounts)
-  pub tree : IsProperTree (channel_limit state) state.tree
+  pub tree : IsProperTree state.tree
   pub channels : IsTrue (list_all is_sound_channel state.tree.channels)
   -- each channel has one policy, and nothing else has one
   pub policies : map (λ row. row.channel) state.policies ≡ map (λ row. row.channel.id) state.tree.channels
   pub sound_policies : IsTrue (list_all (λ row. is_sound_policy row.policy) state.policies)
-  pub roster : IsProperRoster (session_limit state) state.roster
+  pub roster : IsProperRoster state.roster
   pub users : IsTrue (list_all is_sound_user state.roster.sessions)
   -- sessions are in channels, and listen to channels, that are there
   pub inside : IsTrue (list_all (λ user. is_there state.tree.channels user.channel) state.roster.sessions)
   pub listening : IsTrue (list_all (λ pair. is_there state.tree.channels pair.channel) state.roster.listeners)
-  pub counts : AreCounts (session_limit state) state.counts
+  pub counts : AreCounts state.counts

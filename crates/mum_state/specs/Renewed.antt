@@ -1,4 +1,4 @@
--- The slots of those for whom an edit starts anew what was computed of a session.
+-- The slots of those for whom an edit makes what was computed of a session out of date.
 use Rattle.std.specs.Prelude.{ℕ, ◌==◌, ◌||◌, Bool, true, false, map, slice_index_or, if◌then◌else◌}
 use Rattle.mum_state.specs.declared.renewed.Renewed.{Renewed}
 use Rattle.mum_state.specs.declared.renewed.Renewed.TheVariants.{Nobody, One, Those}
@@ -15,7 +15,7 @@ abbrev pub is_nobody : Renewed → Bool
 is_nobody Nobody = true
 is_nobody renewed = false
 
--- whether those in these slots, or all, may speak where they are is set anew
+-- whether those in these slots, or all, may speak where they are is set again
 abbrev pub heard_again : Renewed → Bool → StateValue → StateValue
 heard_again renewed all state = record state {
   roster = record state.roster {

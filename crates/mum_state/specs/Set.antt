@@ -1,5 +1,5 @@
 -- What each edit sets, before what follows from it.
-use Rattle.std.specs.Prelude.{◌==◌, Bool, List, [], ◌∷◌, ◌++◌, not, filter, map, Option, Some, None, if◌then◌else◌}
+use Rattle.std.specs.Prelude.{ℕ, ◌==◌, Bool, List, [], ◌∷◌, ◌++◌, not, filter, map, Option, Some, None, if◌then◌else◌}
 use Rattle.mum_base.specs.declared.number.ChannelId.{ChannelId}
 use Rattle.mum_base.specs.declared.number.SessionId.{SessionId}
 use Rattle.mum_policy.specs.declared.policy.ChannelPolicy.{ChannelPolicy}
@@ -13,7 +13,7 @@ use Rattle.mum_users.specs.Listeners.{without_channels}
 use Rattle.mum_users.specs.Sessions.{joined, left, placed, with_tokens}
 use Rattle.mum_users.specs.Targets.{targeted}
 use Rattle.mum_state.specs.declared.edit.Edit.{Edit}
-use Rattle.mum_state.specs.declared.edit.Edit.TheVariants.{AddAccount, EditChannel, Join, Kick, Leave, MakeChannel, RemoveChannel, SetAcl, SetServer, SetTarget, SetTokens, SetUser, Text}
+use Rattle.mum_state.specs.declared.edit.Edit.TheVariants.{AddAccount, EditChannel, Join, Kick, Leave, MakeChannel, RemoveChannel, SetAcl, SetLimits, SetServer, SetTarget, SetTokens, SetUser, Text}
 use Rattle.mum_state.specs.Parts.{channel_parts, user_parts}
 use Rattle.mum_state.specs.State.{PolicyRow, StateValue, policy_row, with_account}
 
@@ -52,9 +52,17 @@ set_policy channel policy row = if row.channel.0 == channel.0 then record row { 
 abbrev pub with_policy : ChannelId → ChannelPolicy → List PolicyRow → List PolicyRow
 with_policy channel policy rows = map (set_policy channel policy) rows
 
+-- these are the limits of sessions and of channels
+abbrev pub with_limits : StateValue → ℕ → ℕ → StateValue
+with_limits state sessions channels = record state {
+  tree = record state.tree { limit = channels };
+  roster = record state.roster { limit = sessions };
+}
+
 abbrev pub set_by : StateValue → Edit → StateValue
 set_by state (SetServer welcome bandwidth password) =
     record state { server = record { welcome = welcome; bandwidth = bandwidth; password = password } }
+set_by state (SetLimits sessions channels) = with_limits state sessions channels
 set_by state (AddAccount account name digest) =
     record state { accounts = with_account (record { account = account; name = name; digest = digest }) state.accounts }
 set_by state (Join session slot name account tokens) =

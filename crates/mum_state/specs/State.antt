@@ -10,9 +10,8 @@ use Rattle.mum_base.specs.declared.number.ChannelId.{ChannelId}
 use Rattle.mum_base.specs.declared.number.TheConstants.ChannelId.{ROOT}
 use Rattle.mum_policy.specs.declared.policy.ChannelPolicy.{ChannelPolicy}
 use Rattle.mum_policy.specs.Member.{PolicyMap}
-use Rattle.mum_tree.specs.declared.channel.TheConstants.{CHANNEL_LIMIT}
 use Rattle.mum_tree.specs.State.{TreeState, root_alone}
-use Rattle.mum_users.specs.declared.user.TheConstants.{SESSIONS}
+use Rattle.mum_base.specs.declared.number.TheConstants.{SLOTS}
 use Rattle.mum_users.specs.State.{RosterState, empty_roster}
 use Rattle.mum_state.specs.declared.account.Account.{Account}
 use Rattle.mum_state.specs.declared.server.Server.{Server}
@@ -40,13 +39,6 @@ pub record StateValue : Type 0 where
   pub policies : List PolicyRow
   pub roster : RosterState
   pub counts : Counts
-
--- at most so many sessions are here, and so many channels there
-abbrev pub session_limit : StateValue → ℕ
-session_limit state = SESSIONS
-
-abbrev pub channel_limit : StateValue → ℕ
-channel_limit state = CHANNEL_LIMIT
 
 -- the policy of a new channel: it inherits, and adds nothing
 abbrev pub open_policy : ChannelPolicy
@@ -90,7 +82,7 @@ abbrev pub plain_server : Server
 plain_server = record { welcome = []; bandwidth = DEFAULT_BANDWIDTH; password = None }
 
 abbrev pub no_counts : Counts
-no_counts = record { revision = 0; policy = 0; routing = 0; slots = replicate SESSIONS 0 }
+no_counts = record { revision = 0; policy = 0; routing = 0; slots = replicate SLOTS 0 }
 
 -- the root alone, and no session
 abbrev pub empty_state : StateValue

@@ -1,9 +1,10 @@
 -- How the parts of a state lie in memory.
-use Rattle.std.specs.Prelude.{◌≡◌, ◌==◌, nat_lt, Bool, List, map, slice_index_or}
+use Rattle.std.specs.Prelude.{◌≡◌, ◌==◌, ◌&&◌, not, nat_lt, ℕ, Bool, false, List, map, slice_index_or}
 use Rattle.std.specs.List.{list_any}
 use Rattle.mum_base.specs.declared.number.AccountId.{AccountId}
 use Rattle.mum_policy.specs.declared.policy.ChannelPolicy.{ChannelPolicy}
 use Rattle.mum_tree.specs.declared.channel.Row.{Row}
+use Rattle.mum_tree.specs.Places.{has_place}
 use Rattle.mum_users.specs.Order.{Rises}
 use Rattle.mum_state.specs.declared.account.Account.{Account}
 use Rattle.mum_state.specs.State.{PolicyRow, is_numbered, open_policy}
@@ -12,6 +13,10 @@ use Rattle.mum_state.specs.State.{PolicyRow, is_numbered, open_policy}
 abbrev pub policies_by_place : List ChannelPolicy → List Row → List PolicyRow
 policies_by_place stored rows =
     map (λ row. record { channel = row.channel.id; policy = slice_index_or stored row.place open_policy }) rows
+
+-- a channel had the place before, as these marks say, and none has it now
+abbrev pub is_left : List Bool → List Row → ℕ → Bool
+is_left before rows place = slice_index_or before place false && not (has_place rows place)
 
 abbrev pub number_below : AccountId → AccountId → Bool
 number_below one other = nat_lt one.0 other.0

@@ -1,4 +1,4 @@
--- Whether a session may speak where it is: for whom this is set anew, and from what.
+-- Whether a session may speak where it is: for whom this is set again, and from what.
 use Rattle.std.specs.Prelude.{◌&&◌, ◌||◌, Bool, false, not, List, map, if◌then◌else◌}
 use Rattle.std.specs.List.{list_any}
 use Rattle.mum_users.specs.declared.user.User.{User}
@@ -19,9 +19,15 @@ is_newcomer before user = not (list_any (λ was. has_number user.session was && 
 abbrev pub is_renewed : List User → Edit → User → Bool
 is_renewed before edit user = is_newcomer before user || sets_tokens_of edit user
 
--- whether it may speak is set anew: also of everybody where a policy was set
+-- whether it may speak is set again: also of everybody where a policy was set
 abbrev pub is_set_anew : List User → Edit → User → Bool
 is_set_anew before edit user = is_renewed before edit user || sets_policy edit
+
+-- the same edit lets it speak
+abbrev pub is_cleared : Edit → User → Bool
+is_cleared (SetUser session actor channel mute deaf clear_suppress priority self_mute self_deaf recording comment context listen unlisten) user =
+    clear_suppress && has_number session user
+is_cleared edit user = false
 
 -- by what it may do now
 abbrev pub heard_anew : StateValue → User → User

@@ -45,7 +45,7 @@ fn is_before(account: &Account, name: &str) -> bool
     account.name.as_str().cmp(name).is_lt()
 }
 
-// How many accounts have names before this one, found by halving.
+// How many accounts have names before this one, found by binary search.
 fn place_of(accounts: &[Account], name: &str) -> usize
     requires { Rises account_below accounts.now }
     ensures place { result ≡ position_or_len (λ account. not (is_before name.now account)) accounts.now }
@@ -63,7 +63,7 @@ fn is_at(accounts: &[Account], place: usize, name: &str) -> bool
     place < accounts.len() && accounts[place].name.as_str() == name
 }
 
-/// The account of a name, found by halving.
+/// The account of a name, found by binary search.
 fn find_account<'a>(accounts: &'a [Account], name: &str) -> Option<&'a Account>
     requires { Rises account_below accounts.now }
     ensures { option_copied result ≡ find (is_named name.now) accounts.now }
@@ -89,7 +89,7 @@ fn put_account(accounts: &mut Vec<Account>, account: Account)
     }
 }
 
-// How many numbers are below this one, found by halving.
+// How many numbers are below this one, found by binary search.
 fn place_of_number(numbers: &[AccountId], number: AccountId) -> usize
     requires { Rises number_below numbers.now }
     ensures place { result ≡ position_or_len (λ one. not (number_below one number)) numbers.now }
@@ -112,7 +112,7 @@ fn put_number(numbers: &mut Vec<AccountId>, number: AccountId)
     }
 }
 
-// Whether the number is among these, found by halving.
+// Whether the number is among these, found by binary search.
 fn has_number(numbers: &[AccountId], number: AccountId) -> bool
     requires { Rises number_below numbers.now }
     ensures { result ≡ list_any (λ one. one.0 == number.0) numbers.now }
@@ -149,7 +149,7 @@ impl Accounts {
         self.by_name.len()
     }
 
-    /// The account of a name, found by halving.
+    /// The account of a name, found by binary search.
     pub(crate) fn named(&self, name: &str) -> Option<&Account>
         ensures { option_copied result ≡ find (is_named name.now) self.now }
     {
@@ -163,14 +163,14 @@ impl Accounts {
         self.named(name).is_some()
     }
 
-    /// Whether an account has the number, found by halving.
+    /// Whether an account has the number, found by binary search.
     pub(crate) fn has_number(&self, number: AccountId) -> bool
         ensures { result ≡ list_any (is_numbered number) self.now }
     {
         has_number(self.numbers.as_slice(), number)
     }
 
-    /// One account more, under a name and a number that none has. After want of memory the accounts
+    /// One account more, under a name and a number that none has. After it ran out of memory the accounts
     /// are as they were.
     pub(crate) fn add(&mut self, account: Account) -> Result<(), OutOfMemory>
         requires name { list_any (is_named account.name) self.old ≡ false }

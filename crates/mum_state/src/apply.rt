@@ -1,17 +1,17 @@
 //! An edit, from what it sets to its counts.
 
-ghost use Rattle.std.specs.Prelude.{◌≡◌, ◌||◌, ◌<◌, ◌≤◌, ◌^◌, None, IfSome, IsTrue, OnErr, OnOk, length};
+ghost use Rattle.std.specs.Prelude.{◌≡◌, ◌||◌, ◌<◌, ◌≤◌, ◌^◌, None, IfSome, IsOk, IsTrue, OnErr, OnOk, length};
 ghost use Rattle.std.specs.List.{All, list_all, list_any};
 ghost use Rattle.std.specs.Prelude.{◌+◌};
 ghost use Rattle.mum_tree.specs.Refusals.{fault_of_remove};
 ghost use Rattle.mum_tree.specs.Rows.{is_there};
 ghost use Rattle.mum_users.specs.State.{has_number};
-ghost use Rattle.mum_users.specs.declared.user.TheConstants.{SESSIONS};
+ghost use Rattle.mum_base.specs.declared.number.TheConstants.{SLOTS};
 ghost use Rattle.mum_state.specs.Applied.{applied};
 ghost use Rattle.mum_state.specs.Counts.{raised_slots, raised_where};
 ghost use Rattle.mum_state.specs.Fits.{fits};
 ghost use Rattle.mum_state.specs.Followed.{cleared_session, counted, is_left_empty, with_left_closed};
-ghost use Rattle.mum_state.specs.Kinds.{sets_policy};
+ghost use Rattle.mum_state.specs.Kinds.{needs_no_memory, sets_policy};
 ghost use Rattle.mum_state.specs.Proper.{IsProper};
 ghost use Rattle.mum_state.specs.Renewed.{heard_again, is_renewed_slot};
 ghost use Rattle.mum_state.specs.Suppression.{with_clearing};
@@ -34,20 +34,20 @@ fn raised_where(holds: bool, count: u64) -> u64
 // One more for each renewed slot.
 fn raise_slots(counts: &mut Vec<u64>, renewed: &Renewed)
     requires few { All (λ count. count ≤ 2 ^ 63) counts.old.items }
-    requires whole { length counts.old.items < 256 }
+    requires whole { length counts.old.items ≡ SLOTS }
     ensures { counts.new.items ≡ raised_slots (is_renewed_slot renewed.now) 0 counts.old.items }
 {
     if renewed.is_nobody() {
         return;
     }
     for slot in 0..counts.len() {
-        let raised = raised_where(renewed.has(Slot(slot as u8)), counts[slot]);
+        let raised = raised_where(renewed.has(Slot(slot as u16)), counts[slot]);
         counts[slot] = raised;
     }
 }
 
 impl Parts {
-    // Whether they may speak where they are is set anew for those in renewed slots, and for all where
+    // Whether they may speak where they are is set again for those in renewed slots, and for all where
     // a policy was set.
     fn hear(&mut self, edit: &Edit, renewed: &Renewed)
         requires { IsTrue (list_all (λ user. is_there self.old.tree.channels user.channel) self.old.roster.sessions) }
@@ -62,7 +62,7 @@ impl Parts {
             renewed,
             all,
         };
-        self.roster.seat_anew(&hearing);
+        self.roster.place_all(&hearing);
     }
 
     // The session of an edit may speak where the edit says so.
@@ -107,7 +107,7 @@ impl Parts {
         requires policy { self.old.counts.policy ≤ 2 ^ 63 }
         requires routing { self.old.counts.routing ≤ 2 ^ 63 }
         requires slots { All (λ count. count ≤ 2 ^ 63) self.old.counts.slots }
-        requires whole { length self.old.counts.slots ≡ SESSIONS }
+        requires whole { length self.old.counts.slots ≡ SLOTS }
         ensures { self.new
             ≡ record self.old { counts = counted edit.now renewed.now closed self.old.counts } }
     {
@@ -117,12 +117,13 @@ impl Parts {
         raise_slots(&mut self.slot_counts, renewed);
     }
 
-    /// Makes an edit that fits. After want of memory all is as it was.
+    /// Makes an edit that fits. After it ran out of memory all is as it was.
     pub(crate) fn apply(&mut self, edit: &Edit) -> Result<(), OutOfMemory>
         requires proper { IsProper self.old }
         requires fits { IsTrue (fits self.old edit.now) }
         ensures ok { OnOk result (self.new ≡ applied self.old edit.now) }
         ensures err { OnErr result (self.new ≡ self.old) }
+        ensures in_place { IsTrue (needs_no_memory edit.now) → IsOk result }
     {
         let renewed = self.renewed_by(edit);
         let left = self.left_by(edit);

@@ -88,7 +88,7 @@ pub(crate) fn user_change(edit: &Edit) -> Option<UserChange<'_>>
             comment: comment.as_ref(),
             context: bytes_of(context),
             listen: listen.as_slice(),
-            unlisten: unlisten.as_slice(),
+            unlisten,
         }),
         _ => None,
     }

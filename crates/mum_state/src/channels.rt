@@ -1,6 +1,6 @@
 //! The channels with their policies.
 
-ghost use Rattle.std.specs.Prelude.{◌≡◌, ◌+◌, ◌<◌, ◌≢◌, ℕ, None, IfOk, IsTrue, OnErr, OnOk, false, true, length, not, slice_index_or, slice_set, if◌then◌else◌};
+ghost use Rattle.std.specs.Prelude.{◌≡◌, ◌+◌, ◌<◌, ◌≤◌, ◌&&◌, ℕ, None, IfOk, IsTrue, OnErr, OnOk, false, true, length, not, slice_index_or, slice_set, if◌then◌else◌};
 ghost use Rattle.std.specs.List.{All};
 ghost use Rattle.std.specs.Option.{option_map};
 ghost use Rattle.mum_policy.specs.Member.{asker_of};
@@ -12,11 +12,12 @@ ghost use Rattle.mum_tree.specs.Rows.{is_there};
 ghost use Rattle.mum_tree.specs.State.{with_info, with_new, without_subtree};
 ghost use Rattle.mum_tree.specs.declared.channel.Row.{Row};
 ghost use Rattle.mum_state.specs.Channels.{granted_where_in, root_channel, speaks_where_in, visits_in, with_channel_made, without_channel};
-ghost use Rattle.mum_state.specs.Permissions.{asker};
 ghost use Rattle.mum_state.specs.Set.{with_policy};
 ghost use Rattle.mum_state.specs.State.{open_policy};
+ghost use Rattle.mum_state.specs.Stored.{is_left};
 
-use mum_base::{ChannelId, Items, OutOfMemory, Perm, Steps};
+use crate::who::{home_of, who_is};
+use mum_base::{ChannelId, Items, OutOfMemory, PLACES, Perm, Steps};
 use mum_policy::{ChannelPolicy, Policies, Who, permissions, permitted};
 use mum_tree::{CHANNEL_LIMIT, ChannelChange, ChannelInfo, Tree};
 use mum_users::User;
@@ -30,7 +31,8 @@ use std::sync::ledger::Ledger;
 pub(crate) struct Channels {
     alloc: Global,
     tree: Tree,
-    /// By the places that channels keep. At a place that no channel has lies the open policy.
+    /// By the places that channels keep, one for each below the limit. At a place that no channel has lies the
+    /// open policy.
     policies: Vec<ChannelPolicy>,
 }
 
@@ -38,7 +40,6 @@ impl Model for Channels {
     ghost use Rattle.std.specs.Prelude.{◌≡◌, ℕ, false, length, slice_index_or};
     ghost use Rattle.mum_tree.specs.Places.{has_place};
     ghost use Rattle.mum_tree.specs.Proper.{IsProper};
-    ghost use Rattle.mum_tree.specs.declared.channel.TheConstants.{CHANNEL_LIMIT};
     ghost use Rattle.mum_state.specs.Channels.{ChannelsState};
     ghost use Rattle.mum_state.specs.State.{open_policy};
     ghost use Rattle.mum_state.specs.Stored.{policies_by_place};
@@ -51,8 +52,8 @@ impl Model for Channels {
     } };
 
     ghost invariant = { λ c. record {
-      proper : IsProper CHANNEL_LIMIT c.tree;
-      whole : length c.policies.items ≡ CHANNEL_LIMIT;
+      proper : IsProper c.tree;
+      whole : length c.policies.items ≡ c.tree.limit;
       free : (place : ℕ) → has_place c.tree.channels place ≡ false → slice_index_or c.policies.items place open_policy ≡ open_policy;
     } };
 }
@@ -68,14 +69,14 @@ fn open_policy(alloc: Global) -> ChannelPolicy
     }
 }
 
-// An open policy at each place.
-fn open_policies(alloc: Global) -> Result<Vec<ChannelPolicy>, OutOfMemory>
-    ensures whole { IfOk result (λ policies. length policies.items ≡ CHANNEL_LIMIT) }
-    ensures open { IfOk result (λ policies. (place : ℕ) →
+// As many open policies.
+fn open_policies(alloc: Global, count: usize) -> Result<Vec<ChannelPolicy>, OutOfMemory>
+    ensures whole { IfOk result (λ policies. length policies.items ≡ count) }
+    ensures opened { IfOk result (λ policies. (place : ℕ) →
         slice_index_or policies.items place open_policy ≡ open_policy) }
 {
-    let mut policies = Vec::with_capacity(alloc, CHANNEL_LIMIT)?;
-    for _place in 0..CHANNEL_LIMIT {
+    let mut policies = Vec::with_capacity(alloc, count)?;
+    for _place in 0..count {
         policies.push(open_policy(alloc))?;
     }
     Ok(policies)
@@ -95,34 +96,55 @@ fn copy_of_policies(
     Ok(copies)
 }
 
-// The open policy lies at the place, if it is free.
-fn open_where(policies: &mut Vec<ChannelPolicy>, place: usize, is_free: bool, alloc: Global)
+// The places that channels have.
+fn taken_places(tree: &Tree) -> [bool; PLACES]
+    ensures { (place : ℕ) → slice_index_or result place false ≡ has_place tree.now.channels place }
+{
+    let mut taken = [false; PLACES];
+    tree.taken_places(&mut taken);
+    taken
+}
+
+// Whether a channel had the place before, and none has it after.
+fn is_left(before: &[bool], after: &[bool], place: usize) -> bool
+    requires before { place < length before.now }
+    requires after { place < length after.now }
+    ensures { result
+        ≡ (slice_index_or before.now place false && not (slice_index_or after.now place false)) }
+{
+    before[place] && !after[place]
+}
+
+// The open policy lies at the place, if its channel is gone.
+fn open_where(policies: &mut Vec<ChannelPolicy>, place: usize, is_left: bool, alloc: Global)
     requires { place < length policies.old.items }
     ensures { policies.new.items
-        ≡ (if is_free then slice_set policies.old.items place open_policy else policies.old.items) }
+        ≡ (if is_left then slice_set policies.old.items place open_policy else policies.old.items) }
 {
-    if is_free {
+    if is_left {
         policies[place] = open_policy(alloc);
     }
 }
 
-// The open policy lies at each place that no channel has.
-fn open_free_places(tree: &Tree, policies: &mut Vec<ChannelPolicy>, alloc: Global)
-    requires { length policies.old.items ≡ CHANNEL_LIMIT }
-    ensures whole { length policies.new.items ≡ CHANNEL_LIMIT }
-    ensures free { (place : ℕ) → has_place tree.now.channels place ≡ false →
+// The open policy lies at each place that a channel had before and none has now. No other place is written.
+fn open_left_places(before: &[bool], tree: &Tree, policies: &mut Vec<ChannelPolicy>, alloc: Global)
+    requires places { length before.now ≡ PLACES }
+    requires few { length policies.old.items ≤ PLACES }
+    ensures whole { length policies.new.items ≡ length policies.old.items }
+    ensures opened { (place : ℕ) → is_left before.now tree.now.channels place ≡ true →
         slice_index_or policies.new.items place open_policy ≡ open_policy }
-    ensures kept { (place : ℕ) → has_place tree.now.channels place ≡ true →
+    ensures kept { (place : ℕ) → is_left before.now tree.now.channels place ≡ false →
         slice_index_or policies.new.items place open_policy
         ≡ slice_index_or policies.old.items place open_policy }
 {
-    let taken = tree.taken_places();
-    for place in 0..CHANNEL_LIMIT {
-        open_where(policies, place, !taken[place], alloc);
+    let after = taken_places(tree);
+    for place in 0..policies.len() {
+        let left = is_left(before, &after, place);
+        open_where(policies, place, left, alloc);
     }
 }
 
-// Adds a channel, against which nothing stands.
+// Adds a channel that no cause refuses.
 fn grow(
     tree: &mut Tree,
     id: ChannelId,
@@ -131,10 +153,10 @@ fn grow(
     temporary: bool,
 ) -> Result<(), OutOfMemory>
     requires above { tree.old.greatest < id.0 }
-    requires allowed { fault_of_add CHANNEL_LIMIT tree.old id parent name.now ≡ None }
+    requires allowed { fault_of_add tree.old id parent name.now ≡ None }
     ensures ok { OnOk result (tree.new ≡ with_new tree.old id parent name.now temporary) }
     ensures err { OnErr result (tree.new ≡ tree.old) }
-    ensures proper { IsProper CHANNEL_LIMIT tree.new }
+    ensures proper { IsProper tree.new }
 {
     match tree.add(id, parent, name, temporary) {
         Ok(()) => Ok(()),
@@ -146,7 +168,7 @@ fn grow(
 fn describe(tree: &mut Tree, id: ChannelId, info: ChannelInfo)
     requires { fault_of_set_info tree.old id ≡ None }
     ensures info { tree.new ≡ with_info tree.old id info }
-    ensures proper { IsProper CHANNEL_LIMIT tree.new }
+    ensures proper { IsProper tree.new }
 {
     match tree.set_info(id, info) {
         Ok(()) => {}
@@ -154,12 +176,12 @@ fn describe(tree: &mut Tree, id: ChannelId, info: ChannelInfo)
     }
 }
 
-// Changes a channel, against which nothing stands.
+// Makes a change of a channel that no cause refuses.
 fn edit_tree(tree: &mut Tree, id: ChannelId, change: &ChannelChange<'_>) -> Result<(), OutOfMemory>
     requires { fault_of_edit tree.old id (change_of change.now) ≡ None }
     ensures ok { OnOk result (tree.new ≡ with_change tree.old id (change_of change.now)) }
     ensures err { OnErr result (tree.new ≡ tree.old) }
-    ensures proper { IsProper CHANNEL_LIMIT tree.new }
+    ensures proper { IsProper tree.new }
 {
     match tree.edit(id, change) {
         Ok(()) => Ok(()),
@@ -167,11 +189,11 @@ fn edit_tree(tree: &mut Tree, id: ChannelId, change: &ChannelChange<'_>) -> Resu
     }
 }
 
-// Takes away a channel and all below it, which nothing stands against.
+// Removes a channel and all below it, which no cause refuses.
 fn shrink(tree: &mut Tree, id: ChannelId)
     requires { fault_of_remove tree.old id ≡ None }
     ensures removed { tree.new ≡ without_subtree tree.old id }
-    ensures proper { IsProper CHANNEL_LIMIT tree.new }
+    ensures proper { IsProper tree.new }
 {
     match tree.remove_subtree(id) {
         Ok(()) => {}
@@ -179,27 +201,15 @@ fn shrink(tree: &mut Tree, id: ChannelId)
     }
 }
 
-/// A session as entries and groups see it.
-pub(crate) fn who_is(user: &User) -> Who<'_>
-    ensures { asker_of result ≡ asker user.now }
-{
-    Who {
-        session: user.session,
-        account: user.account,
-        channel: user.channel,
-        tokens: user.tokens.as_slice(),
-    }
-}
-
 impl Channels {
     /// The root alone, with a policy that is open.
     pub(crate) fn new(alloc: Global) -> Result<Channels, OutOfMemory>
         ensures root { IfOk result (λ channels. channels ≡ root_channel) }
-        ensures proper { IfOk result (λ channels. IsProper CHANNEL_LIMIT channels.tree) }
+        ensures proper { IfOk result (λ channels. IsProper channels.tree) }
     {
         Ok(Channels {
             alloc,
-            policies: open_policies(alloc)?,
+            policies: open_policies(alloc, CHANNEL_LIMIT)?,
             tree: Tree::new(alloc)?,
         })
     }
@@ -218,12 +228,12 @@ impl Channels {
     /// The channels and their links.
     pub(crate) fn tree(&self) -> &Tree
         ensures tree { result.now ≡ self.now.tree }
-        ensures proper { IsProper CHANNEL_LIMIT self.now.tree }
+        ensures proper { IsProper self.now.tree }
     {
         &self.tree
     }
 
-    /// What whoever asks may do in a channel; `None` where there is no such channel.
+    /// What the asker may do in a channel; `None` where there is no such channel.
     pub(crate) fn granted_to(&self, who: &Who<'_>, channel: ChannelId) -> Option<Perm>
         ensures { option_map (λ perm. perm.0) result
             ≡ granted_where_in self.now (asker_of who.now) channel }
@@ -256,13 +266,14 @@ impl Channels {
     pub(crate) fn may_speak(&self, user: &User) -> bool
         ensures { result ≡ speaks_where_in self.now user.now }
     {
-        match self.granted_to(&who_is(user), user.channel) {
+        let home = home_of(&self.tree, user);
+        match self.granted_to(&who_is(user, home.as_slice()), user.channel) {
             Some(perm) => perm.has(Perm::SPEAK),
             None => false,
         }
     }
 
-    /// One channel more, with this info and a policy that is open. After want of memory the channels
+    /// One channel more, with this info and a policy that is open. After it ran out of memory the channels
     /// are as they were.
     pub(crate) fn make(
         &mut self,
@@ -273,7 +284,7 @@ impl Channels {
         info: &ChannelInfo,
     ) -> Result<(), OutOfMemory>
         requires above { self.old.tree.greatest < id.0 }
-        requires allowed { fault_of_add CHANNEL_LIMIT self.old.tree id parent name.now ≡ None }
+        requires allowed { fault_of_add self.old.tree id parent name.now ≡ None }
         ensures ok { OnOk result (self.new
             ≡ with_channel_made self.old id parent name.now temporary info.now) }
         ensures err { OnErr result (self.new ≡ self.old) }
@@ -284,7 +295,7 @@ impl Channels {
         Ok(())
     }
 
-    /// Changes a channel, against which nothing stands. After want of memory the channels are as they
+    /// Makes a change of a channel that no cause refuses. After it ran out of memory the channels are as they
     /// were.
     pub(crate) fn edit(
         &mut self,
@@ -305,8 +316,25 @@ impl Channels {
         requires { fault_of_remove self.old.tree id ≡ None }
         ensures { self.new ≡ without_channel self.old id }
     {
+        let before = taken_places(&self.tree);
         shrink(&mut self.tree, id);
-        open_free_places(&self.tree, &mut self.policies, self.alloc);
+        open_left_places(&before, &self.tree, &mut self.policies, self.alloc);
+    }
+
+    /// Raises the limit of channels. The policy at each further place is open. After it ran out of memory the
+    /// channels are as they were.
+    pub(crate) fn set_limit(&mut self, channels: u32) -> Result<(), OutOfMemory>
+        requires raised { self.old.tree.limit ≤ channels }
+        requires within { channels ≤ PLACES }
+        ensures ok { OnOk result (self.new
+            ≡ record self.old { tree = record self.old.tree { limit = channels } }) }
+        ensures err { OnErr result (self.new ≡ self.old) }
+    {
+        let count = channels as usize - self.policies.len();
+        let mut further = open_policies(self.alloc, count)?;
+        self.policies.append(&mut further)?;
+        self.tree.set_limit(channels);
+        Ok(())
     }
 
     /// Gives a channel another policy. It takes no memory.

@@ -3,7 +3,7 @@
 use mum_base::{AccountId, ChannelId, Items, Octets, SessionId, Slot, Text};
 use mum_policy::ChannelPolicy;
 use mum_tree::ChannelInfo;
-use mum_users::Target;
+use mum_users::{ChannelList, Target};
 
 /// A change of the state. Each accepted command is one of these, also where it leaves the state as it
 /// was, and a configuration is a list of them. An edit of a configuration has no actor and no maker.
@@ -14,6 +14,11 @@ pub enum Edit {
         welcome: Text,
         bandwidth: u32,
         password: Option<[u8; 32]>,
+    },
+    /// The limits of sessions, at most 512, and of channels, at most 2,048. Neither falls.
+    SetLimits {
+        sessions: u16,
+        channels: u32,
     },
     /// One account more.
     AddAccount {
@@ -33,7 +38,7 @@ pub enum Edit {
     Leave {
         session: SessionId,
     },
-    /// A session is put out, and goes in the same way.
+    /// A session is kicked, and goes in the same way.
     Kick {
         session: SessionId,
         actor: SessionId,
@@ -82,7 +87,7 @@ pub enum Edit {
         /// The plugin context.
         context: Option<Octets>,
         listen: Items<ChannelId>,
-        unlisten: Items<ChannelId>,
+        unlisten: ChannelList,
     },
     /// The access tokens of a session, in place of those that it had.
     SetTokens {

@@ -1,18 +1,17 @@
 //! Whether an edit fits.
 
-ghost use Rattle.std.specs.Prelude.{◌≡◌, ◌==◌, ◌&&◌, ◌||◌, ◌+◌, ◌++◌, ◌^◌, ◌<◌, not, nat_lt, is_none, length, true, false};
+ghost use Rattle.std.specs.Prelude.{◌≡◌, ◌==◌, ◌&&◌, ◌||◌, ◌+◌, ◌++◌, ◌^◌, ◌<◌, not, nat_le, nat_lt, is_none, length, true, false};
 ghost use Rattle.std.specs.List.{list_all, list_any};
 ghost use Rattle.std.specs.Option.{option_map_or};
+ghost use Rattle.mum_base.specs.declared.number.TheConstants.{PLACES, SLOTS};
 ghost use Rattle.mum_tree.specs.Change.{change_of, fault_of_edit};
 ghost use Rattle.mum_tree.specs.Refusals.{fault_of_add, fault_of_remove};
 ghost use Rattle.mum_tree.specs.Rows.{is_there};
-ghost use Rattle.mum_tree.specs.declared.channel.TheConstants.{CHANNEL_LIMIT};
 ghost use Rattle.mum_users.specs.Edit.{edit_fault, user_edit_of};
 ghost use Rattle.mum_users.specs.Sessions.{join_fault, next_join, next_number, next_slot};
 ghost use Rattle.mum_users.specs.State.{are_tokens, has_number, is_context};
 ghost use Rattle.mum_users.specs.Targets.{is_oversize};
 ghost use Rattle.mum_users.specs.declared.target.TheConstants.{LAST_TARGET};
-ghost use Rattle.mum_users.specs.declared.user.TheConstants.{SESSIONS};
 ghost use Rattle.mum_state.specs.Fits.{fits, gives_right_numbers, has_room_for, holds_of_given, is_countable, sets_properly};
 ghost use Rattle.mum_state.specs.Parts.{channel_change, user_change};
 ghost use Rattle.mum_state.specs.Named.{given, named_account, named_channels, named_sessions};
@@ -26,7 +25,7 @@ use crate::edit::Edit;
 use crate::kind::{changes_paths, changes_routes, is_of_configuration};
 use crate::parts::Parts;
 use mum_base::name::{NAME_LIMIT, check_name, check_text};
-use mum_base::{AccountId, ChannelId, Items, Octets, Perm, SessionId, Slot, Text};
+use mum_base::{AccountId, ChannelId, Items, Octets, PLACES, Perm, SLOTS, SessionId, Slot, Text};
 use mum_policy::{AclEntry, ChannelPolicy, Group};
 use mum_tree::ChannelInfo;
 use mum_users::Target;
@@ -176,15 +175,13 @@ impl Parts {
     fn are_all_there(
         &self,
         channel: Option<ChannelId>,
-        some: &Items<ChannelId>,
-        others: &Items<ChannelId>,
+        some: &[ChannelId],
+        others: &[ChannelId],
     ) -> bool
         ensures { result ≡ list_all (is_there self.now.tree.channels)
             (given channel ++ some.now ++ others.now) }
     {
-        self.is_there_if_given(channel)
-            && self.are_there(some.as_slice())
-            && self.are_there(others.as_slice())
+        self.is_there_if_given(channel) && self.are_there(some) && self.are_there(others)
     }
 
     // The channels that an edit names are there.
@@ -200,14 +197,17 @@ impl Parts {
                 ref links_add,
                 ref links_remove,
                 ..
-            } => { tree.is_there(id) && self.are_all_there(parent, links_add, links_remove) }
+            } => {
+                tree.is_there(id)
+                    && self.are_all_there(parent, links_add.as_slice(), links_remove.as_slice())
+            }
             Edit::RemoveChannel { id, .. } => tree.is_there(id),
             Edit::SetUser {
                 channel,
                 ref listen,
                 ref unlisten,
                 ..
-            } => self.are_all_there(channel, listen, unlisten),
+            } => self.are_all_there(channel, listen.as_slice(), unlisten.as_slice()),
             Edit::SetAcl { channel, .. } => tree.is_there(channel),
             _ => true,
         }
@@ -226,6 +226,17 @@ impl Parts {
         }
     }
 
+    // Neither limit falls, and neither passes the greatest.
+    fn may_set_limits(&self, sessions: u16, channels: u32) -> bool
+        ensures { result ≡ ((nat_le self.now.roster.limit sessions && nat_le self.now.tree.limit channels)
+            && (nat_le sessions SLOTS && nat_le channels PLACES)) }
+    {
+        self.roster.limit() <= sessions
+            && self.channels.tree().limit() <= channels
+            && sessions as usize <= SLOTS
+            && channels as usize <= PLACES
+    }
+
     fn may_add(&self, account: AccountId, name: &Text) -> bool
         ensures { result ≡ (not (has_account self.now account) && not (list_any (is_named name.now) self.now.accounts)
             && is_short name.now && nat_lt (length self.now.accounts) ACCOUNT_LIMIT) }
@@ -236,12 +247,12 @@ impl Parts {
             && self.accounts.len() < ACCOUNT_LIMIT
     }
 
-    // Nothing stands against the name and the tokens, and the number and the slot are those that are
+    // No cause refuses the name and the tokens, and the number and the slot are those that are
     // next.
     fn may_join(&self, session: SessionId, slot: Slot, name: &Text, tokens: &Items<Text>) -> bool
         ensures { result ≡ (((session.0 == (next_number self.now.roster).0)
             && (slot.0 == (next_slot self.now.roster).0))
-            && (is_none (join_fault SESSIONS self.now.roster name.now)
+            && (is_none (join_fault self.now.roster name.now)
             && is_short name.now && are_tokens tokens.now)) }
     {
         self.roster.cause_against_joining(name.as_str()).is_none()
@@ -253,7 +264,7 @@ impl Parts {
     // The number and the slot are those that the next join takes.
     fn takes_next(&self, session: SessionId, slot: Slot) -> bool
         ensures { result ≡ option_map_or (λ next. (session.0 == next.0.0) && (slot.0 == next.1.0))
-            (next_join SESSIONS self.now.roster) false }
+            (next_join self.now.roster) false }
     {
         match self.roster.next_join() {
             Some((next, free)) => session.0 == next.0 && slot.0 == free.0,
@@ -273,7 +284,7 @@ impl Parts {
 
     fn may_make(&self, id: ChannelId, parent: ChannelId, name: &Text, info: &ChannelInfo) -> bool
         ensures { result ≡ (nat_lt self.now.tree.greatest id.0
-            && (is_none (fault_of_add CHANNEL_LIMIT self.now.tree id parent name.now)
+            && (is_none (fault_of_add self.now.tree id parent name.now)
             && is_name name.now && is_text info.now.description)) }
     {
         self.is_new_number(id)
@@ -292,7 +303,7 @@ impl Parts {
         self.channels.tree().cause_against_removing(id).is_none()
     }
 
-    // Nothing stands against the change of a channel.
+    // No cause refuses the change of a channel.
     fn may_edit_channel(&self, id: ChannelId, edit: &Edit) -> bool
         ensures { result ≡ option_map_or (λ change. is_none (fault_of_edit self.now.tree id change))
             (channel_change edit.now) true }
@@ -307,7 +318,7 @@ impl Parts {
         }
     }
 
-    // Nothing stands against the change of a session.
+    // No cause refuses the change of a session.
     fn may_edit_user(&self, session: SessionId, edit: &Edit) -> bool
         ensures { result ≡ option_map_or (λ change. is_none (edit_fault self.now.roster session change))
             (user_change edit.now) true }
@@ -336,7 +347,7 @@ impl Parts {
         self.may_edit_channel(id, edit) && is_name_if_given(name) && is_text_if_given(description)
     }
 
-    // Nothing stands against the change of a session, and its texts are as they may be.
+    // No cause refuses the change of a session, and its texts are as they may be.
     fn may_change_user(
         &self,
         session: SessionId,
@@ -359,6 +370,7 @@ impl Parts {
     {
         match *edit {
             Edit::SetServer { ref welcome, .. } => is_text(welcome),
+            Edit::SetLimits { sessions, channels } => self.may_set_limits(sessions, channels),
             Edit::AddAccount {
                 account,
                 ref name,

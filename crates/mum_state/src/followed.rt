@@ -1,11 +1,11 @@
-//! What follows from an edit, as it is told before the edit is made.
+//! What follows from an edit, as it is known before the edit is made.
 
 ghost use Rattle.std.specs.Prelude.{◌≡◌, ◌==◌, ◌&&◌, ◌||◌, ◌<◌, ℕ, IsTrue, false, length, slice_index_or, slice_set};
 ghost use Rattle.std.specs.List.{list_any};
 ghost use Rattle.mum_tree.specs.Rows.{is_below};
 ghost use Rattle.mum_users.specs.Proper.{SlotsRise};
 ghost use Rattle.mum_users.specs.State.{has_number};
-ghost use Rattle.mum_users.specs.declared.user.TheConstants.{SESSIONS};
+ghost use Rattle.mum_base.specs.declared.number.TheConstants.{SLOTS};
 ghost use Rattle.mum_state.specs.Counts.{renews};
 ghost use Rattle.mum_state.specs.Fits.{fits};
 ghost use Rattle.mum_state.specs.Followed.{enters, is_slot_of_maker, left_by, temporary_around};
@@ -16,10 +16,9 @@ use crate::edit::Edit;
 use crate::kind::may_renew;
 use crate::parts::Parts;
 use crate::renewed::Renewed;
-use mum_base::{ChannelId, SessionId};
+use mum_base::{ChannelId, SLOTS, SessionId};
 use mum_tree::Tree;
 use mum_users::User;
-use mum_users::user::SESSIONS;
 
 // Whether the session is not in the channel that is given.
 fn enters(channel: Option<ChannelId>, user: &User) -> bool
@@ -40,12 +39,12 @@ fn mark_where(marks: &mut [bool], slot: usize, is_marked: bool)
 }
 
 // The slots of the sessions in a channel or below it.
-fn slots_below(tree: &Tree, users: &[User], id: ChannelId) -> [bool; SESSIONS]
-    requires { SlotsRise SESSIONS 0 users.now }
+fn slots_below(tree: &Tree, users: &[User], id: ChannelId) -> [bool; SLOTS]
+    requires { SlotsRise SLOTS 0 users.now }
     ensures { (slot : ℕ) → slice_index_or result slot false ≡ list_any (λ user.
         (user.slot.0 == slot) && is_below tree.now.channels id user.channel) users.now }
 {
-    let mut marks = [false; SESSIONS];
+    let mut marks = [false; SLOTS];
     for user in users {
         let below = tree.is_below(id, user.channel);
         mark_where(&mut marks, user.slot.0 as usize, below);
@@ -104,7 +103,7 @@ impl Parts {
         }
     }
 
-    /// For whom an edit that fits starts anew what was computed of a session.
+    /// For whom an edit that fits makes what was computed of a session out of date.
     pub(crate) fn renewed_by(&self, edit: &Edit) -> Renewed
         requires proper { IsProper self.now }
         requires fits { IsTrue (fits self.now edit.now) }

@@ -39,6 +39,7 @@ pub(crate) fn is_of_configuration(edit: &Edit) -> bool
 {
     match *edit {
         Edit::SetServer { .. }
+        | Edit::SetLimits { .. }
         | Edit::AddAccount { .. }
         | Edit::MakeChannel { maker: None, .. }
         | Edit::EditChannel { actor: None, .. }

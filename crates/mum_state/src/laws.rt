@@ -1,7 +1,7 @@
 //! What holds of states and edits, as theorems. The functions do nothing: their contracts are what
 //! they say.
 
-ghost use Rattle.mum_state.specs.Laws.{CountsNeverFall, FitsWhereProper, KeepsProper, NumbersNeverFall, PermissionsStand, RoutesStand, SeatsStand};
+ghost use Rattle.mum_state.specs.Laws.{CountsNeverFall, FitsWhereProper, KeepsProper, NumbersNeverFall, PermissionsStand, PresentWasPresent, RoutesStand, SeatsStand, SuppressedWhereSilent};
 
 /// Edits that fit lead from a proper state to a proper one.
 pub fn keeps_proper()
@@ -29,13 +29,26 @@ pub fn seats_stand()
     ensures { SeatsStand }
 {}
 
-/// What a session may do in a channel stands while the session is there and neither the policy count
+/// A session or a channel that is there after edits that fit, under a number not above the greatest that was
+/// given before, was there before.
+pub fn present_was_present()
+    ensures { PresentWasPresent }
+{}
+
+/// Who joins, enters another channel or has its tokens set is suppressed exactly where it lacks Speak in its
+/// channel in the state after the edit, and so is everybody where a policy is set; but for a session that the
+/// same edit lets speak.
+pub fn suppressed_where_silent()
+    ensures { SuppressedWhereSilent }
+{}
+
+/// What a session may do in a channel stays the same while the session is there and neither the policy count
 /// nor the count of its slot rises.
 pub fn permissions_stand()
     ensures { PermissionsStand }
 {}
 
-/// What a route reads stands while the routing count does not rise.
+/// What a route reads stays the same while the routing count does not rise.
 pub fn routes_stand()
     ensures { RoutesStand }
 {}

@@ -1,4 +1,4 @@
-//! Channels that are gone, sessions that are moved up from them, and sessions that are heard anew.
+//! Channels that are gone, sessions that are moved up from them, and sessions whose suppression is set again.
 
 ghost use Rattle.std.specs.Prelude.{◌≡◌};
 ghost use Rattle.mum_tree.specs.Refusals.{parent_of};
@@ -7,7 +7,7 @@ use crate::channels::Channels;
 use crate::renewed::Renewed;
 use mum_base::ChannelId;
 use mum_tree::Tree;
-use mum_users::{ChannelSet, Seat, Seating, User};
+use mum_users::{ChannelSet, Placement, Placements, User};
 
 /// The channels that are not in a tree.
 #[derive(Drop)]
@@ -26,7 +26,7 @@ impl<'a> ChannelSet for Gone<'a> {
     }
 }
 
-/// Who is in a channel or below it is seated in another.
+/// Who is in a channel or below it is moved to another.
 #[derive(Drop)]
 pub(crate) struct MovedUp<'a> {
     pub(crate) tree: &'a Tree,
@@ -34,22 +34,22 @@ pub(crate) struct MovedUp<'a> {
     pub(crate) parent: ChannelId,
 }
 
-impl<'a> Seating for MovedUp<'a> {
+impl<'a> Placements for MovedUp<'a> {
     ghost use Rattle.std.specs.Prelude.{if◌then◌else◌};
     ghost use Rattle.mum_tree.specs.Rows.{is_below};
 
-    ghost seat_of = { λ moved user. record {
+    ghost placement_of = { λ moved user. record {
       channel = (if is_below moved.tree.now.channels moved.id user.channel then moved.parent else user.channel);
       suppress = user.suppress;
     } };
 
-    fn seat(&self, user: &User) -> Seat {
+    fn placement(&self, user: &User) -> Placement {
         let channel = if self.tree.is_below(self.id, user.channel) {
             self.parent
         } else {
             user.channel
         };
-        Seat {
+        Placement {
             channel,
             suppress: user.suppress,
         }
@@ -74,24 +74,24 @@ pub(crate) struct Hearing<'a> {
     pub(crate) all: bool,
 }
 
-impl<'a> Seating for Hearing<'a> {
+impl<'a> Placements for Hearing<'a> {
     ghost use Rattle.std.specs.Prelude.{◌||◌, not, if◌then◌else◌};
     ghost use Rattle.mum_state.specs.Channels.{speaks_where_in};
     ghost use Rattle.mum_state.specs.Renewed.{is_renewed_slot};
 
-    ghost seat_of = { λ hearing user. record {
+    ghost placement_of = { λ hearing user. record {
       channel = user.channel;
       suppress = (if is_renewed_slot hearing.renewed.now user.slot.0 || hearing.all
           then not (speaks_where_in hearing.channels.now user) else user.suppress);
     } };
 
-    fn seat(&self, user: &User) -> Seat {
+    fn placement(&self, user: &User) -> Placement {
         let suppress = if self.renewed.has(user.slot) || self.all {
             !self.channels.may_speak(user)
         } else {
             user.suppress
         };
-        Seat {
+        Placement {
             channel: user.channel,
             suppress,
         }

@@ -7,12 +7,12 @@ ghost use Rattle.mum_state.specs.Proper.{IsProper};
 ghost use Rattle.mum_state.specs.State.{empty_state};
 
 use crate::accounts::Accounts;
-use crate::channels::{Channels, who_is};
+use crate::channels::Channels;
 use crate::count::Stamps;
 use crate::server::{DEFAULT_BANDWIDTH, Server};
-use mum_base::{ChannelId, OutOfMemory, Perm, SessionId, Steps, Text};
+use crate::who::{home_of, who_is};
+use mum_base::{ChannelId, OutOfMemory, Perm, SLOTS, SessionId, Steps, Text};
 use mum_users::Roster;
-use mum_users::user::SESSIONS;
 use std::alloc::Global;
 use std::marker::Model;
 use std::sync::ledger::Ledger;
@@ -56,7 +56,7 @@ impl Parts {
     {
         Ok(Parts {
             alloc,
-            slot_counts: vec![in alloc; 0; SESSIONS]?,
+            slot_counts: vec![in alloc; 0; SLOTS]?,
             channels: Channels::new(alloc)?,
             roster: Roster::new(alloc)?,
             accounts: Accounts::new(alloc),
@@ -101,7 +101,11 @@ impl Parts {
         ensures steps { steps.new ≡ steps.old + visits_of self.now session channel }
     {
         match self.roster.session(session) {
-            Some(user) => self.channels.counted_to(&who_is(user), channel, steps),
+            Some(user) => {
+                let home = home_of(self.channels.tree(), user);
+                self.channels
+                    .counted_to(&who_is(user, home.as_slice()), channel, steps)
+            }
             None => None,
         }
     }

@@ -1,10 +1,9 @@
-//! For whom an edit starts anew what was computed of a session.
+//! For whom an edit makes what was computed of a session out of date.
 
 ghost use Rattle.std.specs.Prelude.{◌≡◌, ◌&&◌, not};
 ghost use Rattle.mum_state.specs.Renewed.{is_nobody, is_renewed_slot};
 
-use mum_base::Slot;
-use mum_users::user::SESSIONS;
+use mum_base::{SLOTS, Slot};
 
 /// The slots of the sessions that join, that enter another channel, or whose tokens are set.
 #[derive(Drop)]
@@ -12,11 +11,11 @@ pub(crate) enum Renewed {
     Nobody,
     One(Slot),
     /// Those whose slots are marked.
-    Those([bool; SESSIONS]),
+    Those([bool; SLOTS]),
 }
 
 impl Renewed {
-    /// Whether nobody is to be heard anew, where all are or these.
+    /// Whether nobody is to be heard again, where all are or these.
     pub(crate) fn hears_nobody(&self, all: bool) -> bool
         ensures { result ≡ (is_nobody self.now && not all) }
     {

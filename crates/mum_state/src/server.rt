@@ -13,7 +13,7 @@ pub const DEFAULT_BANDWIDTH: u32 = 72_000;
 pub struct Server {
     /// What a client is greeted with, at most 20,000 bytes.
     pub welcome: Text,
-    /// The most bytes a second that a client may send.
+    /// The most bits a second that a client may send.
     pub bandwidth: u32,
     /// The SHA-256 of the password that those without an account give.
     pub password: Option<[u8; 32]>,

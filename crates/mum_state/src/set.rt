@@ -1,21 +1,20 @@
 //! What each edit sets, before what follows from it.
 
-ghost use Rattle.std.specs.Prelude.{◌≡◌, ◌<◌, None, IsTrue, OnErr, OnOk, false, true};
+ghost use Rattle.std.specs.Prelude.{◌≡◌, ◌<◌, ◌≤◌, None, IsOk, IsTrue, OnErr, OnOk, false, true};
 ghost use Rattle.std.specs.List.{list_all, list_any};
+ghost use Rattle.mum_base.specs.declared.number.TheConstants.{PLACES, SLOTS};
 ghost use Rattle.mum_tree.specs.Change.{change_of, fault_of_edit, with_change};
 ghost use Rattle.mum_tree.specs.Refusals.{fault_of_add, fault_of_remove};
 ghost use Rattle.mum_tree.specs.Rows.{is_there};
 ghost use Rattle.mum_tree.specs.State.{with_info, with_new, without_subtree};
-ghost use Rattle.mum_tree.specs.declared.channel.TheConstants.{CHANNEL_LIMIT};
 ghost use Rattle.mum_users.specs.Edit.{edit_fault, edited, user_edit_of};
 ghost use Rattle.mum_users.specs.Sessions.{join_fault, joined, left, with_tokens};
 ghost use Rattle.mum_users.specs.State.{has_number};
 ghost use Rattle.mum_users.specs.Targets.{target_fault, targeted};
-ghost use Rattle.mum_users.specs.declared.user.TheConstants.{SESSIONS};
 ghost use Rattle.mum_state.specs.Fits.{fits};
-ghost use Rattle.mum_state.specs.Kinds.{changes_channels};
+ghost use Rattle.mum_state.specs.Kinds.{changes_channels, needs_no_memory};
 ghost use Rattle.mum_state.specs.Named.{given};
-ghost use Rattle.mum_state.specs.Set.{set_by, with_made, with_maker_in, with_members_moved_up, with_policy, with_tree};
+ghost use Rattle.mum_state.specs.Set.{set_by, with_limits, with_made, with_maker_in, with_members_moved_up, with_policy, with_tree};
 ghost use Rattle.mum_state.specs.State.{is_named, is_numbered, with_account};
 
 use crate::account::Account;
@@ -52,6 +51,19 @@ impl Parts {
         Ok(())
     }
 
+    fn set_limits(&mut self, sessions: u16, channels: u32) -> Result<(), OutOfMemory>
+        requires sessions { self.old.roster.limit ≤ sessions }
+        requires few_sessions { sessions ≤ SLOTS }
+        requires channels { self.old.tree.limit ≤ channels }
+        requires few_channels { channels ≤ PLACES }
+        ensures ok { OnOk result (self.new ≡ with_limits self.old sessions channels) }
+        ensures err { OnErr result (self.new ≡ self.old) }
+    {
+        self.channels.set_limit(channels)?;
+        self.roster.set_limit(sessions);
+        Ok(())
+    }
+
     fn add_account(
         &mut self,
         account: AccountId,
@@ -80,7 +92,7 @@ impl Parts {
         account: Option<AccountId>,
         tokens: &Items<Text>,
     ) -> Result<(), OutOfMemory>
-        requires { join_fault SESSIONS self.old.roster name.now ≡ None }
+        requires { join_fault self.old.roster name.now ≡ None }
         ensures ok { OnOk result (self.new
             ≡ record self.old { roster = joined self.old.roster name.now account tokens.now }) }
         ensures err { OnErr result (self.new ≡ self.old) }
@@ -129,7 +141,7 @@ impl Parts {
         maker: Option<SessionId>,
     ) -> Result<(), OutOfMemory>
         requires above { self.old.tree.greatest < id.0 }
-        requires allowed { fault_of_add CHANNEL_LIMIT self.old.tree id parent name.now ≡ None }
+        requires allowed { fault_of_add self.old.tree id parent name.now ≡ None }
         requires maker { IsTrue (list_all (λ maker. list_any (has_number maker)
             self.old.roster.sessions) (given maker)) }
         ensures ok { OnOk result (self.new ≡ with_maker_in (with_made self.old (with_info (with_new
@@ -173,7 +185,7 @@ impl Parts {
             id,
             parent: parent_of(tree, id),
         };
-        self.roster.seat_anew(&moved);
+        self.roster.place_all(&moved);
     }
 
     fn edit_user(&mut self, session: SessionId, change: &UserChange<'_>) -> Result<(), OutOfMemory>
@@ -229,6 +241,7 @@ impl Parts {
         requires kind { changes_channels edit.now ≡ false }
         ensures ok { OnOk result (self.new ≡ set_by self.old edit.now) }
         ensures err { OnErr result (self.new ≡ self.old) }
+        ensures in_place { IsTrue (needs_no_memory edit.now) → IsOk result }
     {
         match *edit {
             Edit::SetServer {
@@ -236,6 +249,7 @@ impl Parts {
                 bandwidth,
                 password,
             } => self.set_server(welcome, bandwidth, password),
+            Edit::SetLimits { sessions, channels } => self.set_limits(sessions, channels),
             Edit::AddAccount {
                 account,
                 ref name,
@@ -275,6 +289,7 @@ impl Parts {
         requires kind { changes_channels edit.now ≡ true }
         ensures ok { OnOk result (self.new ≡ set_by self.old edit.now) }
         ensures err { OnErr result (self.new ≡ self.old) }
+        ensures in_place { IsTrue (needs_no_memory edit.now) → IsOk result }
     {
         match *edit {
             Edit::MakeChannel {
@@ -303,11 +318,12 @@ impl Parts {
         }
     }
 
-    /// Sets what an edit sets. After want of memory all is as it was.
+    /// Sets what an edit sets. After it ran out of memory all is as it was.
     pub(crate) fn set(&mut self, edit: &Edit) -> Result<(), OutOfMemory>
         requires { IsTrue (fits self.old edit.now) }
         ensures ok { OnOk result (self.new ≡ set_by self.old edit.now) }
         ensures err { OnErr result (self.new ≡ self.old) }
+        ensures in_place { IsTrue (needs_no_memory edit.now) → IsOk result }
     {
         if changes_channels(edit) {
             self.set_channels(edit)

@@ -1,11 +1,13 @@
 //! The state, what is read from it, and how edits change it.
 
-ghost use Rattle.std.specs.Prelude.{◌≡◌, ◌+◌, ◌<◌, IfOk, IsTrue, OnErr, OnOk, Some, slice_get};
+ghost use Rattle.std.specs.Prelude.{◌≡◌, ◌+◌, ◌<◌, IfOk, IsOk, IsTrue, OnErr, OnOk, Some, slice_get};
 ghost use Rattle.std.specs.Option.{option_copied, option_map};
+ghost use Rattle.mum_base.specs.declared.number.TheConstants.{SLOTS};
 ghost use Rattle.mum_policy.specs.Member.{asker_of};
 ghost use Rattle.mum_tree.specs.Rows.{row_of};
 ghost use Rattle.mum_state.specs.Applied.{applied};
 ghost use Rattle.mum_state.specs.Fits.{fits};
+ghost use Rattle.mum_state.specs.Kinds.{needs_no_memory};
 ghost use Rattle.mum_state.specs.Permissions.{granted_where_there, perm_of, visits_of};
 ghost use Rattle.mum_state.specs.Proper.{IsProper};
 ghost use Rattle.mum_state.specs.State.{account_named, empty_state};
@@ -19,7 +21,6 @@ use mum_base::{ChannelId, OutOfMemory, Perm, SessionId, Slot, Steps};
 use mum_policy::{ChannelPolicy, Policies, Who};
 use mum_tree::Tree;
 use mum_users::Roster;
-use mum_users::user::SESSIONS;
 use std::alloc::Global;
 use std::marker::Model;
 use std::sync::ledger::Ledger;
@@ -63,18 +64,20 @@ impl State {
     }
 
     /// Whether an edit fits: whom and what it names is there, the numbers that it gives are right, and
-    /// nothing stands against it. It takes no memory, and costs in proportion to what the edit names.
+    /// no cause refuses it. It takes no memory, and costs in proportion to what the edit names.
     pub fn fits(&self, edit: &Edit) -> bool
         ensures { result ≡ fits self.now edit.now }
     {
         self.parts.fits(edit)
     }
 
-    /// Makes an edit. After want of memory the state is as it was.
+    /// Makes an edit. After it ran out of memory the state is as it was. A session that leaves or is kicked, a
+    /// channel that is removed and a text take no memory, and are never refused.
     pub fn apply(&mut self, edit: &Edit) -> Result<(), OutOfMemory>
         requires { IsTrue (fits self.old edit.now) }
         ensures ok { OnOk result (self.new ≡ applied self.old edit.now) }
         ensures err { OnErr result (self.new ≡ self.old) }
+        ensures in_place { IsTrue (needs_no_memory edit.now) → IsOk result }
         ensures proper { IsProper self.new }
     {
         self.parts.apply(edit)
@@ -107,13 +110,13 @@ impl State {
     /// How many edits joined a session into this slot, or changed the channel or set the tokens of the
     /// session in it.
     pub fn session_stamp(&self, slot: Slot) -> u64
-        requires { slot.0 < SESSIONS }
+        requires { slot.0 < SLOTS }
         ensures { slice_get self.now.counts.slots slot.0 ≡ Some result }
     {
         self.parts.slot_counts[slot.0 as usize]
     }
 
-    /// What whoever asks may do in a channel, also with tokens for this once; `None` where there is no
+    /// What the asker may do in a channel, also with tokens for this once; `None` where there is no
     /// such channel. It takes no memory.
     pub fn granted_to(&self, who: &Who<'_>, channel: ChannelId) -> Option<Perm>
         ensures { option_map (λ perm. perm.0) result
@@ -159,7 +162,7 @@ impl State {
         &self.parts.server
     }
 
-    /// The account of a name, found by halving; `None` exactly where no account has it.
+    /// The account of a name, found by binary search; `None` exactly where no account has it.
     pub fn account_named(&self, name: &str) -> Option<&Account>
         ensures { option_copied result ≡ account_named self.now name.now }
     {

@@ -1,7 +1,10 @@
 //! What is decided of a command.
 
+ghost use Rattle.std.specs.Prelude.{◌≡◌};
+ghost use Rattle.mum_base.specs.Codes.{deny_code, reason_code, reject_code};
+
 use crate::edit::Edit;
-use mum_base::{ChannelId, Perm};
+use mum_base::{ChannelId, DenyType, Perm, Reason, RejectType};
 use mum_frame::Frame;
 
 /// What is decided of a command at a state.
@@ -19,4 +22,27 @@ pub enum Verdict {
     Answer(Frame),
     /// It is passed over, for a reason from 1 to 8.
     Ignored { why: u8 },
+}
+
+impl Verdict {
+    /// The command is ignored for this reason.
+    pub fn ignored(reason: Reason) -> Verdict
+        ensures { result ≡ Verdict.Ignored (reason_code reason) }
+    {
+        Verdict::Ignored { why: reason.code() }
+    }
+
+    /// A limit refuses the command, with this type.
+    pub fn refused(kind: DenyType) -> Verdict
+        ensures { result ≡ Verdict.Refused (deny_code kind) }
+    {
+        Verdict::Refused { kind: kind.code() }
+    }
+
+    /// The login is rejected, with this type.
+    pub fn rejected(kind: RejectType) -> Verdict
+        ensures { result ≡ Verdict.Rejected (reject_code kind) }
+    {
+        Verdict::Rejected { kind: kind.code() }
+    }
 }

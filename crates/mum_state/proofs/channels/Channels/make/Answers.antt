@@ -14,7 +14,7 @@ describe-requires c =
 pub invariant_of-self : goal.invariant_of-self
 invariant_of-self c = record {
   proper = c.in_err-grow.ensures.proper;
-  whole = c.self.invariant.whole;
+  whole = c.self.invariant.whole ∙ sym (ap (λ (tree : TreeState). tree.limit) c.in_err-grow.ensures.err);
   free = subst (λ (tree : TreeState). IsOpenWhereFree c.self.inside.policies.items tree.channels) (sym c.in_err-grow.ensures.err) c.self.invariant.free;
 }
 
@@ -26,7 +26,7 @@ invariant_of-self-2 c =
     ∙ ap (with_info (with_new c.self.inside.tree c.args.id c.args.parent c.args.name.now c.args.temporary) c.args.id) c.in_ok-info.ensures in
     record {
       proper = c.describe.ensures.proper;
-      whole = c.self.invariant.whole;
+      whole = c.self.invariant.whole ∙ sym (ap (λ (t : TreeState). t.limit) tree_is);
       free = subst (λ (t : TreeState). IsOpenWhereFree c.self.inside.policies.items t.channels) (sym tree_is)
           (free_made c.self.inside.policies.items c.self.inside.tree c.args.id c.args.parent c.args.name.now c.args.temporary c.args.info.now c.self.invariant.free);
     }

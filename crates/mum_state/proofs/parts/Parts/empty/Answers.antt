@@ -9,7 +9,7 @@ use Rattle.mum_state.specs.Proper.{IsNear, IsProper}
 use Rattle.mum_state.specs.State.{empty_state}
 use Rattle.mum_state.proofs.parts.Parts.empty.Goals as goal
 
-empty_proper : IsProperTree 1024 root_alone → IsProperRoster 128 empty_roster → IsProper empty_state
+empty_proper : IsProperTree root_alone → IsProperRoster empty_roster → IsProper empty_state
 empty_proper tree roster = record {
   welcome = refl;
   names = tt;
@@ -28,7 +28,7 @@ empty_proper tree roster = record {
     revision = omega arith;
     policy = omega arith;
     routing = omega arith;
-    each = All-replicate (IsNear 0) 128 0 (omega arith);
+    each = All-replicate (IsNear 0) 512 0 (omega arith);
     one_each = refl;
   };
 }
@@ -41,5 +41,5 @@ pub returns-clause-proper : goal.returns-clause-proper
 returns-clause-proper c =
     subst IsProper (sym (returns-clause-empty c))
     (empty_proper
-    (subst (λ (channels : ChannelsState). IsProperTree 1024 channels.tree) c.in_ok-new.ensures.root c.in_ok-new.ensures.proper)
-    (subst (IsProperRoster 128) c.in_ok-new-2.ensures.empty c.in_ok-new-2.ensures.proper))
+    (subst (λ (channels : ChannelsState). IsProperTree channels.tree) c.in_ok-new.ensures.root c.in_ok-new.ensures.proper)
+    (subst IsProperRoster c.in_ok-new-2.ensures.empty c.in_ok-new-2.ensures.proper))

@@ -24,6 +24,6 @@ returns c =
       counts = record { revision = c.self.inside.revision; policy = c.self.inside.stamps.policy; routing = c.self.inside.stamps.routing; slots = c.self.inside.slot_counts.items };
     } in
     let inside = subst (λ (s : StateValue). IsTrue (list_all (λ user. is_there s.tree.channels user.channel) s.roster.sessions)) (sym c.self.view_is) c.requires in
-    ap (λ (roster : RosterState). record before { roster = roster }) (c.seat_anew.ensures.outcome ∙ heard_seats c.args.renewed.now c.sets_policy-all.result before inside)
+    ap (λ (roster : RosterState). record before { roster = roster }) (c.place_all.ensures.outcome ∙ heard_seats c.args.renewed.now c.sets_policy-all.result before inside)
     ∙ ap (heard_again c.args.renewed.now c.sets_policy-all.result) c.self.view_is
     ∙ ap (λ (b : Bool). heard_again c.args.renewed.now b c.args.self.now) c.sets_policy-all.ensures

@@ -1,8 +1,11 @@
 use Rattle.std.proofs.Common.{◌≡◌, ◌∙◌, ◌==◌, ◌&&◌, true, ap, sym, subst}
 use Rattle.std.specs.List.{list_any}
+use Rattle.mum_base.specs.declared.number.TheConstants.{SLOTS}
 use Rattle.mum_tree.specs.Rows.{is_below}
 use Rattle.mum_tree.specs.State.{TreeState}
 use Rattle.mum_users.specs.declared.user.User.{User}
+use Rattle.mum_users.specs.Proper.{SlotsRise}
+use Rattle.mum_users.proofs.Rosters.{slots_below_greatest}
 use Rattle.mum_state.specs.declared.edit.Edit.{Edit}
 use Rattle.mum_state.specs.Counts.{renews}
 use Rattle.mum_state.specs.Fits.{fits}
@@ -37,6 +40,11 @@ returns-in-MakeChannel c = λ slot.
     ∙ renews_maker c.args.self.now c.in-MakeChannel.id c.in-MakeChannel.parent c.in-MakeChannel.name c.in-MakeChannel.temporary c.in-MakeChannel.info c.in-MakeChannel.maker c.requires.proper
     (subst (λ (e : Edit). fits c.args.self.now e ≡ true) c.in-MakeChannel.is c.requires.fits) slot
     ∙ ap (λ (e : Edit). renews c.args.self.now e slot) (sym c.in-MakeChannel.is)
+
+pub slots_below-requires : goal.slots_below-requires
+slots_below-requires c =
+    subst (SlotsRise SLOTS 0) (sym c.users.ensures)
+    (subst (λ (s : StateValue). SlotsRise SLOTS 0 s.roster.sessions) (sym c.self.view_is) (slots_below_greatest c.args.self.now.roster c.requires.proper.roster))
 
 pub returns-in-RemoveChannel : goal.returns-in-RemoveChannel
 returns-in-RemoveChannel c = λ slot.

@@ -3,6 +3,7 @@ use Rattle.mum_users.specs.Edit.{user_edit_of}
 use Rattle.mum_state.specs.declared.edit.Edit.{Edit}
 use Rattle.mum_state.specs.Fits.{fits}
 use Rattle.mum_state.specs.Parts.{user_change}
+use Rattle.mum_state.proofs.Limiting.{limits_fit}
 use Rattle.mum_state.proofs.Marking.{account_fits, user_fits}
 use Rattle.mum_state.proofs.parts.Parts.set_others.Goals as goal
 
@@ -17,3 +18,8 @@ add_account-requires c =
     let added = c.in-AddAccount in
     let parts = account_fits c.args.self.now added.account added.name added.digest (subst (λ (e : Edit). fits c.args.self.now e ≡ true) added.is c.requires.fits) in
     record { name = parts.0; number = parts.1 }
+
+pub set_limits-requires : goal.set_limits-requires
+set_limits-requires c =
+    let are = limits_fit c.args.self.now c.in-SetLimits.sessions c.in-SetLimits.channels (subst (λ (e : Edit). fits c.args.self.now e ≡ true) c.in-SetLimits.is c.requires.fits) in
+    record { sessions = are.sessions_rise; few_sessions = are.few_sessions; channels = are.channels_rise; few_channels = are.few_channels }

@@ -1,0 +1,136 @@
+-- Who is heard anew is suppressed exactly where it may not speak in the state after the edit.
+use Rattle.std.proofs.Common.{◌≡◌, ℕ, ◌==◌, ◌||◌, not, Bool, true, false, cond, List, [], ◌∷◌, map, reverse, refl, sym, ap, subst, ◌∙◌, Some}
+use Rattle.std.specs.List.{filter, find}
+use Rattle.std.specs.Option.{option_map}
+use Rattle.std.proofs.lemmas.Bool.{and_parts, both_ways, eqb-true}
+use Rattle.mum_base.specs.declared.number.ChannelId.{ChannelId}
+use Rattle.mum_base.specs.declared.perm.TheConstants.Perm.{SPEAK}
+use Rattle.mum_policy.specs.Walk.{holds, perm}
+use Rattle.mum_tree.specs.declared.channel.Row.{Row}
+use Rattle.mum_tree.specs.Proper.{IsProper as IsProperTree}
+use Rattle.mum_tree.specs.Rows.{is_there, path}
+use Rattle.mum_tree.specs.State.{without_rows}
+use Rattle.mum_tree.proofs.Upward.{path_leads}
+use Rattle.mum_users.specs.declared.user.User.{User}
+use Rattle.mum_users.specs.State.{has_number}
+use Rattle.mum_state.specs.declared.edit.Edit.{Edit}
+use Rattle.mum_state.specs.declared.edit.Edit.TheVariants.{SetTokens, SetUser}
+use Rattle.mum_state.specs.Applied.{applied}
+use Rattle.mum_state.specs.Emptied.{without_emptied}
+use Rattle.mum_state.specs.Kinds.{sets_policy, sets_tokens_of}
+use Rattle.mum_state.specs.Laws.{SuppressedWhereSilent}
+use Rattle.mum_state.specs.Permissions.{asker, asker_at, may_speak}
+use Rattle.mum_state.specs.Proper.{IsProper}
+use Rattle.mum_state.specs.Set.{set_by, with_tree}
+use Rattle.mum_state.specs.State.{PolicyRow, StateValue, policy_of}
+use Rattle.mum_state.specs.Suppression.{is_cleared, is_newcomer, is_set_anew}
+use Rattle.mum_state.proofs.Alike.{Agrees, perm_by_path}
+use Rattle.mum_state.proofs.Closed.{AreClosed, closed_proper, inside_kept, is_kept, kept_closed, rows_not_left, up_of}
+use Rattle.mum_state.proofs.Each.{Each, each_find, each_from_all, each_map, each_passes, each_so}
+use Rattle.mum_state.proofs.Gone.{rows_of, there_of}
+use Rattle.mum_state.proofs.Keeping.{fit_proper}
+use Rattle.mum_state.proofs.Ways.{each_of_mapped}
+use Rattle.mum_state.proofs.Suppressed.{heard, heard_after, heard_proper, silent_after, silent_anew, silent_cleared, with_heard}
+
+-- ---- channels that go change nothing for who stays
+
+-- what is looked for is found where all that fits is kept
+find_kept : {X : Type 0} (test keep : X → Bool) → ((x : X) → test x ≡ true → keep x ≡ true) → (xs : List X) → find test (filter keep xs) ≡ find test xs
+find_kept test keep so [] = refl
+find_kept test keep so (x ∷ xs) = step (test x) (keep x) refl refl (find_kept test keep so xs)
+  where
+    step : (t k : Bool) → test x ≡ t → keep x ≡ k → find test (filter keep xs) ≡ find test xs
+        → find test (cond k (x ∷ filter keep xs) (filter keep xs)) ≡ cond t (Some x) (find test xs)
+    step true true is kept rest = ap (λ (b : Bool). cond b (Some x) (find test (filter keep xs))) is
+    step true false is kept rest = absurd (both_ways (keep x) kept (so x is))
+    step false true is kept rest = ap (λ (b : Bool). cond b (Some x) (find test (filter keep xs))) is ∙ rest
+    step false false is kept rest = rest
+
+module _ (state : StateValue) (stays : ChannelId → Bool) where
+  abbrev kept : List Row
+  kept = rows_of stays state.tree.channels
+
+  abbrev left : StateValue
+  left = with_tree state (without_rows state.tree kept)
+
+  -- a channel that stays keeps its policy
+  policy_stays : (channel : ChannelId) → is_there kept channel ≡ true → policy_of left channel ≡ policy_of state channel
+  policy_stays channel there =
+      ap (option_map (λ (row : PolicyRow). row.policy))
+      (find_kept (λ (row : PolicyRow). row.channel.0 == channel.0) (λ row. is_there kept row.channel)
+      (λ row same.
+      let is : row.channel ≡ channel = ap (λ n. record { 0 = n }) (eqb-true row.channel.0 channel.0 same) in
+      ap (is_there kept) is ∙ there) state.policies)
+
+  -- who is in such a channel may speak there as before
+  left_speaks : (user : User) → IsProper state → AreClosed state.tree.channels stays → is_there kept user.channel ≡ true → may_speak left user ≡ may_speak state user
+  left_speaks user proper closed there =
+      let (was, stay) = and_parts (is_there state.tree.channels user.channel) (stays user.channel) (sym (there_of stays state.tree.channels user.channel) ∙ there) in
+      let way : path kept user.channel ≡ path state.tree.channels user.channel =
+      ap (reverse {A = ChannelId}) (up_of state.tree.channels stays closed 33 user.channel (proper.tree.lead user.channel was) stay) in
+      let after : IsProperTree (without_rows state.tree kept) = closed_proper state.tree stays closed proper.tree in
+      let agree : Each (Agrees (policy_of left) (policy_of state)) (path kept user.channel) =
+      each_so (λ channel. is_there kept channel ≡ true) (Agrees (policy_of left) (policy_of state)) (λ channel here. policy_stays channel here) (path kept user.channel)
+      (each_from_all (λ channel. is_there kept channel ≡ true) (path kept user.channel) (path_leads kept user.channel (after.lead user.channel there)).there) in
+      ap (λ (set : ℕ). holds set SPEAK.0)
+      (perm_by_path (policy_of left) (policy_of state) (path kept user.channel) (asker left.tree user) agree
+      ∙ ap (λ (home : List ChannelId). perm (policy_of state) home (asker_at home user user.tokens)) way)
+
+emptied_speaks : (before state : StateValue) (user : User) → IsProper state
+    → is_there (rows_of (is_kept before.roster.sessions state.roster.sessions state.tree.channels) state.tree.channels) user.channel ≡ true
+    → may_speak (without_emptied before state) user ≡ may_speak state user
+emptied_speaks before state user proper there =
+    let was : List User = before.roster.sessions in
+    let now : List User = state.roster.sessions in
+    ap (λ (rows : List Row). may_speak (with_tree state (without_rows state.tree rows)) user) (rows_not_left was now state.tree.channels proper.tree.rise)
+    ∙ left_speaks state (is_kept was now state.tree.channels) user proper (kept_closed was now state.tree proper.tree) there
+
+-- ---- who is heard anew
+
+not_cleared : (edit : Edit) (user : User) → is_cleared edit user ≡ false → silent_cleared edit user ≡ user.suppress
+not_cleared (SetUser session actor channel mute deaf true priority self_mute self_deaf recording comment context listen unlisten) user none =
+    ap (λ (b : Bool). cond b false user.suppress) none
+not_cleared (SetUser session actor channel mute deaf false priority self_mute self_deaf recording comment context listen unlisten) user none = refl
+not_cleared edit user none = refl
+
+-- neither depends on who may speak
+cleared_heard : (edit : Edit) (silent : User → Bool) (user : User) → is_cleared edit (heard silent user) ≡ is_cleared edit user
+cleared_heard (SetUser session actor channel mute deaf clear_suppress priority self_mute self_deaf recording comment context listen unlisten) silent user = refl
+cleared_heard edit silent user = refl
+
+tokens_heard : (edit : Edit) (silent : User → Bool) (user : User) → sets_tokens_of edit (heard silent user) ≡ sets_tokens_of edit user
+tokens_heard (SetTokens session tokens) silent user = refl
+tokens_heard edit silent user = refl
+
+anew_heard : (before : List User) (edit : Edit) (silent : User → Bool) (user : User) → is_set_anew before edit (heard silent user) ≡ is_set_anew before edit user
+anew_heard before edit silent user = ap (λ (b : Bool). (is_newcomer before user || b) || sets_policy edit) (tokens_heard edit silent user)
+
+-- by what it may do in this state, if it is heard anew
+abbrev IsHeardIn : StateValue → Edit → StateValue → User → Type 0
+IsHeardIn before edit state user =
+    is_set_anew before.roster.sessions edit user ≡ true → is_cleared edit user ≡ false → user.suppress ≡ not (may_speak state user)
+
+heard_in : (before : StateValue) (edit : Edit) (set : StateValue) → IsProper set
+    → Each (IsHeardIn before edit (without_emptied before (with_heard (silent_after before edit set) set))) (map (heard (silent_after before edit set)) set.roster.sessions)
+heard_in before edit set proper =
+    let silent : User → Bool = silent_after before edit set in
+    let state : StateValue = with_heard silent set in
+    let good : IsProper state = heard_proper silent set proper in
+    let rows : List Row = rows_of (is_kept before.roster.sessions state.roster.sessions state.tree.channels) state.tree.channels in
+    let inside : Each (λ user. is_there rows user.channel ≡ true) state.roster.sessions =
+    each_passes (λ user. is_there rows user.channel) state.roster.sessions (inside_kept before.roster.sessions state.roster.sessions state.tree.channels good.inside) in
+    each_map (λ user. is_there rows user.channel ≡ true) (IsHeardIn before edit (without_emptied before state)) (heard silent)
+    (λ user there anew none.
+    not_cleared edit (heard (silent_anew before edit set) user) (cleared_heard edit (silent_anew before edit set) user ∙ sym (cleared_heard edit silent user) ∙ none)
+    ∙ ap (λ (b : Bool). cond b (not (may_speak set user)) user.suppress) (sym (anew_heard before.roster.sessions edit silent user) ∙ anew)
+    ∙ ap not (sym (emptied_speaks before state (heard silent user) good there)))
+    set.roster.sessions (each_of_mapped (λ user. is_there rows user.channel ≡ true) (heard silent) set.roster.sessions inside)
+
+pub suppressed_where_silent_lem : SuppressedWhereSilent
+suppressed_where_silent_lem state edit session user proper fit found anew none =
+    let set : StateValue = set_by state edit in
+    let is = heard_after state edit set in
+    let all : Each (IsHeardIn state edit (applied state edit)) (applied state edit).roster.sessions =
+    subst (λ (s : StateValue). Each (IsHeardIn state edit (without_emptied state s)) s.roster.sessions) (sym is)
+    (heard_in state edit set (fit_proper state edit proper fit).0) in
+    (each_find (IsHeardIn state edit (applied state edit)) (has_number session) (applied state edit).roster.sessions user all found).0 anew none

@@ -1,5 +1,0 @@
-use Rattle.mum_state.proofs.Governed.{AreOpened}
-use Rattle.mum_state.proofs.channels.open_free_places.Given as goal
-
-abbrev pub invariant-loop-place : goal.invariant-loop-place
-invariant-loop-place l = AreOpened l.taken l.initial.policies.items l.policies.items l.place 1024

@@ -21,9 +21,9 @@ use Rattle.mum_policy.specs.Walk.{holds}
 use Rattle.mum_tree.specs.declared.channel.TheConstants.{PATH_LIMIT}
 use Rattle.mum_tree.specs.declared.fault.TreeFault.{TreeFault}
 use Rattle.mum_tree.specs.declared.fault.TreeFault.TheVariants.{NoChannel, SameName, UnderItself, Nesting, Count, RootFixed, TemporaryParent, LinkCount}
-use Rattle.mum_tree.specs.Change.{Change, fault_of_edit, name_after, overlinks, parent_after, reseats}
+use Rattle.mum_tree.specs.Change.{Change, fault_of_edit, name_after, overlinks, parent_after, renames_or_moves}
 use Rattle.mum_tree.specs.Change.{names_there as change_names_there}
-use Rattle.mum_tree.specs.Refusals.{fault_of_add, fault_of_remove, fault_of_seat, is_full}
+use Rattle.mum_tree.specs.Refusals.{fault_of_add, fault_of_remove, fault_of_placement, is_full}
 use Rattle.mum_tree.specs.Rows.{is_below, is_root, is_taken, is_temporary, is_there, nests, path}
 use Rattle.mum_tree.specs.State.{TreeState, next_number}
 use Rattle.mum_users.specs.State.{has_number}
@@ -34,13 +34,13 @@ use Rattle.mum_state.specs.declared.verdict.Verdict.TheVariants.{Answer, Ignored
 use Rattle.mum_state.specs.Fits.{fits, gives_right_numbers, holds_of_given, is_countable, sets_properly}
 use Rattle.mum_state.specs.Named.{given, named_account, named_channels, named_sessions, names_there}
 use Rattle.mum_state.specs.Proper.{IsProper, is_name, is_sound_entry, is_text}
-use Rattle.mum_state.specs.State.{StateValue, channel_limit, has_account, policy_of}
+use Rattle.mum_state.specs.State.{StateValue, has_account, policy_of}
 use Rattle.mum_rules_tree.specs.declared.message.TreeMessage.{TreeMessage}
 use Rattle.mum_rules_tree.specs.declared.message.TreeMessage.TheVariants.{State, Remove, Acl}
 use Rattle.mum_rules_tree.specs.Asked.{Command, change_asked, channel, channel_or_root, command_of, is_named_there, is_number_there, is_query, new_parent, others, parent_of_new, text_or_empty}
 use Rattle.mum_rules_tree.specs.Asked.{names_there as names_there_in}
-use Rattle.mum_rules_tree.specs.Codes.{reason_code}
-use Rattle.mum_rules_tree.specs.declared.reason.Reason.TheVariants.{NotThere}
+use Rattle.mum_base.specs.Codes.{reason_code}
+use Rattle.mum_base.specs.declared.outcome.Reason.TheVariants.{NotThere}
 use Rattle.mum_rules_tree.specs.Decision.{FitsWhereAccepted, first_lack, first_standing}
 use Rattle.mum_rules_tree.specs.Limits.{limits, limits_of_change, limits_of_new, limits_of_policy, limits_of_removal, new_number}
 use Rattle.mum_rules_tree.specs.Needs.{needs}
@@ -88,9 +88,9 @@ by_actor state actor heard = and_from (list_any (has_number actor) state.roster.
 
 -- ---- a new channel
 
-add_allowed : (limit : ℕ) (tree : TreeState) (id parent : ChannelId) (name : List ℕ) → is_there tree.channels parent ≡ true → is_taken tree.channels parent id name ≡ false → is_temporary tree.channels parent ≡ false → leb PATH_LIMIT (length (path tree.channels parent)) ≡ false → is_full limit tree ≡ false → fault_of_add limit tree id parent name ≡ None
-add_allowed limit tree id parent name there free lasting shallow room =
-    let full : Option TreeFault = cond (is_full limit tree) (Some Count) None in
+add_allowed : (tree : TreeState) (id parent : ChannelId) (name : List ℕ) → is_there tree.channels parent ≡ true → is_taken tree.channels parent id name ≡ false → is_temporary tree.channels parent ≡ false → leb PATH_LIMIT (length (path tree.channels parent)) ≡ false → is_full tree ≡ false → fault_of_add tree id parent name ≡ None
+add_allowed tree id parent name there free lasting shallow room =
+    let full : Option TreeFault = cond (is_full tree) (Some Count) None in
     let deep : Option TreeFault = cond (leb PATH_LIMIT (length (path tree.channels parent))) (Some Nesting) full in
     let temporary : Option TreeFault = cond (is_temporary tree.channels parent) (Some TemporaryParent) deep in
     let taken : Option TreeFault = cond (is_taken tree.channels parent id name) (Some SameName) temporary in
@@ -116,21 +116,20 @@ new_fits : (state : StateValue) (actor : SessionId) (message : ChannelState) →
 new_fits state actor message heard there free =
     let tree = state.tree in
     let rows = tree.channels in
-    let limit = channel_limit state in
     let parent = parent_of_new message in
     let id = new_number tree in
     let name = text_or_empty message.name in
     let description = text_or_empty message.description in
-    let off = all_off (limits_of_new limit tree parent name description) free in
+    let off = all_off (limits_of_new tree parent name description) free in
     let no_name = off.0 in
     let no_parent = off.1.0 in
     let no_depth = off.1.1.0 in
     let no_count = off.1.1.1.0 in
     let no_text = off.1.1.1.1.0 in
     let (bad, taken) = or_parts (not (is_name name)) (is_taken rows parent id name) no_name in
-    let (full, used_up) = or_parts (is_full limit tree) (is_none (next_number tree)) no_count in
-    let fault = fault_of_add limit tree id parent name in
-    let added : is_none fault ≡ true = ap is_none (add_allowed limit tree id parent name there taken no_parent no_depth full) in
+    let (full, used_up) = or_parts (is_full tree) (is_none (next_number tree)) no_count in
+    let fault = fault_of_add tree id parent name in
+    let added : is_none fault ≡ true = ap is_none (add_allowed tree id parent name there taken no_parent no_depth full) in
     let edit = edit_to_make tree actor message in
     fits_from state edit
     (named_from state edit (by_actor state actor heard) (and_from (is_there rows parent) true there refl) refl)
@@ -140,7 +139,7 @@ new_fits state actor message heard there free =
 
 -- ---- other parts of a channel
 
-seat_allowed : (tree : TreeState) (id : ChannelId) (name : List ℕ) (parent : ChannelId) (reseated : Bool) → (reseated && is_root id) ≡ false → (reseated && is_taken tree.channels parent id name) ≡ false → (reseated && is_below tree.channels id parent) ≡ false → (reseated && is_temporary tree.channels parent) ≡ false → (reseated && list_any (nests tree.channels id parent) tree.channels) ≡ false → cond reseated (fault_of_seat tree id name parent) None ≡ None
+seat_allowed : (tree : TreeState) (id : ChannelId) (name : List ℕ) (parent : ChannelId) (renamed_or_moved : Bool) → (renamed_or_moved && is_root id) ≡ false → (renamed_or_moved && is_taken tree.channels parent id name) ≡ false → (renamed_or_moved && is_below tree.channels id parent) ≡ false → (renamed_or_moved && is_temporary tree.channels parent) ≡ false → (renamed_or_moved && list_any (nests tree.channels id parent) tree.channels) ≡ false → cond renamed_or_moved (fault_of_placement tree id name parent) None ≡ None
 seat_allowed tree id name parent false root free above lasting shallow = refl
 seat_allowed tree id name parent true root free above lasting shallow =
     let rows = tree.channels in
@@ -154,9 +153,9 @@ seat_allowed tree id name parent true root free above lasting shallow =
     ∙ ap (λ (b : Bool). cond b (Some TemporaryParent) deep) lasting
     ∙ ap (λ (b : Bool). cond b (Some Nesting) None) shallow
 
-change_allowed : (tree : TreeState) (id : ChannelId) (change : Change) → change_names_there tree id change ≡ true → cond (reseats tree id change) (fault_of_seat tree id (name_after tree id change) (parent_after tree id change)) None ≡ None → overlinks tree id change ≡ false → fault_of_edit tree id change ≡ None
+change_allowed : (tree : TreeState) (id : ChannelId) (change : Change) → change_names_there tree id change ≡ true → cond (renames_or_moves tree id change) (fault_of_placement tree id (name_after tree id change) (parent_after tree id change)) None ≡ None → overlinks tree id change ≡ false → fault_of_edit tree id change ≡ None
 change_allowed tree id change there seat links =
-    let seats : Option TreeFault = cond (reseats tree id change) (fault_of_seat tree id (name_after tree id change) (parent_after tree id change)) None in
+    let seats : Option TreeFault = cond (renames_or_moves tree id change) (fault_of_placement tree id (name_after tree id change) (parent_after tree id change)) None in
     let over : Option TreeFault = cond (overlinks tree id change) (Some LinkCount) None in
     ap (λ (b : Bool). cond (not b) (Some NoChannel) (option_map_or (λ fault. Some fault) seats over)) there
     ∙ ap (λ (s : Option TreeFault). option_map_or (λ fault. Some fault) s over) seat
@@ -173,7 +172,7 @@ good tree id change there free =
     let rows = tree.channels in
     let name = name_after tree id change in
     let parent = parent_after tree id change in
-    let reseated = reseats tree id change in
+    let renamed_or_moved = renames_or_moves tree id change in
     let off = all_off (limits_of_change tree id change) free in
     let root = off.0 in
     let names = off.1.0 in
@@ -182,9 +181,9 @@ good tree id change there free =
     let shallow = off.1.1.1.1.0 in
     let short = off.1.1.1.1.1.0 in
     let links = off.1.1.1.1.1.1.0 in
-    let (bad, taken) = or_parts (not (holds_of_given is_name change.name)) (reseated && is_taken rows parent id name) names in
+    let (bad, taken) = or_parts (not (holds_of_given is_name change.name)) (renamed_or_moved && is_taken rows parent id name) names in
     record {
-      taken = change_allowed tree id change there (seat_allowed tree id name parent reseated root taken above lasting shallow) (parted tree id change links);
+      taken = change_allowed tree id change there (seat_allowed tree id name parent renamed_or_moved root taken above lasting shallow) (parted tree id change links);
       name = not-false (holds_of_given is_name change.name) bad;
       text = not-false (holds_of_given is_text change.description) short;
     }

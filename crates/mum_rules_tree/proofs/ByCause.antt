@@ -5,31 +5,31 @@ use Rattle.std.specs.Option.{option_map_or}
 use Rattle.mum_base.specs.declared.number.ChannelId.{ChannelId}
 use Rattle.mum_tree.specs.declared.fault.TreeFault.{TreeFault}
 use Rattle.mum_tree.specs.declared.fault.TreeFault.TheVariants.{NoChannel, SameName, UnderItself, Nesting, RootFixed, TemporaryParent, LinkCount}
-use Rattle.mum_tree.specs.Change.{Change, fault_of_edit, name_after, names_there, overlinks, parent_after, reseats}
+use Rattle.mum_tree.specs.Change.{Change, fault_of_edit, name_after, names_there, overlinks, parent_after, renames_or_moves}
 use Rattle.mum_tree.specs.Rows.{is_below, is_root, is_taken, is_temporary, nests}
 use Rattle.mum_tree.specs.State.{TreeState}
 use Rattle.mum_state.specs.Fits.{holds_of_given}
 use Rattle.mum_state.specs.Proper.{is_name, is_text}
-use Rattle.mum_rules_tree.specs.declared.deny.DenyType.{DenyType}
-use Rattle.mum_rules_tree.specs.declared.deny.DenyType.TheVariants.{ChannelName, NestingLimit, TemporaryChannel, Text, TextTooLong}
+use Rattle.mum_base.specs.declared.outcome.DenyType.{DenyType}
+use Rattle.mum_base.specs.declared.outcome.DenyType.TheVariants.{ChannelName, NestingLimit, TemporaryChannel, Text, TextTooLong}
 use Rattle.mum_rules_tree.specs.Decision.{case_of, first_standing}
 use Rattle.mum_rules_tree.specs.Limits.{limit_by_cause, limits_of_change, without_parting}
 
 -- what the tree says where all that is named is there
 abbrev said : Bool → Bool → Bool → Bool → Bool → Bool → Bool → Option TreeFault
-said reseated root taken below temporary deep over =
+said renamed_or_moved root taken below temporary deep over =
     option_map_or (λ fault. Some fault)
-    (cond reseated (cond root (Some RootFixed) (cond taken (Some SameName) (cond below (Some UnderItself) (cond temporary (Some TemporaryParent) (cond deep (Some Nesting) None))))) None)
+    (cond renamed_or_moved (cond root (Some RootFixed) (cond taken (Some SameName) (cond below (Some UnderItself) (cond temporary (Some TemporaryParent) (cond deep (Some Nesting) None))))) None)
     (cond over (Some LinkCount) None)
 
 -- the first limit
 abbrev first_limit : Bool → Bool → Bool → Bool → Bool → Bool → Bool → Bool → Bool → Option DenyType
-first_limit named short reseated root taken below temporary deep over = first_standing
-    (case_of Text (reseated && root)
-    ∷ case_of ChannelName (not named || (reseated && taken))
-    ∷ case_of Text (reseated && below)
-    ∷ case_of TemporaryChannel (reseated && temporary)
-    ∷ case_of NestingLimit (reseated && deep)
+first_limit named short renamed_or_moved root taken below temporary deep over = first_standing
+    (case_of Text (renamed_or_moved && root)
+    ∷ case_of ChannelName (not named || (renamed_or_moved && taken))
+    ∷ case_of Text (renamed_or_moved && below)
+    ∷ case_of TemporaryChannel (renamed_or_moved && temporary)
+    ∷ case_of NestingLimit (renamed_or_moved && deep)
     ∷ case_of TextTooLong (not short)
     ∷ case_of Text over
     ∷ [])
@@ -59,7 +59,7 @@ moves true false false false false false false false = refl
 moves false short false false false false false true = refl
 moves false short false false false false false false = refl
 
-either : (named short reseated root taken below temporary deep over : Bool) → limit_by_cause (said reseated root taken below temporary deep over) named short ≡ first_limit named short reseated root taken below temporary deep over
+either : (named short renamed_or_moved root taken below temporary deep over : Bool) → limit_by_cause (said renamed_or_moved root taken below temporary deep over) named short ≡ first_limit named short renamed_or_moved root taken below temporary deep over
 either named short true root taken below temporary deep over = moves named short root taken below temporary deep over
 either named short false root taken below temporary deep over = stays named short root taken below temporary deep over
 
@@ -71,14 +71,14 @@ by_cause tree id change there none_goes =
     let parent = parent_after tree id change in
     let named = holds_of_given is_name change.name in
     let short = holds_of_given is_text change.description in
-    let reseated = reseats tree id change in
+    let renamed_or_moved = renames_or_moves tree id change in
     let root = is_root id in
     let taken = is_taken rows parent id name in
     let below = is_below rows id parent in
     let temporary = is_temporary rows parent in
     let deep = list_any (nests rows id parent) rows in
-    let told = said reseated root taken below temporary deep (overlinks tree id change) in
+    let told = said renamed_or_moved root taken below temporary deep (overlinks tree id change) in
     let same : overlinks tree id change ≡ overlinks tree id (without_parting change) = ap (λ (ls : List ChannelId). overlinks tree id (record change { links_remove = ls })) none_goes in
     ap (λ (b : Bool). limit_by_cause (cond (not b) (Some NoChannel) told) named short) there
-    ∙ either named short reseated root taken below temporary deep (overlinks tree id change)
-    ∙ ap (first_limit named short reseated root taken below temporary deep) same
+    ∙ either named short renamed_or_moved root taken below temporary deep (overlinks tree id change)
+    ∙ ap (first_limit named short renamed_or_moved root taken below temporary deep) same

@@ -12,12 +12,12 @@ use Rattle.mum_state.specs.declared.edit.Edit.{Edit}
 use Rattle.mum_state.specs.declared.verdict.Verdict.{Verdict}
 use Rattle.mum_state.specs.declared.verdict.Verdict.TheVariants.{Accepted, Answer, Ignored, Lacks, Refused}
 use Rattle.mum_state.specs.State.{StateValue, policy_of}
-use Rattle.mum_rules_tree.specs.declared.deny.DenyType.{DenyType}
+use Rattle.mum_base.specs.declared.outcome.DenyType.{DenyType}
 use Rattle.mum_rules_tree.specs.declared.needs.Lack.{Lack}
-use Rattle.mum_rules_tree.specs.declared.reason.Reason.{Reason}
-use Rattle.mum_rules_tree.specs.declared.reason.Reason.TheVariants.{NotThere}
+use Rattle.mum_base.specs.declared.outcome.Reason.{Reason}
+use Rattle.mum_base.specs.declared.outcome.Reason.TheVariants.{NotThere}
 use Rattle.mum_rules_tree.specs.Asked.{Command, command_of}
-use Rattle.mum_rules_tree.specs.Codes.{deny_code, reason_code}
+use Rattle.mum_base.specs.Codes.{deny_code, reason_code}
 use Rattle.mum_rules_tree.specs.Decision.{Case, Need, first_lack, first_standing, is_met, lack_of}
 use Rattle.mum_rules_tree.specs.Laws.{AcceptsWhereNothingStands, AllMet, IsFirstMissing, NamesFirstMissing, NoneStands, needs_of}
 use Rattle.mum_rules_tree.specs.Limits.{limits}
@@ -34,14 +34,14 @@ none_found {X} p (x ∷ xs) none =
     (λ (off : p x ≡ false). All-cons (λ y. p y ≡ false) x xs off (none_found p xs (subst (λ (b : Bool). cond b (Some x) (find p xs) ≡ None) off none)))
     (cases_Bool (p x))
 
-record IsFound {X : Type 0} (p : X → Bool) (xs : List X) (x : X) : Type 0 where
-  before : List X
-  after : List X
-  whole : xs ≡ before ++ x ∷ after
-  none : All (λ y. p y ≡ false) before
-  passes : p x ≡ true
+pub record IsFound {X : Type 0} (p : X → Bool) (xs : List X) (x : X) : Type 0 where
+  pub before : List X
+  pub after : List X
+  pub whole : xs ≡ before ++ x ∷ after
+  pub none : All (λ y. p y ≡ false) before
+  pub passes : p x ≡ true
 
-first_found : {X : Type 0} (p : X → Bool) (xs : List X) (x : X) → find p xs ≡ Some x → IsFound p xs x
+pub first_found : {X : Type 0} (p : X → Bool) (xs : List X) (x : X) → find p xs ≡ Some x → IsFound p xs x
 first_found p [] x found = cc
 first_found {X} p (y ∷ ys) x found =
     ⊎_elim
@@ -64,7 +64,7 @@ nothing_mapped : {X Y : Type 0} (f : X → Y) (found : Option X) → option_map 
 nothing_mapped f None none = refl
 nothing_mapped f (Some x) none = cc
 
-something_mapped : {X Y : Type 0} (f : X → Y) (found : Option X) (y : Y) → option_map f found ≡ Some y → (x : X) × (found ≡ Some x) × (f x ≡ y)
+pub something_mapped : {X Y : Type 0} (f : X → Y) (found : Option X) (y : Y) → option_map f found ≡ Some y → (x : X) × (found ≡ Some x) × (f x ≡ y)
 something_mapped f None y some = cc
 something_mapped f (Some x) y some = (x, refl, cc)
 
@@ -96,7 +96,7 @@ first_missing state needs lack perm channel some same_perm same_channel =
 
 -- ---- what a verdict says
 
-abbrev told : Option Reason → Option Lack → Option DenyType → Verdict → Verdict
+abbrev pub told : Option Reason → Option Lack → Option DenyType → Verdict → Verdict
 told reason lack kind rest =
     option_map_or (λ r. Ignored (reason_code r)) reason
     (option_map_or (λ l. Lacks l.perm l.channel) lack

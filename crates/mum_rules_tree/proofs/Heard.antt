@@ -15,11 +15,11 @@ use Rattle.mum_state.specs.Permissions.{asker}
 use Rattle.mum_state.specs.Proper.{IsProper}
 use Rattle.mum_state.specs.State.{StateValue}
 use Rattle.mum_rules_tree.specs.declared.message.TreeMessage.{TreeMessage}
-use Rattle.mum_rules_tree.specs.declared.reason.Reason.{Reason}
-use Rattle.mum_rules_tree.specs.declared.reason.Reason.TheVariants.{Gone, NotThere, TooLong}
+use Rattle.mum_base.specs.declared.outcome.Reason.{Reason}
+use Rattle.mum_base.specs.declared.outcome.Reason.TheVariants.{Gone, NotThere, TooLong}
 use Rattle.mum_rules_tree.specs.declared.reason.TheConstants.{COMMAND_LIMIT}
 use Rattle.mum_rules_tree.specs.Asked.{command_of, names_there, payload_of}
-use Rattle.mum_rules_tree.specs.Codes.{reason_code}
+use Rattle.mum_base.specs.Codes.{reason_code}
 use Rattle.mum_rules_tree.specs.Decision.{FitsWhereAccepted, case_of, first_standing}
 use Rattle.mum_rules_tree.specs.Reasons.{is_gone, reasons, takes_no_edits}
 use Rattle.mum_rules_tree.specs.Verdict.{asker_named, command_verdict, nobody, tree_verdict}
@@ -40,12 +40,12 @@ none_of a b d no_a no_b no_d =
     ∙ ap (λ (x : Bool). first_standing (case_of Gone false ∷ case_of TooLong false ∷ case_of NotThere x ∷ [])) no_d
 
 -- the verdict on the command, asked by the session as it is
-pub heard_verdict : (state : StateValue) (actor by : SessionId) (message : TreeMessage) (user : User) (who : Asker) → session_of state.roster actor ≡ Some user → takes_no_edits state ≡ false → ltb COMMAND_LIMIT (length (payload_of message)) ≡ false → names_there state.tree message ≡ true → who ≡ asker user → by ≡ user.session → command_verdict state who by (command_of message) ≡ tree_verdict state actor message
+pub heard_verdict : (state : StateValue) (actor by : SessionId) (message : TreeMessage) (user : User) (who : Asker) → session_of state.roster actor ≡ Some user → takes_no_edits state ≡ false → ltb COMMAND_LIMIT (length (payload_of message)) ≡ false → names_there state.tree message ≡ true → who ≡ asker state.tree user → by ≡ user.session → command_verdict state who by (command_of message) ≡ tree_verdict state actor message
 heard_verdict state actor by message user who found room short named asks from =
     let command = command_of message in
     let number : user.session.0 ≡ actor.0 = eqb-true user.session.0 actor.0 (found_passes (has_number actor) state.roster.sessions user found) in
     let same : by ≡ actor = from ∙ ap (λ (n : ℕ). let s : SessionId = record { 0 = n } in s) number in
-    let asked : who ≡ asker_named state actor = asks ∙ sym (ap (λ (o : Option User). option_map_or asker o nobody) found) in
+    let asked : who ≡ asker_named state actor = asks ∙ sym (ap (λ (o : Option User). option_map_or (asker state.tree) o nobody) found) in
     let here : is_gone state actor ≡ false = ap is_none found in
     let none : first_standing (reasons state actor message) ≡ None =
     none_of (is_gone state actor || takes_no_edits state) (ltb COMMAND_LIMIT (length (payload_of message))) (not (names_there state.tree message))

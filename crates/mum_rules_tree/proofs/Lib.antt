@@ -1,7 +1,9 @@
 pub mod Accepted
 pub mod ByCause
 pub mod Cleared
+pub mod Complete
 pub mod Firsts
+pub mod Found
 pub mod Heard
 pub mod Linked
 pub mod Named

@@ -51,7 +51,7 @@ given_there tree None there = refl
 given_there tree (Some parent) there = and_from (is_there tree.channels parent) true there refl
 
 -- the parent of a channel that is there, is there
-pub above_there : {limit : ℕ} → (tree : TreeState) (id : ChannelId) → IsProper limit tree → is_there tree.channels id ≡ true → is_there tree.channels (parent_of tree id) ≡ true
+pub above_there : (tree : TreeState) (id : ChannelId) → IsProper tree → is_there tree.channels id ≡ true → is_there tree.channels (parent_of tree id) ≡ true
 above_there tree id proper there =
     let rows = tree.channels in
     let (row, found) = some_row (row_of rows id) there in
@@ -92,7 +92,7 @@ are_there tree number message asked named =
     }
 
 -- all that the edit names is there
-pub change_there : {limit : ℕ} → (tree : TreeState) (id : ChannelId) (message : ChannelState) → IsProper limit tree → AreThere tree id message → change_names_there tree id (change_asked tree id message) ≡ true
+pub change_there : (tree : TreeState) (id : ChannelId) (message : ChannelState) → IsProper tree → AreThere tree id message → change_names_there tree id (change_asked tree id message) ≡ true
 change_there tree id message proper there =
     let rows = tree.channels in
     let a = is_there rows id in

@@ -7,8 +7,8 @@ use Rattle.mum_state.specs.declared.verdict.Verdict.{Verdict}
 use Rattle.mum_state.specs.declared.verdict.Verdict.TheVariants.{Lacks, Refused}
 use Rattle.mum_state.specs.State.{StateValue}
 use Rattle.mum_rules_tree.specs.declared.needs.Lack.{Lack}
-use Rattle.mum_rules_tree.specs.declared.deny.DenyType.{DenyType}
-use Rattle.mum_rules_tree.specs.Codes.{deny_code}
+use Rattle.mum_base.specs.declared.outcome.DenyType.{DenyType}
+use Rattle.mum_base.specs.Codes.{deny_code}
 use Rattle.mum_rules_tree.specs.Decision.{Case, Need, all_met, first_lack, first_standing, is_met, lack_of, unless_lacking, unless_refused}
 
 -- what is answered where this need is the first that is not met

@@ -1,7 +1,7 @@
 -- How a command is decided: by reasons to ignore it, then by what it needs, then by its limits. The first that stands
 -- decides.
-use Rattle.std.specs.Prelude.{◌||◌, not, Bool, false, List, [], find, Option, Result, Ok, Err, ⊤, IsTrue}
-use Rattle.std.specs.List.{list_any}
+use Rattle.std.specs.Prelude.{◌||◌, not, Bool, false, List, [], find, slice_index_or, Option, Result, Ok, Err, ⊤, IsTrue}
+use Rattle.std.specs.List.{All, list_any}
 use Rattle.std.specs.Option.{option_map, option_map_or}
 use Rattle.mum_base.specs.declared.number.ChannelId.{ChannelId}
 use Rattle.mum_base.specs.declared.perm.Perm.{Perm}
@@ -12,10 +12,10 @@ use Rattle.mum_state.specs.declared.verdict.Verdict.TheVariants.{Accepted, Lacks
 use Rattle.mum_state.specs.Fits.{fits}
 use Rattle.mum_state.specs.Permissions.{granted_where_there}
 use Rattle.mum_state.specs.State.{StateValue}
-use Rattle.mum_rules_tree.specs.Codes.{deny_code, reason_code}
-use Rattle.mum_rules_tree.specs.declared.deny.DenyType.{DenyType}
+use Rattle.mum_base.specs.Codes.{deny_code, reason_code}
+use Rattle.mum_base.specs.declared.outcome.DenyType.{DenyType}
 use Rattle.mum_rules_tree.specs.declared.needs.Lack.{Lack}
-use Rattle.mum_rules_tree.specs.declared.reason.Reason.{Reason}
+use Rattle.mum_base.specs.declared.outcome.Reason.{Reason}
 
 -- ---- reasons and limits
 
@@ -68,6 +68,10 @@ first_lack state needs = option_map lack_of (find (λ wanted. not (is_met state 
 -- each need is met, or this is what is missing
 abbrev pub all_met : StateValue → List Need → Result ⊤ Lack
 all_met state needs = option_map_or (λ lack. Err lack) (first_lack state needs) (Ok tt)
+
+-- where the place of a channel is marked, whoever asks has the permission there
+abbrev pub AreMet : StateValue → Asker → Perm → List Bool → Type 0
+AreMet state who perm marks = All (λ row. IsTrue (slice_index_or marks row.place false) → IsTrue (is_open state (way who perm row.channel.id))) state.tree.channels
 
 -- ---- the first that stands decides
 

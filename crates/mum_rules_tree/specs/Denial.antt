@@ -13,8 +13,8 @@ use Rattle.mum_msg_state.specs.declared.reject.Reject.{Reject}
 use Rattle.mum_msg_state.specs.Messages.{reject}
 use Rattle.mum_state.specs.declared.verdict.Verdict.{Verdict}
 use Rattle.mum_state.specs.declared.verdict.Verdict.TheVariants.{Lacks, Refused, Rejected}
-use Rattle.mum_rules_tree.specs.Codes.{deny_code}
-use Rattle.mum_rules_tree.specs.declared.deny.DenyType.TheVariants.{Permission, Text}
+use Rattle.mum_base.specs.Codes.{deny_code}
+use Rattle.mum_base.specs.declared.outcome.DenyType.TheVariants.{Permission, Text}
 
 -- the permission and the channel where it is missing
 abbrev pub denial_of_lack : Option SessionId → Perm → ChannelId → PermissionDenied

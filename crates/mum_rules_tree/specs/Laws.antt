@@ -1,15 +1,24 @@
 -- What a verdict says of the tables, in words of its own.
-use Rattle.std.specs.Prelude.{◌≡◌, true, false, List, ◌∷◌, ◌++◌}
+use Rattle.std.specs.Prelude.{◌≡◌, ℕ, ◌||◌, true, false, List, ◌∷◌, ◌++◌, Option, Some, ⊤, IsTrue}
 use Rattle.std.specs.List.{All}
 use Rattle.mum_base.specs.declared.number.ChannelId.{ChannelId}
 use Rattle.mum_base.specs.declared.number.SessionId.{SessionId}
+use Rattle.mum_base.specs.declared.outcome.DenyType.{DenyType}
+use Rattle.mum_base.specs.declared.outcome.Reason.{Reason}
 use Rattle.mum_base.specs.declared.perm.Perm.{Perm}
-use Rattle.mum_state.specs.declared.verdict.Verdict.TheVariants.{Accepted, Lacks}
+use Rattle.mum_base.specs.declared.perm.TheConstants.Perm.{WRITE}
+use Rattle.mum_base.specs.Codes.{deny_code, reason_code}
+use Rattle.mum_policy.specs.declared.policy.ChannelPolicy.{ChannelPolicy}
+use Rattle.mum_tree.specs.Refusals.{parent_of}
+use Rattle.mum_state.specs.declared.verdict.Verdict.{Verdict}
+use Rattle.mum_state.specs.declared.verdict.Verdict.TheVariants.{Accepted, Answer, Ignored, Lacks, Refused}
 use Rattle.mum_state.specs.declared.edit.Edit.{Edit}
+use Rattle.mum_state.specs.declared.edit.Edit.TheVariants.{SetAcl}
+use Rattle.mum_state.specs.Proper.{IsProper}
 use Rattle.mum_state.specs.State.{StateValue}
 use Rattle.mum_rules_tree.specs.declared.message.TreeMessage.{TreeMessage}
 use Rattle.mum_rules_tree.specs.Asked.{command_of}
-use Rattle.mum_rules_tree.specs.Decision.{Case, Need, is_met}
+use Rattle.mum_rules_tree.specs.Decision.{Case, Need, case_of, is_met, is_open, way}
 use Rattle.mum_rules_tree.specs.Limits.{limits}
 use Rattle.mum_rules_tree.specs.Needs.{needs}
 use Rattle.mum_rules_tree.specs.Reasons.{reasons}
@@ -51,3 +60,46 @@ AcceptsWhereNothingStands =
     (state : StateValue) (actor : SessionId) (message : TreeMessage) (edit : Edit)
     → tree_verdict state actor message ≡ Accepted edit
     → NoneStands (reasons state actor message) × AllMet state (needs_of state actor message) × NoneStands (limits state (command_of message))
+
+-- the first of these that stands has this code
+pub record IsFirstStanding {Code : Type 0} (cases : List (Case Code)) (code : Code) : Type 0 where
+  pub before : List (Case Code)
+  pub after : List (Case Code)
+  pub whole : cases ≡ before ++ case_of code true ∷ after
+  pub none : NoneStands before
+
+-- it is an edit, or an answer
+abbrev pub IsAcceptedOrAnswered : Verdict → Type 0
+IsAcceptedOrAnswered (Accepted edit) = ⊤
+IsAcceptedOrAnswered (Answer frame) = ⊤
+IsAcceptedOrAnswered verdict = ⊥
+
+-- a message is accepted or answered where no reason, no need and no limit is against it
+abbrev pub GrantsWhereNothingStands : Type 0
+GrantsWhereNothingStands =
+    (state : StateValue) (actor : SessionId) (message : TreeMessage) → IsProper state
+    → NoneStands (reasons state actor message) → AllMet state (needs_of state actor message) → NoneStands (limits state (command_of message))
+    → IsAcceptedOrAnswered (tree_verdict state actor message)
+
+-- a message is ignored for the first reason that applies
+abbrev pub IgnoresForFirstReason : Type 0
+IgnoresForFirstReason =
+    (state : StateValue) (actor : SessionId) (message : TreeMessage) (why : ℕ) → IsProper state
+    → tree_verdict state actor message ≡ Ignored why
+    → (reason : Reason) × (why ≡ reason_code reason) × IsFirstStanding (reasons state actor message) reason
+
+-- a refusal names the first limit that applies, and comes only where no reason and no need is against the message
+abbrev pub RefusesForFirstLimit : Type 0
+RefusesForFirstLimit =
+    (state : StateValue) (actor : SessionId) (message : TreeMessage) (kind : ℕ)
+    → tree_verdict state actor message ≡ Refused kind
+    → NoneStands (reasons state actor message) × AllMet state (needs_of state actor message)
+    × ((limit : DenyType) × (kind ≡ deny_code limit) × IsFirstStanding (limits state (command_of message)) limit)
+
+-- a policy is set only for a session that has Write on the channel or on its parent
+abbrev pub WritersSetPolicies : Type 0
+WritersSetPolicies =
+    (state : StateValue) (actor : SessionId) (message : TreeMessage) (channel : ChannelId) (by : Option SessionId) (policy : ChannelPolicy)
+    → tree_verdict state actor message ≡ Accepted (SetAcl channel by policy)
+    → (by ≡ Some actor)
+    × IsTrue (is_open state (way (asker_named state actor) WRITE channel) || is_open state (way (asker_named state actor) WRITE (parent_of state.tree channel)))

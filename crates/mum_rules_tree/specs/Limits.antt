@@ -8,34 +8,34 @@ use Rattle.mum_policy.specs.declared.policy.ChannelPolicy.{ChannelPolicy}
 use Rattle.mum_policy.specs.Limits.{is_large_policy}
 use Rattle.mum_tree.specs.declared.channel.TheConstants.{PATH_LIMIT}
 use Rattle.mum_tree.specs.declared.fault.TreeFault.{TreeFault}
-use Rattle.mum_tree.specs.Change.{Change, name_after, overlinks, parent_after, reseats}
+use Rattle.mum_tree.specs.Change.{Change, name_after, overlinks, parent_after, renames_or_moves}
 use Rattle.mum_tree.specs.Refusals.{is_full}
 use Rattle.mum_tree.specs.Rows.{is_below, is_root, is_taken, is_temporary, nests, path}
 use Rattle.mum_tree.specs.State.{TreeState, next_number}
 use Rattle.mum_state.specs.Fits.{holds_of_given}
 use Rattle.mum_state.specs.Proper.{is_name, is_text}
-use Rattle.mum_state.specs.State.{StateValue, channel_limit}
+use Rattle.mum_state.specs.State.{StateValue}
 use Rattle.mum_rules_tree.specs.Asked.{Command, change_asked, parent_of_new, text_or_empty}
 use Rattle.mum_rules_tree.specs.Codes.{deny_type_of, is_of_links, is_of_root}
 use Rattle.mum_rules_tree.specs.Decision.{Case, case_of}
 use Rattle.mum_rules_tree.specs.Policy.{has_twice, policy_asked}
-use Rattle.mum_rules_tree.specs.declared.deny.DenyType.{DenyType}
-use Rattle.mum_rules_tree.specs.declared.deny.DenyType.TheVariants.{ChannelCountLimit, ChannelName, NestingLimit, TemporaryChannel, Text, TextTooLong}
+use Rattle.mum_base.specs.declared.outcome.DenyType.{DenyType}
+use Rattle.mum_base.specs.declared.outcome.DenyType.TheVariants.{ChannelCountLimit, ChannelName, NestingLimit, TemporaryChannel, Text, TextTooLong}
 
 -- the number of a new channel; where none is left, that of the root, which is the child of none
 abbrev pub new_number : TreeState → ChannelId
 new_number tree = unwrap_or (next_number tree) ROOT
 
 -- as many channels stand as there can be, or no number is left for a new one
-abbrev pub takes_no_channels : ℕ → TreeState → Bool
-takes_no_channels limit tree = is_full limit tree || is_none (next_number tree)
+abbrev pub takes_no_channels : TreeState → Bool
+takes_no_channels tree = is_full tree || is_none (next_number tree)
 
-abbrev pub limits_of_new : ℕ → TreeState → ChannelId → List ℕ → List ℕ → List (Case DenyType)
-limits_of_new limit tree parent name description =
+abbrev pub limits_of_new : TreeState → ChannelId → List ℕ → List ℕ → List (Case DenyType)
+limits_of_new tree parent name description =
     case_of ChannelName (not (is_name name) || is_taken tree.channels parent (new_number tree) name)
     ∷ case_of TemporaryChannel (is_temporary tree.channels parent)
     ∷ case_of NestingLimit (nat_le PATH_LIMIT (length (path tree.channels parent)))
-    ∷ case_of ChannelCountLimit (takes_no_channels limit tree)
+    ∷ case_of ChannelCountLimit (takes_no_channels tree)
     ∷ case_of TextTooLong (not (is_text description))
     ∷ []
 
@@ -49,12 +49,12 @@ abbrev pub limits_of_change : TreeState → ChannelId → Change → List (Case 
 limits_of_change tree id change =
     let name : List ℕ = name_after tree id change in
     let parent : ChannelId = parent_after tree id change in
-    let reseated : Bool = reseats tree id change in
-    case_of Text (reseated && is_root id)
-    ∷ case_of ChannelName (not (holds_of_given is_name change.name) || (reseated && is_taken tree.channels parent id name))
-    ∷ case_of Text (reseated && is_below tree.channels id parent)
-    ∷ case_of TemporaryChannel (reseated && is_temporary tree.channels parent)
-    ∷ case_of NestingLimit (reseated && list_any (nests tree.channels id parent) tree.channels)
+    let renamed_or_moved : Bool = renames_or_moves tree id change in
+    case_of Text (renamed_or_moved && is_root id)
+    ∷ case_of ChannelName (not (holds_of_given is_name change.name) || (renamed_or_moved && is_taken tree.channels parent id name))
+    ∷ case_of Text (renamed_or_moved && is_below tree.channels id parent)
+    ∷ case_of TemporaryChannel (renamed_or_moved && is_temporary tree.channels parent)
+    ∷ case_of NestingLimit (renamed_or_moved && list_any (nests tree.channels id parent) tree.channels)
     ∷ case_of TextTooLong (not (holds_of_given is_text change.description))
     ∷ case_of Text (overlinks tree id (without_parting change))
     ∷ []
@@ -81,7 +81,7 @@ limits_of_policy policy =
 
 abbrev pub limits : StateValue → Command → List (Case DenyType)
 limits state (Command.make message) =
-    limits_of_new (channel_limit state) state.tree (parent_of_new message) (text_or_empty message.name) (text_or_empty message.description)
+    limits_of_new state.tree (parent_of_new message) (text_or_empty message.name) (text_or_empty message.description)
 limits state (Command.edit id message) = limits_of_change state.tree id (change_asked state.tree id message)
 limits state (Command.remove id) = limits_of_removal id
 limits state (Command.query id) = []

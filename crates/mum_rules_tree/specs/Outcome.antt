@@ -17,10 +17,10 @@ use Rattle.mum_state.specs.declared.verdict.Verdict.{Verdict}
 use Rattle.mum_state.specs.declared.verdict.Verdict.TheVariants.{Accepted, Answer, Ignored}
 use Rattle.mum_state.specs.State.{StateValue, policy_of}
 use Rattle.mum_rules_tree.specs.Asked.{Command, is_to_be_temporary, new_name, new_parent, others, parent_of_new, text_or_empty}
-use Rattle.mum_rules_tree.specs.Codes.{reason_code}
+use Rattle.mum_base.specs.Codes.{reason_code}
 use Rattle.mum_rules_tree.specs.Limits.{new_number}
 use Rattle.mum_rules_tree.specs.Policy.{acl_told, policy_asked}
-use Rattle.mum_rules_tree.specs.declared.reason.Reason.TheVariants.{NotThere}
+use Rattle.mum_base.specs.declared.outcome.Reason.TheVariants.{NotThere}
 
 -- what is not said of a new channel is empty, or 0
 abbrev pub info_of_new : ChannelState → ChannelInfo

@@ -7,8 +7,8 @@ use Rattle.mum_state.specs.State.{StateValue}
 use Rattle.mum_rules_tree.specs.Asked.{names_there, payload_of}
 use Rattle.mum_rules_tree.specs.Decision.{Case, case_of}
 use Rattle.mum_rules_tree.specs.declared.message.TreeMessage.{TreeMessage}
-use Rattle.mum_rules_tree.specs.declared.reason.Reason.{Reason}
-use Rattle.mum_rules_tree.specs.declared.reason.Reason.TheVariants.{Gone, TooLong, NotThere}
+use Rattle.mum_base.specs.declared.outcome.Reason.{Reason}
+use Rattle.mum_base.specs.declared.outcome.Reason.TheVariants.{Gone, TooLong, NotThere}
 use Rattle.mum_rules_tree.specs.declared.reason.TheConstants.{COMMAND_LIMIT}
 
 abbrev pub is_gone : StateValue → SessionId → Bool

@@ -18,10 +18,10 @@ use Rattle.mum_rules_tree.specs.declared.message.TreeMessage.{TreeMessage}
 
 -- nobody asks for a session that is gone
 abbrev pub nobody : Asker
-nobody = record { account = None; channel = ROOT; tokens = [] }
+nobody = record { account = None; channel = ROOT; tokens = []; home = [] }
 
 abbrev pub asker_named : StateValue → SessionId → Asker
-asker_named state session = option_map_or asker (session_of state.roster session) nobody
+asker_named state session = option_map_or (asker state.tree) (session_of state.roster session) nobody
 
 -- what is decided of a command for which there is no reason to ignore it
 abbrev pub command_verdict : StateValue → Asker → SessionId → Command → Verdict

@@ -12,8 +12,7 @@ use crate::answer::answer_frame;
 use crate::channel::parent_of;
 use crate::needs::{Lack, may};
 use crate::policy::{limit_of_policy, policy_asked};
-use crate::reason::Reason;
-use mum_base::{ChannelId, OutOfMemory, Perm};
+use mum_base::{ChannelId, OutOfMemory, Perm, Reason};
 use mum_msg_rule::Acl;
 use mum_policy::{Policies, Who};
 use mum_state::{Edit, State, Verdict};
@@ -41,7 +40,7 @@ fn answer_to_query(alloc: Global, state: &State, id: ChannelId) -> Result<Verdic
 {
     match state.policy(id) {
         Some(policy) => Ok(Verdict::Answer(answer_frame(alloc, id, policy)?)),
-        None => Ok(Reason::NotThere.verdict()),
+        None => Ok(Verdict::ignored(Reason::NotThere)),
     }
 }
 
@@ -77,7 +76,7 @@ pub(crate) fn decide_policy(
     }
     let policy = policy_asked(alloc, message)?;
     if let Some(kind) = limit_of_policy(&policy) {
-        return Ok(kind.verdict());
+        return Ok(Verdict::refused(kind));
     }
     Ok(Verdict::Accepted(Edit::SetAcl {
         channel: id,

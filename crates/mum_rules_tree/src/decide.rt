@@ -7,18 +7,17 @@ ghost use Rattle.mum_rules_tree.specs.Decision.{FitsWhereAccepted};
 ghost use Rattle.mum_rules_tree.specs.Verdict.{command_verdict, tree_verdict};
 
 use crate::acl::{decide_policy, decide_query};
-use crate::asker::who_with;
 use crate::channel::{are_there, channel_or_root, is_there_if_named};
 use crate::edit::decide_edit;
 use crate::make::decide_new;
 use crate::message::TreeMessage;
-use crate::reason::{COMMAND_LIMIT, Reason, takes_no_edits};
+use crate::reason::{COMMAND_LIMIT, takes_no_edits};
 use crate::remove::decide_removal;
-use mum_base::{ChannelId, Octets, OutOfMemory, SessionId};
+use mum_base::{ChannelId, Octets, OutOfMemory, Reason, SessionId};
 use mum_msg_rule::{Acl, Message};
 use mum_msg_state::ChannelState;
 use mum_policy::Who;
-use mum_state::{State, Verdict};
+use mum_state::{State, Verdict, home_of, who_is};
 use mum_tree::Tree;
 use std::alloc::Global;
 
@@ -135,17 +134,18 @@ pub fn decide_tree(
     ensures fits { IfOk result (FitsWhereAccepted state.now) }
 {
     let Some(user) = state.roster().session(actor) else {
-        return Ok(Reason::Gone.verdict());
+        return Ok(Verdict::ignored(Reason::Gone));
     };
     if takes_no_edits(state) {
-        return Ok(Reason::Gone.verdict());
+        return Ok(Verdict::ignored(Reason::Gone));
     }
     if is_too_long(alloc, message)? {
-        return Ok(Reason::TooLong.verdict());
+        return Ok(Verdict::ignored(Reason::TooLong));
     }
     if !names_there(state.tree(), message) {
-        return Ok(Reason::NotThere.verdict());
+        return Ok(Verdict::ignored(Reason::NotThere));
     }
-    let who = who_with(user, user.tokens.as_slice());
+    let home = home_of(state.tree(), user);
+    let who = who_is(user, home.as_slice());
     decide_command(alloc, state, &who, message)
 }

@@ -4,8 +4,7 @@ ghost use Rattle.std.specs.Prelude.{◌≡◌, IfOk};
 ghost use Rattle.std.specs.Option.{option_map};
 ghost use Rattle.mum_rules_tree.specs.Denial.{denial, denial_of_lack, denial_of_limit, denied_frame, rejected_frame, rejection, word_of_refusal};
 
-use crate::deny::DenyType;
-use mum_base::{ChannelId, OutOfMemory, Perm, SessionId, Text};
+use mum_base::{ChannelId, DenyType, OutOfMemory, Perm, SessionId, Text};
 use mum_frame::Frame;
 use mum_frame::kind::{PERMISSION_DENIED, REJECT};
 use mum_msg_rule::{Message, PermissionDenied};

@@ -10,17 +10,20 @@ ghost use Rattle.mum_tree.specs.Change.{change_of, names_there};
 ghost use Rattle.mum_rules_tree.specs.Asked.{names_there as message_names_there};
 ghost use Rattle.mum_rules_tree.specs.Codes.{is_of_links, is_of_root};
 ghost use Rattle.mum_rules_tree.specs.Asked.{Command, change_asked, describes, is_other, linked_others, new_name, new_parent, others};
-ghost use Rattle.mum_rules_tree.specs.Decision.{all_met, first_standing, need};
+ghost use Rattle.mum_rules_tree.specs.Decision.{all_met, first_standing, need, AreMet};
 ghost use Rattle.mum_rules_tree.specs.Limits.{limit_by_cause, limits_of_change, without_parting};
 ghost use Rattle.mum_rules_tree.specs.Needs.{needs, needs_to_describe, needs_to_link, needs_to_move};
 ghost use Rattle.mum_rules_tree.specs.Outcome.{edit_to_change};
 ghost use Rattle.mum_rules_tree.specs.Verdict.{command_verdict};
 
 use crate::channel::{channel_numbered, name_of, parent_of};
-use crate::deny::{DenyType, deny_type_of};
+use crate::deny::deny_type_of;
 use crate::message::TreeMessage;
+use crate::met::{MetPlaces, need_once};
 use crate::needs::{Lack, need};
-use mum_base::{ChannelId, Items, OutOfMemory, Perm, SessionId, Text, check_name, check_text};
+use mum_base::{
+    ChannelId, DenyType, Items, OutOfMemory, Perm, SessionId, Text, check_name, check_text,
+};
 use mum_msg_state::ChannelState;
 use mum_policy::Who;
 use mum_state::{Edit, State, Verdict};
@@ -105,13 +108,27 @@ fn need_to_move(
 }
 
 /// LinkChannel on each other channel of these.
-fn need_on_others(state: &State, who: &Who<'_>, id: ChannelId, numbers: &[u32]) -> Result<(), Lack>
-    ensures { result ≡ all_met state.now
+fn need_on_others(
+    state: &State,
+    who: &Who<'_>,
+    id: ChannelId,
+    numbers: &[u32],
+    met: &mut MetPlaces,
+) -> Result<(), Lack>
+    requires { AreMet state.now (asker_of who.now) Perm.LINK_CHANNEL met.old.marks }
+    ensures value { result ≡ all_met state.now
         (map (need (asker_of who.now) Perm.LINK_CHANNEL) (others id numbers.now)) }
+    ensures kept { AreMet state.now (asker_of who.now) Perm.LINK_CHANNEL met.new.marks }
 {
     for number in numbers {
         if *number != id.0 {
-            need(state, who, Perm::LINK_CHANNEL, channel_numbered(*number))?;
+            need_once(
+                state,
+                who,
+                Perm::LINK_CHANNEL,
+                channel_numbered(*number),
+                met,
+            )?;
         }
     }
     Ok(())
@@ -144,8 +161,9 @@ fn need_on_linked(
         ++ map (need (asker_of who.now) Perm.LINK_CHANNEL) (others id message.now.links_remove)) }
 {
     need(state, who, Perm::LINK_CHANNEL, id)?;
-    need_on_others(state, who, id, message.links_add.as_slice())?;
-    need_on_others(state, who, id, message.links_remove.as_slice())
+    let mut met = MetPlaces::none();
+    need_on_others(state, who, id, message.links_add.as_slice(), &mut met)?;
+    need_on_others(state, who, id, message.links_remove.as_slice(), &mut met)
 }
 
 fn need_to_link(
@@ -334,7 +352,7 @@ pub(crate) fn decide_edit(
     }
     let tree = state.tree();
     if let Some(kind) = limit_of_edit(alloc, tree, id, message)? {
-        return Ok(kind.verdict());
+        return Ok(Verdict::refused(kind));
     }
     let edit = edit_to_change(alloc, tree, who.session, id, message)?;
     Ok(Verdict::Accepted(edit))

@@ -11,13 +11,13 @@ ghost use Rattle.mum_rules_tree.specs.Outcome.{edit_to_make, info_of_new};
 ghost use Rattle.mum_rules_tree.specs.Verdict.{command_verdict};
 
 use crate::channel::{channel_or_root, new_number};
-use crate::deny::{DenyType, deny_type_of};
+use crate::deny::deny_type_of;
 use crate::needs::need;
-use mum_base::{ChannelId, OutOfMemory, Perm, SessionId, Text, check_name, check_text};
+use mum_base::{ChannelId, DenyType, OutOfMemory, Perm, SessionId, Text, check_name, check_text};
 use mum_msg_state::ChannelState;
 use mum_policy::Who;
 use mum_state::{Edit, State, Verdict};
-use mum_tree::{CHANNEL_LIMIT, ChannelInfo, Tree};
+use mum_tree::{ChannelInfo, Tree};
 use std::alloc::Global;
 
 fn is_to_be_temporary(message: &ChannelState) -> bool
@@ -41,7 +41,7 @@ fn making(message: &ChannelState) -> Perm
 fn limit_of_new(tree: &Tree, parent: ChannelId, name: &str, description: &str) -> Option<DenyType>
     requires { IsTrue (is_there tree.now.channels parent) }
     ensures { result
-        ≡ first_standing (limits_of_new CHANNEL_LIMIT tree.now parent name.now description.now) }
+        ≡ first_standing (limits_of_new tree.now parent name.now description.now) }
 {
     if check_name(name).is_err() {
         return Some(DenyType::ChannelName);
@@ -105,7 +105,7 @@ pub(crate) fn decide_new(
     let name = Text::or_empty(&message.name);
     let description = Text::or_empty(&message.description);
     if let Some(kind) = limit_of_new(tree, parent, name, description) {
-        return Ok(kind.verdict());
+        return Ok(Verdict::refused(kind));
     }
     Ok(Verdict::Accepted(edit_to_make(alloc, tree, who.session, message)?))
 }

@@ -8,8 +8,7 @@ ghost use Rattle.mum_rules_tree.specs.Decision.{first_standing};
 ghost use Rattle.mum_rules_tree.specs.Limits.{limits_of_policy};
 ghost use Rattle.mum_rules_tree.specs.Policy.{account, accounts, entry_asked, group_asked, has_twice, is_inherited, permissions_among, policy_asked, true_unless_said, whom_asked};
 
-use crate::deny::DenyType;
-use mum_base::{AccountId, Items, OutOfMemory, Perm, Text, check_name};
+use mum_base::{AccountId, DenyType, Items, OutOfMemory, Perm, Text, check_name};
 use mum_msg_rule::{Acl, AclGroup, AclLine};
 use mum_policy::{AclEntry, ChannelPolicy, Group, Whom};
 use std::alloc::Global;

@@ -5,9 +5,8 @@ ghost use Rattle.mum_policy.specs.Member.{asker_of};
 ghost use Rattle.mum_rules_tree.specs.Asked.{Command};
 ghost use Rattle.mum_rules_tree.specs.Verdict.{command_verdict};
 
-use crate::deny::DenyType;
 use crate::needs::need;
-use mum_base::{ChannelId, Perm};
+use mum_base::{ChannelId, DenyType, Perm};
 use mum_policy::Who;
 use mum_state::{Edit, State, Verdict};
 
@@ -20,7 +19,7 @@ pub(crate) fn decide_removal(state: &State, who: &Who<'_>, id: ChannelId) -> Ver
         return lack.verdict();
     }
     if id.0 == ChannelId::ROOT.0 {
-        return DenyType::Text.verdict();
+        return Verdict::refused(DenyType::Text);
     }
     Verdict::Accepted(Edit::RemoveChannel {
         id,

@@ -27,10 +27,10 @@ use Rattle.mum_state.specs.Permissions.{granted_where_there}
 use Rattle.mum_state.specs.Proper.{IsProper, is_text}
 use Rattle.mum_state.specs.State.{StateValue}
 use Rattle.mum_rules_tree.specs.Asked.{channel, given_unless, is_number_there}
-use Rattle.mum_rules_tree.specs.Codes.{reason_code}
+use Rattle.mum_base.specs.Codes.{reason_code}
 use Rattle.mum_rules_tree.specs.Decision.{FitsWhereAccepted, first_lack, first_standing}
 use Rattle.mum_rules_tree.specs.Reasons.{is_gone, takes_no_edits}
-use Rattle.mum_rules_tree.specs.declared.reason.Reason.TheVariants.{NotThere}
+use Rattle.mum_base.specs.declared.outcome.Reason.TheVariants.{NotThere}
 use Rattle.mum_rules_tree.proofs.Accepted.{fits_from, named_from}
 use Rattle.mum_rules_tree.proofs.Cleared.{all_off, fits_unless}
 use Rattle.mum_rules_tree.proofs.Named.{some_found}

@@ -13,13 +13,14 @@ use Rattle.mum_state.specs.declared.verdict.Verdict.{Verdict}
 use Rattle.mum_state.specs.declared.verdict.Verdict.TheVariants.{Ignored}
 use Rattle.mum_state.specs.Proper.{IsProper}
 use Rattle.mum_state.specs.State.{StateValue}
-use Rattle.mum_rules_tree.specs.declared.reason.Reason.{Reason}
-use Rattle.mum_rules_tree.specs.declared.reason.Reason.TheVariants.{EmptyText, Gone, NotLoggedIn, NotThere, OfAnother, TooLong}
+use Rattle.mum_base.specs.declared.outcome.Reason.{Reason}
+use Rattle.mum_base.specs.declared.outcome.Reason.TheVariants.{EmptyText, Gone, NotLoggedIn, NotThere, OfAnother, TooLong}
 use Rattle.mum_rules_tree.specs.declared.reason.TheConstants.{COMMAND_LIMIT}
-use Rattle.mum_rules_tree.specs.Codes.{reason_code}
+use Rattle.mum_base.specs.Codes.{reason_code}
 use Rattle.mum_rules_tree.specs.Decision.{Case, FitsWhereAccepted, case_of, first_standing}
 use Rattle.mum_rules_tree.specs.Reasons.{is_gone, takes_no_edits}
-use Rattle.mum_rules_tree.specs.Tokens.{asker_with, tokens_for_once}
+use Rattle.mum_rules_tree.specs.Tokens.{tokens_for_once}
+use Rattle.mum_state.specs.Permissions.{asker_with}
 use Rattle.mum_rules_tree.specs.Verdict.{nobody}
 use Rattle.mum_rules_tree.proofs.Cleared.{all_off}
 use Rattle.mum_rules_tree.proofs.Heard.{found_passes}
@@ -61,11 +62,11 @@ pub named_there : (state : StateValue) (actor : SessionId) (message : UserMessag
 named_there state actor message none = not-false (names_there state message) (all_off (later_reasons state actor message) none).1.0
 
 -- the verdict on the command, asked by the session with what the message brings
-pub session_verdict : (state : StateValue) (actor : SessionId) (message : UserMessage) (user : UserRow) → session_of state.roster actor ≡ Some user → takes_no_edits state ≡ false → first_standing (later_reasons state actor message) ≡ None → command_verdict state (asker_with user (tokens_for_once user.tokens (tokens_brought message))) user.session (command_of user.session message) ≡ user_verdict state (Some actor) message
+pub session_verdict : (state : StateValue) (actor : SessionId) (message : UserMessage) (user : UserRow) → session_of state.roster actor ≡ Some user → takes_no_edits state ≡ false → first_standing (later_reasons state actor message) ≡ None → command_verdict state (asker_with state.tree user (tokens_for_once user.tokens (tokens_brought message))) user.session (command_of user.session message) ≡ user_verdict state (Some actor) message
 session_verdict state actor message user found room none =
-    let who = asker_with user (tokens_for_once user.tokens (tokens_brought message)) in
+    let who = asker_with state.tree user (tokens_for_once user.tokens (tokens_brought message)) in
     let asked : who ≡ asker_for state actor message =
-    sym (ap (λ (o : Option UserRow). option_map_or (λ (u : UserRow). asker_with u (tokens_for_once u.tokens (tokens_brought message))) o nobody) found) in
+    sym (ap (λ (o : Option UserRow). option_map_or (λ (u : UserRow). asker_with state.tree u (tokens_for_once u.tokens (tokens_brought message))) o nobody) found) in
     ap (λ (s : SessionId). command_verdict state who s (command_of s message)) (same_session state actor user found)
     ∙ ap (λ (w : Asker). command_verdict state w actor (command_of actor message)) asked
     ∙ sym (ap (λ (o : Option Reason). option_map_or (λ reason. Ignored (reason_code reason)) o (heard_verdict state (Some actor) message)) (reasons_left state actor message user found room ∙ none))

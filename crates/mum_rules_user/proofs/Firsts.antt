@@ -13,20 +13,21 @@ use Rattle.mum_state.specs.declared.verdict.Verdict.{Verdict}
 use Rattle.mum_state.specs.declared.verdict.Verdict.TheVariants.{Accepted, Answer, Ignored, Lacks, Refused, Rejected}
 use Rattle.mum_state.specs.Permissions.{granted_where_there}
 use Rattle.mum_state.specs.State.{StateValue, account_named}
-use Rattle.mum_rules_tree.specs.declared.deny.DenyType.{DenyType}
+use Rattle.mum_base.specs.declared.outcome.DenyType.{DenyType}
 use Rattle.mum_rules_tree.specs.declared.needs.Lack.{Lack}
-use Rattle.mum_rules_tree.specs.declared.reason.Reason.{Reason}
-use Rattle.mum_rules_tree.specs.declared.reason.Reason.TheVariants.{NotThere, NotLoggedIn}
-use Rattle.mum_rules_tree.specs.Codes.{deny_code, reason_code}
+use Rattle.mum_base.specs.declared.outcome.Reason.{Reason}
+use Rattle.mum_base.specs.declared.outcome.Reason.TheVariants.{NotThere, NotLoggedIn}
+use Rattle.mum_base.specs.Codes.{deny_code, reason_code}
 use Rattle.mum_rules_tree.specs.Decision.{first_lack, first_standing}
 use Rattle.mum_rules_tree.proofs.Cleared.{all_off}
+use Rattle.mum_rules_tree.proofs.Complete.{first_of, refused_at}
 use Rattle.mum_rules_tree.proofs.Firsts.{all_met_where, first_missing, none_stands}
 use Rattle.mum_rules_user.specs.declared.message.UserMessage.{UserMessage}
 use Rattle.mum_rules_user.specs.declared.message.UserMessage.TheVariants.{Join, User, Kick, Text, Target, Query, Leave}
-use Rattle.mum_rules_user.specs.declared.reject.RejectType.{RejectType}
+use Rattle.mum_base.specs.declared.outcome.RejectType.{RejectType}
 use Rattle.mum_rules_user.specs.Asked.{Command, command_of, is_oneself, rules_speech, session_or}
-use Rattle.mum_rules_user.specs.Codes.{reject_code}
-use Rattle.mum_rules_user.specs.Laws.{AcceptsWhereNothingStands, KeepsSuperUser, LogsInWhereNothingStands, NamesFirstMissing, OwnersAlone, SparesSuperUser, needs_of}
+use Rattle.mum_base.specs.Codes.{reject_code}
+use Rattle.mum_rules_user.specs.Laws.{AcceptsWhereNothingStands, KeepsSuperUser, LogsInWhereNothingStands, NamesFirstMissing, OwnersAlone, RefusesForFirstLimit, RejectsForFirstLimit, SparesSuperUser, needs_of}
 use Rattle.mum_rules_user.specs.Limits.{is_super_user, limits}
 use Rattle.mum_rules_user.specs.Login.{edit_to_join, is_digest_of, is_not_the_owner, limits_of_login, name_given, password_given}
 use Rattle.mum_rules_user.specs.Outcome.{answer_frame, outcome}
@@ -47,10 +48,10 @@ lacking_at None (Some one) kind rest perm channel never is = (refl, (one, refl, 
 lacking_at None None (Some kind) rest perm channel never is = cc
 lacking_at None None None rest perm channel never is = absurd (never is)
 
-record AreClear (reason : Option Reason) (lack : Option Lack) (kind : Option DenyType) : Type 0 where
-  reasons : reason ≡ None
-  needs : lack ≡ None
-  limits : kind ≡ None
+pub record AreClear (reason : Option Reason) (lack : Option Lack) (kind : Option DenyType) : Type 0 where
+  pub reasons : reason ≡ None
+  pub needs : lack ≡ None
+  pub limits : kind ≡ None
 
 accepted_at : (reason : Option Reason) (lack : Option Lack) (kind : Option DenyType) (rest : Verdict) (edit : Edit) → told reason lack kind rest ≡ Accepted edit → AreClear reason lack kind
 accepted_at (Some reason) lack kind rest edit is = cc
@@ -78,7 +79,7 @@ names_first_missing_lem state actor message perm channel is =
     let (none, (lack, some, same_perm, same_channel)) = lacking_at (first_standing (reasons state (Some actor) message)) (first_lack state (needs_of state actor message)) (first_standing (limits state actor command)) (outcome state who actor command) perm channel (outcome_lacks_not state who actor command perm channel) is in
     (none_stands (reasons state (Some actor) message) none, first_missing state (needs_of state actor message) lack perm channel some same_perm same_channel)
 
-clear : (state : StateValue) (actor : SessionId) (message : UserMessage) (edit : Edit) → user_verdict state (Some actor) message ≡ Accepted edit → AreClear (first_standing (reasons state (Some actor) message)) (first_lack state (needs_of state actor message)) (first_standing (limits state actor (command_of actor message)))
+pub clear : (state : StateValue) (actor : SessionId) (message : UserMessage) (edit : Edit) → user_verdict state (Some actor) message ≡ Accepted edit → AreClear (first_standing (reasons state (Some actor) message)) (first_lack state (needs_of state actor message)) (first_standing (limits state actor (command_of actor message)))
 clear state actor message edit is =
     accepted_at (first_standing (reasons state (Some actor) message)) (first_lack state (needs_of state actor message)) (first_standing (limits state actor (command_of actor message)))
     (outcome state (asker_for state actor message) actor (command_of actor message)) edit is
@@ -87,6 +88,30 @@ pub accepts_where_nothing_stands_lem : AcceptsWhereNothingStands
 accepts_where_nothing_stands_lem state actor message edit is =
     let free = clear state actor message edit is in
     (none_stands (reasons state (Some actor) message) free.reasons, all_met_where state (needs_of state actor message) free.needs, none_stands (limits state actor (command_of actor message)) free.limits)
+
+-- ---- the first limit
+
+answer_refuses_not : (id : ChannelId) (held : Option ℕ) (kind : ℕ) → option_map_or (λ h. Answer (answer_frame id h)) held (Ignored (reason_code NotThere)) ≡ Refused kind → ⊥
+answer_refuses_not id None kind is = cc
+answer_refuses_not id (Some held) kind is = cc
+
+outcome_refuses_not : (state : StateValue) (who : Asker) (actor : SessionId) (command : Command) (kind : ℕ) → outcome state who actor command ≡ Refused kind → ⊥
+outcome_refuses_not state who actor (Command.renew message) kind is = cc
+outcome_refuses_not state who actor (Command.change session message) kind is = cc
+outcome_refuses_not state who actor (Command.kick session message) kind is = cc
+outcome_refuses_not state who actor (Command.text message) kind is = cc
+outcome_refuses_not state who actor (Command.target message) kind is = cc
+outcome_refuses_not state who actor (Command.query id) kind is = answer_refuses_not id (granted_where_there state who id) kind is
+outcome_refuses_not state who actor Command.leave kind is = cc
+
+pub refuses_for_first_limit_lem : RefusesForFirstLimit
+refuses_for_first_limit_lem state actor message kind is =
+    let command = command_of actor message in
+    let who = asker_for state actor message in
+    let (none, met, (limit, some, code)) = refused_at (first_standing (reasons state (Some actor) message)) (first_lack state (needs_of state actor message)) (first_standing (limits state actor command)) (outcome state who actor command) kind (outcome_refuses_not state who actor command kind) is in
+    (none_stands (reasons state (Some actor) message) none, all_met_where state (needs_of state actor message) met, (limit, code, first_of (limits state actor command) limit some))
+
+-- ---- SuperUser
 
 -- what is not so of SuperUser's session and another is so of one's own
 oneself : (own super : Bool) → (not own && super) ≡ false → super ≡ true → own ≡ true
@@ -146,3 +171,13 @@ pub owners_alone_lem : OwnersAlone
 owners_alone_lem state login version edit account is named =
     let (none, free) = logged_in state login version edit is in
     owner account (account_named state (name_given login)) (password_given login) named (all_off (limits_of_login state version login) free).1.1.0
+
+rejected_at : (reason : Option Reason) (limit : Option RejectType) (edit : Edit) (kind : ℕ) → told_of_login reason limit (Accepted edit) ≡ Rejected kind → (reason ≡ None) × ((one : RejectType) × (limit ≡ Some one) × (kind ≡ reject_code one))
+rejected_at (Some reason) limit edit kind is = cc
+rejected_at None (Some one) edit kind is = (refl, (one, refl, cc))
+rejected_at None None edit kind is = cc
+
+pub rejects_for_first_limit_lem : RejectsForFirstLimit
+rejects_for_first_limit_lem state login version kind is =
+    let (none, (limit, some, code)) = rejected_at (first_standing (reasons state None (Join login version))) (first_standing (limits_of_login state version login)) (edit_to_join state login) kind is in
+    (none_stands (reasons state None (Join login version)) none, (limit, code, first_of (limits_of_login state version login) limit some))

@@ -1,6 +1,7 @@
 pub mod Accepted
-pub mod Firsts
+pub mod Access
 pub mod Decided
+pub mod Firsts
 pub mod InTurn
 pub mod Listened
 pub mod LoggedIn

@@ -19,7 +19,7 @@ use Rattle.mum_users.proofs.Counts.{count_by-filter-le}
 use Rattle.mum_users.proofs.Edits.{Rises-with_channels, listed-with_channels}
 use Rattle.mum_users.proofs.Orders.{Rises-filter}
 use Rattle.mum_users.proofs.PairCounts.{count-put, count-put_other}
-use Rattle.mum_rules_tree.specs.declared.deny.DenyType.TheVariants.{ChannelListenerLimit as ChannelLimit, UserListenerLimit as UserLimit}
+use Rattle.mum_base.specs.declared.outcome.DenyType.TheVariants.{ChannelListenerLimit as ChannelLimit, UserListenerLimit as UserLimit}
 use Rattle.mum_rules_tree.specs.Decision.{case_of, first_standing}
 use Rattle.mum_rules_user.specs.Codes.{listening_type_of}
 use Rattle.mum_rules_user.specs.Limits.{limits_of_listening, pairs_with}

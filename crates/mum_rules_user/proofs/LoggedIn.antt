@@ -16,11 +16,11 @@ use Rattle.mum_state.specs.declared.account.Account.{Account}
 use Rattle.mum_state.specs.declared.count.TheConstants.{EDIT_LIMIT}
 use Rattle.mum_state.specs.Fits.{fits}
 use Rattle.mum_state.specs.Proper.{is_name, is_short}
-use Rattle.mum_state.specs.State.{StateValue, account_named, has_account, is_named, is_numbered, session_limit}
+use Rattle.mum_state.specs.State.{StateValue, account_named, has_account, is_named, is_numbered}
 use Rattle.mum_rules_tree.specs.Decision.{case_of, first_standing}
 use Rattle.mum_rules_tree.proofs.Accepted.{fits_from, named_from}
 use Rattle.mum_rules_tree.proofs.Cleared.{all_off}
-use Rattle.mum_rules_user.specs.declared.reject.RejectType.TheVariants.{ServerFull, UsernameInUse}
+use Rattle.mum_base.specs.declared.outcome.RejectType.TheVariants.{ServerFull, UsernameInUse}
 use Rattle.mum_rules_user.specs.Codes.{reject_type_of}
 use Rattle.mum_rules_user.specs.Login.{edit_to_join, limits_of_login, limits_of_seat, name_given, tokens_kept}
 
@@ -92,10 +92,10 @@ short name good = empty (eqb (length name) 0) refl
     empty true e = grind (arith, nat_tests)
     empty false e = long (ltb NAME_LIMIT (length name)) refl e
 
-join_allowed : (limit : ℕ) (roster : RosterState) (name : List ℕ) → list_any (has_name name) roster.sessions ≡ false → is_full limit roster ≡ false → is_used_up roster ≡ false → join_fault limit roster name ≡ None
-join_allowed limit roster name free room left =
+join_allowed : (roster : RosterState) (name : List ℕ) → list_any (has_name name) roster.sessions ≡ false → is_full roster ≡ false → is_used_up roster ≡ false → join_fault roster name ≡ None
+join_allowed roster name free room left =
     let used : Option UserFault = cond (is_used_up roster) (Some SessionsUsedUp) None in
-    let full : Option UserFault = cond (is_full limit roster) (Some Full) used in
+    let full : Option UserFault = cond (is_full roster) (Some Full) used in
     ap (λ (b : Bool). cond b (Some NameInUse) full) free
     ∙ ap (λ (b : Bool). cond b (Some Full) used) room
     ∙ ap (λ (b : Bool). cond b (Some SessionsUsedUp) None) left
@@ -106,16 +106,15 @@ pub login_fits : (state : StateValue) (version : Option ℕ) (message : Authenti
 login_fits state version message room free =
     let roster = state.roster in
     let name = name_given message in
-    let limit = session_limit state in
     let off = all_off (limits_of_login state version message) free in
     let bad = off.1.0 in
     let in_use = off.1.1.1.1.0 in
-    let (full, used_up) = or_parts (is_full limit roster) (is_used_up roster) off.1.1.1.1.1.0 in
+    let (full, used_up) = or_parts (is_full roster) (is_used_up roster) off.1.1.1.1.1.0 in
     let good = not-false (is_name name) bad in
-    let joins : is_none (join_fault limit roster name) ≡ true = ap is_none (join_allowed limit roster name in_use full used_up) in
+    let joins : is_none (join_fault roster name) ≡ true = ap is_none (join_allowed roster name in_use full used_up) in
     let session = (next_number roster).0 in
     let slot = (next_slot roster).0 in
-    let a = is_none (join_fault limit roster name) in
+    let a = is_none (join_fault roster name) in
     let b = is_short name in
     let c = are_tokens (tokens_kept message.tokens) in
     fits_from state (edit_to_join state message)
@@ -132,5 +131,5 @@ seat_at false true used_up = refl
 seat_at false false true = refl
 seat_at false false false = refl
 
-pub seat_by_cause : (limit : ℕ) (roster : RosterState) (name : List ℕ) → option_map reject_type_of (join_fault limit roster name) ≡ first_standing (limits_of_seat limit roster name)
-seat_by_cause limit roster name = seat_at (list_any (has_name name) roster.sessions) (is_full limit roster) (is_used_up roster)
+pub seat_by_cause : (roster : RosterState) (name : List ℕ) → option_map reject_type_of (join_fault roster name) ≡ first_standing (limits_of_seat roster name)
+seat_by_cause roster name = seat_at (list_any (has_name name) roster.sessions) (is_full roster) (is_used_up roster)

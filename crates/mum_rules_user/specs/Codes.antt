@@ -1,20 +1,10 @@
--- The numbers under which refusals of logins are told, and for what is denied what the roster would refuse.
-use Rattle.std.specs.Prelude.{ℕ}
+-- For what is denied, and for what rejected, what the roster would refuse.
 use Rattle.mum_users.specs.declared.fault.UserFault.{UserFault}
 use Rattle.mum_users.specs.declared.fault.UserFault.TheVariants.{NameInUse, ListenerLimit, UserListenerLimit as UserListens}
-use Rattle.mum_rules_tree.specs.declared.deny.DenyType.{DenyType}
-use Rattle.mum_rules_tree.specs.declared.deny.DenyType.TheVariants.{ChannelListenerLimit, Text, UserListenerLimit}
-use Rattle.mum_rules_user.specs.declared.reject.RejectType.{RejectType}
-use Rattle.mum_rules_user.specs.declared.reject.RejectType.TheVariants.{WrongVersion, InvalidUsername, WrongUserPW, WrongServerPW, UsernameInUse, ServerFull}
-
--- Reject.RejectType of Mumble.proto
-abbrev pub reject_code : RejectType → ℕ
-reject_code WrongVersion = 1
-reject_code InvalidUsername = 2
-reject_code WrongUserPW = 3
-reject_code WrongServerPW = 4
-reject_code UsernameInUse = 5
-reject_code ServerFull = 6
+use Rattle.mum_base.specs.declared.outcome.DenyType.{DenyType}
+use Rattle.mum_base.specs.declared.outcome.DenyType.TheVariants.{ChannelListenerLimit, Text, UserListenerLimit}
+use Rattle.mum_base.specs.declared.outcome.RejectType.{RejectType}
+use Rattle.mum_base.specs.declared.outcome.RejectType.TheVariants.{UsernameInUse, ServerFull}
 
 -- for what listening is denied; a roster refuses it for nothing else where the session is here
 abbrev pub listening_type_of : UserFault → DenyType

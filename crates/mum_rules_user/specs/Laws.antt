@@ -1,18 +1,23 @@
 -- What a verdict says of the tables, in words of its own.
-use Rattle.std.specs.Prelude.{◌≡◌, ℕ, List, Option, Some, None, IsTrue}
+use Rattle.std.specs.Prelude.{◌≡◌, ℕ, ◌||◌, true, false, List, Option, Some, None, IsTrue}
+use Rattle.mum_base.specs.Codes.{deny_code, reject_code}
 use Rattle.mum_base.specs.declared.number.ChannelId.{ChannelId}
 use Rattle.mum_base.specs.declared.number.SessionId.{SessionId}
+use Rattle.mum_base.specs.declared.outcome.DenyType.{DenyType}
+use Rattle.mum_base.specs.declared.outcome.RejectType.{RejectType}
 use Rattle.mum_base.specs.declared.perm.Perm.{Perm}
+use Rattle.mum_base.specs.declared.perm.TheConstants.Perm.{ENTER, MOVE, MUTE_DEAFEN}
 use Rattle.mum_msg_state.specs.declared.authenticate.Authenticate.{Authenticate}
 use Rattle.mum_msg_state.specs.declared.user_remove.UserRemove.{UserRemove}
 use Rattle.mum_msg_state.specs.declared.user_state.UserState.{UserState}
 use Rattle.mum_state.specs.declared.account.Account.{Account}
 use Rattle.mum_state.specs.declared.edit.Edit.{Edit}
-use Rattle.mum_state.specs.declared.verdict.Verdict.TheVariants.{Accepted, Lacks}
+use Rattle.mum_state.specs.declared.verdict.Verdict.TheVariants.{Accepted, Lacks, Refused, Rejected}
 use Rattle.mum_state.specs.State.{StateValue, account_named}
-use Rattle.mum_rules_tree.specs.Decision.{Need}
-use Rattle.mum_rules_tree.specs.Laws.{AllMet, IsFirstMissing, NoneStands}
-use Rattle.mum_rules_user.specs.Asked.{command_of, is_oneself, rules_speech, session_or}
+use Rattle.mum_rules_tree.specs.Decision.{Need, is_open, way}
+use Rattle.mum_rules_tree.specs.Laws.{AllMet, IsFirstMissing, IsFirstStanding, NoneStands}
+use Rattle.mum_rules_tree.specs.Verdict.{asker_named}
+use Rattle.mum_rules_user.specs.Asked.{channel_of, command_of, is_oneself, new_channel, rules_speech, session_or, sets_own}
 use Rattle.mum_rules_user.specs.Limits.{is_super_user, limits}
 use Rattle.mum_rules_user.specs.Login.{is_digest_of, limits_of_login, name_given, password_given}
 use Rattle.mum_rules_user.specs.Needs.{needs}
@@ -70,3 +75,54 @@ KeepsSuperUser =
     → user_verdict state (Some actor) (Kick message) ≡ Accepted edit
     → IsTrue (is_super_user state.roster (session_or actor message.session))
     → IsTrue (is_oneself actor (session_or actor message.session))
+
+-- a refusal names the first limit that applies, and comes only where no reason and no need is against the message
+abbrev pub RefusesForFirstLimit : Type 0
+RefusesForFirstLimit =
+    (state : StateValue) (actor : SessionId) (message : UserMessage) (kind : ℕ)
+    → user_verdict state (Some actor) message ≡ Refused kind
+    → NoneStands (reasons state (Some actor) message) × AllMet state (needs_of state actor message)
+    × ((limit : DenyType) × (kind ≡ deny_code limit) × IsFirstStanding (limits state actor (command_of actor message)) limit)
+
+-- a rejection of a login names the first limit that applies
+abbrev pub RejectsForFirstLimit : Type 0
+RejectsForFirstLimit =
+    (state : StateValue) (login : Authenticate) (version : Option ℕ) (kind : ℕ)
+    → user_verdict state None (Join login version) ≡ Rejected kind
+    → NoneStands (reasons state None (Join login version))
+    × ((limit : RejectType) × (kind ≡ reject_code limit) × IsFirstStanding (limits_of_login state version login) limit)
+
+-- whoever enters another channel by a UserState of its own has Enter or Move there
+abbrev pub EntersWherePermitted : Type 0
+EntersWherePermitted =
+    (state : StateValue) (actor : SessionId) (message : UserState) (edit : Edit) (there : ChannelId)
+    → user_verdict state (Some actor) (User message) ≡ Accepted edit
+    → is_oneself actor (session_or actor message.session) ≡ true
+    → new_channel state.roster (session_or actor message.session) message ≡ Some there
+    → IsTrue (is_open state (way (asker_for state actor (User message)) ENTER there) || is_open state (way (asker_for state actor (User message)) MOVE there))
+
+-- whoever moves another session has Move in its channel, and has Move in the new one, or the other has Enter there
+abbrev pub MovesWherePermitted : Type 0
+MovesWherePermitted =
+    (state : StateValue) (actor : SessionId) (message : UserState) (edit : Edit) (there : ChannelId)
+    → user_verdict state (Some actor) (User message) ≡ Accepted edit
+    → is_oneself actor (session_or actor message.session) ≡ false
+    → new_channel state.roster (session_or actor message.session) message ≡ Some there
+    → IsTrue (is_open state (way (asker_for state actor (User message)) MOVE (channel_of state.roster (session_or actor message.session))))
+    × IsTrue (is_open state (way (asker_for state actor (User message)) MOVE there) || is_open state (way (asker_named state (session_or actor message.session)) ENTER there))
+
+-- whoever mutes or deafens a session, lets it speak or gives it priority has MuteDeafen in its channel
+abbrev pub RulesSpeechWherePermitted : Type 0
+RulesSpeechWherePermitted =
+    (state : StateValue) (actor : SessionId) (message : UserState) (edit : Edit)
+    → user_verdict state (Some actor) (User message) ≡ Accepted edit
+    → rules_speech message ≡ true
+    → IsTrue (is_open state (way (asker_for state actor (User message)) MUTE_DEAFEN (channel_of state.roster (session_or actor message.session))))
+
+-- nobody sets for another session what each session sets for itself
+abbrev pub LeavesOwnToOthers : Type 0
+LeavesOwnToOthers =
+    (state : StateValue) (actor : SessionId) (message : UserState) (edit : Edit)
+    → user_verdict state (Some actor) (User message) ≡ Accepted edit
+    → is_oneself actor (session_or actor message.session) ≡ false
+    → sets_own message ≡ false

@@ -22,8 +22,8 @@ use Rattle.mum_state.specs.Proper.{is_text}
 use Rattle.mum_state.specs.State.{StateValue}
 use Rattle.mum_rules_tree.specs.Asked.{text_or_empty}
 use Rattle.mum_rules_tree.specs.Decision.{Case, case_of}
-use Rattle.mum_rules_tree.specs.declared.deny.DenyType.{DenyType}
-use Rattle.mum_rules_tree.specs.declared.deny.DenyType.TheVariants.{ChannelFull, ChannelListenerLimit, SuperUser, Text, TextTooLong, UserListenerLimit}
+use Rattle.mum_base.specs.declared.outcome.DenyType.{DenyType}
+use Rattle.mum_base.specs.declared.outcome.DenyType.TheVariants.{ChannelFull, ChannelListenerLimit, SuperUser, Text, TextTooLong, UserListenerLimit}
 use Rattle.mum_rules_user.specs.Asked.{Command, channels, is_oneself, new_channel, number_of_target, rules_speech, target_asked}
 
 -- the session is SuperUser's

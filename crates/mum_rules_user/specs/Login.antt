@@ -12,11 +12,11 @@ use Rattle.mum_state.specs.declared.account.Account.{Account}
 use Rattle.mum_state.specs.declared.edit.Edit.{Edit}
 use Rattle.mum_state.specs.declared.edit.Edit.TheVariants.{Join}
 use Rattle.mum_state.specs.Proper.{is_name}
-use Rattle.mum_state.specs.State.{StateValue, account_named, session_limit}
+use Rattle.mum_state.specs.State.{StateValue, account_named}
 use Rattle.mum_rules_tree.specs.Asked.{text_or_empty}
 use Rattle.mum_rules_tree.specs.Decision.{Case, case_of}
-use Rattle.mum_rules_user.specs.declared.reject.RejectType.{RejectType}
-use Rattle.mum_rules_user.specs.declared.reject.RejectType.TheVariants.{WrongVersion, InvalidUsername, WrongUserPW, WrongServerPW, UsernameInUse, ServerFull}
+use Rattle.mum_base.specs.declared.outcome.RejectType.{RejectType}
+use Rattle.mum_base.specs.declared.outcome.RejectType.TheVariants.{WrongVersion, InvalidUsername, WrongUserPW, WrongServerPW, UsernameInUse, ServerFull}
 use Rattle.mum_rules_user.specs.declared.reject.TheConstants.{OLDEST_VERSION}
 
 -- the tokens at the first places count, and then those that are too long fall out
@@ -47,10 +47,10 @@ abbrev pub is_no_guest : Option Account → Option (List ℕ) → List ℕ → B
 is_no_guest account digest password = option_map_or (λ one. false) account (option_map_or (λ set. not (is_digest_of password set)) digest false)
 
 -- somebody is here under the name; as many are here as may be, or no number is left
-abbrev pub limits_of_seat : ℕ → RosterState → List ℕ → List (Case RejectType)
-limits_of_seat limit roster name =
+abbrev pub limits_of_seat : RosterState → List ℕ → List (Case RejectType)
+limits_of_seat roster name =
     case_of UsernameInUse (list_any (has_name name) roster.sessions)
-    ∷ case_of ServerFull (is_full limit roster || is_used_up roster)
+    ∷ case_of ServerFull (is_full roster || is_used_up roster)
     ∷ []
 
 abbrev pub limits_of_login : StateValue → Option ℕ → Authenticate → List (Case RejectType)
@@ -62,7 +62,7 @@ limits_of_login state version message =
     ∷ case_of InvalidUsername (not (is_name name))
     ∷ case_of WrongUserPW (is_not_the_owner account password)
     ∷ case_of WrongServerPW (is_no_guest account state.server.password password)
-    ∷ limits_of_seat (session_limit state) state.roster name
+    ∷ limits_of_seat state.roster name
 
 -- the next session, in the least free slot, under the name's account if it has one
 abbrev pub edit_to_join : StateValue → Authenticate → Edit

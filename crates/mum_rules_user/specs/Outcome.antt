@@ -20,8 +20,8 @@ use Rattle.mum_state.specs.declared.verdict.Verdict.TheVariants.{Accepted, Answe
 use Rattle.mum_state.specs.Permissions.{granted_where_there}
 use Rattle.mum_state.specs.State.{StateValue}
 use Rattle.mum_rules_tree.specs.Asked.{text_or_empty}
-use Rattle.mum_rules_tree.specs.Codes.{reason_code}
-use Rattle.mum_rules_tree.specs.declared.reason.Reason.TheVariants.{NotThere}
+use Rattle.mum_base.specs.Codes.{reason_code}
+use Rattle.mum_base.specs.declared.outcome.Reason.TheVariants.{NotThere}
 use Rattle.mum_rules_user.specs.Asked.{Command, channels, clears_suppression, new_channel, number_of_target, session_numbered, target_asked}
 use Rattle.mum_rules_user.specs.Login.{tokens_kept}
 use Rattle.mum_rules_user.specs.Needs.{is_ban}

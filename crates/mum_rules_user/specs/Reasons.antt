@@ -5,8 +5,8 @@ use Rattle.mum_base.specs.declared.number.SessionId.{SessionId}
 use Rattle.mum_state.specs.State.{StateValue}
 use Rattle.mum_rules_tree.specs.Decision.{Case, case_of}
 use Rattle.mum_rules_tree.specs.Reasons.{is_gone, takes_no_edits}
-use Rattle.mum_rules_tree.specs.declared.reason.Reason.{Reason}
-use Rattle.mum_rules_tree.specs.declared.reason.Reason.TheVariants.{Gone, NotLoggedIn, TooLong, NotThere, OfAnother, EmptyText}
+use Rattle.mum_base.specs.declared.outcome.Reason.{Reason}
+use Rattle.mum_base.specs.declared.outcome.Reason.TheVariants.{Gone, NotLoggedIn, TooLong, NotThere, OfAnother, EmptyText}
 use Rattle.mum_rules_tree.specs.declared.reason.TheConstants.{COMMAND_LIMIT}
 use Rattle.mum_rules_user.specs.Asked.{is_empty_text, names_there, payload_of, sets_own_of_another}
 use Rattle.mum_rules_user.specs.declared.message.UserMessage.{UserMessage}

@@ -8,13 +8,14 @@ use Rattle.mum_users.specs.Sessions.{session_of}
 use Rattle.mum_state.specs.declared.verdict.Verdict.{Verdict}
 use Rattle.mum_state.specs.declared.verdict.Verdict.TheVariants.{Accepted, Ignored, Rejected}
 use Rattle.mum_state.specs.State.{StateValue}
-use Rattle.mum_rules_tree.specs.Codes.{reason_code}
+use Rattle.mum_base.specs.Codes.{reason_code}
 use Rattle.mum_rules_tree.specs.Decision.{Case, first_standing, unless_ignored, unless_lacking, unless_refused}
-use Rattle.mum_rules_tree.specs.Tokens.{asker_with, tokens_for_once}
+use Rattle.mum_rules_tree.specs.Tokens.{tokens_for_once}
+use Rattle.mum_state.specs.Permissions.{asker_with}
 use Rattle.mum_rules_tree.specs.Verdict.{nobody}
-use Rattle.mum_rules_tree.specs.declared.reason.Reason.TheVariants.{NotLoggedIn}
+use Rattle.mum_base.specs.declared.outcome.Reason.TheVariants.{NotLoggedIn}
 use Rattle.mum_rules_user.specs.Asked.{Command, command_of}
-use Rattle.mum_rules_user.specs.Codes.{reject_code}
+use Rattle.mum_base.specs.Codes.{reject_code}
 use Rattle.mum_rules_user.specs.Limits.{limits}
 use Rattle.mum_rules_user.specs.Login.{edit_to_join, limits_of_login}
 use Rattle.mum_rules_user.specs.Needs.{needs}
@@ -22,7 +23,7 @@ use Rattle.mum_rules_user.specs.Outcome.{outcome}
 use Rattle.mum_rules_user.specs.Reasons.{reasons}
 use Rattle.mum_rules_user.specs.declared.message.UserMessage.{UserMessage}
 use Rattle.mum_rules_user.specs.declared.message.UserMessage.TheVariants.{Join, User}
-use Rattle.mum_rules_user.specs.declared.reject.RejectType.{RejectType}
+use Rattle.mum_base.specs.declared.outcome.RejectType.{RejectType}
 
 abbrev pub unless_rejected : List (Case RejectType) → Verdict → Verdict
 unless_rejected limits verdict = option_map_or (λ kind. Rejected (reject_code kind)) (first_standing limits) verdict
@@ -35,7 +36,7 @@ tokens_brought message = []
 -- who asks: the session, with these tokens too
 abbrev pub asker_for : StateValue → SessionId → UserMessage → Asker
 asker_for state actor message =
-    option_map_or (λ user. asker_with user (tokens_for_once user.tokens (tokens_brought message))) (session_of state.roster actor) nobody
+    option_map_or (λ user. asker_with state.tree user (tokens_for_once user.tokens (tokens_brought message))) (session_of state.roster actor) nobody
 
 -- what is decided of a command for which there is no reason to ignore it
 abbrev pub command_verdict : StateValue → Asker → SessionId → Command → Verdict

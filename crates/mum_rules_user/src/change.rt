@@ -16,12 +16,12 @@ ghost use Rattle.mum_rules_user.specs.Verdict.{command_verdict};
 
 use crate::listening::{limit_of_listening, need_to_listen};
 use crate::moving::{is_full_for, need_to_move, new_channel};
-use crate::session::{channels, is_protected, session_or};
+use crate::session::{channel_list, channels, is_protected, session_or};
 use crate::speech::{clears_suppression, need_to_rule_speech, rules_speech};
-use mum_base::{ChannelId, Items, Octets, OutOfMemory, SessionId, Text};
+use mum_base::{ChannelId, DenyType, Items, Octets, OutOfMemory, SessionId, Text};
 use mum_msg_state::UserState;
 use mum_policy::Who;
-use mum_rules_tree::{DenyType, Lack, is_text_given};
+use mum_rules_tree::{Lack, is_text_given};
 use mum_state::{Edit, State, Verdict};
 use mum_users::Roster;
 use mum_users::user::is_context;
@@ -60,6 +60,7 @@ fn has_long_text(message: &UserState) -> bool
 
 /// The first limit that stands, where these are the channels to listen to.
 fn limit_of_change(
+    alloc: Global,
     state: &State,
     actor: SessionId,
     session: SessionId,
@@ -77,7 +78,7 @@ fn limit_of_change(
     if is_full_for(state, new_channel(roster, session, message)) {
         return Some(DenyType::ChannelFull);
     }
-    if let Some(kind) = limit_of_listening(roster, session, listen) {
+    if let Some(kind) = limit_of_listening(alloc, roster, session, listen) {
         return Some(kind);
     }
     if has_long_text(message) {
@@ -120,7 +121,7 @@ fn edit_to_change(
         comment: Text::share_given(message.comment.as_ref())?,
         context: shared_octets(&message.plugin_context)?,
         listen,
-        unlisten: channels(alloc, message.listening_channel_remove.as_slice())?,
+        unlisten: channel_list(alloc, message.listening_channel_remove.as_slice())?,
     })
 }
 
@@ -142,8 +143,15 @@ pub(crate) fn decide_change(
         return Ok(lack.verdict());
     }
     let listen = channels(alloc, message.listening_channel_add.as_slice())?;
-    if let Some(kind) = limit_of_change(state, who.session, session, message, listen.as_slice()) {
-        return Ok(kind.verdict());
+    if let Some(kind) = limit_of_change(
+        alloc,
+        state,
+        who.session,
+        session,
+        message,
+        listen.as_slice(),
+    ) {
+        return Ok(Verdict::refused(kind));
     }
     let roster = state.roster();
     let edit = edit_to_change(alloc, roster, who.session, session, message, listen)?;

@@ -6,7 +6,8 @@ ghost use Rattle.mum_policy.specs.Member.{asker_of};
 ghost use Rattle.mum_users.specs.Sessions.{session_of};
 ghost use Rattle.mum_users.specs.State.{has_number};
 ghost use Rattle.mum_rules_tree.specs.Decision.{FitsWhereAccepted};
-ghost use Rattle.mum_rules_tree.specs.Tokens.{asker_with, tokens_for_once};
+ghost use Rattle.mum_rules_tree.specs.Tokens.{tokens_for_once};
+ghost use Rattle.mum_state.specs.Permissions.{asker_with};
 ghost use Rattle.mum_rules_user.specs.Asked.{command_of, names_there};
 ghost use Rattle.mum_rules_user.specs.Verdict.{command_verdict, tokens_brought, user_verdict};
 
@@ -18,10 +19,10 @@ use crate::message::UserMessage;
 use crate::query::decide_query;
 use crate::target::decide_target;
 use crate::text::decide_text;
-use mum_base::{OutOfMemory, SessionId, Text};
+use mum_base::{OutOfMemory, Reason, SessionId, Text};
 use mum_policy::Who;
-use mum_rules_tree::{Reason, takes_no_edits, tokens_for_once, who_with};
-use mum_state::{Edit, State, Verdict};
+use mum_rules_tree::{takes_no_edits, tokens_for_once};
+use mum_state::{Edit, State, Verdict, home_of, who_is, who_with};
 use mum_users::User;
 use std::alloc::Global;
 
@@ -61,15 +62,16 @@ fn decide_with_tokens(
     requires actor { session_of state.now.roster user.now.session ≡ Some user.now }
     requires named { IsTrue (names_there state.now message.now) }
     ensures { IfOk result (λ verdict. verdict ≡ command_verdict state.now
-        (asker_with user.now (tokens_for_once user.now.tokens tokens.now))
+        (asker_with state.now.tree user.now (tokens_for_once user.now.tokens tokens.now))
         user.now.session (command_of user.now.session message.now)) }
 {
+    let home = home_of(state.tree(), user);
     if tokens.is_empty() {
-        let who = who_with(user, user.tokens.as_slice());
+        let who = who_is(user, home.as_slice());
         return decide_command(alloc, state, &who, message);
     }
     let tokens = tokens_for_once(alloc, user.tokens.as_slice(), tokens)?;
-    let who = who_with(user, tokens.as_slice());
+    let who = who_with(user, tokens.as_slice(), home.as_slice());
     decide_command(alloc, state, &who, message)
 }
 
@@ -95,13 +97,13 @@ fn decide_for(
     ensures fits { IfOk result (FitsWhereAccepted state.now) }
 {
     let Some(user) = state.roster().session(actor) else {
-        return Ok(Reason::Gone.verdict());
+        return Ok(Verdict::ignored(Reason::Gone));
     };
     if takes_no_edits(state) {
-        return Ok(Reason::Gone.verdict());
+        return Ok(Verdict::ignored(Reason::Gone));
     }
     if let Some(reason) = reason_to_ignore(alloc, state, actor, message)? {
-        return Ok(reason.verdict());
+        return Ok(Verdict::ignored(reason));
     }
     decide_with_tokens(alloc, state, user, message, tokens_brought(message))
 }
@@ -115,17 +117,17 @@ fn decide_for_nobody(
     ensures { IfOk result (λ verdict. verdict ≡ user_verdict state.now None message.now) }
 {
     if takes_no_edits(state) {
-        return Ok(Reason::Gone.verdict());
+        return Ok(Verdict::ignored(Reason::Gone));
     }
     match message {
-        UserMessage::Leave => Ok(Reason::Gone.verdict()),
+        UserMessage::Leave => Ok(Verdict::ignored(Reason::Gone)),
         UserMessage::Join(login, version) => {
             if is_too_long(alloc, message)? {
-                return Ok(Reason::TooLong.verdict());
+                return Ok(Verdict::ignored(Reason::TooLong));
             }
             decide_login(alloc, state, *version, login)
         }
-        _ => Ok(Reason::NotLoggedIn.verdict()),
+        _ => Ok(Verdict::ignored(Reason::NotLoggedIn)),
     }
 }
 

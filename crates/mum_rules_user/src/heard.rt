@@ -8,10 +8,10 @@ ghost use Rattle.mum_rules_user.specs.Asked.{is_empty_text, is_here, names_there
 
 use crate::message::UserMessage;
 use crate::session::{is_here, is_oneself, session_or};
-use mum_base::{Octets, OutOfMemory, SessionId};
+use mum_base::{Octets, OutOfMemory, Reason, SessionId};
 use mum_msg_rule::Message;
 use mum_msg_state::UserState;
-use mum_rules_tree::{COMMAND_LIMIT, Reason, are_there, is_there_if_named};
+use mum_rules_tree::{COMMAND_LIMIT, are_there, is_there_if_named};
 use mum_state::State;
 use mum_users::Roster;
 use std::alloc::Global;

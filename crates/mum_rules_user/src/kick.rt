@@ -9,10 +9,10 @@ ghost use Rattle.mum_rules_user.specs.Verdict.{command_verdict};
 
 use crate::moving::may_either;
 use crate::session::{is_protected, session_or};
-use mum_base::{ChannelId, OutOfMemory, Perm, Text};
+use mum_base::{ChannelId, DenyType, OutOfMemory, Perm, Text};
 use mum_msg_state::UserRemove;
 use mum_policy::Who;
-use mum_rules_tree::{DenyType, Lack, need};
+use mum_rules_tree::{Lack, need};
 use mum_state::{Edit, State, Verdict};
 use std::alloc::Global;
 
@@ -55,7 +55,7 @@ pub(crate) fn decide_kick(
         return Ok(lack.verdict());
     }
     if is_protected(state.roster(), who.session, session) {
-        return Ok(DenyType::SuperUser.verdict());
+        return Ok(Verdict::refused(DenyType::SuperUser));
     }
     Ok(Verdict::Accepted(Edit::Kick {
         session,

@@ -1,7 +1,7 @@
 //! What holds of every decision, as theorems. The functions do nothing: their contracts are what they
 //! say.
 
-ghost use Rattle.mum_rules_user.specs.Laws.{AcceptsWhereNothingStands, KeepsSuperUser, LogsInWhereNothingStands, NamesFirstMissing, OwnersAlone, SparesSuperUser};
+ghost use Rattle.mum_rules_user.specs.Laws.{AcceptsWhereNothingStands, EntersWherePermitted, KeepsSuperUser, LeavesOwnToOthers, LogsInWhereNothingStands, MovesWherePermitted, NamesFirstMissing, OwnersAlone, RefusesForFirstLimit, RejectsForFirstLimit, RulesSpeechWherePermitted, SparesSuperUser};
 
 /// A denial names the first permission that is missing, with its channel: all needs before it are met, and
 /// there is no reason to ignore the message.
@@ -33,4 +33,36 @@ pub fn spares_super_user()
 /// Nobody but SuperUser itself puts SuperUser out.
 pub fn keeps_super_user()
     ensures { KeepsSuperUser }
+{}
+
+/// A refusal names the first limit that stands: there is no reason to ignore the message, and each need
+/// is met.
+pub fn refuses_for_first_limit()
+    ensures { RefusesForFirstLimit }
+{}
+
+/// A rejection of a login names the first limit that stands, whatever else does.
+pub fn rejects_for_first_limit()
+    ensures { RejectsForFirstLimit }
+{}
+
+/// Whoever enters a channel by a UserState of its own has Enter or Move there.
+pub fn enters_where_permitted()
+    ensures { EntersWherePermitted }
+{}
+
+/// Whoever moves another session has Move where that is, and then Move in the other channel, or the one
+/// who is moved has Enter there.
+pub fn moves_where_permitted()
+    ensures { MovesWherePermitted }
+{}
+
+/// Whoever says who is heard has MuteDeafen where that session is.
+pub fn rules_speech_where_permitted()
+    ensures { RulesSpeechWherePermitted }
+{}
+
+/// Nobody sets for another session what each session sets for itself.
+pub fn leaves_own_to_others()
+    ensures { LeavesOwnToOthers }
 {}

@@ -23,4 +23,4 @@ mod text;
 
 pub use decide::decide_user;
 pub use message::UserMessage;
-pub use reject::{OLDEST_VERSION, RejectType};
+pub use reject::OLDEST_VERSION;

@@ -1,6 +1,6 @@
 //! Listening to channels from outside.
 
-ghost use Rattle.std.specs.Prelude.{◌≡◌, IsTrue, [], map};
+ghost use Rattle.std.specs.Prelude.{◌≡◌, IsTrue, map};
 ghost use Rattle.std.specs.List.{list_any};
 ghost use Rattle.mum_base.specs.declared.perm.TheConstants.Perm.{LISTEN};
 ghost use Rattle.mum_policy.specs.Member.{asker_of};
@@ -11,11 +11,12 @@ ghost use Rattle.mum_rules_user.specs.Asked.{channels};
 ghost use Rattle.mum_rules_user.specs.Codes.{listening_type_of};
 ghost use Rattle.mum_rules_user.specs.Limits.{limits_of_listening};
 
-use mum_base::{ChannelId, Perm, SessionId};
+use mum_base::{ChannelId, DenyType, Perm, SessionId};
 use mum_policy::Who;
-use mum_rules_tree::{DenyType, Lack, channel_numbered, need};
+use mum_rules_tree::{Lack, MetPlaces, channel_numbered, need_once};
 use mum_state::State;
-use mum_users::{FlagChange, Roster, UserChange, UserFault};
+use mum_users::{ChannelList, FlagChange, Roster, UserChange, UserFault};
+use std::alloc::Global;
 
 /// No flag changes.
 const NO_FLAGS: FlagChange = FlagChange {
@@ -33,16 +34,23 @@ pub(crate) fn need_to_listen(state: &State, who: &Who<'_>, numbers: &[u32]) -> R
     ensures { result ≡ all_met state.now
         (map (need (asker_of who.now) LISTEN) (channels numbers.now)) }
 {
+    let mut met = MetPlaces::none();
     for number in numbers {
-        need(state, who, Perm::LISTEN, channel_numbered(*number))?;
+        need_once(
+            state,
+            who,
+            Perm::LISTEN,
+            channel_numbered(*number),
+            &mut met,
+        )?;
     }
     Ok(())
 }
 
-/// Nothing changes but that a session listens to these channels too.
-fn listening_too(listen: &[ChannelId]) -> UserChange<'_>
+/// Nothing changes but that a session listens to these channels too, and leaves those.
+fn listening_too<'a>(listen: &'a [ChannelId], unlisten: &'a ChannelList) -> UserChange<'a>
     ensures listen { (user_edit_of result).listen ≡ listen.now }
-    ensures unlisten { (user_edit_of result).unlisten ≡ [] }
+    ensures unlisten { (user_edit_of result).unlisten ≡ unlisten.now }
 {
     UserChange {
         channel: None,
@@ -50,7 +58,7 @@ fn listening_too(listen: &[ChannelId]) -> UserChange<'_>
         comment: None,
         context: None,
         listen,
-        unlisten: &[],
+        unlisten,
     }
 }
 
@@ -68,6 +76,7 @@ fn listening_type_of(fault: UserFault) -> DenyType
 /// The first limit that stands against listening to these channels too. What the session leaves by the
 /// same message does not make room.
 pub(crate) fn limit_of_listening(
+    alloc: Global,
     roster: &Roster,
     session: SessionId,
     listen: &[ChannelId],
@@ -75,7 +84,8 @@ pub(crate) fn limit_of_listening(
     requires { IsTrue (list_any (has_number session) roster.now.sessions) }
     ensures { result ≡ first_standing (limits_of_listening roster.now session listen.now) }
 {
-    let change = listening_too(listen);
+    let none = ChannelList::new(alloc);
+    let change = listening_too(listen, &none);
     match roster.cause_against_editing(session, &change) {
         Some(fault) => Some(listening_type_of(fault)),
         None => None,

@@ -7,13 +7,12 @@ ghost use Rattle.mum_state.specs.State.{account_named};
 ghost use Rattle.mum_users.specs.State.{is_long_token};
 ghost use Rattle.mum_rules_tree.specs.Decision.{first_standing};
 ghost use Rattle.mum_users.specs.Sessions.{next_number, next_slot};
-ghost use Rattle.mum_users.specs.declared.user.TheConstants.{SESSIONS};
 ghost use Rattle.mum_rules_user.specs.Codes.{reject_type_of};
 ghost use Rattle.mum_rules_user.specs.Login.{edit_to_join, is_digest_of, is_no_guest, is_not_the_owner, is_old, limits_of_login, limits_of_seat, tokens_kept};
 ghost use Rattle.mum_rules_user.specs.Verdict.{login_verdict};
 
-use crate::reject::{OLDEST_VERSION, RejectType};
-use mum_base::{AccountId, Items, OutOfMemory, SessionId, Slot, Text, check_name};
+use crate::reject::OLDEST_VERSION;
+use mum_base::{AccountId, Items, OutOfMemory, RejectType, SessionId, Slot, Text, check_name};
 use mum_msg_state::Authenticate;
 use mum_state::{Account, Edit, State, Verdict};
 use mum_users::user::{TOKEN_BYTES, TOKENS};
@@ -84,7 +83,7 @@ fn reject_type_of(fault: UserFault) -> RejectType
 
 /// For what the roster refuses it first.
 fn limit_of_seat(roster: &Roster, name: &str) -> Option<RejectType>
-    ensures { result ≡ first_standing (limits_of_seat SESSIONS roster.now name.now) }
+    ensures { result ≡ first_standing (limits_of_seat roster.now name.now) }
 {
     match roster.cause_against_joining(name) {
         Some(fault) => Some(reject_type_of(fault)),
@@ -154,11 +153,11 @@ pub(crate) fn decide_login(
     ensures { IfOk result (λ verdict. verdict ≡ login_verdict state.now version message.now) }
 {
     if let Some(kind) = limit_of_login(state, version, message) {
-        return Ok(kind.verdict());
+        return Ok(Verdict::rejected(kind));
     }
     match state.roster().next_join() {
         Some(seat) => Ok(Verdict::Accepted(edit_to_join(alloc, state, seat, message)?)),
-        None => Ok(RejectType::ServerFull.verdict()),
+        None => Ok(Verdict::rejected(RejectType::ServerFull)),
     }
 }
 

@@ -2,12 +2,11 @@
 
 ghost use Rattle.std.specs.Prelude.{◌≡◌, ◌∷◌, [], count_by, false};
 ghost use Rattle.std.specs.Option.{option_map_or};
+ghost use Rattle.mum_base.specs.declared.number.TheConstants.{ChannelId.ROOT};
 ghost use Rattle.mum_policy.specs.Member.{asker_of};
 ghost use Rattle.mum_users.specs.State.{is_in};
 ghost use Rattle.mum_rules_tree.specs.Decision.{all_met, is_met};
-ghost use Rattle.mum_rules_tree.specs.Verdict.{nobody};
-ghost use Rattle.mum_state.specs.Permissions.{asker};
-ghost use Rattle.mum_users.specs.Sessions.{session_of};
+ghost use Rattle.mum_rules_tree.specs.Verdict.{asker_named, nobody};
 ghost use Rattle.mum_rules_user.specs.Asked.{channel_of, new_channel};
 ghost use Rattle.mum_rules_user.specs.Limits.{room_of, takes_nobody};
 ghost use Rattle.mum_rules_user.specs.Needs.{either_way, needs_to_bring, needs_to_enter, needs_to_move};
@@ -16,8 +15,8 @@ use crate::session::{channel_of, is_oneself};
 use mum_base::{ChannelId, Perm, SessionId};
 use mum_msg_state::UserState;
 use mum_policy::Who;
-use mum_rules_tree::{Lack, may, need, who_with};
-use mum_state::State;
+use mum_rules_tree::{Lack, may, need};
+use mum_state::{State, home_of, who_is};
 use mum_users::{Roster, User};
 
 /// The channel that is given, where the session is in another.
@@ -88,20 +87,36 @@ fn need_to_bring(
     }
 }
 
-/// A session as entries and groups see it; whoever is gone is in the root and has nothing.
-fn who_named(roster: &Roster, session: SessionId) -> Who<'_>
-    ensures asker { asker_of result
-        ≡ option_map_or asker (session_of roster.now session) nobody }
-    ensures channel { result.channel ≡ channel_of roster.now session }
+/// Whoever is gone is in the root and has nothing.
+fn nobody<'a>(session: SessionId) -> Who<'a>
+    ensures asker { asker_of result ≡ nobody }
+    ensures channel { result.channel ≡ ROOT }
 {
-    match roster.session(session) {
-        Some(user) => who_with(user, user.tokens.as_slice()),
-        None => Who {
-            session,
-            account: None,
-            channel: ChannelId::ROOT,
-            tokens: &[],
-        },
+    Who {
+        session,
+        account: None,
+        channel: ChannelId::ROOT,
+        tokens: &[],
+        home: &[],
+    }
+}
+
+/// What bringing a session to another channel needs.
+fn need_to_bring_named(
+    state: &State,
+    who: &Who<'_>,
+    session: SessionId,
+    there: ChannelId,
+) -> Result<(), Lack>
+    ensures { result ≡ all_met state.now (needs_to_bring (asker_of who.now) (asker_named state.now session)
+        (channel_of state.now.roster session) there) }
+{
+    match state.roster().session(session) {
+        Some(user) => {
+            let home = home_of(state.tree(), user);
+            need_to_bring(state, who, &who_is(user, home.as_slice()), there)
+        }
+        None => need_to_bring(state, who, &nobody(session), there),
     }
 }
 
@@ -122,7 +137,7 @@ pub(crate) fn need_to_move(
     if is_oneself(who.session, session) {
         return need_to_enter(state, who, there);
     }
-    need_to_bring(state, who, &who_named(roster, session), there)
+    need_to_bring_named(state, who, session, there)
 }
 
 fn room_of(state: &State, id: ChannelId) -> u32

@@ -7,12 +7,12 @@ ghost use Rattle.mum_rules_user.specs.Asked.{Command};
 ghost use Rattle.mum_rules_user.specs.Outcome.{answer_frame};
 ghost use Rattle.mum_rules_user.specs.Verdict.{command_verdict};
 
-use mum_base::{ChannelId, OutOfMemory, Perm};
+use mum_base::{ChannelId, OutOfMemory, Perm, Reason};
 use mum_frame::Frame;
 use mum_frame::kind::PERMISSION_QUERY;
 use mum_msg_rule::{Message, PermissionQuery};
 use mum_policy::Who;
-use mum_rules_tree::{Reason, channel_or_root};
+use mum_rules_tree::channel_or_root;
 use mum_state::{State, Verdict};
 use std::alloc::Global;
 
@@ -44,6 +44,6 @@ pub(crate) fn decide_query(
     let id = channel_or_root(message.channel_id);
     match state.granted_to(who, id) {
         Some(held) => Ok(Verdict::Answer(answer_frame(alloc, id, held)?)),
-        None => Ok(Reason::NotThere.verdict()),
+        None => Ok(Verdict::ignored(Reason::NotThere)),
     }
 }

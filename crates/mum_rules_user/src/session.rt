@@ -6,7 +6,7 @@ ghost use Rattle.mum_rules_user.specs.Limits.{is_protected, is_super_user};
 
 use mum_base::{AccountId, ChannelId, Items, OutOfMemory, SessionId};
 use mum_rules_tree::channel_numbered;
-use mum_users::Roster;
+use mum_users::{ChannelList, Roster};
 use std::alloc::Global;
 
 /// The session of a number.
@@ -73,4 +73,12 @@ pub(crate) fn channels(alloc: Global, numbers: &[u32]) -> Result<Items<ChannelId
         listed.push(channel_numbered(*number))?;
     }
     Ok(Items::from_vec(listed))
+}
+
+/// The channels of these numbers, in their order, as a list in which one is looked up.
+pub(crate) fn channel_list(alloc: Global, numbers: &[u32]) -> Result<ChannelList, OutOfMemory>
+    ensures { IfOk result (λ list. list ≡ channels numbers.now) }
+{
+    let named = channels(alloc, numbers)?;
+    ChannelList::from_items(alloc, named)
 }

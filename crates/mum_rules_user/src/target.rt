@@ -9,9 +9,8 @@ ghost use Rattle.mum_rules_user.specs.Asked.{item_asked, number_of_target, targe
 ghost use Rattle.mum_rules_user.specs.Limits.{limits_of_target};
 
 use crate::text::sessions;
-use mum_base::{ChannelId, Items, OutOfMemory, SessionId, Text};
+use mum_base::{ChannelId, DenyType, Items, OutOfMemory, SessionId, Text};
 use mum_msg_rule::{TargetBlock, VoiceTarget};
-use mum_rules_tree::DenyType;
 use mum_state::{Edit, Verdict};
 use mum_users::target::LAST_TARGET;
 use mum_users::{Target, TargetItem};
@@ -70,11 +69,11 @@ pub(crate) fn decide_target(
 {
     let number = message.id.unwrap_or(0);
     if is_no_target(number) {
-        return Ok(DenyType::Text.verdict());
+        return Ok(Verdict::refused(DenyType::Text));
     }
     let target = target_asked(alloc, message)?;
     if target.is_oversize() {
-        return Ok(DenyType::Text.verdict());
+        return Ok(Verdict::refused(DenyType::Text));
     }
     Ok(Verdict::Accepted(Edit::SetTarget {
         session: actor,

@@ -3,42 +3,62 @@
 ghost use Rattle.std.specs.Prelude.{◌≡◌, IfOk, map};
 ghost use Rattle.mum_base.specs.declared.perm.TheConstants.Perm.{TEXT_MESSAGE};
 ghost use Rattle.mum_policy.specs.Member.{asker_of};
-ghost use Rattle.mum_rules_tree.specs.Decision.{all_met, need};
+ghost use Rattle.mum_rules_tree.specs.Decision.{all_met, need, AreMet};
 ghost use Rattle.mum_rules_user.specs.Asked.{Command, channels_of, channels_there, channels_told, session_numbered};
 ghost use Rattle.mum_rules_user.specs.Outcome.{edit_to_tell};
 ghost use Rattle.mum_rules_user.specs.Verdict.{command_verdict};
 
 use crate::session::{channels, session_numbered};
-use mum_base::{ChannelId, Items, OutOfMemory, Perm, SessionId, Text, check_text};
+use mum_base::{ChannelId, DenyType, Items, OutOfMemory, Perm, SessionId, Text, check_text};
 use mum_msg_rule::TextMessage;
 use mum_policy::Who;
-use mum_rules_tree::{DenyType, Lack, channel_numbered, need};
+use mum_rules_tree::{Lack, MetPlaces, channel_numbered, need_once};
 use mum_state::{Edit, State, Verdict};
 use std::alloc::Global;
 
 /// TextMessage in the channel of each of these sessions that is here.
-fn need_at_sessions(state: &State, who: &Who<'_>, numbers: &[u32]) -> Result<(), Lack>
-    ensures { result ≡ all_met state.now
+fn need_at_sessions(
+    state: &State,
+    who: &Who<'_>,
+    numbers: &[u32],
+    met: &mut MetPlaces,
+) -> Result<(), Lack>
+    requires { AreMet state.now (asker_of who.now) TEXT_MESSAGE met.old.marks }
+    ensures value { result ≡ all_met state.now
         (map (need (asker_of who.now) TEXT_MESSAGE) (channels_of state.now.roster numbers.now)) }
+    ensures kept { AreMet state.now (asker_of who.now) TEXT_MESSAGE met.new.marks }
 {
     let roster = state.roster();
     for number in numbers {
         if let Some(user) = roster.session(SessionId(*number)) {
-            need(state, who, Perm::TEXT_MESSAGE, user.channel)?;
+            need_once(state, who, Perm::TEXT_MESSAGE, user.channel, met)?;
         }
     }
     Ok(())
 }
 
 /// TextMessage in each of these channels that is there.
-fn need_in_channels(state: &State, who: &Who<'_>, numbers: &[u32]) -> Result<(), Lack>
-    ensures { result ≡ all_met state.now
+fn need_in_channels(
+    state: &State,
+    who: &Who<'_>,
+    numbers: &[u32],
+    met: &mut MetPlaces,
+) -> Result<(), Lack>
+    requires { AreMet state.now (asker_of who.now) TEXT_MESSAGE met.old.marks }
+    ensures value { result ≡ all_met state.now
         (map (need (asker_of who.now) TEXT_MESSAGE) (channels_there state.now numbers.now)) }
+    ensures kept { AreMet state.now (asker_of who.now) TEXT_MESSAGE met.new.marks }
 {
     let tree = state.tree();
     for number in numbers {
         if tree.is_there(ChannelId(*number)) {
-            need(state, who, Perm::TEXT_MESSAGE, channel_numbered(*number))?;
+            need_once(
+                state,
+                who,
+                Perm::TEXT_MESSAGE,
+                channel_numbered(*number),
+                met,
+            )?;
         }
     }
     Ok(())
@@ -49,9 +69,10 @@ fn need_to_tell(state: &State, who: &Who<'_>, message: &TextMessage) -> Result<(
     ensures { result ≡ all_met state.now
         (map (need (asker_of who.now) TEXT_MESSAGE) (channels_told state.now message.now)) }
 {
-    need_at_sessions(state, who, message.session.as_slice())?;
-    need_in_channels(state, who, message.channel_id.as_slice())?;
-    need_in_channels(state, who, message.tree_id.as_slice())
+    let mut met = MetPlaces::none();
+    need_at_sessions(state, who, message.session.as_slice(), &mut met)?;
+    need_in_channels(state, who, message.channel_id.as_slice(), &mut met)?;
+    need_in_channels(state, who, message.tree_id.as_slice(), &mut met)
 }
 
 /// The sessions of these numbers, in their order.
@@ -91,7 +112,7 @@ pub(crate) fn decide_text(
         return Ok(lack.verdict());
     }
     if check_text(Text::or_empty(&message.message)).is_err() {
-        return Ok(DenyType::TextTooLong.verdict());
+        return Ok(Verdict::refused(DenyType::TextTooLong));
     }
     Ok(Verdict::Accepted(edit_to_tell(alloc, who.session, message)?))
 }

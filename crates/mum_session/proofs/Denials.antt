@@ -14,8 +14,8 @@ use Rattle.mum_msg_rule.specs.Messages.{permission_denied}
 use Rattle.mum_msg_state.specs.Messages.{reject}
 use Rattle.mum_state.specs.declared.verdict.Verdict.{Verdict}
 use Rattle.mum_state.specs.declared.verdict.Verdict.TheVariants.{Accepted, Lacks, Refused, Rejected, Answer, Ignored}
-use Rattle.mum_rules_tree.specs.Codes.{deny_code}
-use Rattle.mum_rules_tree.specs.declared.deny.DenyType.TheVariants.{Text}
+use Rattle.mum_base.specs.Codes.{deny_code}
+use Rattle.mum_base.specs.declared.outcome.DenyType.TheVariants.{Text}
 use Rattle.mum_rules_tree.specs.Denial.{denial, denial_of_lack, denial_of_limit, denied_frame, rejected_frame, rejection}
 use Rattle.mum_session.specs.Reply.{sendable, wire}
 

@@ -4,8 +4,7 @@ use Rattle.std.specs.List.{list_any}
 use Rattle.std.proofs.lemmas.Bool.{eqb-false, ne_eqb}
 use Rattle.mum_base.specs.declared.number.SessionId.{SessionId}
 use Rattle.mum_frame.specs.declared.kind.TheConstants.{VERSION, PING, AUTHENTICATE}
-use Rattle.mum_rules_tree.specs.declared.reason.Reason.TheVariants.{Gone}
-use Rattle.mum_session.specs.declared.action.Ignored.TheVariants.{Because}
+use Rattle.mum_base.specs.declared.outcome.Reason.TheVariants.{Gone}
 use Rattle.mum_session.specs.declared.session.Stage.{Stage}
 use Rattle.mum_session.specs.declared.session.Stage.TheVariants.{BeforeLogin, LoggedIn, Rejected}
 use Rattle.mum_session.specs.Action.{action, ignore, taken_before_login}
@@ -40,7 +39,7 @@ unread BeforeLogin machine kind payload other is none known =
 unread (LoggedIn session) machine kind payload other is none known = absurd (not_some session none)
 unread Rejected machine kind payload other is none known = rw is refl
 
-pub gone : (stage : Stage) (machine : Machine) (kind : ℕ) (payload : List ℕ) → machine.stage ≡ stage → is_rejected stage ≡ true → action machine kind payload ≡ ignore (Because Gone)
+pub gone : (stage : Stage) (machine : Machine) (kind : ℕ) (payload : List ℕ) → machine.stage ≡ stage → is_rejected stage ≡ true → action machine kind payload ≡ ignore Gone
 unfolding action
 gone BeforeLogin machine kind payload is rejected = absurd cc
 gone (LoggedIn session) machine kind payload is rejected = absurd cc

@@ -9,16 +9,15 @@ use Rattle.mum_fields.specs.Written.{written}
 use Rattle.mum_frame.specs.Frame.{spelling_of}
 use Rattle.mum_frame.specs.declared.kind.TheConstants.{UDP_TUNNEL, VERSION, PING, AUTHENTICATE, CHANNEL_REMOVE, CHANNEL_STATE, USER_REMOVE, USER_STATE, TEXT_MESSAGE, ACL, VOICE_TARGET, PERMISSION_QUERY}
 use Rattle.mum_msg_state.specs.Messages.{version, ping}
-use Rattle.mum_rules_tree.specs.declared.reason.Reason.TheVariants.{Gone, NotLoggedIn}
-use Rattle.mum_rules_tree.specs.declared.reason.Reason.TheVariants as reasons
+use Rattle.mum_base.specs.Codes.{reason_code}
+use Rattle.mum_base.specs.declared.outcome.Reason.{Reason}
+use Rattle.mum_base.specs.declared.outcome.Reason.TheVariants.{Gone, Malformed, NotLoggedIn, NotRead}
+use Rattle.mum_base.specs.declared.outcome.Reason.TheVariants as reasons
 use Rattle.mum_session.specs.declared.action.Action.{Action}
 use Rattle.mum_session.specs.declared.action.Action.TheVariants.{Ask, Voice, Echo, Keep, Ignore}
-use Rattle.mum_session.specs.declared.action.Ignored.{Ignored}
-use Rattle.mum_session.specs.declared.action.Ignored.TheVariants.{NotRead, Malformed, Because}
 use Rattle.mum_session.specs.declared.command.Asked.{Asked}
 use Rattle.mum_session.specs.declared.heard.Heard.{Heard}
 use Rattle.mum_session.specs.declared.heard.Heard.TheVariants as heard
-use Rattle.mum_session.specs.Code.{ignored_code}
 use Rattle.mum_session.specs.Heard.{login_heard, command_heard}
 use Rattle.mum_session.specs.Machine.{Machine, session_of, is_rejected}
 
@@ -27,8 +26,8 @@ abbrev pub Decoded : {M : Type 0} → Table M → Type 0
 Decoded rows = Result (Values (layout rows)) MessageFault
 
 -- nothing, for this reason
-abbrev pub ignore : Ignored → Action
-ignore why = Ignore (ignored_code why)
+abbrev pub ignore : Reason → Action
+ignore reason = Ignore (reason_code reason)
 
 abbrev pub version_action : Decoded version → Action
 version_action (Ok values) = Keep
@@ -41,12 +40,12 @@ ping_action (Err fault) = ignore Malformed
 
 -- a voice packet of who is logged in is heard; it is not looked into
 abbrev pub voice_action : Option SessionId → List ℕ → Action
-voice_action None payload = ignore (Because NotLoggedIn)
+voice_action None payload = ignore NotLoggedIn
 voice_action (Some session) payload = Voice payload
 
 -- what comes after a login asks for nothing before it
 abbrev pub after_login : Option SessionId → Action → Action
-after_login None action = ignore (Because NotLoggedIn)
+after_login None action = ignore NotLoggedIn
 after_login (Some session) action = action
 
 -- a command waits to be decided
@@ -54,7 +53,7 @@ abbrev pub command_action : Machine → Heard Asked → Action
 command_action machine (heard.Message what) =
     Ask (record { connection = machine.connection; worker = machine.worker; session = session_of machine.stage; what = what })
 command_action machine heard.Malformed = ignore Malformed
-command_action machine heard.TooLong = ignore (Because reasons.TooLong)
+command_action machine heard.TooLong = ignore reasons.TooLong
 
 -- a login, with the number of the version that was told before
 abbrev pub login_action : Machine → List ℕ → Action
@@ -81,7 +80,7 @@ other_action machine kind payload =
 -- what a frame of this type and payload asks for; after a rejected login none asks for anything
 unfoldable pub action : Machine → ℕ → List ℕ → Action
 action machine kind payload =
-    if is_rejected machine.stage then ignore (Because Gone)
+    if is_rejected machine.stage then ignore Gone
     else if kind == UDP_TUNNEL then voice_action (session_of machine.stage) payload
     else if kind == VERSION then version_action (decoded version payload)
     else if kind == PING then ping_action (decoded ping payload)

@@ -5,8 +5,8 @@ use Rattle.mum_state.specs.declared.edit.Edit.{Edit}
 use Rattle.mum_state.specs.declared.verdict.Verdict.{Verdict}
 use Rattle.mum_state.specs.declared.verdict.Verdict.TheVariants.{Accepted, Ignored}
 use Rattle.mum_state.specs.State.{StateValue}
-use Rattle.mum_rules_tree.specs.Codes.{reason_code}
-use Rattle.mum_rules_tree.specs.declared.reason.Reason.TheVariants.{NotLoggedIn}
+use Rattle.mum_base.specs.Codes.{reason_code}
+use Rattle.mum_base.specs.declared.outcome.Reason.TheVariants.{NotLoggedIn}
 use Rattle.mum_rules_tree.specs.Verdict.{tree_verdict}
 use Rattle.mum_rules_user.specs.Verdict.{user_verdict}
 use Rattle.mum_session.specs.declared.command.Asked.{Asked}

@@ -8,8 +8,8 @@ ghost use Rattle.mum_notify.specs.Notices.{FitsFrame};
 ghost use Rattle.mum_session.specs.Verdict.{edits_of, verdict};
 
 use crate::command::Asked;
-use mum_base::{OutOfMemory, SessionId};
-use mum_rules_tree::{Reason, TreeMessage, decide_tree};
+use mum_base::{OutOfMemory, Reason, SessionId};
+use mum_rules_tree::{TreeMessage, decide_tree};
 use mum_rules_user::{UserMessage, decide_user};
 use mum_state::{State, Verdict};
 use std::alloc::Global;
@@ -27,7 +27,7 @@ fn decide_on_channels(
 {
     match session {
         Some(session) => decide_tree(alloc, state, session, message),
-        None => Ok(Reason::NotLoggedIn.verdict()),
+        None => Ok(Verdict::ignored(Reason::NotLoggedIn)),
     }
 }
 

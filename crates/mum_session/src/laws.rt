@@ -6,7 +6,7 @@ ghost use Rattle.std.specs.List.{list_any};
 ghost use Rattle.mum_frame.specs.declared.frame.Frame.{Frame};
 ghost use Rattle.mum_frame.specs.Frame.{frame_spelling};
 ghost use Rattle.mum_rules_tree.specs.Denial.{denial};
-ghost use Rattle.mum_rules_tree.specs.declared.reason.Reason.TheVariants.{Gone};
+ghost use Rattle.mum_base.specs.declared.outcome.Reason.TheVariants.{Gone};
 ghost use Rattle.mum_base.specs.declared.number.SessionId.{SessionId};
 ghost use Rattle.mum_base.specs.declared.number.Slot.{Slot};
 ghost use Rattle.mum_base.specs.declared.reply.ReplyEnd.TheVariants as ends;
@@ -14,7 +14,6 @@ ghost use Rattle.mum_base.specs.declared.reply.ReplyEnd.TheVariants.{Joined};
 ghost use Rattle.mum_state.specs.declared.edit.Edit.{Edit};
 ghost use Rattle.mum_state.specs.declared.verdict.Verdict.{Verdict};
 ghost use Rattle.mum_state.specs.declared.verdict.Verdict.TheVariants.{Accepted, Ignored, Rejected};
-ghost use Rattle.mum_session.specs.declared.action.Ignored.TheVariants.{Because};
 ghost use Rattle.mum_session.specs.Action.{action, ignore, taken_before_login};
 ghost use Rattle.mum_session.specs.Machine.{Machine, is_rejected, session_of};
 ghost use Rattle.mum_session.specs.Reply.{JoinsAs, reply_end, wire};
@@ -28,7 +27,7 @@ pub fn payloads_wait_for_a_login()
         → action machine kind payload ≡ action machine kind other }
     ensures rejected { (machine : Machine) (kind : ℕ) (payload : List ℕ)
         → is_rejected machine.stage ≡ true
-        → action machine kind payload ≡ ignore (Because Gone) }
+        → action machine kind payload ≡ ignore Gone }
 {}
 
 /// The wait for a reply ends with a session in its slot exactly where a login is accepted that gives
@@ -50,4 +49,10 @@ pub fn silent_verdicts()
 pub fn denials_are_sent()
     ensures { (session : Option SessionId) (verdict : Verdict) (frame : Frame)
         → denial session verdict ≡ Some frame → wire session verdict ≡ frame_spelling frame }
+{}
+
+/// Whoever is denied a command or a login changes nothing: what is denied is no edit.
+pub fn denials_are_no_edits()
+    ensures { (session : Option SessionId) (verdict : Verdict) (frame : Frame) (edit : Edit)
+        → denial session verdict ≡ Some frame → verdict ≡ Accepted edit → ⊥ }
 {}

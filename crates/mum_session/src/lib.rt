@@ -11,7 +11,7 @@ mod laws;
 mod reply;
 mod session;
 
-pub use action::{Action, Ignored};
+pub use action::Action;
 pub use command::{Asked, Command};
 pub use decision::decide;
 pub use laws::{denials_are_sent, payloads_wait_for_a_login, replies_end, silent_verdicts};

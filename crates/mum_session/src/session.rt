@@ -8,17 +8,16 @@ ghost use Rattle.mum_msg_state.specs.Messages.{ping, version};
 ghost use Rattle.mum_session.specs.Action.{action, after_frame, command_action, commands_after_login, ignore, login_action, other_action, ping_action, version_action, version_after, voice_action};
 ghost use Rattle.mum_session.specs.Machine.{answered, fresh, is_rejected, resumed, session_of, stage_after};
 
-use crate::action::{Action, Ignored};
+use crate::action::Action;
 use crate::command::{Asked, Command};
 use crate::heard::{Heard, command, login, message_in};
-use mum_base::{Octets, OutOfMemory, ReplyEnd, SessionId};
+use mum_base::{Octets, OutOfMemory, Reason, ReplyEnd, SessionId};
 use mum_frame::kind::{
     ACL, AUTHENTICATE, CHANNEL_REMOVE, CHANNEL_STATE, PERMISSION_QUERY, PING, TEXT_MESSAGE,
     UDP_TUNNEL, USER_REMOVE, USER_STATE, VERSION, VOICE_TARGET,
 };
 use mum_frame::{Frame, put_frame};
 use mum_msg_state::{Message, Ping, Version};
-use mum_rules_tree::Reason;
 use std::alloc::Global;
 use std::marker::Model;
 
@@ -76,10 +75,10 @@ impl Model for Session {
     ghost view = { λ s. record { connection = s.connection; worker = s.worker; version = s.version; stage = s.stage; awaits = s.awaits } };
 }
 
-fn ignored(why: Ignored) -> Action
-    ensures { result ≡ ignore why }
+fn ignored(reason: Reason) -> Action
+    ensures { result ≡ ignore reason }
 {
-    Action::Ignore { why: why.code() }
+    Action::Ignore { why: reason.code() }
 }
 
 /// A Ping is answered by a Ping of its timestamp alone.
@@ -87,7 +86,7 @@ fn echo(alloc: Global, payload: &[u8]) -> Result<Action, OutOfMemory>
     ensures { IfOk result (λ a. a ≡ ping_action (decoded ping payload.now)) }
 {
     let Some(told) = message_in::<Ping>(alloc, payload)? else {
-        return Ok(ignored(Ignored::Malformed));
+        return Ok(ignored(Reason::Malformed));
     };
     let reply = told.encode(alloc)?;
     let frame = put_frame(alloc, PING, reply.as_slice())?;
@@ -164,7 +163,7 @@ impl Session {
     {
         let Frame { kind, payload } = frame;
         if self.stage.is_rejected() {
-            return Ok(ignored(Ignored::Because(Reason::Gone)));
+            return Ok(ignored(Reason::Gone));
         }
         if kind == VERSION {
             return self.keep(alloc, payload.as_slice());
@@ -183,7 +182,7 @@ impl Session {
         ensures err { OnErr result (self.new ≡ self.old) }
     {
         let Some(told) = message_in::<Version>(alloc, payload)? else {
-            return Ok(ignored(Ignored::Malformed));
+            return Ok(ignored(Reason::Malformed));
         };
         self.version = told.version.or(self.version);
         Ok(Action::Keep)
@@ -210,7 +209,7 @@ impl Session {
     {
         match self.stage {
             Stage::LoggedIn(_) => Action::Voice(payload),
-            _ => ignored(Ignored::Because(Reason::NotLoggedIn)),
+            _ => ignored(Reason::NotLoggedIn),
         }
     }
 
@@ -227,10 +226,10 @@ impl Session {
         ensures { IfOk result (λ a. a ≡ other_action self.now kind payload.now) }
     {
         if !comes_after_login(kind) {
-            return Ok(ignored(Ignored::NotRead));
+            return Ok(ignored(Reason::NotRead));
         }
         if self.stage.session().is_none() {
-            return Ok(ignored(Ignored::Because(Reason::NotLoggedIn)));
+            return Ok(ignored(Reason::NotLoggedIn));
         }
         let heard = command(alloc, kind, payload)?;
         Ok(self.ask(heard))
@@ -247,8 +246,8 @@ impl Session {
                 session: self.stage.session(),
                 what,
             }),
-            Heard::Malformed => ignored(Ignored::Malformed),
-            Heard::TooLong => ignored(Ignored::Because(Reason::TooLong)),
+            Heard::Malformed => ignored(Reason::Malformed),
+            Heard::TooLong => ignored(Reason::TooLong),
         }
     }
 

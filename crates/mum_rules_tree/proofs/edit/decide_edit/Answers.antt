@@ -32,7 +32,7 @@ returns-in-Some c =
     let ok : all_met state (needs state.tree who command) ≡ Ok tt = sym c.need_for_edit.ensures ∙ c.in_default.is in
     let same = ap (λ (tree : TreeState). first_standing (limits_of_change tree id (change_asked tree id message))) c.tree-tree.ensures.tree in
     let stands : first_standing (limits state command) ≡ Some c.in-Some.kind = sym (c.in_ok-kind.ensures ∙ same) ∙ c.in-Some.is in
-    c.verdict-in-Some.ensures
+    c.refused.ensures
     ∙ sym (refused state (needs state.tree who command) (limits state command) (outcome state c.args.who.now.session command) c.in-Some.kind ok stands)
 
 pub returns : goal.returns

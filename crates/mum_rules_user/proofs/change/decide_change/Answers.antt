@@ -24,7 +24,7 @@ returns-in-Some c =
     sym (c.need_for_change.ensures ∙ ap (λ (s : SessionId). all_met state (needs state who actor (Command.change s message))) same) ∙ c.in_default.is in
     let stands : first_standing (limits state actor command) ≡ Some c.in-Some.kind =
     sym (c.limit_of_change.ensures ∙ ap (λ (s : SessionId). first_standing (limits_of_change state actor s message)) same) ∙ c.in-Some.is in
-    c.verdict-in-Some.ensures
+    c.refused.ensures
     ∙ sym (refused state (needs state who actor command) (limits state actor command) (outcome state who actor command) c.in-Some.kind ok stands)
 
 pub returns : goal.returns

@@ -9,10 +9,10 @@ pub decide_command-requires-clause-actor : goal.decide_command-requires-clause-a
 decide_command-requires-clause-actor c =
     let state = c.args.state.now in
     let user = c.args.user.now in
-    ap (λ (s : SessionId). list_any (has_number s) state.roster.sessions) c.who_with-who.ensures.session ∙ found_here state user.session user c.requires.actor
+    ap (λ (s : SessionId). list_any (has_number s) state.roster.sessions) c.who_is-who.ensures.session ∙ found_here state user.session user c.requires.actor
 
 pub decide_command-requires-2-clause-actor : goal.decide_command-requires-2-clause-actor
 decide_command-requires-2-clause-actor c =
     let state = c.args.state.now in
     let user = c.args.user.now in
-    ap (λ (s : SessionId). list_any (has_number s) state.roster.sessions) c.who_with-who-2.ensures.session ∙ found_here state user.session user c.requires.actor
+    ap (λ (s : SessionId). list_any (has_number s) state.roster.sessions) c.who_with-who.ensures.session ∙ found_here state user.session user c.requires.actor

@@ -17,7 +17,7 @@ returns-in_err-need_at_sessions c =
     let trees = channels_there state message.tree_id in
     let lack = c.in_err-need_at_sessions.field-0.0 in
     let err : c.from_residual.result ≡ Err lack = grind (arith, common_steps) in
-    let missing = c.in_err-need_at_sessions.ensures ∙ ap (λ (ns : List ℕ). all_met state (map wanted (channels_of state.roster ns))) c.as_slice.ensures in
+    let missing = c.in_err-need_at_sessions.ensures.value ∙ ap (λ (ns : List ℕ). all_met state (map wanted (channels_of state.roster ns))) c.as_slice.ensures in
     err
     ∙ first_fails state (map wanted sessions) (map wanted channels) (map wanted trees) lack missing
     ∙ ap (all_met state) (sym (in_three wanted sessions channels trees))
@@ -32,8 +32,8 @@ returns-in_err-need_in_channels c =
     let trees = channels_there state message.tree_id in
     let lack = c.in_err-need_in_channels.field-0.0 in
     let err : c.from_residual-in_err-need_in_channels.result ≡ Err lack = grind (arith, common_steps) in
-    let first = c.in_ok-need_at_sessions.ensures ∙ ap (λ (ns : List ℕ). all_met state (map wanted (channels_of state.roster ns))) c.as_slice.ensures in
-    let missing = c.in_err-need_in_channels.ensures ∙ ap (λ (ns : List ℕ). all_met state (map wanted (channels_there state ns))) c.as_slice-2.ensures in
+    let first = c.in_ok-need_at_sessions.ensures.value ∙ ap (λ (ns : List ℕ). all_met state (map wanted (channels_of state.roster ns))) c.as_slice.ensures in
+    let missing = c.in_err-need_in_channels.ensures.value ∙ ap (λ (ns : List ℕ). all_met state (map wanted (channels_there state ns))) c.as_slice-2.ensures in
     err
     ∙ second_fails state (map wanted sessions) (map wanted channels) (map wanted trees) lack first missing
     ∙ ap (all_met state) (sym (in_three wanted sessions channels trees))
@@ -46,9 +46,9 @@ returns c =
     let sessions = channels_of state.roster message.session in
     let channels = channels_there state message.channel_id in
     let trees = channels_there state message.tree_id in
-    let first = c.in_ok-need_at_sessions.ensures ∙ ap (λ (ns : List ℕ). all_met state (map wanted (channels_of state.roster ns))) c.as_slice.ensures in
-    let second = c.in_ok-need_in_channels.ensures ∙ ap (λ (ns : List ℕ). all_met state (map wanted (channels_there state ns))) c.as_slice-2.ensures in
-    c.need_in_channels-2.ensures
+    let first = c.in_ok-need_at_sessions.ensures.value ∙ ap (λ (ns : List ℕ). all_met state (map wanted (channels_of state.roster ns))) c.as_slice.ensures in
+    let second = c.in_ok-need_in_channels.ensures.value ∙ ap (λ (ns : List ℕ). all_met state (map wanted (channels_there state ns))) c.as_slice-2.ensures in
+    c.need_in_channels-2.ensures.value
     ∙ ap (λ (ns : List ℕ). all_met state (map wanted (channels_there state ns))) c.as_slice-3.ensures
     ∙ third_decide state (map wanted sessions) (map wanted channels) (map wanted trees) first second
     ∙ ap (all_met state) (sym (in_three wanted sessions channels trees))

@@ -1,6 +1,6 @@
 use Rattle.std.proofs.Common.{◌≡◌, take}
 use Rattle.mum_rules_tree.specs.Tokens.{tokens_for_once}
-use Rattle.mum_rules_tree.proofs.asker.tokens_for_once.Given as goal
+use Rattle.mum_rules_tree.proofs.tokens.tokens_for_once.Given as goal
 
 abbrev pub invariant-loop-token : goal.invariant-loop-token
 invariant-loop-token l = l.tokens.items ≡ take l.token-index l.own

@@ -1,0 +1,5 @@
+use Rattle.mum_tree.proofs.Marks.{none_marked}
+use Rattle.mum_rules_tree.proofs.met.MetPlaces.none.Goals as goal
+
+pub returns : goal.returns
+returns c = λ place. none_marked 2048 place

@@ -4,6 +4,7 @@ use Rattle.std.specs.List.{list_any}
 use Rattle.std.proofs.lemmas.Bool.{and_from, false≢true, lt-ltb}
 use Rattle.std.proofs.lemmas.List.{length-replicate}
 use Rattle.std.proofs.lemmas.List.Elements.{All-replicate}
+use Rattle.mum_base.specs.declared.number.TheConstants.{SLOTS}
 use Rattle.mum_tree.specs.declared.channel.Row.{Row}
 use Rattle.mum_tree.proofs.Start.{root_proper}
 use Rattle.mum_users.specs.declared.user.User.{User}
@@ -11,7 +12,7 @@ use Rattle.mum_users.specs.Proper.{IsProper as IsProperRoster}
 use Rattle.mum_users.specs.State.{empty_roster}
 use Rattle.mum_state.specs.declared.count.TheConstants.{EDIT_LIMIT}
 use Rattle.mum_state.specs.declared.edit.Edit.{Edit}
-use Rattle.mum_state.specs.declared.edit.Edit.TheVariants.{AddAccount, EditChannel, MakeChannel, SetAcl, SetServer, SetUser}
+use Rattle.mum_state.specs.declared.edit.Edit.TheVariants.{AddAccount, EditChannel, MakeChannel, SetAcl, SetLimits, SetServer, SetUser}
 use Rattle.mum_state.specs.After.{all_fit}
 use Rattle.mum_state.specs.Applied.{applied}
 use Rattle.mum_state.specs.Counts.{counts_after, raised_where}
@@ -21,7 +22,7 @@ use Rattle.mum_state.specs.Kinds.{changes_paths, changes_routes, is_of_configura
 use Rattle.mum_state.specs.Named.{names_there}
 use Rattle.mum_state.specs.Proper.{AreCounts, IsNear, IsProper}
 use Rattle.mum_state.specs.Set.{set_by}
-use Rattle.mum_state.specs.State.{StateValue, empty_state}
+use Rattle.mum_state.specs.State.{StateValue, empty_state, no_counts}
 use Rattle.mum_state.specs.Suppression.{heard_anew, is_set_anew, with_clearing, with_suppression}
 use Rattle.mum_state.proofs.Fitting.{fit_from}
 use Rattle.mum_state.proofs.Keeping.{fit_proper}
@@ -36,13 +37,15 @@ pub record IsBare (left : ℕ) (state : StateValue) : Type 0 where
 
 -- ---- the first state
 
-empty_roster_proper : (limit : ℕ) → IsProperRoster limit empty_roster
-empty_roster_proper limit = record {
+empty_roster_proper : IsProperRoster empty_roster
+empty_roster_proper = record {
+  limit_fits = omega arith;
   slots = omega arith;
   numbers = λ session. omega arith;
   names = λ name. omega arith;
   given = λ session above. refl;
   last_fits = omega arith;
+  deaf_are_mute = refl;
   listeners_here = λ session none. refl;
   few_listeners = λ channel. omega arith;
   few_channels = λ session. omega arith;
@@ -52,13 +55,13 @@ empty_roster_proper limit = record {
   targets_rise = tt;
 }
 
-no_counts_proper : (slots : ℕ) → AreCounts slots (record { revision = 0; policy = 0; routing = 0; slots = replicate slots 0 })
-no_counts_proper slots = record {
+no_counts_proper : AreCounts no_counts
+no_counts_proper = record {
   revision = omega arith;
   policy = omega arith;
   routing = omega arith;
-  each = All-replicate (IsNear 0) slots 0 (omega arith);
-  one_each = length-replicate slots 0;
+  each = All-replicate (IsNear 0) SLOTS 0 (omega arith);
+  one_each = length-replicate {A = ℕ} SLOTS 0;
 }
 
 empty_proper : IsProper empty_state
@@ -72,11 +75,11 @@ empty_proper = record {
   channels = refl;
   policies = refl;
   sound_policies = refl;
-  roster = empty_roster_proper 128;
+  roster = empty_roster_proper;
   users = refl;
   inside = refl;
   listening = refl;
-  counts = no_counts_proper 128;
+  counts = no_counts_proper;
 }
 
 pub empty_bare : (left : ℕ) → left ≤ EDIT_LIMIT → IsBare left empty_state
@@ -95,6 +98,7 @@ less_left more left state few bare = record {
 
 same_sessions : (state : StateValue) (edit : Edit) → is_of_configuration edit ≡ true → (set_by state edit).roster.sessions ≡ state.roster.sessions
 same_sessions state (SetServer welcome bandwidth password) is = refl
+same_sessions state (SetLimits sessions channels) is = refl
 same_sessions state (AddAccount account name digest) is = refl
 same_sessions state (MakeChannel id parent name temporary info None) is = refl
 same_sessions state (EditChannel id actor name parent description position max_users links_add links_remove) is = refl

@@ -20,12 +20,11 @@ use Rattle.mum_tree.specs.Places.{least_place}
 use Rattle.mum_tree.specs.Proper.{IsProper as IsProperTree}
 use Rattle.mum_tree.specs.Refusals.{fault_of_add, is_full}
 use Rattle.mum_tree.specs.Rows.{is_taken, is_temporary, is_there, number as number_of_row, path}
-use Rattle.mum_tree.specs.State.{TreeState, changed, new_row, plain_info, root_alone, with_info, with_new, with_row}
+use Rattle.mum_tree.specs.State.{TreeState, changed, new_row, plain_info, with_info, with_new, with_row}
 use Rattle.mum_tree.proofs.Back.{five}
 use Rattle.mum_tree.proofs.Changed.{changed_none}
 use Rattle.mum_tree.proofs.EditBack.{edits_both_ways}
 use Rattle.mum_tree.proofs.Edits.{informed, informed_proper}
-use Rattle.mum_tree.proofs.Start.{root_proper}
 use Rattle.mum_state.specs.declared.edit.Edit.{Edit}
 use Rattle.mum_state.specs.declared.edit.Edit.TheVariants.{EditChannel, MakeChannel, SetAcl}
 use Rattle.mum_state.specs.After.{all_fit}
@@ -44,7 +43,7 @@ use Rattle.mum_document.specs.Object.{elements_fault, opening_fault, rows_fault}
 use Rattle.mum_config.proofs.Bare.{IsBare, Leads, leads, less_left, one_more}
 use Rattle.mum_document.proofs.First.{first_none, later_none, none_within}
 use Rattle.mum_config.proofs.FitPolicies.{sound_policy}
-use Rattle.mum_config.proofs.MetChannels.{AreMet, channel, depth_inserted, met_grown, met_root, not_temporary, root_with}
+use Rattle.mum_config.proofs.MetChannels.{AreMet, channel, depth_inserted, met_grown, met_root, not_temporary, root_under, root_with}
 use Rattle.mum_config.proofs.Said.{each_row, name_good, not_against, rows_apart, text_good}
 
 pub one_there : (there : Bool) → there ≡ true → (true && (there && true) && true) ≡ true
@@ -81,20 +80,20 @@ module _ (left : ℕ) (met : ChannelsMet) (state : StateValue) (n parent : ℕ) 
 
   made_tree : with_info (with_new state.tree (channel n) (channel parent) name false) (channel n) info ≡ with_row state.tree row
   made_tree =
-      ap (λ (rows : List Row). record { channels = rows; links = state.tree.links; greatest = n })
+      ap (λ (rows : List Row). record { channels = rows; links = state.tree.links; greatest = n; limit = state.tree.limit })
       (changed_last state.tree.channels (new_row (least_place state.tree.channels) (channel n) (channel parent) name false) (channel n) (informed info)
       (λ k d within same. let known = bare.proper.tree.known k d within in absurd (omega arith))
       (eq-eqb n n refl))
 
-  allowed : has_seat met.seats parent name ≡ false → length state.tree.channels < 1024 → fault_of_add 1024 state.tree (channel n) (channel parent) name ≡ None
+  allowed : has_seat met.seats parent name ≡ false → length state.tree.channels < 1024 → fault_of_add state.tree (channel n) (channel parent) name ≡ None
   allowed free room =
       five (not (is_there state.tree.channels (channel parent))) (is_taken state.tree.channels (channel parent) (channel n) name) (is_temporary state.tree.channels (channel parent))
-      (nat_le 33 (length (path state.tree.channels (channel parent)))) (is_full 1024 state.tree) NoChannel SameName TemporaryParent Nesting Count
+      (nat_le 33 (length (path state.tree.channels (channel parent)))) (is_full state.tree) NoChannel SameName TemporaryParent Nesting Count
       (ap not (are.there parent ∙ ap is_some seat))
       (are.seats n parent name above ∙ free)
       (not_temporary state.tree.channels (channel parent) are.lasting)
       (over 33 (length (path state.tree.channels (channel parent))) (omega (arith, are.deep parent depth seat)))
-      (over 1024 (length state.tree.channels) room)
+      (over state.tree.limit (length state.tree.channels) (omega (arith, room, are.wide)))
 
   made : has_seat met.seats parent name ≡ false → length state.tree.channels < 1024 → is_name name ≡ true → is_text info.description ≡ true
       → Made left (record { last = Some n; depths = insert_entry nat_eq met.depths n (depth + 1); seats = met.seats ++ (parent, name) ∷ [] }) (channel n) state (MakeChannel (channel n) (channel parent) name false info None)
@@ -134,16 +133,20 @@ policy_fits given id state left rest bare there sound on = step (gives_policy gi
 
 -- ---- the root is changed
 
-root_edited : (description : Option (List ℕ)) (position : Option _) (users : Option ℕ) → IsProperTree 1024 (with_change root_alone ROOT (channel_parts None None description position users [] []))
-root_edited description position users =
-    informed_proper root_alone ROOT (record { description = given_or description []; position = given_or position (pos 0); max_users = given_or users 0 }) root_proper
+root_edited : (limit : ℕ) → IsProperTree (root_under limit) → (description : Option (List ℕ)) (position : Option _) (users : Option ℕ) → IsProperTree (with_change (root_under limit) ROOT (channel_parts None None description position users [] []))
+root_edited limit proper description position users =
+    informed_proper (root_under limit) ROOT (record { description = given_or description []; position = given_or position (pos 0); max_users = given_or users 0 }) proper
 
-module _ (given : GivenInfo) (met : ChannelsMet) (state : StateValue) (left : ℕ) (rest : List Edit) (bare : IsBare (suc left) state) (are : AreMet met state.tree) (alone : state.tree ≡ root_alone) (text : holds_of_given is_text given.description ≡ true)
+module _ (given : GivenInfo) (met : ChannelsMet) (state : StateValue) (left : ℕ) (rest : List Edit) (bare : IsBare (suc left) state) (are : AreMet met state.tree) (alone : state.tree ≡ root_under state.tree.limit) (text : holds_of_given is_text given.description ≡ true)
     (on : (later : StateValue) → IsBare left later → AreMet (record met { last = Some 0 }) later.tree → length later.tree.channels ≡ length state.tree.channels → all_fit later rest ≡ true) where
+  root_proper : IsProperTree (root_under state.tree.limit)
+  root_proper = subst IsProperTree alone bare.proper.tree
+
   root_allowed : fault_of_edit state.tree ROOT (channel_parts None None given.description given.position given.max_users [] []) ≡ None
   root_allowed =
       ap (λ (t : TreeState). fault_of_edit t ROOT (channel_parts None None given.description given.position given.max_users [] [])) alone
-      ∙ (edits_both_ways 1024 root_alone ROOT (channel_parts None None given.description given.position given.max_users [] []) root_proper refl).1 (root_edited given.description given.position given.max_users)
+      ∙ (edits_both_ways (root_under state.tree.limit) ROOT (channel_parts None None given.description given.position given.max_users [] []) root_proper refl).1
+      (root_edited state.tree.limit root_proper given.description given.position given.max_users)
 
   root_led : Leads left state (EditChannel ROOT None None None given.description given.position given.max_users [] [])
   root_led =
@@ -152,7 +155,7 @@ module _ (given : GivenInfo) (met : ChannelsMet) (state : StateValue) (left : �
       refl
       (and_from _ _ (and_from _ _ (ap is_none root_allowed) refl) text)
 
-  root_tree : (applied state (EditChannel ROOT None None None given.description given.position given.max_users [] [])).tree ≡ root_with (record { description = given_or given.description []; position = given_or given.position (pos 0); max_users = given_or given.max_users 0 })
+  root_tree : (applied state (EditChannel ROOT None None None given.description given.position given.max_users [] [])).tree ≡ root_with state.tree.limit (record { description = given_or given.description []; position = given_or given.position (pos 0); max_users = given_or given.max_users 0 })
   root_tree =
       ap (λ (s : StateValue). s.tree) root_led.is
       ∙ ap (λ (t : TreeState). with_change t ROOT (channel_parts None None given.description given.position given.max_users [] [])) alone
@@ -163,18 +166,18 @@ module _ (given : GivenInfo) (met : ChannelsMet) (state : StateValue) (left : �
       gives : GivenInfo → Bool
       gives info = is_some info.position || is_some info.max_users || is_some info.description
 
-      met_alone : AreMet met root_alone
+      met_alone : AreMet met (root_under state.tree.limit)
       met_alone = subst (AreMet met) alone are
 
       step : (b : Bool) → all_fit state (cond b (EditChannel ROOT None None None given.description given.position given.max_users [] [] ∷ []) [] ++ rest) ≡ true
       step true =
           one_more state (EditChannel ROOT None None None given.description given.position given.max_users [] []) rest root_led.fit
           (on (applied state (EditChannel ROOT None None None given.description given.position given.max_users [] [])) root_led.bare
-          (subst (AreMet (record met { last = Some 0 })) (sym root_tree) (met_root met (record { description = given_or given.description []; position = given_or given.position (pos 0); max_users = given_or given.max_users 0 }) met_alone))
+          (subst (AreMet (record met { last = Some 0 })) (sym root_tree) (met_root met state.tree.limit (record { description = given_or given.description []; position = given_or given.position (pos 0); max_users = given_or given.max_users 0 }) met_alone))
           (ap (λ (t : TreeState). length t.channels) root_tree ∙ sym (ap (λ (t : TreeState). length t.channels) alone)))
       step false =
           on state (less_left (suc left) left state (omega arith) bare)
-          (subst (AreMet (record met { last = Some 0 })) (sym alone) (met_root met plain_info met_alone))
+          (subst (AreMet (record met { last = Some 0 })) (sym alone) (met_root met state.tree.limit plain_info met_alone))
           refl
 
 -- ---- an entry
@@ -194,13 +197,13 @@ given_text None none = refl
 given_text (Some value) none = text_good (Some value) none
 
 -- what was met before an entry of the root
-alone_before : (met : ChannelsMet) (tree : TreeState) (n : ℕ) → AreMet met tree → eqb n 0 ≡ true → not (rises met.last n) ≡ false → tree ≡ root_alone
+alone_before : (met : ChannelsMet) (tree : TreeState) (n : ℕ) → AreMet met tree → eqb n 0 ≡ true → not (rises met.last n) ≡ false → tree ≡ root_under tree.limit
 alone_before met tree n are zero rise = before met.last are.last rise
   where
     never : (n before : ℕ) → eqb n 0 ≡ true → not (ltb before n) ≡ false → ⊥
     never n before zero rise = grind (arith, nat_tests)
 
-    before : (last : Option ℕ) → MatchOption last (tree ≡ root_alone) (λ before. tree.greatest ≤ before) → not (rises last n) ≡ false → tree ≡ root_alone
+    before : (last : Option ℕ) → MatchOption last (tree ≡ root_under tree.limit) (λ before. tree.greatest ≤ before) → not (rises last n) ≡ false → tree ≡ root_under tree.limit
     before None is rise = is
     before (Some one) is rise = absurd (never n one zero rise)
 
@@ -214,7 +217,7 @@ above_before met tree n are other rise = before met.last are.last rise
     further : (n before g : ℕ) → g ≤ before → not (ltb before n) ≡ false → g < n
     further n before g most rise = grind (arith, nat_tests)
 
-    before : (last : Option ℕ) → MatchOption last (tree ≡ root_alone) (λ before. tree.greatest ≤ before) → not (rises last n) ≡ false → tree.greatest < n
+    before : (last : Option ℕ) → MatchOption last (tree ≡ root_under tree.limit) (λ before. tree.greatest ≤ before) → not (rises last n) ≡ false → tree.greatest < n
     before None is rise = positive n tree.greatest (ap (λ (t : TreeState). t.greatest) is) other
     before (Some one) is rise = further n one tree.greatest is rise
 
@@ -258,7 +261,7 @@ root_entry_fits value met state left rest bare are is none on =
     let infos : Each (λ row. row.1 ≡ None) (info_rows value) = each_row (codes ".") (info_rows value) back.0 in
     let zero : eqb (channel_number value) 0 ≡ true = sym (root_is (get (codes "id") value) numbers.0) ∙ is in
     let none_before : channel_number value ≡ 0 = eqb-true (channel_number value) 0 zero in
-    let alone : state.tree ≡ root_alone = alone_before met state.tree (channel_number value) are zero (not_against _ _ numbers.1.0) in
+    let alone : state.tree ≡ root_under state.tree.limit = alone_before met state.tree (channel_number value) are zero (not_against _ _ numbers.1.0) in
     let there : is_some (depth_of met.depths 0) ≡ true = sym ((subst (AreMet met) alone are).there 0) in
     ap (λ (edits : List Edit). all_fit state (edits ++ rest)) (root_edits_are value met is)
     ∙ ap (all_fit state) (append_assoc (root_edits (given_info value)) (policy_edits (channel (channel_number value)) (given_policy value)) rest)

@@ -7,11 +7,16 @@ use Rattle.std.proofs.lemmas.Bool.Decides.{nat_tests}
 use Rattle.std.proofs.lemmas.Option.{same_Some}
 use Rattle.serde_json.specs.Data.{Data}
 use Rattle.serde_json.specs.Find.{get}
+use Rattle.mum_tree.specs.declared.channel.TheConstants.{CHANNEL_LIMIT}
 use Rattle.mum_tree.specs.State.{TreeState}
 use Rattle.mum_state.specs.declared.edit.Edit.{Edit}
+use Rattle.mum_state.specs.declared.edit.Edit.TheVariants.{SetLimits}
 use Rattle.mum_state.specs.After.{all_fit}
 use Rattle.mum_state.specs.Applied.{applied}
+use Rattle.mum_state.specs.Fits.{fits}
 use Rattle.mum_state.specs.State.{StateValue, empty_state}
+use Rattle.mum_state.proofs.Fitting.{fit_parts}
+use Rattle.mum_state.proofs.Limiting.{limits_fit}
 use Rattle.mum_state.proofs.Each.{Each}
 use Rattle.mum_config.specs.declared.config.Config.{Config}
 use Rattle.mum_document.specs.declared.fault.BadConfig.{BadConfig}
@@ -19,6 +24,7 @@ use Rattle.mum_document.specs.declared.fault.ConfigFault.TheVariants.{Limit, Not
 use Rattle.mum_config.specs.Account.{account_edit}
 use Rattle.mum_config.specs.Channel.{channel_edits, is_root_entry, root_met}
 use Rattle.mum_config.specs.Document.{ReadsText, account_list_rows, accounts_in, against_document, channel_list_rows, channels_in, channels_met, config_of, document_names, document_rows, edits_of, fault_of, link_list_rows, links_in, object_fault_of, server_edit, settings_of, settings_rows, value_of}
+use Rattle.mum_config.specs.Limits.{FitAfterLimits}
 use Rattle.mum_config.specs.Link.{link_edit}
 use Rattle.mum_document.specs.Object.{rows_fault, unknown_fault}
 use Rattle.mum_config.proofs.Bare.{IsBare, Leads, empty_bare, leads, less_left, one_more}
@@ -64,9 +70,34 @@ lists_fit document state bare nobody met alone account_lines channel_lines link_
     met_then.there
     of_links.1.0))
 
-pub edits_fit : (document : Data) → object_fault_of document ≡ None → all_fit empty_state (edits_of document) ≡ true
+-- nobody is there, no account and no channel but the root, under a limit that is not below that of a new tree; and so
+-- many edits more can be counted
+record IsFresh (left : ℕ) (state : StateValue) : Type 0 where
+  bare : IsBare left state
+  no_accounts : state.accounts ≡ []
+  met : AreMet root_met state.tree
+  alone : length state.tree.channels ≡ 1
+
+empty_fresh : IsFresh 300001 empty_state
+empty_fresh = record { bare = empty_bare 300001 (omega arith); no_accounts = refl; met = root_is_met CHANNEL_LIMIT (omega arith); alone = refl }
+
+-- also where limits are set first
+limited_fresh : (sessions channels : ℕ) → fits empty_state (SetLimits sessions channels) ≡ true → IsFresh 300001 (applied empty_state (SetLimits sessions channels))
+limited_fresh sessions channels fit =
+    let parts = fit_parts empty_state (SetLimits sessions channels) fit in
+    let led : Leads 300001 empty_state (SetLimits sessions channels) =
+    leads 300001 empty_state (SetLimits sessions channels) refl (empty_bare 300002 (omega arith)) refl parts.numbers parts.sets in
+    let wide : CHANNEL_LIMIT ≤ channels = (limits_fit empty_state sessions channels fit).channels_rise in
+    record {
+      bare = led.bare;
+      no_accounts = ap (λ (s : StateValue). s.accounts) led.is;
+      met = subst (AreMet root_met) (sym (ap (λ (s : StateValue). s.tree) led.is)) (root_is_met channels wide);
+      alone = ap (λ (s : StateValue). length s.tree.channels) led.is;
+    }
+
+edits_fit : (document : Data) (state : StateValue) → object_fault_of document ≡ None → IsFresh 300001 state → all_fit state (edits_of document) ≡ true
 unfolding object_fault_of edits_of
-edits_fit document none =
+edits_fit document state none fresh =
     let lines : rows_fault [] (document_rows document) ≡ None =
     later_none (unknown_fault [] document_names document) _ (later_none (against_document NotAnObject _) _ none) in
     let one = rows_apart [] (settings_rows document) (account_list_rows document ++ channel_list_rows document ++ link_list_rows (channels_met document).depths document) lines in
@@ -74,13 +105,13 @@ edits_fit document none =
     let three = rows_apart [] (channel_list_rows document) (link_list_rows (channels_met document).depths document) two.1 in
     let of_settings : Each (λ row. row.1 ≡ None) (settings_rows document) = each_row [] (settings_rows document) one.0 in
     let edit : Edit = server_edit (settings_of document) in
-    let led : Leads 300000 empty_state edit = leads 300000 empty_state edit refl (empty_bare 300001 (omega arith)) refl refl (text_good (get (codes "welcome") document) of_settings.0) in
-    one_more empty_state edit (map account_edit (accounts_in document) ++ flat_map channel_edits (channels_in document) ++ map link_edit (links_in document)) led.fit
-    (ap (all_fit (applied empty_state edit)) (append_assoc (map account_edit (accounts_in document)) (flat_map channel_edits (channels_in document)) (map link_edit (links_in document)))
-    ∙ lists_fit document (applied empty_state edit) led.bare
-    (ap (λ (s : StateValue). s.accounts) led.is)
-    (subst (AreMet root_met) (sym (ap (λ (s : StateValue). s.tree) led.is)) root_is_met)
-    (ap (λ (s : StateValue). length s.tree.channels) led.is)
+    let led : Leads 300000 state edit = leads 300000 state edit refl fresh.bare refl refl (text_good (get (codes "welcome") document) of_settings.0) in
+    one_more state edit (map account_edit (accounts_in document) ++ flat_map channel_edits (channels_in document) ++ map link_edit (links_in document)) led.fit
+    (ap (all_fit (applied state edit)) (append_assoc (map account_edit (accounts_in document)) (flat_map channel_edits (channels_in document)) (map link_edit (links_in document)))
+    ∙ lists_fit document (applied state edit) led.bare
+    (ap (λ (s : StateValue). s.accounts) led.is ∙ fresh.no_accounts)
+    (subst (AreMet root_met) (sym (ap (λ (s : StateValue). s.tree) led.is)) fresh.met)
+    (ap (λ (s : StateValue). length s.tree.channels) led.is ∙ fresh.alone)
     two.0 three.0 three.1)
 
 pub said_of_value : (text : List ℕ) (value : Data) → value_of text ≡ Some value → fault_of text ≡ None → object_fault_of value ≡ None
@@ -89,16 +120,26 @@ said_of_value text value is none =
     sym (ap (λ (found : Option Data). option_map_or object_fault_of found None) is)
     ∙ later_none (against_document NotJson (is_none (value_of text))) _ (later_none (against_document Limit (nat_lt 65536 (length text))) _ none)
 
-same_edits : (value : Data) (config : Config) → config_of value ≡ config → edits_of value ≡ config.edits
+pub same_edits : (value : Data) (config : Config) → config_of value ≡ config → edits_of value ≡ config.edits
 unfolding config_of
 same_edits value config same = ap (λ (c : Config). c.edits) same
 
--- the edits of a text that is read fit
-pub text_fits : (text : List ℕ) (r : Result Config BadConfig) → ReadsText text r → IfOk r (λ config. IsTrue (all_fit empty_state config.edits))
-text_fits text (Err error) reads = tt
-text_fits text (Ok config) reads = step (value_of text) refl reads.1
+-- the edits of a text that is read fit a fresh state
+read_fits : (state : StateValue) → IsFresh 300001 state → (text : List ℕ) (r : Result Config BadConfig) → ReadsText text r → IfOk r (λ config. IsTrue (all_fit state config.edits))
+read_fits state fresh text (Err error) reads = tt
+read_fits state fresh text (Ok config) reads = step (value_of text) refl reads.1
   where
-    step : (found : Option Data) → value_of text ≡ found → option_map config_of found ≡ Some config → all_fit empty_state config.edits ≡ true
+    step : (found : Option Data) → value_of text ≡ found → option_map config_of found ≡ Some config → all_fit state config.edits ≡ true
     step None is read = absurd (cc)
     step (Some value) is read =
-        subst (λ (edits : List Edit). all_fit empty_state edits ≡ true) (same_edits value config (same_Some (config_of value) config read)) (edits_fit value (said_of_value text value is reads.0))
+        subst (λ (edits : List Edit). all_fit state edits ≡ true) (same_edits value config (same_Some (config_of value) config read)) (edits_fit value state (said_of_value text value is reads.0) fresh)
+
+-- the empty one
+pub text_fits : (text : List ℕ) (r : Result Config BadConfig) → ReadsText text r → IfOk r (λ config. IsTrue (all_fit empty_state config.edits))
+text_fits = read_fits empty_state empty_fresh
+
+-- and the same with limits
+pub text_fits_limits : (text : List ℕ) (r : Result Config BadConfig) → ReadsText text r → IfOk r (λ config. FitAfterLimits config.edits)
+text_fits_limits text (Err error) reads = tt
+text_fits_limits text (Ok config) reads = λ sessions channels fit.
+    read_fits (applied empty_state (SetLimits sessions channels)) (limited_fresh sessions channels fit) text (Ok config) reads

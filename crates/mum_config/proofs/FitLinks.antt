@@ -169,14 +169,14 @@ module _ (left : ℕ) (met : List Ends) (state : StateValue) (a b : ℕ) (bare :
 
   link_change : with_change state.tree (channel a) (channel_parts None None None None None (channel b ∷ []) []) ≡ with_link state.tree (channel a) (channel b)
   link_change =
-      ap (λ (rows : List Row). record { channels = rows; links = pairs_with (channel a) (channel b) state.tree.links; greatest = state.tree.greatest })
+      ap (λ (rows : List Row). record { channels = rows; links = pairs_with (channel a) (channel b) state.tree.links; greatest = state.tree.greatest; limit = state.tree.limit })
       (unchanged (channel a) (channel_parts None None None None None (channel b ∷ []) []) state.tree.channels (λ row. refl))
 
   edit_allowed : fault_of_edit state.tree (channel a) (channel_parts None None None None None (channel b ∷ []) []) ≡ None
   edit_allowed =
-      (edits_both_ways 1024 state.tree (channel a) (channel_parts None None None None None (channel b ∷ []) []) bare.proper.tree
+      (edits_both_ways state.tree (channel a) (channel_parts None None None None None (channel b ∷ []) []) bare.proper.tree
       (named_in_tree state.tree (channel a) (channel_parts None None None None None (channel b ∷ []) []) bare.proper.tree (two_there (is_there state.tree.channels (channel a)) (is_there state.tree.channels (channel b)) a_there b_there))).1
-      (subst (IsProperTree 1024) (sym link_change) ((link_both_ways 1024 state.tree (channel a) (channel b) bare.proper.tree a_there b_there).0 link_allowed))
+      (subst IsProperTree (sym link_change) ((link_both_ways state.tree (channel a) (channel b) bare.proper.tree a_there b_there).0 link_allowed))
 
   link_led : Leads left state (join_edit a b)
   link_led =

@@ -10,4 +10,5 @@ pub mod MetChannels
 pub mod FitChannels
 pub mod FitLinks
 pub mod FitDocument
+pub mod FitSettings
 pub mod FewWorkers

@@ -13,6 +13,7 @@ use Rattle.mum_base.specs.declared.number.ChannelId.{ChannelId}
 use Rattle.mum_base.specs.declared.number.TheConstants.ChannelId.{ROOT}
 use Rattle.mum_tree.specs.declared.channel.ChannelInfo.{ChannelInfo}
 use Rattle.mum_tree.specs.declared.channel.Row.{Row}
+use Rattle.mum_tree.specs.declared.channel.TheConstants.{CHANNEL_LIMIT}
 use Rattle.mum_tree.specs.Proper.{IsProper as IsProperTree}
 use Rattle.mum_tree.specs.Rows.{has_name_beside, is_root, is_taken, is_temporary, is_there, number, path, row_of, upward}
 use Rattle.mum_tree.specs.State.{TreeState, root_alone, with_row}
@@ -27,22 +28,29 @@ use Rattle.mum_config.proofs.FitAccounts.{bytes_swap, eq_swap}
 abbrev pub channel : ℕ → ChannelId
 channel n = record { 0 = n }
 
--- each is there, as far below the root as was met, and siblings have the names that were met
+-- the root alone, under a limit of channels
+abbrev pub root_under : ℕ → TreeState
+root_under limit = record root_alone { limit = limit }
+
+-- each is there, as far below the root as was met, and siblings have the names that were met; the limit
+-- of channels is not below that of a new tree
 pub record AreMet (met : ChannelsMet) (tree : TreeState) : Type 0 where
   pub there : (n : ℕ) → is_there tree.channels (channel n) ≡ is_some (depth_of met.depths n)
   pub deep : (n depth : ℕ) → depth_of met.depths n ≡ Some depth → length (path tree.channels (channel n)) ≡ depth
   pub seats : (n parent : ℕ) (name : List ℕ) → tree.greatest < n → is_taken tree.channels (channel parent) (channel n) name ≡ has_seat met.seats parent name
-  pub last : MatchOption met.last (tree ≡ root_alone) (λ before. tree.greatest ≤ before)
+  pub last : MatchOption met.last (tree ≡ root_under tree.limit) (λ before. tree.greatest ≤ before)
   pub lasting : Each (λ row. row.channel.temporary ≡ false) tree.channels
   pub unlinked : tree.links ≡ []
+  pub wide : CHANNEL_LIMIT ≤ tree.limit
 
 -- ---- the root alone, whatever describes it
 
-abbrev pub root_with : ChannelInfo → TreeState
-root_with info = record {
+abbrev pub root_with : ℕ → ChannelInfo → TreeState
+root_with limit info = record {
   channels = record { place = 0; channel = record { id = ROOT; parent = ROOT; name = codes "Root"; temporary = false; info = info } } ∷ [];
   links = [];
   greatest = 0;
+  limit = limit;
 }
 
 root_there : (n : ℕ) → is_there root_alone.channels (channel n) ≡ is_some (depth_of root_met.depths n)
@@ -62,24 +70,26 @@ root_deep n depth is = step (eqb n 0) refl is
     step true same found = subst (λ m. length (path root_alone.channels (channel m)) ≡ depth) (sym (eqb-true n 0 same)) (same_Some 1 depth found)
     step false same found = absurd (cc)
 
-pub root_is_met : AreMet root_met root_alone
-root_is_met = record {
+pub root_is_met : (limit : ℕ) → CHANNEL_LIMIT ≤ limit → AreMet root_met (root_under limit)
+root_is_met limit wide = record {
   there = root_there;
   deep = root_deep;
   seats = λ n parent name above. refl;
   last = refl;
   lasting = (refl, tt);
   unlinked = refl;
+  wide = wide;
 }
 
-pub met_root : (met : ChannelsMet) (info : ChannelInfo) → AreMet met root_alone → AreMet (record met { last = Some 0 }) (root_with info)
-met_root met info are = record {
-  there = λ n. there_alike (root_with info).channels root_alone.channels (channel n) refl ∙ are.there n;
-  deep = λ n depth is. ap (λ (ids : List ChannelId). length ids) (path_alike (root_with info).channels root_alone.channels (channel n) refl) ∙ are.deep n depth is;
+pub met_root : (met : ChannelsMet) (limit : ℕ) (info : ChannelInfo) → AreMet met (root_under limit) → AreMet (record met { last = Some 0 }) (root_with limit info)
+met_root met limit info are = record {
+  there = λ n. there_alike (root_with limit info).channels root_alone.channels (channel n) refl ∙ are.there n;
+  deep = λ n depth is. ap (λ (ids : List ChannelId). length ids) (path_alike (root_with limit info).channels root_alone.channels (channel n) refl) ∙ are.deep n depth is;
   seats = λ n parent name above. are.seats n parent name above;
   last = omega arith;
   lasting = (refl, tt);
   unlinked = refl;
+  wide = are.wide;
 }
 
 -- ---- one channel more
@@ -147,7 +157,7 @@ not_temporary (row ∷ rows) id all = step (eqb (number row) id.0) (not_temporar
     step true rest = all.0
     step false rest = rest
 
-module _ {limit : ℕ} (met : ChannelsMet) (tree : TreeState) (row : Row) (depth : ℕ) (proper : IsProperTree limit tree) (are : AreMet met tree)
+module _ (met : ChannelsMet) (tree : TreeState) (row : Row) (depth : ℕ) (proper : IsProperTree tree) (are : AreMet met tree)
     (above : tree.greatest < number row) (seat : depth_of met.depths row.channel.parent.0 ≡ Some depth) (few : depth < 33) (lasts : row.channel.temporary ≡ false) where
   unknown : row_of tree.channels row.channel.id ≡ None
   unknown = row_of_none tree.channels row.channel.id (λ k d within same. let known = proper.known k d within in absurd (omega arith))
@@ -209,4 +219,5 @@ module _ {limit : ℕ} (met : ChannelsMet) (tree : TreeState) (row : Row) (depth
     last = omega arith;
     lasting = each_append (λ (one : Row). one.channel.temporary ≡ false) tree.channels (row ∷ []) are.lasting (lasts, tt);
     unlinked = are.unlinked;
+    wide = are.wide;
   }

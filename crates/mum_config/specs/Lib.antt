@@ -2,3 +2,4 @@ pub mod Account
 pub mod Channel
 pub mod Link
 pub mod Document
+pub mod Limits

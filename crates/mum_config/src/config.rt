@@ -8,6 +8,7 @@ ghost use Rattle.mum_state.specs.State.{empty_state};
 ghost use Rattle.mum_config.specs.Account.{account_edit};
 ghost use Rattle.mum_config.specs.Channel.{ReadsDepths, channel_edits};
 ghost use Rattle.mum_config.specs.Document.{ReadsText, ReadsValue, account_list_rows, accounts_in, channel_list_rows, channels_in, channels_met, config_of, link_list_rows, links_in, object_fault_of, server_edit, settings_of, settings_rows};
+ghost use Rattle.mum_config.specs.Limits.{FitAfterLimits, settings_and_accounts};
 ghost use Rattle.mum_config.specs.Link.{link_edit};
 ghost use Rattle.mum_document.specs.Object.{rows_fault};
 ghost use Rattle.mum_document.specs.Reading.{Reads};
@@ -199,11 +200,15 @@ fn read_value(alloc: Global, text: &[u8]) -> Result<Value, BadConfig>
 }
 
 /// Reads the JSON document from which a server starts, or finds its first fault. Its edits fit one
-/// after the other from the empty state, and its workers are 1 to 8. The keys, and the order in which they are looked at, are in
+/// after the other from the empty state, also where limits of sessions and channels are set first, and
+/// there its settings and accounts fit alone too; a document has at most 1,024 channels whatever the
+/// limits are. Its workers are 1 to 8. The keys, and the order in which they are looked at, are in
 /// `docs/FORMATS.md`. Where a key comes twice the last one counts.
 pub fn read_config(alloc: Global, text: &[u8]) -> Result<Config, BadConfig>
     ensures reads { ReadsText text.now result }
     ensures fits { IfOk result (λ config. IsTrue (all_fit empty_state config.edits)) }
+    ensures limited { IfOk result (λ config. FitAfterLimits config.edits) }
+    ensures alone { IfOk result (λ config. FitAfterLimits (settings_and_accounts config.edits)) }
     ensures workers { IfOk result (λ config. (1 ≤ config.workers) × (config.workers ≤ 8)) }
 {
     if text.len() > DOCUMENT_LIMIT {

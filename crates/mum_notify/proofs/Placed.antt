@@ -1,11 +1,14 @@
 -- A channel at its place among channels in order of number.
-use Rattle.std.proofs.Common.{◌≡◌, ℕ, suc, ◌+◌, ◌==◌, Bool, true, false, not, cond, nat_lt, List, [], ◌∷◌, ◌++◌, fold, refl, sym, ap, ◌∙◌}
+use Rattle.std.proofs.Common.{◌≡◌, ℕ, suc, ◌+◌, ◌==◌, Bool, true, false, not, cond, nat_lt, List, [], ◌∷◌, ◌++◌, fold, refl, sym, ap, ◌∙◌, arith, IsTrue}
 use Rattle.std.specs.List.{insert}
 use Rattle.std.proofs.lemmas.Bool.{false≢true}
+use Rattle.std.proofs.lemmas.Bool.Decides.{nat_tests}
 use Rattle.std.proofs.lemmas.List.Sums.{fold-append}
 use Rattle.mum_base.specs.declared.number.ChannelId.{ChannelId}
+use Rattle.mum_users.specs.Order.{IsBelowAll, Rises}
+use Rattle.mum_users.proofs.Orders.{IsBelowAll-through}
 use Rattle.mum_users.proofs.Places.{one_more}
-use Rattle.mum_notify.specs.Channels.{in_order, place_for, stands_at, with_channel}
+use Rattle.mum_notify.specs.Channels.{in_order, is_lower, place_for, stands_at, with_channel}
 
 -- the first that is not lower, and what comes of it
 first_lower : (id x : ChannelId) (xs : List ChannelId) → nat_lt x.0 id.0 ≡ true → place_for id (x ∷ xs) ≡ suc (place_for id xs)
@@ -40,6 +43,37 @@ placed_in id (x ∷ xs) stands = step (nat_lt x.0 id.0) refl (placed_in id xs)
     step false low rest =
         let here : (x.0 == id.0) ≡ false = ap (λ n. stands_at (x ∷ xs) n id) (sym (first_not_lower id x xs low)) ∙ stands in
         ap (λ n. insert (x ∷ xs) n id) (first_not_lower id x xs low) ∙ sym (with_lower id x xs false low ∙ ap (λ (b : Bool). cond b (x ∷ xs) (id ∷ x ∷ xs)) here)
+
+-- ---- the order is kept
+
+pub lower_down : (id x y : ChannelId) → IsTrue (is_lower x y) → is_lower y id ≡ true → is_lower x id ≡ true
+lower_down id x y lower low = grind (arith, nat_tests)
+
+lower_through : (a b c : ChannelId) → IsTrue (is_lower a b) → IsTrue (is_lower b c) → IsTrue (is_lower a c)
+lower_through a b c low high = grind (arith, nat_tests)
+
+higher : (id x : ChannelId) → is_lower x id ≡ false → (x.0 == id.0) ≡ false → IsTrue (is_lower id x)
+higher id x low other = grind (arith, nat_tests)
+
+below_with : (first id : ChannelId) (ids : List ChannelId) → IsTrue (is_lower first id) → IsBelowAll is_lower first ids → IsBelowAll is_lower first (with_channel id ids)
+below_with first id [] lower all = (lower, tt)
+below_with first id (x ∷ xs) lower all = step (nat_lt x.0 id.0) (x.0 == id.0) (below_with first id xs lower all.1)
+  where
+    step : (b s : Bool) → IsBelowAll is_lower first (with_channel id xs) → IsBelowAll is_lower first (cond b (x ∷ with_channel id xs) (cond s (x ∷ xs) (id ∷ x ∷ xs)))
+    step true s rest = (all.0, rest)
+    step false true rest = all
+    step false false rest = (lower, all)
+
+pub rises_with : (id : ChannelId) (ids : List ChannelId) → Rises is_lower ids → Rises is_lower (with_channel id ids)
+rises_with id [] rise = (tt, tt)
+rises_with id (x ∷ xs) rise = step (nat_lt x.0 id.0) (x.0 == id.0) refl refl (rises_with id xs rise.1)
+  where
+    step : (b s : Bool) → nat_lt x.0 id.0 ≡ b → (x.0 == id.0) ≡ s → Rises is_lower (with_channel id xs) → Rises is_lower (cond b (x ∷ with_channel id xs) (cond s (x ∷ xs) (id ∷ x ∷ xs)))
+    step true s low same rest = (below_with x id xs low rise.0, rest)
+    step false true low same rest = rise
+    step false false low same rest =
+        let above = higher id x low same in
+        ((above, IsBelowAll-through is_lower lower_through id x xs above rise.0), rise)
 
 -- the same, as code finds the place and looks there
 pub put_there : (id : ChannelId) (ids seen again : List ChannelId) (place : ℕ) → seen ≡ ids → again ≡ ids → place ≡ place_for id seen → true ≡ stands_at again place id → ids ≡ with_channel id ids

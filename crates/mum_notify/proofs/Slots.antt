@@ -4,7 +4,7 @@ use Rattle.std.specs.List.{AllPairs}
 use Rattle.mum_users.specs.Proper.{SlotsRise}
 use Rattle.mum_users.specs.declared.user.User.{User}
 use Rattle.mum_state.specs.Proper.{IsProper}
-use Rattle.mum_state.specs.State.{StateValue, session_limit}
+use Rattle.mum_state.specs.State.{StateValue}
 use Rattle.mum_notify.specs.Parcels.{to_each}
 use Rattle.mum_notify.specs.declared.notice.Notice.{Notice}
 
@@ -26,4 +26,4 @@ rising frame limit low (user ∷ users) rise (suc i) zero d less within = absurd
 rising frame limit low (user ∷ users) rise (suc i) (suc j) d less within = rising frame limit (user.slot.0 + 1) users rise.1 i j d (omega arith) (omega arith)
 
 pub goes_by_slots_lem : (state : StateValue) (frame : List ℕ) → IsProper state → AllPairs (λ one later. one.slot.0 < later.slot.0) (to_each state.roster.sessions frame)
-goes_by_slots_lem state frame proper = rising frame (session_limit state) 0 state.roster.sessions proper.roster.slots
+goes_by_slots_lem state frame proper = rising frame state.roster.limit 0 state.roster.sessions proper.roster.slots

@@ -31,7 +31,7 @@ use Rattle.mum_state.specs.Set.{set_by, with_tree}
 use Rattle.mum_state.specs.State.{StateValue}
 use Rattle.mum_state.specs.Suppression.{with_clearing, with_suppression}
 use Rattle.mum_state.specs.declared.edit.Edit.{Edit}
-use Rattle.mum_state.specs.declared.edit.Edit.TheVariants.{EditChannel, MakeChannel, RemoveChannel}
+use Rattle.mum_state.specs.declared.edit.Edit.TheVariants.{EditChannel, MakeChannel, RemoveChannel, SetLimits}
 use Rattle.mum_state.proofs.Gone.{there_without_subtree}
 use Rattle.mum_state.proofs.Heard.{clearing_tree, heard_members}
 use Rattle.mum_state.proofs.Keeping.{fit_proper}
@@ -151,7 +151,7 @@ between_there rows id (pair ∷ links) all = step (starts_at id pair) (between_t
     step false rest = rest
 
 -- where nothing of the channel is touched
-untouched : {limit : ℕ} (before after : TreeState) (id : ChannelId) → IsProperTree limit after → ((was : Channel) → channel_of before id ≡ Some was → channel_of after id ≡ Some was)
+untouched : (before after : TreeState) (id : ChannelId) → IsProperTree after → ((was : Channel) → channel_of before id ≡ Some was → channel_of after id ≡ Some was)
     → filter (starts_at id) after.links ≡ filter (starts_at id) before.links → Keeps before after id
 untouched before after id proper row links =
     let same : partners after id ≡ partners before id = ap (λ (ps : List Pair). map (λ (pair : Pair). pair.1) ps) links in
@@ -178,7 +178,7 @@ ends_cut kept id (pair ∷ links) there = step (starts_at id pair) (is_there kep
     step false false b is one two rest = rw (one, is) rest
 
 -- what is cut away leaves the others
-cut_away : {limit : ℕ} (tree : TreeState) (top id : ChannelId) → IsProperTree limit tree → Keeps tree (without_subtree tree top) id
+cut_away : (tree : TreeState) (top id : ChannelId) → IsProperTree tree → Keeps tree (without_subtree tree top) id
 cut_away tree top id proper = record {
   row = λ was now one two. found (row_of (without_subtree tree top).channels id) refl was now one two;
   links = λ there. ends_cut (without_subtree tree top).channels id tree.links there;
@@ -216,7 +216,7 @@ there_of_channel None channel is = cc
 there_of_channel (Some row) channel is = refl
 
 -- what stands, and then stands where something is cut away, stands
-then_cut : {limit : ℕ} (before middle : TreeState) (top id : ChannelId) → IsProperTree limit middle → Keeps before middle id → Keeps before (without_subtree middle top) id
+then_cut : (before middle : TreeState) (top id : ChannelId) → IsProperTree middle → Keeps before middle id → Keeps before (without_subtree middle top) id
 then_cut before middle top id proper first =
     let second = cut_away middle top id proper in
     record {
@@ -292,6 +292,8 @@ set_keeps state (EditChannel other actor name parent description position max_us
     (without_all_other id other links_remove (pairs_with_all other links_add state.tree.links) apart parts.1
     ∙ with_all_other id other links_add state.tree.links apart (off_right (other.0 == id.0) (is_among links_add id) parts.0))
 set_keeps state (RemoveChannel top actor) id proper set fit none there = cut_away state.tree top id proper.tree
+set_keeps state (SetLimits sessions channels) id proper set fit none there =
+    untouched state.tree (record state.tree { limit = channels }) id set.tree (λ was is. is) refl
 set_keeps state edit id proper set fit none there = untouched state.tree state.tree id proper.tree (λ was is. is) refl
 
 -- ---- what an edit leaves

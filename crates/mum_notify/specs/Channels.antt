@@ -100,6 +100,10 @@ with_channel new (id ∷ ids) =
     else if id.0 == new.0 then id ∷ ids
     else new ∷ id ∷ ids
 
+-- the order of numbers
+abbrev pub is_lower : ChannelId → ChannelId → Bool
+is_lower one other = nat_lt one.0 other.0
+
 -- how many of these are lower, from the first on; and whether the channel stands there
 abbrev pub place_for : ChannelId → List ChannelId → ℕ
 place_for id ids = position_or_len (λ one. not (nat_lt one.0 id.0)) ids

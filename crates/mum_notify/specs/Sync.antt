@@ -45,7 +45,7 @@ welcome_told state user = record {
   session = Some user.session.0;
   max_bandwidth = Some state.server.bandwidth;
   welcome_text = said_unless (is_empty state.server.welcome) state.server.welcome;
-  permissions = Some (granted_to state (asker user) ROOT);
+  permissions = Some (granted_to state (asker state.tree user) ROOT);
 }
 
 abbrev pub sync_frames : StateValue → User → List (List ℕ)

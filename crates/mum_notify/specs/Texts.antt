@@ -78,7 +78,7 @@ text_parcels after edit = []
 abbrev pub permissions_told : StateValue → User → PermissionQuery
 permissions_told state user = record {
   channel_id = Some user.channel.0;
-  permissions = Some (granted_to state (asker user) user.channel);
+  permissions = Some (granted_to state (asker state.tree user) user.channel);
   flush = Some true;
 }
 

@@ -1,6 +1,6 @@
 //! What is told of channels that are new or changed.
 
-ghost use Rattle.std.specs.Prelude.{◌≡◌, ◌++◌, ◌==◌, ◌≤◌, IfOk, OnOk, filter, fold, length, map, nat_lt, not, pos, position};
+ghost use Rattle.std.specs.Prelude.{◌≡◌, ◌++◌, ◌==◌, ◌≤◌, IfOk, OnOk, filter, fold, length, map, not, pos};
 ghost use Rattle.std.specs.Ordering.{int_eq};
 ghost use Rattle.mum_state.specs.Kinds.{is_empty};
 ghost use Rattle.mum_tree.specs.Rows.{is_root};
@@ -9,7 +9,8 @@ ghost use Rattle.std.specs.Option.{option_copied};
 ghost use Rattle.std.specs.Str.{bytes_eq};
 ghost use Rattle.mum_base.specs.Channels.{is_among};
 ghost use Rattle.mum_tree.specs.State.{partners};
-ghost use Rattle.mum_notify.specs.Channels.{channel_change_told, channel_changes_told, channel_difference, channel_told, edited_channels, if_it_tells, new_channel, new_channels_told, numbers, partners_only_in, place_for, said_unless, stands_at, tells_of_channel, with_channel};
+ghost use Rattle.mum_users.specs.Order.{Rises};
+ghost use Rattle.mum_notify.specs.Channels.{channel_change_told, channel_changes_told, channel_difference, channel_told, edited_channels, if_it_tells, is_lower, new_channel, new_channels_told, numbers, partners_only_in, place_for, said_unless, stands_at, tells_of_channel, with_channel};
 ghost use Rattle.mum_notify.specs.Parcels.{IsWithinFrame, channel_frame, channel_payload};
 
 use crate::frames::channel_frame;
@@ -273,24 +274,13 @@ fn add_difference(
     push_difference(alloc, frames, &told)
 }
 
-fn is_lower(one: ChannelId, id: ChannelId) -> bool
-    ensures { result ≡ nat_lt one.0 id.0 }
-{
-    one.0 < id.0
-}
-
-fn first_not_lower(ids: &[ChannelId], id: ChannelId) -> Option<usize>
-    ensures { result ≡ position (λ one. not (nat_lt one.0 id.0)) ids.now }
-{
-    ids.iter().position(|one| !is_lower(*one, id))
-}
-
-// How many of these are lower, from the first on.
+// How many of these are lower, from the first on. They are in order of number, so it is found by halving.
 fn place_for(ids: &[ChannelId], id: ChannelId) -> usize
+    requires { Rises is_lower ids.now }
     ensures place { result ≡ place_for id ids.now }
     ensures within { result ≤ length ids.now }
 {
-    first_not_lower(ids, id).unwrap_or(ids.len())
+    ids.partition_point(|one| one.0 < id.0)
 }
 
 fn stands_at(ids: &[ChannelId], place: usize, id: ChannelId) -> bool
@@ -304,7 +294,9 @@ fn stands_at(ids: &[ChannelId], place: usize, id: ChannelId) -> bool
 
 // Puts a channel in at its place among channels in order of number, if it is not there.
 fn put_channel(ordered: &mut Vec<ChannelId>, id: ChannelId) -> Result<(), OutOfMemory>
-    ensures { OnOk result (ordered.new.items ≡ with_channel id ordered.old.items) }
+    requires { Rises is_lower ordered.old.items }
+    ensures value { OnOk result (ordered.new.items ≡ with_channel id ordered.old.items) }
+    ensures rise { OnOk result (Rises is_lower ordered.new.items) }
 {
     let place = place_for(ordered.as_slice(), id);
     if stands_at(ordered.as_slice(), place, id) {
@@ -315,8 +307,10 @@ fn put_channel(ordered: &mut Vec<ChannelId>, id: ChannelId) -> Result<(), OutOfM
 }
 
 fn put_channels(ordered: &mut Vec<ChannelId>, ids: &[ChannelId]) -> Result<(), OutOfMemory>
-    ensures { OnOk result (ordered.new.items
+    requires { Rises is_lower ordered.old.items }
+    ensures value { OnOk result (ordered.new.items
         ≡ fold (λ ordered id. with_channel id ordered) ordered.old.items ids.now) }
+    ensures rise { OnOk result (Rises is_lower ordered.new.items) }
 {
     for id in ids {
         put_channel(ordered, *id)?;

@@ -4,7 +4,6 @@ ghost use Rattle.std.specs.Prelude.{◌≡◌, [], ◌∷◌, ◌++◌, IfOk, Is
 ghost use Rattle.std.specs.List.{list_all, list_any};
 ghost use Rattle.mum_state.specs.Permissions.{asker, granted_to};
 ghost use Rattle.mum_tree.specs.Rows.{is_there, path};
-ghost use Rattle.mum_policy.specs.Member.{asker_of};
 ghost use Rattle.mum_notify.specs.Notices.{FitsFrame};
 ghost use Rattle.mum_notify.specs.Parcels.{IsWithinFrame, text_frame, text_payload, to_each};
 ghost use Rattle.mum_notify.specs.Channels.{numbers};
@@ -18,23 +17,10 @@ use crate::parcels::{parcel, tell_one};
 use crate::sorted::Sorted;
 use mum_base::{ChannelId, Items, Octets, OutOfMemory, Perm, SessionId, Text};
 use mum_msg_rule::{PermissionQuery, TextMessage};
-use mum_policy::Who;
-use mum_state::{Edit, State};
+use mum_state::{Edit, State, home_of, who_is};
 use mum_tree::Tree;
 use mum_users::User;
 use std::alloc::Global;
-
-/// A session as entries and groups see it.
-pub(crate) fn who_of(user: &User) -> Who<'_>
-    ensures { asker_of result ≡ asker user.now }
-{
-    Who {
-        session: user.session,
-        account: user.account,
-        channel: user.channel,
-        tokens: user.tokens.as_slice(),
-    }
-}
 
 fn has_one(sorted: &Sorted, ids: &[ChannelId]) -> bool
     ensures { result ≡ list_any (λ id. lists sorted.now.numbers.items id.0) ids.now }
@@ -60,7 +46,8 @@ fn may_text(state: &State, actor: SessionId, channel: ChannelId) -> bool
     let Some(user) = state.roster().session(actor) else {
         return false;
     };
-    match state.granted_to(&who_of(user), channel) {
+    let home = home_of(state.tree(), user);
+    match state.granted_to(&who_is(user, home.as_slice()), channel) {
         Some(held) => held.has(Perm::TEXT_MESSAGE),
         None => false,
     }
@@ -225,9 +212,10 @@ pub(crate) fn tell_of_text(
 // What a session may do in a channel that is there.
 pub(crate) fn held_in(state: &State, user: &User, channel: ChannelId) -> Perm
     requires { IsTrue (is_there state.now.tree.channels channel) }
-    ensures { result.0 ≡ granted_to state.now (asker user.now) channel }
+    ensures { result.0 ≡ granted_to state.now (asker state.now.tree user.now) channel }
 {
-    match state.granted_to(&who_of(user), channel) {
+    let home = home_of(state.tree(), user);
+    match state.granted_to(&who_is(user, home.as_slice()), channel) {
         Some(held) => held,
         None => Perm::NONE,
     }

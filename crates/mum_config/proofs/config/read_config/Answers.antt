@@ -7,7 +7,8 @@ use Rattle.mum_config.specs.Document.{fault_of}
 use Rattle.mum_config.proofs.Documents.{text_read}
 use Rattle.mum_document.proofs.First.{first, later}
 use Rattle.mum_config.proofs.FewWorkers.{text_workers}
-use Rattle.mum_config.proofs.FitDocument.{text_fits}
+use Rattle.mum_config.proofs.FitDocument.{text_fits, text_fits_limits}
+use Rattle.mum_config.proofs.FitSettings.{settings_fit_limits}
 use Rattle.mum_config.proofs.config.read_config.Goals as goal
 
 pub returns-then-text-gt-DOCUMENT_LIMIT-clause-reads : goal.returns-then-text-gt-DOCUMENT_LIMIT-clause-reads
@@ -32,6 +33,18 @@ pub returns-clause-fits : goal.returns-clause-fits
 returns-clause-fits c =
     let short : nat_lt 65536 (length c.args.text.now) ≡ false = grind (arith, nat_tests) in
     text_fits c.args.text.now c.read_document.result
+    (text_read c.args.text.now (view c.in_ok-document.document) c.read_document.result short c.in_ok-document.ensures c.read_document.ensures)
+
+pub returns-clause-limited : goal.returns-clause-limited
+returns-clause-limited c =
+    let short : nat_lt 65536 (length c.args.text.now) ≡ false = grind (arith, nat_tests) in
+    text_fits_limits c.args.text.now c.read_document.result
+    (text_read c.args.text.now (view c.in_ok-document.document) c.read_document.result short c.in_ok-document.ensures c.read_document.ensures)
+
+pub returns-clause-alone : goal.returns-clause-alone
+returns-clause-alone c =
+    let short : nat_lt 65536 (length c.args.text.now) ≡ false = grind (arith, nat_tests) in
+    settings_fit_limits c.args.text.now c.read_document.result
     (text_read c.args.text.now (view c.in_ok-document.document) c.read_document.result short c.in_ok-document.ensures c.read_document.ensures)
 
 pub returns-clause-workers : goal.returns-clause-workers

@@ -1,6 +1,10 @@
 use Rattle.std.proofs.Common.{◌≡◌, drop, fold}
-use Rattle.mum_notify.specs.Channels.{with_channel}
+use Rattle.mum_users.specs.Order.{Rises}
+use Rattle.mum_notify.specs.Channels.{is_lower, with_channel}
 use Rattle.mum_notify.proofs.channels.put_channels.Given as goal
 
 abbrev pub invariant-loop-id : goal.invariant-loop-id
-invariant-loop-id l = fold (λ ordered id. with_channel id ordered) l.ordered.items (drop l.id-index l.ids) ≡ fold (λ ordered id. with_channel id ordered) l.fn.ordered.items l.ids
+invariant-loop-id l = record {
+  rise : Rises is_lower l.ordered.items;
+  rest : fold (λ ordered id. with_channel id ordered) l.ordered.items (drop l.id-index l.ids) ≡ fold (λ ordered id. with_channel id ordered) l.fn.ordered.items l.ids;
+}

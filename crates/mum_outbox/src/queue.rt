@@ -1,8 +1,9 @@
 //! One queue of any items and any capacity, and its passes.
 
-ghost use Rattle.std.specs.Prelude.{◌≡◌, ◌<◌, IfOk, MatchResult, [], List};
+ghost use Rattle.std.specs.Prelude.{◌≡◌, ◌<◌, IfOk, MatchResult, [], List, if◌then◌else◌};
 ghost use Rattle.std.specs.List.{AllPairs};
 ghost use Rattle.mum_outbox.specs.Rule.{IsBefore, after_least};
+ghost use Rattle.mum_outbox.specs.declared.queue.Offered.TheVariants.{Sent, Full};
 ghost use Rattle.mum_outbox.specs.Calls.{Offers, Takes, WasThen, IsNewPass, Halves};
 
 use crate::rule::{BoxProtocol, GivesHalf, GivesNumber, Hand, LAST, Offering, Taking};
@@ -133,6 +134,21 @@ impl<I: Drop, const CAPACITY: usize> Queue<I, CAPACITY> {
                 Offered::Full(back)
             }
         }
+    }
+
+    /// The same of an item that is dropped where it comes back. Whether it is in the queue.
+    pub fn put_as<R: Wait>(&self, rt: &R, pass: &mut BoxPass<I>, item: I) -> bool
+        requires { pass.old.queue ≡ self.now.queue }
+        ensures { Offers CAPACITY pass.old item (if result then Sent else Full item) pass.new }
+    {
+        if let Err(_) = self
+            .ruled
+            .push_as::<Offering<CAPACITY>, R>(rt, &mut pass.pass, item)
+        {
+            pass.full = pass.full.saturating_add(1);
+            return false;
+        }
+        true
     }
 
     /// Takes the item at the front. There is none only where the queue was empty at one moment of

@@ -1,52 +1,53 @@
--- Those of the sessions that are reached, each with its context.
+-- Those of the sessions that are reached, each with what its copy needs.
 use Rattle.std.proofs.Common.{◌≡◌, ◌∙◌, ℕ, zero, suc, ◌+◌, ◌<◌, ◌≤◌, Bool, true, false, cond, List, [], ◌∷◌, ◌++◌, length, get_or, take, Option, Some, None, refl, sym, ap, arith, add-one}
 use Rattle.std.specs.List.{cons_option, filter, filter_map}
 use Rattle.std.specs.Option.{option_map}
 use Rattle.mum_users.specs.declared.user.User.{User}
 use Rattle.mum_route.specs.declared.context.Context.{Context}
-use Rattle.mum_route.specs.Aims.{AreHeard, members_of}
-use Rattle.mum_route.specs.Route.{Member, member_by}
+use Rattle.mum_route.specs.declared.hearer.Hearer.{Hearer}
+use Rattle.mum_route.specs.Aims.{AreHeard, heard_of, hearer_by}
+use Rattle.mum_route.specs.Route.{member_by}
 
-cons-append : (one : Option Member) (xs ys : List Member) → cons_option one (xs ++ ys) ≡ cons_option one xs ++ ys
+cons-append : (one : Option Hearer) (xs ys : List Hearer) → cons_option one (xs ++ ys) ≡ cons_option one xs ++ ys
 cons-append None xs ys = refl
 cons-append (Some m) xs ys = refl
 
 -- one session more
-next_more : (users : List User) (reached : List (Option Context)) (i : ℕ) (d : User) → i < length users → i < length reached
-    → members_of (take (suc i) users) reached ≡ members_of (take i users) reached ++ members_of (get_or users i d ∷ []) (get_or reached i None ∷ [])
-next_more [] reached i d within here = absurd (omega arith)
-next_more (user ∷ users) [] i d within here = absurd (omega arith)
-next_more (user ∷ users) (one ∷ reached) zero d within here = ap (λ (us : List User). members_of (user ∷ us) (one ∷ reached)) (none_taken users)
+next_more : (own : User) (users : List User) (reached : List (Option Context)) (i : ℕ) (d : User) → i < length users → i < length reached
+    → heard_of own (take (suc i) users) reached ≡ heard_of own (take i users) reached ++ heard_of own (get_or users i d ∷ []) (get_or reached i None ∷ [])
+next_more own [] reached i d within here = absurd (omega arith)
+next_more own (user ∷ users) [] i d within here = absurd (omega arith)
+next_more own (user ∷ users) (one ∷ reached) zero d within here = ap (λ (us : List User). heard_of own (user ∷ us) (one ∷ reached)) (none_taken users)
   where
     none_taken : (us : List User) → take 0 us ≡ []
     none_taken [] = refl
     none_taken (u ∷ us) = refl
-next_more (user ∷ users) (one ∷ reached) (suc i) d within here =
-    ap (cons_option (option_map (member_by user) one)) (next_more users reached i d (omega arith) (omega arith))
-    ∙ cons-append (option_map (member_by user) one) (members_of (take i users) reached) (members_of (get_or users i d ∷ []) (get_or reached i None ∷ []))
+next_more own (user ∷ users) (one ∷ reached) (suc i) d within here =
+    ap (cons_option (option_map (hearer_by own user) one)) (next_more own users reached i d (omega arith) (omega arith))
+    ∙ cons-append (option_map (hearer_by own user) one) (heard_of own (take i users) reached) (heard_of own (get_or users i d ∷ []) (get_or reached i None ∷ []))
 
-pub gathered_more : (users : List User) (reached : List (Option Context)) (i : ℕ) (user : User) (audience next : List Member) → i < length users → i < length reached
-    → user ≡ get_or users i user → audience ≡ members_of (take i users) reached → next ≡ audience ++ members_of (user ∷ []) (get_or reached i None ∷ [])
-    → next ≡ members_of (take (i + 1) users) reached
-gathered_more users reached i user audience next within here read before is =
-    is ∙ ap (λ (ms : List Member). ms ++ members_of (user ∷ []) (get_or reached i None ∷ [])) before
-    ∙ ap (λ (u : User). members_of (take i users) reached ++ members_of (u ∷ []) (get_or reached i None ∷ [])) read
-    ∙ sym (next_more users reached i user within here)
-    ∙ ap (λ (n : ℕ). members_of (take n users) reached) (sym (add-one i))
+pub gathered_more : (own : User) (users : List User) (reached : List (Option Context)) (i : ℕ) (user : User) (audience next : List Hearer) → i < length users → i < length reached
+    → user ≡ get_or users i user → audience ≡ heard_of own (take i users) reached → next ≡ audience ++ heard_of own (user ∷ []) (get_or reached i None ∷ [])
+    → next ≡ heard_of own (take (i + 1) users) reached
+gathered_more own users reached i user audience next within here read before is =
+    is ∙ ap (λ (ms : List Hearer). ms ++ heard_of own (user ∷ []) (get_or reached i None ∷ [])) before
+    ∙ ap (λ (u : User). heard_of own (take i users) reached ++ heard_of own (u ∷ []) (get_or reached i None ∷ [])) read
+    ∙ sym (next_more own users reached i user within here)
+    ∙ ap (λ (n : ℕ). heard_of own (take n users) reached) (sym (add-one i))
 
 -- one session is reached once at most
-pub one_member : (user : User) (one : Option Context) → length (members_of (user ∷ []) (one ∷ [])) ≤ 1
-one_member user None = omega arith
-one_member user (Some context) = omega arith
+pub one_heard : (own user : User) (one : Option Context) → length (heard_of own (user ∷ []) (one ∷ [])) ≤ 1
+one_heard own user None = omega arith
+one_heard own user (Some context) = omega arith
 
 -- those that are reached, where what is kept of each is how it hears
-pub members_heard : (heard : User → Option Context) (users : List User) (reached : List (Option Context)) → length users ≤ length reached
-    → AreHeard heard users reached → members_of users reached ≡ filter_map (λ user. option_map (member_by user) (heard user)) users
-members_heard heard [] reached room are = refl
-members_heard heard (user ∷ users) [] room are = absurd (omega arith)
-members_heard heard (user ∷ users) (one ∷ reached) room are =
-    ap (λ (o : Option Context). cons_option (option_map (member_by user) o) (members_of users reached)) (are 0 user (omega arith))
-    ∙ ap (cons_option (option_map (member_by user) (heard user))) (members_heard heard users reached (omega arith) (λ k d within. are (suc k) d (omega arith)))
+pub heard_each : (own : User) (heard : User → Option Context) (users : List User) (reached : List (Option Context)) → length users ≤ length reached
+    → AreHeard heard users reached → heard_of own users reached ≡ filter_map (λ user. option_map (hearer_by own user) (heard user)) users
+heard_each own heard [] reached room are = refl
+heard_each own heard (user ∷ users) [] room are = absurd (omega arith)
+heard_each own heard (user ∷ users) (one ∷ reached) room are =
+    ap (λ (o : Option Context). cons_option (option_map (hearer_by own user) o) (heard_of own users reached)) (are 0 user (omega arith))
+    ∙ ap (cons_option (option_map (hearer_by own user) (heard user))) (heard_each own heard users reached (omega arith) (λ k d within. are (suc k) d (omega arith)))
 
 -- what holds of none but those who pass a test, among those who pass
 pub passing_members : (can : User → Bool) (reach : User → Option Context) (users : List User)

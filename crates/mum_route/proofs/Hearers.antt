@@ -193,7 +193,7 @@ pairs_hearing state speaker target R proper pairs = by_found (session_of state.r
         (subst (AllPairs R) (sym (route_of_loopback state speaker own found heard)) (pairs_of_one R (own.session, 0))))
         (λ (away : target ≢ LOOPBACK).
         subst (AllPairs R) (sym (route_of_heard state speaker target own away found heard))
-        (members_pairs (heard_as state own target) R state.roster.sessions state.roster.sessions 128 0 (λ user has. has) proper.roster.slots pairs))
+        (members_pairs (heard_as state own target) R state.roster.sessions state.roster.sessions state.roster.limit 0 (λ user has. has) proper.roster.slots pairs))
         (cases_eq target LOOPBACK)
 
     by_silence : (own : User) → session_of state.roster speaker ≡ Some own → (b : Bool) → is_silent own ≡ b → AllPairs R (route state speaker target)

@@ -6,5 +6,7 @@ pub mod Filled
 pub mod Aimed
 pub mod Gathered
 pub mod Hearers
+pub mod Slots
+pub mod Told
 pub mod Relations
 pub mod StandardFacts

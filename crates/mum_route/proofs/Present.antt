@@ -1,10 +1,17 @@
 -- The sessions of a proper state are in channels that are there, and listen to such.
-use Rattle.std.proofs.Common.{◌≡◌, ℕ, zero, suc, ◌+◌, ◌<◌, ◌≤◌, Bool, true, false, cond, List, [], ◌∷◌, length, get_or, Option, Some, refl, sym, ap, ◌∙◌, arith}
-use Rattle.std.specs.Prelude.{IsTrue, find}
-use Rattle.std.specs.List.{list_all}
-use Rattle.std.proofs.lemmas.Bool.{and_parts}
+use Rattle.std.proofs.Common.{◌≡◌, ℕ, zero, suc, ◌+◌, ◌<◌, ◌≤◌, Bool, true, false, cond, eqb, List, [], ◌∷◌, length, map, get_or, Option, Some, None, refl, sym, ap, subst, ◌∙◌, arith}
+use Rattle.std.specs.Prelude.{◌==◌, ◌&&◌, IsSome, IsTrue, find}
+use Rattle.std.specs.List.{All, list_all, list_any}
+use Rattle.std.specs.Option.{is_some, option_map, option_map_or}
+use Rattle.std.proofs.lemmas.Bool.{and_parts, eqb-true, false≢true}
+use Rattle.mum_base.specs.declared.number.ChannelId.{ChannelId}
+use Rattle.mum_base.specs.declared.perm.Perm.{Perm}
+use Rattle.mum_policy.specs.Member.{Asker}
+use Rattle.mum_policy.specs.Walk.{holds}
 use Rattle.mum_base.specs.declared.number.SessionId.{SessionId}
-use Rattle.mum_tree.specs.Rows.{is_there}
+use Rattle.mum_tree.specs.Rows.{is_there, row_of, IsWay}
+use Rattle.mum_tree.specs.State.{TreeState}
+use Rattle.mum_tree.specs.declared.channel.Row.{Row}
 use Rattle.mum_users.specs.declared.listening.ListenerPair.{ListenerPair}
 use Rattle.mum_users.specs.declared.user.User.{User}
 use Rattle.mum_users.specs.Listeners.{pairs_of}
@@ -12,7 +19,9 @@ use Rattle.mum_users.specs.Proper.{SlotsRise}
 use Rattle.mum_users.specs.Sessions.{session_of}
 use Rattle.mum_users.specs.State.{RosterState, has_number, is_of_session}
 use Rattle.mum_state.specs.Proper.{IsProper}
-use Rattle.mum_state.specs.State.{StateValue}
+use Rattle.mum_state.specs.Permissions.{asker, granted_to}
+use Rattle.mum_state.specs.State.{PolicyRow, StateValue, policy_of}
+use Rattle.mum_route.specs.Hearing.{may, may_as}
 use Rattle.mum_state.proofs.Listed.{all_filter}
 
 pub all_at : {X : Type 0} (p : X → Bool) (xs : List X) (i : ℕ) (d : X) → list_all p xs ≡ true → i < length xs → p (get_or xs i d) ≡ true
@@ -58,5 +67,57 @@ room_for limit low [] rise = omega arith
 room_for limit low (user ∷ users) rise =
     let rest = room_for limit (user.slot.0 + 1) users rise.1 in let first = rise.0 in omega arith
 
-pub few_sessions : (state : StateValue) → IsProper state → length state.roster.sessions ≤ 128
-few_sessions state proper = let room = room_for 128 0 state.roster.sessions proper.roster.slots in omega arith
+pub few_sessions : (state : StateValue) → IsProper state → length state.roster.sessions ≤ 512
+few_sessions state proper = let room = room_for state.roster.limit 0 state.roster.sessions proper.roster.slots in omega (arith, room, proper.roster.limit_fits)
+
+-- nobody listens where there are no pairs
+pub nobody_listens : {X : Type 0} (p : X → Bool) (told pairs : List X) → pairs ≡ told → (length pairs == 0) ≡ true → false ≡ list_any p told
+nobody_listens p told [] same none = ap (list_any p) same
+nobody_listens p told (x ∷ xs) same none = let zero_is : length (x ∷ xs) ≡ 0 = eqb-true (length (x ∷ xs)) 0 none in absurd (omega (arith, zero_is))
+
+-- what a session may that is there is what one may who is seen like it
+pub may_seen : (state : StateValue) (user : User) (who : Asker) (perm : Perm) (channel : ChannelId) → session_of state.roster user.session ≡ Some user → who ≡ asker state.tree user
+    → may state user.session perm channel ≡ may_as state who perm channel
+may_seen state user who perm channel own same =
+    ap (λ (o : Option User). option_map_or (λ (held : ℕ). holds held perm.0) (option_map (λ (one : Asker). granted_to state one channel) (cond (is_there state.tree.channels channel) (option_map (asker state.tree) o) None)) false) own
+    ∙ by_there (is_there state.tree.channels channel)
+    ∙ ap (λ (one : Asker). may_as state one perm channel) (sym same)
+  where
+    by_there : (b : Bool)
+        → option_map_or (λ (held : ℕ). holds held perm.0) (option_map (λ (one : Asker). granted_to state one channel) (cond b (Some (asker state.tree user)) None)) false
+        ≡ option_map_or (λ (held : ℕ). holds held perm.0) (cond b (Some (granted_to state (asker state.tree user) channel)) None) false
+    by_there true = refl
+    by_there false = refl
+
+abbrev rest_of : List ChannelId → List ChannelId
+rest_of [] = []
+rest_of (id ∷ ids) = ids
+
+-- each channel of a proper state has a policy
+policy_listed : (rows : List Row) (policies : List PolicyRow) (id : ChannelId) → map (λ (row : PolicyRow). row.channel) policies ≡ map (λ (row : Row). row.channel.id) rows
+    → is_there rows id ≡ true → IsSome (option_map (λ (row : PolicyRow). row.policy) (find (λ (row : PolicyRow). row.channel.0 == id.0) policies))
+policy_listed [] policies id same there = absurd (false≢true there)
+policy_listed (row ∷ rows) [] id same there = let counts = ap length same in absurd (omega (arith, counts))
+policy_listed (row ∷ rows) (policy ∷ policies) id same there =
+    by_first (eqb policy.channel.0 id.0) refl
+    (λ off. policy_listed rows policies id (ap rest_of same)
+    (subst (λ (b : Bool). is_some (cond b (Some row) (row_of rows id)) ≡ true) (ap (λ (one : ChannelId). eqb one.0 id.0) (sym first) ∙ off) there))
+  where
+    first : policy.channel ≡ row.channel.id
+    first = ap (λ (ids : List ChannelId). get_or ids 0 row.channel.id) same
+
+    by_first : (b : Bool) → eqb policy.channel.0 id.0 ≡ b
+        → (eqb policy.channel.0 id.0 ≡ false → IsSome (option_map (λ (one : PolicyRow). one.policy) (find (λ (one : PolicyRow). one.channel.0 == id.0) policies)))
+        → IsSome (option_map (λ (one : PolicyRow). one.policy) (cond b (Some policy) (find (λ (one : PolicyRow). one.channel.0 == id.0) policies)))
+    by_first true here later = refl
+    by_first false off later = later off
+
+pub policies_there : (state : StateValue) (tree : TreeState) (id : ChannelId) (way : List ChannelId) → IsProper state → tree ≡ state.tree → IsWay tree.channels id way
+    → All (λ channel. IsSome (policy_of state channel)) way
+policies_there state tree id way proper same is = λ k d within.
+    policy_listed state.tree.channels state.policies (get_or way k d) proper.policies
+    (subst (λ (t : TreeState). is_there t.channels (get_or way k d) ≡ true) same (is.there k d within))
+
+-- the third of three, of which the others hold
+pub third_of : (a b c : Bool) → a ≡ true → b ≡ true → c ≡ (a && b && c)
+third_of a b c first second = sym (ap (λ (x : Bool). x && b && c) first ∙ ap (λ (x : Bool). x && c) second)

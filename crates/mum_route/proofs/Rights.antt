@@ -51,10 +51,12 @@ pub placed_in : (state : StateValue) (tree : TreeState) (id : ChannelId) (told :
 placed_in state tree id told place same is found = ap (λ (t : TreeState). option_map (λ (row : Row). row.place) (row_of t.channels id)) (sym same) ∙ sym is ∙ found
 
 pub place_within : (state : StateValue) (id : ChannelId) (place : ℕ) → IsProper state
-    → option_map (λ row. row.place) (row_of state.tree.channels id) ≡ Some place → place < 1024
+    → option_map (λ row. row.place) (row_of state.tree.channels id) ≡ Some place → place < 2048
 place_within state id place proper found =
     let (at, is) = row_at state.tree.channels id place found in
-    subst (λ (n : ℕ). n < 1024) (is.placed root_row) (proper.tree.seated at root_row is.within)
+    let places_fit : (get_or state.tree.channels at root_row).place < state.tree.limit = proper.tree.places_fit at root_row is.within in
+    let limited : state.tree.limit ≤ 2048 = proper.tree.limited in
+    subst (λ (n : ℕ). n < 2048) (is.placed root_row) (omega (arith, places_fit, limited))
 
 -- what is known at the channel's place is right
 pub known_at : (state : StateValue) (speaker : SessionId) (perm : Perm) (known : List (Option Bool)) (id : ChannelId) (place : ℕ) (answer : Bool)
@@ -69,11 +71,11 @@ known_at state speaker perm known id place answer found right kept =
 -- two rows with one place are one
 one_row : (rows : List Row) (i j : ℕ) (d : Row) → AllPairs (λ one later. one.place ≢ later.place) rows → i < length rows → j < length rows
     → (get_or rows i d).place ≡ (get_or rows j d).place → i ≡ j
-one_row rows i j d seats first second same =
+one_row rows i j d places_apart first second same =
     ⊎_elim
-    (λ (l : i < j). absurd (seats i j d l second same))
+    (λ (l : i < j). absurd (places_apart i j d l second same))
     (λ (g : j ≤ i). ⊎_elim
-    (λ (m : j < i). absurd (seats j i d m first (sym same)))
+    (λ (m : j < i). absurd (places_apart j i d m first (sym same)))
     (λ (h : i ≤ j). omega arith)
     (cases_lt j i))
     (cases_lt i j)
@@ -87,7 +89,7 @@ known_set state speaker perm known id place answer proper found inside is right 
     let (at, row) = row_at rows id place found in
     ⊎_elim
     (λ (here : (get_or rows k d).place ≡ place).
-    let one : k ≡ at = one_row rows k at d proper.tree.seats within row.within (here ∙ sym (row.placed d)) in
+    let one : k ≡ at = one_row rows k at d proper.tree.places_apart within row.within (here ∙ sym (row.placed d)) in
     let named : id ≡ (get_or rows k d).channel.id = sym (row.same d) ∙ ap (λ (j : ℕ). (get_or rows j d).channel.id) (sym one) in
     subst (λ (o : Option Bool). IfSome o (λ a. a ≡ may state speaker perm (get_or rows k d).channel.id))
     (sym (ap (λ (p : ℕ). get_or (set known place (Some answer)) p None) here ∙ get_or-set_same known place (Some answer) None inside))

@@ -2,6 +2,7 @@
 use Rattle.std.specs.Prelude.{◌≡◌, ℕ, ◌<◌, ◌&&◌, Bool, true, false, List, [], filter, length, slice_index_or, Option, Some, None, IfSome, IsTrue, if◌then◌else◌}
 use Rattle.std.specs.List.{All, filter_map, zip}
 use Rattle.std.specs.Option.{option_map, option_map_or}
+use Rattle.mum_base.specs.Channels.{is_among}
 use Rattle.mum_base.specs.declared.number.ChannelId.{ChannelId}
 use Rattle.mum_base.specs.declared.number.SessionId.{SessionId}
 use Rattle.mum_base.specs.declared.perm.Perm.{Perm}
@@ -16,9 +17,13 @@ use Rattle.mum_route.specs.declared.aim.Aim.{Aim}
 use Rattle.mum_route.specs.declared.aim.Ground.{Ground}
 use Rattle.mum_route.specs.declared.context.Context.{Context}
 use Rattle.mum_route.specs.declared.context.Context.TheVariants.{Talk, ChannelWhisper, DirectWhisper, Listener}
+use Rattle.mum_route.specs.declared.cover.Answer.{Answer}
+use Rattle.mum_route.specs.declared.hearer.Hearer.{Hearer}
+use Rattle.mum_route.specs.Context.{code}
 use Rattle.mum_route.specs.Cover.{spread}
+use Rattle.mum_route.specs.Hearers.{shares}
 use Rattle.mum_route.specs.Hearing.{can_hear, may}
-use Rattle.mum_route.specs.Route.{Member, context_of, is_named, is_within, listens_within, member_by}
+use Rattle.mum_route.specs.Route.{context_of, is_named, is_within, listens_within}
 
 -- an aim as plain data: whose it is, what permission it needs, from where it spreads, and whom it names
 pub record Aimed : Type 0 where
@@ -92,6 +97,10 @@ abbrev pub AreKnown : StateValue → SessionId → Perm → List (Option Bool) �
 AreKnown state speaker perm known =
     All (λ row. IfSome (slice_index_or known row.place None) (λ answer. answer ≡ may state speaker perm row.channel.id)) state.tree.channels
 
+-- what was answered last, if anything, is right
+abbrev pub IsAnswered : StateValue → Aimed → Option Answer → Type 0
+IsAnswered state aim last = IfSome last (λ answer. answer.covered ≡ is_among (covered state aim) answer.channel)
+
 -- the marks are of the channels that links lead to, where the ground spreads over links
 abbrev pub AreMarked : TreeState → Option Ground → List ChannelId → Type 0
 AreMarked tree ground marks = IfSome ground (λ one. IsTrue one.links → marks ≡ linked tree one.top)
@@ -105,6 +114,10 @@ abbrev pub AreHeard : (User → Option Context) → List User → List (Option C
 AreHeard heard users reached =
     (k : ℕ) (d : User) → k < length users → slice_index_or reached k None ≡ heard (slice_index_or users k d)
 
+-- a session that a speaker's packet reaches in this context, with what its copy needs
+abbrev pub hearer_by : User → User → Context → Hearer
+hearer_by own user context = record { session = user.session; slot = user.slot; context = code context; same = shares (Some own) user }
+
 -- those of these sessions that are reached, each with its context
-abbrev pub members_of : List User → List (Option Context) → List Member
-members_of users reached = filter_map (λ one. option_map (member_by one.0) one.1) (zip users reached)
+abbrev pub heard_of : User → List User → List (Option Context) → List Hearer
+heard_of own users reached = filter_map (λ one. option_map (hearer_by own one.0) one.1) (zip users reached)

@@ -5,15 +5,15 @@ ghost use Rattle.mum_base.specs.Channels.{is_among};
 ghost use Rattle.mum_tree.specs.Rows.{is_there};
 ghost use Rattle.mum_tree.specs.State.{below};
 ghost use Rattle.mum_tree.specs.Walks.{linked};
-ghost use Rattle.mum_route.specs.Aims.{aimed, covered, AreKnown, AreMarked};
+ghost use Rattle.mum_route.specs.Aims.{aimed, covered, AreKnown, AreMarked, IsAnswered};
 ghost use Rattle.mum_route.specs.Cover.{spread};
 ghost use Rattle.mum_route.specs.Hearing.{may};
 
 use crate::aim::{Aim, Ground};
 use crate::hearing::may;
-use mum_base::{ChannelId, Perm, SessionId, Steps};
+use mum_base::{ChannelId, PLACES, Perm, SessionId, Steps};
 use mum_state::State;
-use mum_tree::{CHANNEL_LIMIT, Scratch, Tree};
+use mum_tree::{Scratch, Tree};
 use std::sync::ledger::Ledger;
 
 /// Whether a channel is marked.
@@ -56,11 +56,11 @@ impl Ground {
 }
 
 /// Nothing is known of any channel yet.
-pub(crate) fn nothing_known() -> [Option<bool>; CHANNEL_LIMIT]
-    ensures length { length result ≡ CHANNEL_LIMIT }
+pub(crate) fn nothing_known() -> [Option<bool>; PLACES]
+    ensures length { length result ≡ PLACES }
     ensures nothing { (place : ℕ) → slice_index_or result place None ≡ None }
 {
-    [None; CHANNEL_LIMIT]
+    [None; PLACES]
 }
 
 /// Whether the speaker has a permission in a channel. What is found is kept, by place, and what is
@@ -73,7 +73,7 @@ pub(crate) fn has_right<L: Ledger>(
     channel: ChannelId,
     steps: &mut Steps<L>,
 ) -> bool
-    requires room { length known.old ≡ CHANNEL_LIMIT }
+    requires room { length known.old ≡ PLACES }
     requires right { AreKnown state.now speaker perm known.old }
     ensures value { result ≡ may state.now speaker perm channel }
     ensures kept { AreKnown state.now speaker perm known.new }
@@ -90,6 +90,13 @@ pub(crate) fn has_right<L: Ledger>(
     answer
 }
 
+/// Whether an aim covers the channel that was asked last.
+#[derive(Clone, Copy)]
+pub(crate) struct Answer {
+    channel: ChannelId,
+    covered: bool,
+}
+
 /// Whether an aim covers a channel.
 pub(crate) fn covers<L: Ledger>(
     state: &State,
@@ -99,7 +106,7 @@ pub(crate) fn covers<L: Ledger>(
     scratch: &Scratch,
     steps: &mut Steps<L>,
 ) -> bool
-    requires room { length known.old ≡ CHANNEL_LIMIT }
+    requires room { length known.old ≡ PLACES }
     requires right { AreKnown state.now aim.now.speaker aim.now.perm known.old }
     requires marked { AreMarked state.now.tree aim.now.ground scratch.now }
     ensures value { result ≡ is_among (covered state.now (aimed aim.now)) channel }
@@ -112,4 +119,32 @@ pub(crate) fn covers<L: Ledger>(
         return false;
     }
     has_right(state, aim.speaker, aim.perm, known, channel, steps)
+}
+
+/// The same, where what was answered last is kept, and is not looked for again.
+pub(crate) fn covers_again<L: Ledger>(
+    state: &State,
+    aim: &Aim<'_>,
+    known: &mut [Option<bool>],
+    last: &mut Option<Answer>,
+    channel: ChannelId,
+    scratch: &Scratch,
+    steps: &mut Steps<L>,
+) -> bool
+    requires room { length known.old ≡ PLACES }
+    requires right { AreKnown state.now aim.now.speaker aim.now.perm known.old }
+    requires last { IsAnswered state.now (aimed aim.now) last.old }
+    requires marked { AreMarked state.now.tree aim.now.ground scratch.now }
+    ensures value { result ≡ is_among (covered state.now (aimed aim.now)) channel }
+    ensures kept { AreKnown state.now aim.now.speaker aim.now.perm known.new }
+    ensures last { IsAnswered state.now (aimed aim.now) last.new }
+{
+    if let Some(answer) = *last {
+        if answer.channel.0 == channel.0 {
+            return answer.covered;
+        }
+    }
+    let covered = covers(state, aim, known, channel, scratch, steps);
+    *last = Some(Answer { channel, covered });
+    covered
 }

@@ -1,14 +1,13 @@
 //! Who is heard, who hears, and what a session may do.
 
-ghost use Rattle.std.specs.Prelude.{◌≡◌, IsTrue};
+ghost use Rattle.std.specs.Prelude.{◌≡◌, ◌==◌, false, length, IsTrue};
 ghost use Rattle.mum_policy.specs.Member.{asker_of};
 ghost use Rattle.mum_tree.specs.Rows.{is_there};
-ghost use Rattle.mum_state.specs.Permissions.{asker};
-ghost use Rattle.mum_route.specs.Hearing.{can_hear, is_in_group, is_silent, may};
+ghost use Rattle.mum_route.specs.Hearing.{can_hear, is_in_group, is_silent, may, may_as};
 
 use mum_base::{ChannelId, Perm, SessionId, Steps};
-use mum_policy::{Who, is_member};
-use mum_state::State;
+use mum_policy::{Who, is_member, permissions};
+use mum_state::{State, home_of, who_is};
 use mum_users::User;
 use std::sync::ledger::Ledger;
 
@@ -42,15 +41,42 @@ pub(crate) fn may<L: Ledger>(
     }
 }
 
-/// A session as groups see it.
-fn who_is(user: &User) -> Who<'_>
-    ensures { asker_of result ≡ asker user.now }
+/// Whether a session, as entries see it, has a permission in a channel.
+pub(crate) fn may_as<L: Ledger>(
+    state: &State,
+    who: &Who<'_>,
+    perm: Perm,
+    channel: ChannelId,
+    steps: &mut Steps<L>,
+) -> bool
+    ensures { result ≡ may_as state.now (asker_of who.now) perm channel }
 {
-    Who {
-        session: user.session,
-        account: user.account,
-        channel: user.channel,
-        tokens: user.tokens.as_slice(),
+    match state.tree().path(channel) {
+        Some(path) => permissions(state, path.as_slice(), who, steps).has(perm),
+        None => false,
+    }
+}
+
+// Whether a session is in a group that has a name.
+#[inline(never)]
+fn is_in_named(state: &State, group: &str, channel: ChannelId, user: &User) -> bool
+    requires there { IsTrue (is_there state.now.tree.channels channel) }
+    requires named { (length group.now == 0) ≡ false }
+    ensures { result ≡ is_in_group state.now group.now channel user.now }
+{
+    match state.tree().path(channel) {
+        Some(way) => {
+            let place = way.len() - 1;
+            let home = home_of(state.tree(), user);
+            is_member(
+                state,
+                way.as_slice(),
+                place,
+                group,
+                &who_is(user, home.as_slice()),
+            )
+        }
+        None => false,
     }
 }
 
@@ -59,14 +85,5 @@ pub(crate) fn is_in_group(state: &State, group: &str, channel: ChannelId, user: 
     requires { IsTrue (is_there state.now.tree.channels channel) }
     ensures { result ≡ is_in_group state.now group.now channel user.now }
 {
-    if group.is_empty() {
-        return true;
-    }
-    match state.tree().path(channel) {
-        Some(way) => {
-            let place = way.len() - 1;
-            is_member(state, way.as_slice(), place, group, &who_is(user))
-        }
-        None => false,
-    }
+    group.is_empty() || is_in_named(state, group, channel, user)
 }

@@ -7,6 +7,7 @@ mod aim;
 mod audience;
 mod context;
 mod cover;
+mod hearer;
 mod hearing;
 pub mod laws;
 mod reach;
@@ -14,4 +15,5 @@ mod routes;
 
 pub use audience::Audience;
 pub use context::Context;
-pub use routes::{LOOPBACK, TALK, route};
+pub use hearer::Hearer;
+pub use routes::{LOOPBACK, TALK, route, route_into};

@@ -1,23 +1,27 @@
 //! How an aim reaches a session.
 
-ghost use Rattle.std.specs.Prelude.{◌≡◌, ◌&&◌, ◌<◌, ◌≤◌, ℕ, None, IsTrue, length, slice_index_or};
+ghost use Rattle.std.specs.Prelude.{◌≡◌, ◌&&◌, ◌<◌, ◌≤◌, ℕ, None, Some, IsTrue, length, slice_index_or};
 ghost use Rattle.mum_base.specs.Channels.{is_among};
 ghost use Rattle.mum_tree.specs.Rows.{is_there};
+ghost use Rattle.mum_policy.specs.Member.{asker_of};
 ghost use Rattle.mum_users.specs.declared.user.User.{User};
-ghost use Rattle.mum_route.specs.Aims.{aimed, covered, heard_by, AreKnown, AreMarked};
+ghost use Rattle.mum_users.specs.Listeners.{pairs_of};
+ghost use Rattle.mum_users.specs.Sessions.{session_of};
+ghost use Rattle.mum_state.specs.Permissions.{asker};
+ghost use Rattle.mum_route.specs.Aims.{aimed, covered, heard_by, AreKnown, AreMarked, IsAnswered};
 ghost use Rattle.mum_route.specs.Context.{code, first_of};
 ghost use Rattle.mum_route.specs.Hearing.{is_in_group, may};
 ghost use Rattle.mum_route.specs.Route.{is_named, is_within, listens_within};
 
 use crate::aim::Aim;
 use crate::context::Context;
-use crate::cover::{covers, has_right};
-use crate::hearing::{can_hear, is_in_group, may};
-use mum_base::{ChannelId, Perm, SessionId, Steps};
-use mum_state::State;
-use mum_tree::{CHANNEL_LIMIT, Scratch};
-use mum_users::User;
-use mum_users::user::SESSIONS;
+use crate::cover::{Answer, covers, covers_again, has_right};
+use crate::hearing::{can_hear, is_in_group, may_as};
+use mum_base::{ChannelId, PLACES, Perm, SLOTS, SessionId, Steps};
+use mum_policy::Who;
+use mum_state::{State, home_of, who_is};
+use mum_tree::Scratch;
+use mum_users::{ListenerPair, User};
 use std::sync::ledger::Ledger;
 
 /// Whether a session is in a channel that an aim covers, and in its group there.
@@ -25,19 +29,22 @@ fn is_within<L: Ledger>(
     state: &State,
     aim: &Aim<'_>,
     known: &mut [Option<bool>],
+    last: &mut Option<Answer>,
     user: &User,
     scratch: &Scratch,
     steps: &mut Steps<L>,
 ) -> bool
     requires there { IsTrue (is_there state.now.tree.channels user.now.channel) }
-    requires room { length known.old ≡ CHANNEL_LIMIT }
+    requires room { length known.old ≡ PLACES }
     requires right { AreKnown state.now aim.now.speaker aim.now.perm known.old }
+    requires last { IsAnswered state.now (aimed aim.now) last.old }
     requires marked { AreMarked state.now.tree aim.now.ground scratch.now }
     ensures value { result
         ≡ is_within state.now (covered state.now (aimed aim.now)) aim.now.group.now user.now }
     ensures kept { AreKnown state.now aim.now.speaker aim.now.perm known.new }
+    ensures last { IsAnswered state.now (aimed aim.now) last.new }
 {
-    covers(state, aim, known, user.channel, scratch, steps)
+    covers_again(state, aim, known, last, user.channel, scratch, steps)
         && is_in_group(state, aim.group, user.channel, user)
 }
 
@@ -56,7 +63,7 @@ fn is_named_there<L: Ledger>(
     user: &User,
     steps: &mut Steps<L>,
 ) -> bool
-    requires room { length known.old ≡ CHANNEL_LIMIT }
+    requires room { length known.old ≡ PLACES }
     requires right { AreKnown state.now aim.now.speaker aim.now.perm known.old }
     ensures value { result ≡ (is_named aim.now.named.now user.now
         && may state.now aim.now.speaker aim.now.perm user.now.channel) }
@@ -74,12 +81,15 @@ fn hears_in<L: Ledger>(
     aim: &Aim<'_>,
     known: &mut [Option<bool>],
     user: &User,
+    who: &Who<'_>,
     channel: ChannelId,
     scratch: &Scratch,
     steps: &mut Steps<L>,
 ) -> bool
     requires there { IsTrue (is_there state.now.tree.channels channel) }
-    requires room { length known.old ≡ CHANNEL_LIMIT }
+    requires own { session_of state.now.roster user.now.session ≡ Some user.now }
+    requires who { asker_of who.now ≡ asker state.now.tree user.now }
+    requires room { length known.old ≡ PLACES }
     requires right { AreKnown state.now aim.now.speaker aim.now.perm known.old }
     requires marked { AreMarked state.now.tree aim.now.ground scratch.now }
     ensures value { result ≡ (is_among (covered state.now (aimed aim.now)) channel
@@ -93,7 +103,36 @@ fn hears_in<L: Ledger>(
     if !is_in_group(state, aim.group, channel, user) {
         return false;
     }
-    may(state, user.session, Perm::LISTEN, channel, steps)
+    may_as(state, who, Perm::LISTEN, channel, steps)
+}
+
+/// Whether a session hears an aim by listening to one of these channels.
+fn hears_in_one<L: Ledger>(
+    state: &State,
+    aim: &Aim<'_>,
+    known: &mut [Option<bool>],
+    user: &User,
+    pairs: &[ListenerPair],
+    scratch: &Scratch,
+    steps: &mut Steps<L>,
+) -> bool
+    requires pairs { pairs.now ≡ pairs_of state.now.roster user.now.session }
+    requires own { session_of state.now.roster user.now.session ≡ Some user.now }
+    requires room { length known.old ≡ PLACES }
+    requires right { AreKnown state.now aim.now.speaker aim.now.perm known.old }
+    requires marked { AreMarked state.now.tree aim.now.ground scratch.now }
+    ensures value { result
+        ≡ listens_within state.now (covered state.now (aimed aim.now)) aim.now.group.now user.now }
+    ensures kept { AreKnown state.now aim.now.speaker aim.now.perm known.new }
+{
+    let home = home_of(state.tree(), user);
+    let who = who_is(user, home.as_slice());
+    for pair in pairs {
+        if hears_in(state, aim, known, user, &who, pair.channel, scratch, steps) {
+            return true;
+        }
+    }
+    false
 }
 
 /// Whether a session listens to a channel that an aim covers, is in its group there, and may listen.
@@ -105,19 +144,19 @@ fn listens_within<L: Ledger>(
     scratch: &Scratch,
     steps: &mut Steps<L>,
 ) -> bool
-    requires room { length known.old ≡ CHANNEL_LIMIT }
+    requires own { session_of state.now.roster user.now.session ≡ Some user.now }
+    requires room { length known.old ≡ PLACES }
     requires right { AreKnown state.now aim.now.speaker aim.now.perm known.old }
     requires marked { AreMarked state.now.tree aim.now.ground scratch.now }
     ensures value { result
         ≡ listens_within state.now (covered state.now (aimed aim.now)) aim.now.group.now user.now }
     ensures kept { AreKnown state.now aim.now.speaker aim.now.perm known.new }
 {
-    for pair in state.roster().pairs_of(user.session) {
-        if hears_in(state, aim, known, user, pair.channel, scratch, steps) {
-            return true;
-        }
+    let pairs = state.roster().pairs_of(user.session);
+    if pairs.is_empty() {
+        return false;
     }
-    false
+    hears_in_one(state, aim, known, user, pairs, scratch, steps)
 }
 
 /// The first way in which a session is reached: by this aim, or as it was before. Only what would come
@@ -126,18 +165,22 @@ fn reached_with<L: Ledger>(
     state: &State,
     aim: &Aim<'_>,
     known: &mut [Option<bool>],
+    last: &mut Option<Answer>,
     user: &User,
     before: Option<Context>,
     scratch: &Scratch,
     steps: &mut Steps<L>,
 ) -> Option<Context>
+    requires own { session_of state.now.roster user.now.session ≡ Some user.now }
     requires there { IsTrue (is_there state.now.tree.channels user.now.channel) }
-    requires room { length known.old ≡ CHANNEL_LIMIT }
+    requires room { length known.old ≡ PLACES }
     requires right { AreKnown state.now aim.now.speaker aim.now.perm known.old }
+    requires last { IsAnswered state.now (aimed aim.now) last.old }
     requires marked { AreMarked state.now.tree aim.now.ground scratch.now }
     requires first { code aim.now.inside < code Context.DirectWhisper }
     ensures value { result ≡ first_of before (heard_by state.now (aimed aim.now) user.now) }
     ensures kept { AreKnown state.now aim.now.speaker aim.now.perm known.new }
+    ensures last { IsAnswered state.now (aimed aim.now) last.new }
 {
     if !can_hear(aim.speaker, user) {
         return before;
@@ -145,7 +188,7 @@ fn reached_with<L: Ledger>(
     if !aim.inside.comes_before(before) {
         return before;
     }
-    if is_within(state, aim, known, user, scratch, steps) {
+    if is_within(state, aim, known, last, user, scratch, steps) {
         return Some(aim.inside);
     }
     if !Context::DirectWhisper.comes_before(before) {
@@ -164,11 +207,11 @@ fn reached_with<L: Ledger>(
 }
 
 /// Nobody is reached yet.
-pub(crate) fn nobody_reached() -> [Option<Context>; SESSIONS]
-    ensures length { length result ≡ SESSIONS }
+pub(crate) fn nobody_reached() -> [Option<Context>; SLOTS]
+    ensures length { length result ≡ SLOTS }
     ensures nobody { (place : ℕ) → slice_index_or result place None ≡ None }
 {
-    [None; SESSIONS]
+    [None; SLOTS]
 }
 
 /// Looks at each session for how an aim reaches it.
@@ -180,18 +223,19 @@ pub(crate) fn pass_aim<L: Ledger>(
     scratch: &Scratch,
     steps: &mut Steps<L>,
 )
-    requires room { length known.old ≡ CHANNEL_LIMIT }
+    requires room { length known.old ≡ PLACES }
     requires right { AreKnown state.now aim.now.speaker aim.now.perm known.old }
     requires marked { AreMarked state.now.tree aim.now.ground scratch.now }
     requires first { code aim.now.inside < code Context.DirectWhisper }
-    requires whole { length reached.old ≡ SESSIONS }
+    requires whole { length reached.old ≡ SLOTS }
     ensures each { (k : ℕ) (d : User) → k < length state.now.roster.sessions →
         slice_index_or reached.new k None ≡ first_of (slice_index_or reached.old k None)
         (heard_by state.now (aimed aim.now) (slice_index_or state.now.roster.sessions k d)) }
     ensures kept { AreKnown state.now aim.now.speaker aim.now.perm known.new }
 {
+    let mut last = None;
     for (i, user) in state.roster().users().iter().enumerate() {
         let one = &mut reached[i];
-        *one = reached_with(state, aim, known, user, *one, scratch, steps);
+        *one = reached_with(state, aim, known, &mut last, user, *one, scratch, steps);
     }
 }

@@ -1,24 +1,24 @@
 //! Who hears a packet.
 
-ghost use Rattle.std.specs.Prelude.{◌≡◌, ◌++◌, ◌∷◌, ◌<◌, ◌≤◌, [], IsTrue, None, length, if◌then◌else◌};
-ghost use Rattle.std.specs.List.{filter_map};
-ghost use Rattle.std.specs.Option.{option_map};
+ghost use Rattle.std.specs.Prelude.{◌≡◌, ◌++◌, ◌∷◌, ◌<◌, ◌≤◌, [], IsTrue, None, Some, length, map, if◌then◌else◌};
+ghost use Rattle.std.specs.List.{All};
 ghost use Rattle.mum_tree.specs.Rows.{is_there};
 ghost use Rattle.mum_users.specs.Sessions.{session_of};
-ghost use Rattle.mum_route.specs.Aims.{heard_as, members_of, AreHeard};
+ghost use Rattle.mum_route.specs.Aims.{heard_as, heard_of, AreHeard};
+ghost use Rattle.mum_route.specs.Hearers.{hearers_at, hearers_of, member_of};
 ghost use Rattle.mum_route.specs.Hearing.{can_hear};
-ghost use Rattle.mum_route.specs.Route.{by_items, by_talk, heard_from, items_of, member_by, route};
+ghost use Rattle.mum_route.specs.Route.{by_items, by_talk, heard_from, items_of, route};
 
 use crate::aim::Aim;
 use crate::audience::Audience;
 use crate::context::Context;
 use crate::cover::{mark_links, nothing_known};
+use crate::hearer::hearer_by;
 use crate::hearing::is_silent;
 use crate::reach::{nobody_reached, pass_aim};
-use mum_base::{SessionId, Steps};
+use mum_base::{SLOTS, SessionId, Steps};
 use mum_state::State;
 use mum_tree::Scratch;
-use mum_users::user::SESSIONS;
 use mum_users::{TargetItem, User};
 use std::sync::ledger::Ledger;
 
@@ -34,7 +34,7 @@ fn reached_by_talk<L: Ledger>(
     speaker: &User,
     scratch: &mut Scratch,
     steps: &mut Steps<L>,
-) -> [Option<Context>; SESSIONS]
+) -> [Option<Context>; SLOTS]
     requires { IsTrue (is_there state.now.tree.channels speaker.now.channel) }
     ensures { AreHeard
         (λ user. if can_hear speaker.now.session user then by_talk state.now speaker.now user else None)
@@ -55,7 +55,7 @@ fn reached_by_items<L: Ledger>(
     items: &[TargetItem],
     scratch: &mut Scratch,
     steps: &mut Steps<L>,
-) -> [Option<Context>; SESSIONS]
+) -> [Option<Context>; SLOTS]
     ensures { AreHeard
         (λ user. if can_hear speaker.now.session user then by_items state.now speaker.now items.now user else None)
         state.now.roster.sessions result }
@@ -87,7 +87,7 @@ fn reached_by<L: Ledger>(
     target: u8,
     scratch: &mut Scratch,
     steps: &mut Steps<L>,
-) -> [Option<Context>; SESSIONS]
+) -> [Option<Context>; SLOTS]
     requires { IsTrue (is_there state.now.tree.channels speaker.now.channel) }
     ensures { AreHeard (heard_as state.now speaker.now target) state.now.roster.sessions result }
 {
@@ -98,57 +98,86 @@ fn reached_by<L: Ledger>(
     reached_by_items(state, speaker, items, scratch, steps)
 }
 
-/// Appends a session, if it is reached.
-fn push_member(audience: &mut Audience, user: &User, reached: Option<Context>)
-    requires { length audience.old < SESSIONS }
-    ensures { audience.new ≡ audience.old ++ members_of (user.now ∷ []) (reached ∷ []) }
+/// Appends a session, if the speaker's packet reaches it.
+fn push_reached(audience: &mut Audience, speaker: &User, user: &User, reached: Option<Context>)
+    requires room { length audience.old < SLOTS }
+    requires slot { user.now.slot.0 < SLOTS }
+    ensures { audience.new ≡ audience.old ++ heard_of speaker.now (user.now ∷ []) (reached ∷ []) }
 {
     if let Some(context) = reached {
-        audience.push(user.session, context);
+        audience.push(hearer_by(speaker, user, context));
     }
 }
 
-/// Those of these sessions that are reached.
-fn gather(users: &[User], reached: &[Option<Context>; SESSIONS]) -> Audience
-    requires { length users.now ≤ SESSIONS }
-    ensures { result ≡ members_of users.now reached.now }
+/// Appends those of these sessions that are reached to nobody.
+fn gather(
+    audience: &mut Audience,
+    speaker: &User,
+    users: &[User],
+    reached: &[Option<Context>; SLOTS],
+)
+    requires nobody { audience.old ≡ [] }
+    requires few { length users.now ≤ SLOTS }
+    requires slots { All (λ user. user.slot.0 < SLOTS) users.now }
+    ensures { audience.new ≡ heard_of speaker.now users.now reached.now }
 {
-    let mut audience = Audience::new();
     for (i, user) in users.iter().enumerate() {
-        push_member(&mut audience, user, reached[i]);
+        push_reached(audience, speaker, user, reached[i]);
     }
-    audience
 }
 
-/// Who hears a session that is there.
-fn heard_from<L: Ledger>(
+/// Appends those who hear a session that is there to nobody.
+fn hear_from<L: Ledger>(
     state: &State,
     speaker: &User,
     target: u8,
     scratch: &mut Scratch,
     steps: &mut Steps<L>,
-) -> Audience
-    requires { IsTrue (is_there state.now.tree.channels speaker.now.channel) }
-    ensures { result ≡ heard_from state.now speaker.now target }
+    audience: &mut Audience,
+)
+    requires there { IsTrue (is_there state.now.tree.channels speaker.now.channel) }
+    requires own { session_of state.now.roster speaker.now.session ≡ Some speaker.now }
+    requires slot { speaker.now.slot.0 < SLOTS }
+    requires nobody { audience.old ≡ [] }
+    ensures members { map member_of audience.new ≡ heard_from state.now speaker.now target }
+    ensures hearers { audience.new ≡ hearers_of state.now speaker.now.session (heard_from state.now speaker.now target) }
 {
-    let mut audience = Audience::new();
     if is_silent(speaker) {
-        return audience;
+        return;
     }
     if target == LOOPBACK {
-        audience.push(speaker.session, Context::Talk);
-        return audience;
+        push_reached(audience, speaker, speaker, Some(Context::Talk));
+        return;
     }
     let reached = reached_by(state, speaker, target, scratch, steps);
-    gather(state.roster().users(), &reached)
+    gather(audience, speaker, state.roster().users(), &reached);
 }
 
-/// Who hears what a session says to a target: 0 is talk, 1 to 30 a voice target, 31 loopback. They stand in
-/// slot order, each with the number of its context. Nobody hears a session that is not there.
+/// Who hears what a session says to a target, in place of who was in the audience: 0 is talk, 1 to 30 a
+/// voice target, 31 loopback. They stand in slot order, each with what its copy needs. Nobody hears a session
+/// that is not there.
 ///
 /// A step is counted for each entry of an access control list that is read; how many is not said. The
 /// permission of the speaker is evaluated at most once in a channel. It takes no memory.
-#[tactic(auto, using(crate::proofs::Present::channel_there))]
+pub fn route_into<L: Ledger>(
+    state: &State,
+    speaker: SessionId,
+    target: u8,
+    scratch: &mut Scratch,
+    steps: &mut Steps<L>,
+    audience: &mut Audience,
+)
+    requires { target ≤ LOOPBACK }
+    ensures members { map member_of audience.new ≡ route state.now speaker target }
+    ensures hearers { audience.new ≡ hearers_at state.now speaker target }
+{
+    audience.clear();
+    if let Some(user) = state.roster().session(speaker) {
+        hear_from(state, user, target, scratch, steps, audience);
+    }
+}
+
+/// Who hears what a session says to a target, as `route_into` tells it.
 pub fn route<L: Ledger>(
     state: &State,
     speaker: SessionId,
@@ -157,10 +186,10 @@ pub fn route<L: Ledger>(
     steps: &mut Steps<L>,
 ) -> Audience
     requires { target ≤ LOOPBACK }
-    ensures { result ≡ route state.now speaker target }
+    ensures members { map member_of result ≡ route state.now speaker target }
+    ensures hearers { result ≡ hearers_at state.now speaker target }
 {
-    match state.roster().session(speaker) {
-        Some(user) => heard_from(state, user, target, scratch, steps),
-        None => Audience::new(),
-    }
+    let mut audience = Audience::new();
+    route_into(state, speaker, target, scratch, steps, &mut audience);
+    audience
 }

@@ -8,14 +8,13 @@ use Rattle.mum_outbox.specs.declared.parcel.VoiceParcel.{VoiceParcel}
 use Rattle.mum_outbox.specs.Facts.{PassFacts as BoxFacts}
 use Rattle.mum_published.specs.Facts.{Opening, PassFacts}
 use Rattle.mum_record.specs.declared.journal.Marked.{Marked}
-use Rattle.mum_route.specs.Route.{Member}
 use Rattle.mum_voice.specs.Packet.{Parts}
 use Rattle.mum_router.specs.declared.caches.Caches.{Caches}
-use Rattle.mum_router.specs.declared.hearers.Hearer.{Hearer}
+use Rattle.mum_route.specs.declared.hearer.Hearer.{Hearer}
 use Rattle.mum_router.specs.declared.offering.Routed.{Routed}
 use Rattle.mum_router.specs.Facts.{RouterFacts}
 use Rattle.mum_router.specs.Offering.{Delivers, DeliversEach, Delivery, was_sent}
-use Rattle.mum_router.specs.Picking.{Picks}
+use Rattle.mum_router.specs.Picking.{Looks}
 use Rattle.mum_router.specs.Routing.{Routes}
 
 abbrev facts : PassFacts → Caches → List Hearer → List (BoxFacts VoiceParcel) → List Marked → RouterFacts
@@ -41,21 +40,21 @@ sent_or_not (d ∷ ds) =
     let one = one_of d (filter was_sent ds) (filter (λ d. not (was_sent d)) ds) (length ds) (was_sent d) (sent_or_not ds) in
     omega (arith, one)
 
-pub routes : (opening : Opening) (old mid : RouterFacts) (outs : List (BoxFacts VoiceParcel)) (marks : List Marked) (speaker : SessionId) (packet : Parts) (audience : List Member) (routed : Routed)
-    → Picks opening old speaker packet mid audience
+pub routes : (opening : Opening) (old mid : RouterFacts) (outs : List (BoxFacts VoiceParcel)) (marks : List Marked) (speaker : SessionId) (packet : Parts) (routed : Routed)
+    → Looks opening old speaker packet mid
     → DeliversEach speaker packet mid.hearers mid.outs outs marks routed.sent
     → routed.revision ≡ length mid.pass.known
     → routed.full ≡ length mid.hearers - routed.sent
     → Routes opening old speaker packet (record mid { outs = outs; marks = marks }) routed
-routes opening old mid outs marks speaker packet audience routed picks each revision full =
-    let picked = picks.1 in
+routes opening old mid outs marks speaker packet routed looks each revision full =
+    let picked = looks.1 in
     let ds = each.0 in
     let heard = ap (λ (r : RouterFacts). r.hearers) picked.router in
     let all = ap length each.1 in
     let whole = length-map ds (λ (d : Delivery). d.hearer) in
     let parts = sent_or_not ds in
     let sent = each.4 in (
-      picks.0,
+      looks.0,
       ds,
       record {
         may = picked.may;

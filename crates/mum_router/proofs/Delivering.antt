@@ -12,7 +12,7 @@ use Rattle.mum_outbox.specs.declared.queue.Offered.{Offered}
 use Rattle.mum_outbox.specs.Facts.{PassFacts}
 use Rattle.mum_record.specs.declared.journal.Marked.{Marked}
 use Rattle.mum_voice.specs.Packet.{Parts}
-use Rattle.mum_router.specs.declared.hearers.Hearer.{Hearer}
+use Rattle.mum_route.specs.declared.hearer.Hearer.{Hearer}
 use Rattle.mum_router.specs.Offering.{Delivers, DeliversEach, Delivery, is_sent, mark_of, was_sent}
 
 count_by : (b : Bool) (d : Delivery) → length (if b then d ∷ [] else []) ≡ from_bool b

@@ -1,5 +1,4 @@
-pub mod Slots
-pub mod Listing
+pub mod Returned
 pub mod Delivering
 pub mod Completed
 pub mod Others

@@ -13,7 +13,7 @@ use Rattle.mum_router.specs.declared.caches.Caches.{Caches}
 use Rattle.mum_router.specs.declared.offering.Routed.{Routed}
 use Rattle.mum_router.specs.Caches.{AreSound}
 use Rattle.mum_router.specs.Facts.{RouterFacts}
-use Rattle.mum_router.specs.Hearers.{hearers_at}
+use Rattle.mum_route.specs.Hearers.{hearers_at}
 use Rattle.mum_router.specs.Offering.{Delivery}
 use Rattle.mum_router.specs.Routing.{RoutesAt}
 

@@ -1,6 +1,5 @@
 pub mod Caches
 pub mod Facts
-pub mod Hearers
 pub mod Picking
 pub mod Offering
 pub mod Routing

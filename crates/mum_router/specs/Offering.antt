@@ -12,7 +12,7 @@ use Rattle.mum_outbox.specs.Facts.{PassFacts, QueueFacts}
 use Rattle.mum_outbox.specs.Rule.{least_number}
 use Rattle.mum_record.specs.declared.journal.Marked.{Marked}
 use Rattle.mum_voice.specs.Packet.{Parts, copy}
-use Rattle.mum_router.specs.declared.hearers.Hearer.{Hearer}
+use Rattle.mum_route.specs.declared.hearer.Hearer.{Hearer}
 
 -- the passes of the voice boxes, by their slots
 abbrev pub Outs : Type 0

@@ -1,36 +1,41 @@
 -- One look for those who hear a packet.
-use Rattle.std.specs.Prelude.{◌≡◌, ℕ, List, length, min}
+use Rattle.std.specs.Prelude.{◌≡◌, ℕ, List, length, map, min}
 use Rattle.mum_base.specs.declared.number.SessionId.{SessionId}
 use Rattle.mum_outbox.specs.declared.rule.TheConstants.{LAST}
 use Rattle.mum_published.specs.declared.ask.Ask.{Ask}
 use Rattle.mum_published.specs.Calls.{MayMeet, looked, state_of}
 use Rattle.mum_published.specs.Facts.{Opening, PassFacts}
-use Rattle.mum_route.specs.Route.{Member, route}
+use Rattle.mum_route.specs.declared.hearer.Hearer.{Hearer}
+use Rattle.mum_route.specs.Route.{route}
 use Rattle.mum_state.specs.declared.edit.Edit.{Edit}
 use Rattle.mum_voice.specs.Packet.{Parts, client_bytes}
 use Rattle.mum_router.specs.Facts.{RouterFacts}
-use Rattle.mum_router.specs.Hearers.{hearers_at}
+use Rattle.mum_route.specs.Hearers.{hearers_at, member_of}
 
 -- what a look asks for a packet
 abbrev pub ask_of : SessionId → Parts → Ask
 ask_of speaker packet = record { speaker = speaker; target = packet.target; packet = record { items = client_bytes packet } }
 
--- a look that saw these edits: its answer is the route at their state, and who hears is kept, each in its slot at that
--- state. The passes of the boxes and the marks are as before
-pub record PicksAt
+-- a look that saw these edits: who hears is kept, each in its slot at their state, and those are the members of the route.
+-- The passes of the boxes and the marks are as before
+pub record LooksAt
     (opening : Opening) (old : RouterFacts) (speaker : SessionId) (packet : Parts)
-    (edits : List Edit) (new : RouterFacts) (audience : List Member) : Type 0 where
+    (edits : List Edit) (new : RouterFacts) : Type 0 where
   pub may : MayMeet old.pass edits
   pub router : new ≡ record old {
     pass = looked old.pass edits (ask_of speaker packet);
     caches = new.caches;
     hearers = hearers_at (state_of opening edits) speaker packet.target;
   }
-  pub heard : audience ≡ route (state_of opening edits) speaker packet.target
+  pub heard : map member_of new.hearers ≡ route (state_of opening edits) speaker packet.target
 
 -- one look, at a list of edits that it may see
-abbrev pub Picks : Opening → RouterFacts → SessionId → Parts → RouterFacts → List Member → Type 0
-Picks opening old speaker packet new audience = (edits : List Edit) × PicksAt opening old speaker packet edits new audience
+abbrev pub Looks : Opening → RouterFacts → SessionId → Parts → RouterFacts → Type 0
+Looks opening old speaker packet new = (edits : List Edit) × LooksAt opening old speaker packet edits new
+
+-- one look, and the answer is who is kept
+abbrev pub Picks : Opening → RouterFacts → SessionId → Parts → RouterFacts → List Hearer → Type 0
+Picks opening old speaker packet new audience = Looks opening old speaker packet new × (audience ≡ new.hearers)
 
 -- how many looks there were, as far as that is counted
 abbrev pub looks_of : PassFacts → ℕ

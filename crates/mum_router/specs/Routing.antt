@@ -8,7 +8,7 @@ use Rattle.mum_state.specs.declared.edit.Edit.{Edit}
 use Rattle.mum_voice.specs.Packet.{Parts}
 use Rattle.mum_router.specs.declared.offering.Routed.{Routed}
 use Rattle.mum_router.specs.Facts.{RouterFacts}
-use Rattle.mum_router.specs.Hearers.{hearers_at}
+use Rattle.mum_route.specs.Hearers.{hearers_at}
 use Rattle.mum_router.specs.Offering.{Delivers, Delivery, mark_of, was_sent}
 use Rattle.mum_router.specs.Picking.{ask_of}
 

@@ -5,15 +5,14 @@
 
 mod caches;
 pub mod crossing;
-mod hearers;
 pub mod laws;
 mod marks;
 mod offering;
-mod out;
+mod outlet;
 mod picking;
 mod router;
 
 pub use caches::Caches;
-pub use hearers::Hearer;
+pub use mum_route::Hearer;
 pub use offering::Routed;
 pub use router::Router;

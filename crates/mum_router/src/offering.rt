@@ -5,15 +5,14 @@ ghost use Rattle.std.specs.List.{All};
 ghost use Rattle.mum_outbox.specs.declared.queue.Offered.{Offered};
 ghost use Rattle.mum_outbox.specs.declared.parcel.VoiceParcel.{VoiceParcel};
 ghost use Rattle.mum_voice.specs.Packet.{IsPacket, plain_parts};
-ghost use Rattle.mum_router.specs.Hearers.{IsInRange};
-ghost use Rattle.mum_router.specs.Offering.{Delivers, DeliversEach, copies_of, full_of, is_sent, parcel_for};
+ghost use Rattle.mum_route.specs.Hearers.{IsInRange};
+ghost use Rattle.mum_router.specs.Offering.{Delivers, DeliversEach, copies_of, full_of, is_sent};
 
-use crate::hearers::Hearer;
 use crate::marks::Marks;
-use crate::out::Out;
+use crate::outlet::Out;
 use mum_base::{SLOTS, SessionId};
-use mum_outbox::VoiceParcel;
 use mum_record::Marked;
+use mum_route::Hearer;
 use mum_voice::Packet;
 use std::sync::Wait;
 
@@ -26,18 +25,6 @@ pub struct Routed {
     pub sent: u32,
     /// How many copies found a full box, and were dropped.
     pub full: u32,
-}
-
-// The copy of a packet for one who hears it.
-fn parcel_for(speaker: SessionId, packet: &Packet, hearer: &Hearer) -> VoiceParcel
-    requires packet { IsPacket (plain_parts packet.now) }
-    requires range { IsInRange hearer.now }
-    ensures { result ≡ parcel_for speaker (plain_parts packet.now) hearer.now }
-{
-    VoiceParcel {
-        to: hearer.session,
-        bytes: packet.copy_for(speaker, hearer.context, hearer.same),
-    }
 }
 
 // Offers one copy to the box of its slot.
@@ -55,9 +42,8 @@ fn deliver<W: Wait>(
     ensures delivers { (answer : Offered VoiceParcel) × Delivers speaker (plain_parts packet.now) outs.old.items
         (record { hearer = hearer.now; answer = answer }) outs.new.items × (result ≡ is_sent answer) }
 {
-    let parcel = parcel_for(speaker, packet, hearer);
     let out = &mut outs[usize::from(hearer.slot.0)];
-    out.offer(rt, parcel)
+    out.offer(rt, speaker, packet, hearer)
 }
 
 /// Offers a copy to each who hears a packet, in their order, and answers how many were sent.

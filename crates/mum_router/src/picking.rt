@@ -1,6 +1,6 @@
 //! One look for those who hear a packet.
 
-ghost use Rattle.std.specs.Prelude.{◌≡◌, ◌+◌, ◌≤◌, ◌++◌, List, length};
+ghost use Rattle.std.specs.Prelude.{◌≡◌, ◌+◌, ◌≤◌, ◌++◌, List, length, map};
 ghost use Rattle.arrayvec.specs.ArrayVec.{array_vec_len};
 ghost use Rattle.mum_published.specs.Calls.{MayMeet, looked, state_of};
 ghost use Rattle.mum_route.specs.declared.routes.TheConstants.{LOOPBACK};
@@ -9,15 +9,14 @@ ghost use Rattle.mum_state.specs.declared.edit.Edit.{Edit};
 ghost use Rattle.mum_voice.specs.declared.packet.TheConstants.{PACKET_LIMIT};
 ghost use Rattle.mum_voice.specs.Packet.{IsPacket, client_bytes, plain_parts};
 ghost use Rattle.mum_router.specs.Caches.{AreSound};
-ghost use Rattle.mum_router.specs.Hearers.{hearers_at};
+ghost use Rattle.mum_route.specs.Hearers.{hearers_at, member_of};
 ghost use Rattle.mum_router.specs.Picking.{ask_of};
 
 use crate::caches::Caches;
-use crate::hearers::{Hearers, keep_hearers};
 use arrayvec::ArrayVec;
 use mum_base::{SessionId, Steps};
 use mum_published::{Ask, Pass};
-use mum_route::{Audience, route};
+use mum_route::{Audience, route_into};
 use mum_state::State;
 use mum_tree::Scratch;
 use mum_voice::{PACKET_LIMIT, Packet};
@@ -65,19 +64,17 @@ fn heard_at<L: Ledger>(
     target: u8,
     caches: &mut Caches,
     scratch: &mut Scratch,
-    hearers: &mut Hearers,
+    hearers: &mut Audience,
     steps: &mut Steps<L>,
-) -> Audience
+)
     requires target { target ≤ LOOPBACK }
     requires sound { AreSound caches.old state.now }
-    ensures audience { result ≡ route state.now speaker target }
+    ensures members { map member_of hearers.new ≡ route state.now speaker target }
     ensures hearers { hearers.new ≡ hearers_at state.now speaker target }
     ensures sound { AreSound caches.new state.now }
 {
     let _kept = caches;
-    let audience = route(state, speaker, target, scratch, steps);
-    keep_hearers(hearers, state, speaker, &audience);
-    audience
+    route_into(state, speaker, target, scratch, steps, hearers);
 }
 
 /// One look, for those who hear a packet. What is kept is sound where it was, and then where the look was.
@@ -86,18 +83,18 @@ pub(crate) fn look_for<W: Wait, L: Ledger>(
     pass: &mut Pass,
     caches: &mut Caches,
     scratch: &mut Scratch,
-    hearers: &mut Hearers,
+    hearers: &mut Audience,
     speaker: SessionId,
     packet: &Packet,
     steps: &mut Steps<L>,
-) -> Audience
+)
     requires packet { IsPacket (plain_parts packet.now) }
     requires sound { AreSound caches.old (state_of pass.old.opening pass.old.seen) }
     ensures { (edits : List Edit) × MayMeet pass.old edits
         × (pass.new ≡ looked pass.old edits (ask_of speaker (plain_parts packet.now)))
         × AreSound caches.new (state_of pass.old.opening edits)
         × (hearers.new ≡ hearers_at (state_of pass.old.opening edits) speaker packet.now.target)
-        × (result ≡ route (state_of pass.old.opening edits) speaker packet.now.target) }
+        × (map member_of hearers.new ≡ route (state_of pass.old.opening edits) speaker packet.now.target) }
 {
     let target = packet.target;
     let ask = ask_of(speaker, packet);
@@ -105,5 +102,5 @@ pub(crate) fn look_for<W: Wait, L: Ledger>(
         rt,
         ask,
         &mut |state: &State| { heard_at(state, speaker, target, caches, scratch, hearers, steps) },
-    )
+    );
 }

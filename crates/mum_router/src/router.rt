@@ -5,20 +5,19 @@ ghost use Rattle.mum_state.specs.Proper.{IsProper};
 ghost use Rattle.mum_published.specs.Calls.{Learnt};
 ghost use Rattle.mum_voice.specs.Packet.{IsPacket, plain_parts};
 ghost use Rattle.mum_router.specs.Offering.{copies_of, full_of, new_pass};
-ghost use Rattle.mum_router.specs.Picking.{Picks, looks_of};
+ghost use Rattle.mum_router.specs.Picking.{Looks, Picks, looks_of};
 ghost use Rattle.mum_router.specs.Routing.{Routes};
 
 use crate::caches::Caches;
-use crate::hearers::{Hearer, Hearers};
 use crate::marks::Marks;
 use crate::offering::{Routed, count_full, count_sent, deliver_each};
-use crate::out::Out;
+use crate::outlet::Out;
 use crate::picking::look_for;
 use mum_base::{OutOfMemory, SLOTS, SessionId, Steps};
 use mum_outbox::VoiceBox;
 use mum_published::{Naming, Note, Pass};
 use mum_record::Marked;
-use mum_route::Audience;
+use mum_route::{Audience, Hearer};
 use mum_tree::Scratch;
 use mum_voice::Packet;
 use std::alloc::Global;
@@ -33,7 +32,7 @@ pub struct Router<N: Naming> {
     pass: Pass,
     caches: Caches,
     scratch: Scratch,
-    hearers: Hearers,
+    hearers: Audience,
     // One for each slot.
     outs: Vec<Out>,
     marks: Marks,
@@ -98,7 +97,7 @@ impl<N: Naming> Router<N> {
             pass,
             caches: Caches::new(),
             scratch,
-            hearers: Hearers::new(),
+            hearers: Audience::new(),
             outs,
             marks,
             looks: 0,
@@ -115,6 +114,30 @@ impl<N: Naming> Router<N> {
         self.pass.learn(note);
     }
 
+    // One look for those who hear a packet, who are kept.
+    fn look<W: Wait, L: Ledger>(
+        &mut self,
+        rt: &W,
+        speaker: SessionId,
+        packet: &Packet,
+        steps: &mut Steps<L>,
+    )
+        requires { IsPacket (plain_parts packet.now) }
+        ensures { Looks N.opening self.old speaker (plain_parts packet.now) self.new }
+    {
+        look_for(
+            rt,
+            &mut self.pass,
+            &mut self.caches,
+            &mut self.scratch,
+            &mut self.hearers,
+            speaker,
+            packet,
+            steps,
+        );
+        self.looks = self.looks.saturating_add(1);
+    }
+
     /// Who hears a packet of a session, in slot order, by one look. They are kept, each with its slot and
     /// whether the plugin contexts are equal, both at the state of that look. Nobody hears a session that is
     /// not there. It takes no memory, and only the look may try again.
@@ -128,18 +151,8 @@ impl<N: Naming> Router<N> {
         requires { IsPacket (plain_parts packet.now) }
         ensures { Picks N.opening self.old speaker (plain_parts packet.now) self.new result }
     {
-        let audience = look_for(
-            rt,
-            &mut self.pass,
-            &mut self.caches,
-            &mut self.scratch,
-            &mut self.hearers,
-            speaker,
-            packet,
-            steps,
-        );
-        self.looks = self.looks.saturating_add(1);
-        audience
+        self.look(rt, speaker, packet, steps);
+        self.hearers.copy()
     }
 
     /// One `pick`, and one offer for each who hears the packet, in their order: its copy goes to the box of its
@@ -155,7 +168,7 @@ impl<N: Naming> Router<N> {
         requires { IsPacket (plain_parts packet.now) }
         ensures { Routes N.opening self.old speaker (plain_parts packet.now) self.new result }
     {
-        let _audience = self.pick(rt, speaker, packet, steps);
+        self.look(rt, speaker, packet, steps);
         let hearers = self.hearers.as_slice();
         let count = hearers.len() as u32;
         let sent = deliver_each(

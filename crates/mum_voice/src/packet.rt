@@ -1,7 +1,7 @@
 //! A client's voice packet and the server's copy of it, as the section "Voice data" of the Mumble
 //! protocol documentation has them.
 
-ghost use Rattle.std.specs.Prelude.{◌≡◌, ◌+◌, ◌<◌, ◌≤◌, ◌↔◌, ◌++◌, length, IfOk, Ok, Err};
+ghost use Rattle.std.specs.Prelude.{◌≡◌, ◌+◌, ◌<◌, ◌≤◌, ◌↔◌, ◌++◌, [], length, IfOk, Ok, Err};
 ghost use Rattle.mum_voice.specs.declared.fault.BadVoice.{BadVoice};
 ghost use Rattle.arrayvec.specs.ArrayVec.{array_vec_len};
 ghost use Rattle.mum_voice.specs.Packet.{Parts, plain_parts, parsed, IsPacket, HasVoiceFault, client_bytes, packet, copy};
@@ -115,13 +115,29 @@ impl<'a> Packet<'a> {
         ensures { result.items ≡ copy (plain_parts self.now) session.0 context with_position }
     {
         let mut bytes = ArrayVec::new();
-        bytes.push((self.kind << 5) + context);
-        append(&mut bytes, &write_varint(u64::from(session.0)));
-        append(&mut bytes, self.sequence);
-        append(&mut bytes, self.audio);
-        if with_position {
-            append(&mut bytes, self.position);
-        }
+        self.copy_into(session, context, with_position, &mut bytes);
         bytes
+    }
+
+    /// The same where there is room for it and nothing else, so that a large copy is not moved.
+    pub fn copy_into(
+        &self,
+        session: SessionId,
+        context: u8,
+        with_position: bool,
+        bytes: &mut ArrayVec<u8, COPY_LIMIT>,
+    )
+        requires context { context < 4 }
+        requires packet { IsPacket (plain_parts self.now) }
+        requires empty { bytes.old.items ≡ [] }
+        ensures { bytes.new.items ≡ copy (plain_parts self.now) session.0 context with_position }
+    {
+        bytes.push((self.kind << 5) + context);
+        append(bytes, &write_varint(u64::from(session.0)));
+        append(bytes, self.sequence);
+        append(bytes, self.audio);
+        if with_position {
+            append(bytes, self.position);
+        }
     }
 }

@@ -1,7 +1,11 @@
-use Rattle.mum_route.proofs.Present.{listened_there}
+use Rattle.std.proofs.Common.{◌∙◌, ap, sym}
+use Rattle.mum_users.specs.Listeners.{pairs_of}
+use Rattle.mum_users.specs.State.{RosterState}
+use Rattle.mum_route.proofs.Present.{nobody_listens}
 use Rattle.mum_route.proofs.reach.listens_within.Goals as goal
 
-pub hears_in-requires-clause-there : goal.hears_in-requires-clause-there
-hears_in-requires-clause-there g c =
-    listened_there c.args.state.now c.roster.result.now c.args.user.now.session c.pairs_of-pair-items.result.now c.loop-pair.pair-index _
-    c.roster.ensures.proper c.roster.ensures.roster c.pairs_of-pair-items.ensures c.loop-pair-test.true
+pub returns-then-is_empty-clause-value : goal.returns-then-is_empty-clause-value
+returns-then-is_empty-clause-value g c =
+    nobody_listens _ (pairs_of c.args.state.now.roster c.args.user.now.session) c.pairs_of-pairs.result.now
+    (c.pairs_of-pairs.ensures ∙ ap (λ (r : RosterState). pairs_of r c.args.user.now.session) c.roster.ensures.roster)
+    (sym c.is_empty.ensures ∙ c.if-is_empty.true)

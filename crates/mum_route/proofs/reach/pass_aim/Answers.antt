@@ -1,7 +1,8 @@
-use Rattle.std.proofs.Common.{◌≡◌, ◌<◌, ◌∙◌, List, length, get_or, refl, arith, ap}
+use Rattle.std.proofs.Common.{◌≡◌, ◌<◌, ◌∙◌, List, length, get_or, refl, arith, ap, sym}
 use Rattle.mum_users.specs.State.{RosterState}
 use Rattle.mum_users.specs.declared.user.User.{User}
 use Rattle.mum_route.proofs.Filled.{filled_more}
+use Rattle.mum_route.proofs.Hearers.{found_own}
 use Rattle.mum_route.proofs.Present.{few_sessions}
 use Rattle.mum_route.proofs.reach.pass_aim.Goals as goal
 
@@ -14,6 +15,7 @@ bounds-reached-i g c =
 pub loop-i-init : goal.loop-i-init
 loop-i-init g c = record {
   right = c.requires.right;
+  last = tt;
   filled = record { done = λ k d below. absurd (omega arith); rest = λ k above. refl };
 }
 
@@ -26,6 +28,7 @@ loop-i-preserved g c =
     let read : c.user-item.result ≡ get_or c.args.state.now.roster.sessions c.loop-i.i c.user-item.result = c.user-item.is ∙ ap (λ (us : List User). get_or us c.loop-i.i c.user-item.result) all in
     record {
       right = c.reached_with.ensures.kept;
+      last = c.reached_with.ensures.last;
       filled = filled_more _ _ _ _ c.loop-i.i c.user-item.result c.reached_with.result here within read c.reached_with.ensures.value c.loop-i.invariant.filled;
     }
 
@@ -33,3 +36,10 @@ pub returns-clause-each : goal.returns-clause-each
 returns-clause-each g c =
     let all : c.users-user-items.result.now ≡ c.args.state.now.roster.sessions = c.users-user-items.ensures ∙ ap (λ (r : RosterState). r.sessions) c.roster.ensures.roster in
     λ k d within. c.loop-i.invariant.filled.done k d (omega (arith, ap length all, c.loop-i-test.false))
+
+pub reached_with-requires-clause-own : goal.reached_with-requires-clause-own
+reached_with-requires-clause-own g c =
+    let all : c.users-user-items.result.now ≡ c.args.state.now.roster.sessions = c.users-user-items.ensures ∙ ap (λ (r : RosterState). r.sessions) c.roster.ensures.roster in
+    let within : c.loop-i.i < length c.args.state.now.roster.sessions = omega (arith, ap length all, c.loop-i-test.true) in
+    let read : c.user-item.result ≡ get_or c.args.state.now.roster.sessions c.loop-i.i c.user-item.result = c.user-item.is ∙ ap (λ (us : List User). get_or us c.loop-i.i c.user-item.result) all in
+    found_own c.args.state.now c.user-item.result c.roster.ensures.proper (c.loop-i.i, within, sym read)

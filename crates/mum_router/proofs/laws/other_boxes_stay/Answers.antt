@@ -2,7 +2,7 @@ use Rattle.std.proofs.Common.{List, subst, sym}
 use Rattle.std.specs.Prelude.{◌≢◌}
 use Rattle.std.specs.List.{All}
 use Rattle.std.proofs.lemmas.List.Elements.{recursion_from_All}
-use Rattle.mum_router.specs.declared.hearers.Hearer.{Hearer}
+use Rattle.mum_route.specs.declared.hearer.Hearer.{Hearer}
 use Rattle.mum_router.proofs.Others.{untouched}
 use Rattle.mum_router.proofs.laws.other_boxes_stay.Goals as goal
 

@@ -1,9 +1,9 @@
 use Rattle.std.proofs.Common.{◌-◌, List, length, ap, subst, sym}
 use Rattle.mum_voice.specs.Packet.{plain_parts}
-use Rattle.mum_router.specs.declared.hearers.Hearer.{Hearer}
+use Rattle.mum_route.specs.declared.hearer.Hearer.{Hearer}
 use Rattle.mum_router.specs.Facts.{RouterFacts}
 use Rattle.mum_router.specs.Offering.{DeliversEach}
-use Rattle.mum_router.specs.Picking.{Picks}
+use Rattle.mum_router.specs.Picking.{Looks}
 use Rattle.mum_router.proofs.Completed.{routes}
 use Rattle.mum_router.proofs.router.Router.route.Goals as goal
 
@@ -15,8 +15,8 @@ returns g c =
     let mid : RouterFacts = record { pass = inside.pass; caches = inside.caches; hearers = inside.hearers; outs = inside.outs.items; marks = inside.marks } in
     let done = c.deliver_each-sent in
     let same = c.as_slice-hearers.ensures.all in
-    let picks : Picks opening c.args.self.now c.args.speaker packet mid c.pick-audience.result =
-    subst (λ (r : RouterFacts). Picks opening c.args.self.now c.args.speaker packet r c.pick-audience.result) (sym c.self.view_is) c.pick-audience.ensures in
+    let looks : Looks opening c.args.self.now c.args.speaker packet mid =
+    subst (λ (r : RouterFacts). Looks opening c.args.self.now c.args.speaker packet r) (sym c.self.view_is) c.look.ensures in
     let each = subst (λ (hs : List Hearer). DeliversEach c.args.speaker packet hs inside.outs.items done.new.outs.items done.new.marks done.result) same done.ensures.each in
-    routes opening c.args.self.now mid done.new.outs.items done.new.marks c.args.speaker packet c.pick-audience.result _ picks each
+    routes opening c.args.self.now mid done.new.outs.items done.new.marks c.args.speaker packet _ looks each
     c.revision.ensures (ap (λ (hs : List Hearer). length hs - done.result) same)

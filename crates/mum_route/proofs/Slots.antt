@@ -1,5 +1,5 @@
--- The slot of a session that is found.
-use Rattle.std.proofs.Common.{◌≡◌, ℕ, ◌+◌, ◌<◌, ◌≤◌, Bool, true, false, cond, List, [], ◌∷◌, Option, Some, arith}
+-- The slots of the sessions of a proper roster.
+use Rattle.std.proofs.Common.{◌≡◌, ℕ, zero, suc, ◌+◌, ◌<◌, ◌≤◌, Bool, true, false, cond, List, [], ◌∷◌, length, get_or, Option, Some, arith}
 use Rattle.std.specs.Prelude.{find}
 use Rattle.mum_base.specs.declared.number.SessionId.{SessionId}
 use Rattle.mum_users.specs.declared.user.User.{User}
@@ -23,6 +23,17 @@ found_below p limit low (x ∷ users) user rise found =
     of_found (λ one. one.slot.0 < limit) x user (find p users) (p x) found (omega arith)
     (found_below p limit (x.slot.0 + 1) users user rise.1)
 
--- its slot is below the limit
-pub slot_below : (limit : ℕ) (roster : RosterState) (session : SessionId) (user : User) → IsProper limit roster → session_of roster session ≡ Some user → user.slot.0 < limit
-slot_below limit roster session user proper found = found_below (has_number session) limit 0 roster.sessions user proper.slots found
+-- the slot of a session that is found
+pub slot_below : (roster : RosterState) (session : SessionId) (user : User) → IsProper roster → session_of roster session ≡ Some user → user.slot.0 < 512
+slot_below roster session user proper found =
+    let below = found_below (has_number session) roster.limit 0 roster.sessions user proper.slots found in omega (arith, below, proper.limit_fits)
+
+each_low : (limit low : ℕ) (users : List User) (k : ℕ) (d : User) → SlotsRise limit low users → k < length users → (get_or users k d).slot.0 < limit
+each_low limit low [] k d rise within = absurd (omega arith)
+each_low limit low (user ∷ users) zero d rise within = let next = low_limit limit (user.slot.0 + 1) users rise.1 in omega arith
+each_low limit low (user ∷ users) (suc k) d rise within = each_low limit (user.slot.0 + 1) users k d rise.1 (omega arith)
+
+-- the slot of each
+pub slots_below : (roster : RosterState) (k : ℕ) (d : User) → IsProper roster → k < length roster.sessions → (get_or roster.sessions k d).slot.0 < 512
+slots_below roster k d proper within =
+    let below = each_low roster.limit 0 roster.sessions k d proper.slots within in omega (arith, below, proper.limit_fits)

@@ -1,15 +1,15 @@
--- Who hears a packet, with the slot in which each is.
+-- Who hears a packet, with what the copy of each needs.
 use Rattle.std.specs.Prelude.{ℕ, ◌<◌, Bool, false, List, Option}
 use Rattle.std.specs.List.{filter_map}
 use Rattle.std.specs.Option.{option_map, option_map_or}
 use Rattle.std.specs.Str.{bytes_eq}
 use Rattle.mum_base.specs.declared.number.SessionId.{SessionId}
 use Rattle.mum_base.specs.declared.number.TheConstants.{SLOTS}
-use Rattle.mum_route.specs.Route.{Member, route}
-use Rattle.mum_state.specs.State.{StateValue}
 use Rattle.mum_users.specs.declared.user.User.{User}
 use Rattle.mum_users.specs.Sessions.{session_of}
-use Rattle.mum_router.specs.declared.hearers.Hearer.{Hearer}
+use Rattle.mum_state.specs.State.{StateValue}
+use Rattle.mum_route.specs.declared.hearer.Hearer.{Hearer}
+use Rattle.mum_route.specs.Route.{Member, route}
 
 -- the speaker, if there is one, and this session are in the same context of their plugins
 abbrev pub shares : Option User → User → Bool
@@ -28,6 +28,10 @@ hearers_of state speaker members = filter_map (hearer_of state speaker) members
 -- who hears what a session says to a target, each in its slot
 abbrev pub hearers_at : StateValue → SessionId → ℕ → List Hearer
 hearers_at state speaker target = hearers_of state speaker (route state speaker target)
+
+-- the member of the route that it is
+abbrev pub member_of : Hearer → Member
+member_of hearer = (hearer.session, hearer.context)
 
 -- a slot that there is, and the number of a context
 pub record IsInRange (hearer : Hearer) : Type 0 where

@@ -6,9 +6,15 @@ ghost use Rattle.mum_outbox.specs.declared.parcel.TheConstants.{VOICE_CAPACITY};
 ghost use Rattle.mum_outbox.specs.declared.parcel.VoiceParcel.{VoiceParcel};
 ghost use Rattle.mum_outbox.specs.declared.queue.Offered.{Offered};
 ghost use Rattle.mum_outbox.specs.declared.rule.TheConstants.{LAST};
-ghost use Rattle.mum_router.specs.Offering.{is_sent, new_pass};
+ghost use Rattle.mum_route.specs.Hearers.{IsInRange};
+ghost use Rattle.mum_voice.specs.Packet.{IsPacket, plain_parts};
+ghost use Rattle.mum_router.specs.Offering.{is_sent, new_pass, parcel_for};
 
-use mum_outbox::{BoxPass, Offered, VoiceBox, VoiceParcel};
+use arrayvec::ArrayVec;
+use mum_base::SessionId;
+use mum_outbox::{BoxPass, VoiceBox, VoiceParcel};
+use mum_route::Hearer;
+use mum_voice::Packet;
 use std::marker::Model;
 use std::sync::Wait;
 
@@ -48,17 +54,31 @@ impl Out {
         }
     }
 
-    /// Offers a copy, and answers whether it was sent; else the box was full, and the copy is dropped.
-    pub(crate) fn offer<W: Wait>(&mut self, rt: &W, parcel: VoiceParcel) -> bool
-        ensures { (answer : Offered VoiceParcel) × Offers VOICE_CAPACITY self.old parcel answer self.new × (result ≡ is_sent answer) }
+    /// Offers the copy of a packet for one who hears it, and answers whether it was sent; else the box was
+    /// full, and the copy is dropped.
+    pub(crate) fn offer<W: Wait>(
+        &mut self,
+        rt: &W,
+        speaker: SessionId,
+        packet: &Packet,
+        hearer: &Hearer,
+    ) -> bool
+        requires packet { IsPacket (plain_parts packet.now) }
+        requires range { IsInRange hearer.now }
+        ensures { (answer : Offered VoiceParcel)
+            × Offers VOICE_CAPACITY self.old (parcel_for speaker (plain_parts packet.now) hearer.now) answer self.new
+            × (result ≡ is_sent answer) }
     {
-        match self.queue.offer_as(rt, &mut self.pass, parcel) {
-            Offered::Sent => {
-                self.sent = self.sent.saturating_add(1);
-                true
-            }
-            Offered::Full(_) => false,
+        let mut parcel = VoiceParcel {
+            to: hearer.session,
+            bytes: ArrayVec::new(),
+        };
+        packet.copy_into(speaker, hearer.context, hearer.same, &mut parcel.bytes);
+        if !self.queue.put_as(rt, &mut self.pass, parcel) {
+            return false;
         }
+        self.sent = self.sent.saturating_add(1);
+        true
     }
 
     /// How many copies were sent, as far as that is counted.

@@ -8,7 +8,6 @@ from pathlib import Path
 from .transcript import told_by_step
 
 TOP = Path(__file__).resolve().parents[2]
-HEAD = "recording 1"
 SECONDS = 120
 
 
@@ -53,10 +52,12 @@ def run(words, text=""):
     return Ran(done.returncode, lines_of(done.stdout), lines_of(done.stderr))
 
 
-def recording_of(document, steps, workers=1, end=True):
-    """The text of a recording: its head, a configuration (None is the empty one), steps, and its end."""
+def recording_of(document, steps, workers=1, end=True, limits=None):
+    """The text of a recording: its head, of version 2 where there are limits, as "S C"; a configuration (None is the
+    empty one); steps, and its end."""
     config = "-" if document is None else bytes_of(document).hex()
-    lines = [HEAD, f"workers {workers}", f"config {config}", *steps]
+    head = [f"recording {2 if limits else 1}", f"workers {workers}", *([f"limits {limits}"] if limits else [])]
+    lines = [*head, f"config {config}", *steps]
     return "\n".join(lines + (["end", ""] if end else [""]))
 
 

@@ -40,6 +40,16 @@ def meaning(piece):
 
 # ---- whole runs
 
+LIMITED = re.compile(r"(\d+) users under limits (\d+ \d+)")
+
+
+def logins(count):
+    """The steps of so many logins of different names, each decided."""
+    return [step for connection in range(1, count + 1)
+            for step in (f"open {connection} 0", f"frame {connection} {login_frame(f'user{connection}')}",
+                         f"edit {connection}")]
+
+
 def spelled(piece):
     """The line that a piece spells, without its end: `spaces N`, `document D`, or as it is."""
     if piece.startswith("document "):
@@ -74,8 +84,9 @@ def replayed(question):
     if question.startswith("words"):
         return account_of(run_of_words(question.removeprefix("words")), 0)
     name, _, script = question.partition("; ")
-    steps = [] if name == "bare" else beginning(name)
-    head = "" if name == "bare" else program.recording_of(None, steps, end=False)
+    limited = LIMITED.fullmatch(name)
+    steps = [] if name == "bare" else logins(int(limited[1])) if limited else beginning(name)
+    head = "" if name == "bare" else program.recording_of(None, steps, end=False, limits=limited and limited[2])
     text = head + "".join(line_of(piece.strip()) for piece in script.split(";"))
     return account_of(program.run(["replay"], text), len(steps))
 
@@ -198,7 +209,8 @@ def line_bytes(spelled_line):
     return b"".join(bytes.fromhex(piece) if place % 2 else piece.encode() for place, piece in enumerate(pieces))
 
 
-LINES = {"head": [], "workers": ["recording 1"], "config": ["recording 1", "workers 1"],
+LINES = {"head": [], "workers": ["recording 1"], "limits": ["recording 2", "workers 1"],
+         "config": ["recording 1", "workers 1"],
          "step": ["recording 1", "workers 1", "config -"]}
 
 # what a run says that took the line: one that is missing behind it, a step that is not allowed, a faulty document

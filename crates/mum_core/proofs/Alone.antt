@@ -9,6 +9,7 @@ use Rattle.mum_state.specs.State.{StateValue}
 use Rattle.mum_core.specs.declared.connection.Connection.{Connection}
 use Rattle.mum_core.specs.declared.connection.Seat.{Seat}
 use Rattle.mum_core.specs.declared.outbox.Parcel.{Parcel}
+use Rattle.mum_record.specs.declared.head.Version.{Version}
 use Rattle.mum_record.specs.declared.step.Step.{Step}
 use Rattle.mum_record.specs.declared.step.Step.TheVariants.{Drain}
 use Rattle.mum_core.specs.Core.{CoreState, start, connection_at, outbox_at, state_at}
@@ -62,22 +63,22 @@ all_alone n slot core (step ∷ run) settled fits looks apart =
     let later = all_alone n slot (does core step) run (settled_step core step settled) next looks apart in
     ap (λ (xs : List Parcel). xs ++ gathered (heard n) (does core step) run) first ∙ ap (λ (xs : List Parcel). removed n core step ++ xs) later
 
-pub alone_hears_all : (opening : StateValue) (workers c : ℕ) (seat : Seat) (run : List Step) → IsProper opening → IsRun (start opening workers) run
-    → (connection_at (ran (start opening workers) run) c).seat ≡ Some seat
-    → ((d : ℕ) (other : Seat) → (connection_at (ran (start opening workers) run) d).seat ≡ Some other → other.slot.0 ≡ seat.slot.0 → d ≡ c)
-    → gathered (heard seat.session.0) (start opening workers) run ≡ gathered (removed seat.session.0) (start opening workers) run
-alone_hears_all opening workers c seat run proper is_run is alone =
-    let first : CoreState = start opening workers in
+pub alone_hears_all : (version : Version) (opening : StateValue) (workers c : ℕ) (seat : Seat) (run : List Step) → IsProper opening → IsRun (start version opening workers) run
+    → (connection_at (ran (start version opening workers) run) c).seat ≡ Some seat
+    → ((d : ℕ) (other : Seat) → (connection_at (ran (start version opening workers) run) d).seat ≡ Some other → other.slot.0 ≡ seat.slot.0 → d ≡ c)
+    → gathered (heard seat.session.0) (start version opening workers) run ≡ gathered (removed seat.session.0) (start version opening workers) run
+alone_hears_all version opening workers c seat run proper is_run is alone =
+    let first : CoreState = start version opening workers in
     let core : CoreState = ran first run in
-    let begun = lawful_start opening workers proper in
+    let begun = lawful_start version opening workers proper in
     let here : (conn core (c - 1)).seat ≡ Some seat = sym (ap (λ (x : Connection). x.seat) (placed core c (seat_placed core c seat is))) ∙ is in
-    let present = seats_present opening workers run (c - 1) begun seat (inl here) in
-    all_alone seat.session.0 seat.slot.0 first run (settled_start opening workers) (fits_start seat.session.0 seat.slot.0 opening workers)
+    let present = seats_present version opening workers run (c - 1) begun seat (inl here) in
+    all_alone seat.session.0 seat.slot.0 first run (settled_start version opening workers) (fits_start seat.session.0 seat.slot.0 version opening workers)
     (looks_fit core present.0 seat.session seat.slot (lawful_all first run begun) present.1) (λ d other there. from d other there (cases_eq other.slot.0 seat.slot.0))
   where
-    from : (d : ℕ) (other : Seat) → (connection_at (ran (start opening workers) run) d).seat ≡ Some other → (other.slot.0 ≡ seat.slot.0) ⊎ (other.slot.0 ≡ seat.slot.0 → ⊥)
+    from : (d : ℕ) (other : Seat) → (connection_at (ran (start version opening workers) run) d).seat ≡ Some other → (other.slot.0 ≡ seat.slot.0) ⊎ (other.slot.0 ≡ seat.slot.0 → ⊥)
         → (other.session.0 ≡ seat.session.0) ⊎ (other.slot.0 ≡ seat.slot.0 → ⊥)
     from d other there (inl same) =
-        let mine : Some other ≡ Some seat = sym there ∙ ap (λ (n : ℕ). (connection_at (ran (start opening workers) run) n).seat) (alone d other there same) ∙ is in
+        let mine : Some other ≡ Some seat = sym there ∙ ap (λ (n : ℕ). (connection_at (ran (start version opening workers) run) n).seat) (alone d other there same) ∙ is in
         inl (ap (λ (one : Seat). one.session.0) (same_Some other seat mine))
     from d other there (inr far) = inr far

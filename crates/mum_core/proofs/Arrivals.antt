@@ -29,6 +29,7 @@ use Rattle.mum_session.specs.declared.command.Asked.{Asked}
 use Rattle.mum_core.specs.declared.connection.Connection.{Connection}
 use Rattle.mum_core.specs.declared.connection.Reply.{Reply}
 use Rattle.mum_core.specs.declared.connection.Seat.{Seat}
+use Rattle.mum_record.specs.declared.head.Version.{Version}
 use Rattle.mum_record.specs.declared.step.Step.TheVariants as steps
 use Rattle.mum_record.specs.declared.step.Step.{Step}
 use Rattle.mum_record.specs.declared.step.Step.TheVariants.{Frame, Tell, Close}
@@ -193,5 +194,5 @@ present_all : (core : CoreState) (run : List Step) (i : ℕ) → IsLawful core �
 present_all core [] i lawful all = all
 present_all core (step ∷ run) i lawful all = present_all (does core step) run i (lawful_step core step lawful) (present_step core step i lawful all)
 
-pub seats_present : (opening : StateValue) (workers : ℕ) (run : List Step) (i : ℕ) → IsLawful (start opening workers) → ArePresent (ran (start opening workers) run) (conn (ran (start opening workers) run) i)
-seats_present opening workers run i lawful = present_all (start opening workers) run i lawful (none_present (start opening workers) 0)
+pub seats_present : (version : Version) (opening : StateValue) (workers : ℕ) (run : List Step) (i : ℕ) → IsLawful (start version opening workers) → ArePresent (ran (start version opening workers) run) (conn (ran (start version opening workers) run) i)
+seats_present version opening workers run i lawful = present_all (start version opening workers) run i lawful (none_present (start version opening workers) 0)

@@ -1,17 +1,20 @@
 -- The core to which nothing happened, by its parts.
-use Rattle.std.proofs.Common.{◌≡◌, ℕ, ◌≤◌, arith, List, [], ap, sym, ◌∙◌, length, replicate}
+use Rattle.std.proofs.Common.{◌≡◌, ℕ, ◌-◌, ◌≤◌, arith, List, [], ap, sym, ◌∙◌, length, replicate}
 use Rattle.std.specs.List.{All}
+use Rattle.mum_base.specs.declared.number.TheConstants.{SLOTS}
 use Rattle.mum_state.specs.State.{StateValue}
 use Rattle.mum_history.specs.History.{HistoryValue, begun}
 use Rattle.mum_history.specs.View.{IsViewOf, ViewValue}
 use Rattle.mum_notify.specs.declared.notice.Notice.{Notice}
-use Rattle.mum_core.specs.declared.{outbox.Parcel.Parcel, slot.TheConstants.SLOTS}
+use Rattle.mum_record.specs.Head.{first_step_line}
+use Rattle.mum_record.specs.declared.head.Version.{Version}
+use Rattle.mum_core.specs.declared.outbox.Parcel.{Parcel}
 use Rattle.mum_core.specs.Core.{CoreState, start}
 use Rattle.mum_core.specs.Kept.{IsKept}
 use Rattle.mum_core.specs.Worker.{WorkerState, idle}
 
-abbrev pub core_of : HistoryValue → List WorkerState → List (List Parcel) → List (List Notice) → CoreState
-core_of history workers outboxes posts = record {
+abbrev pub core_of : Version → HistoryValue → List WorkerState → List (List Parcel) → List (List Notice) → CoreState
+core_of version history workers outboxes posts = record {
   opening = history.opening;
   accepted = history.accepted;
   published = history.published;
@@ -22,18 +25,18 @@ core_of history workers outboxes posts = record {
   posts = posts;
   posted = 0;
   totals = record { looks = 0; copies = 0; full = 0; stale = 0 };
-  line = 3;
+  line = first_step_line version - 1;
 }
 
-pub is_start : (opening : StateValue) (count : ℕ) (history : HistoryValue) (workers : List WorkerState) (outboxes : List (List Parcel)) (posts : List (List Notice)) (core : CoreState)
-    → core ≡ core_of history workers outboxes posts → history ≡ begun opening → workers ≡ replicate count idle → outboxes ≡ replicate SLOTS [] → posts ≡ replicate SLOTS []
-    → core ≡ start opening count
-is_start opening count history workers outboxes posts core is begins idles empty none =
+pub is_start : (version : Version) (opening : StateValue) (count : ℕ) (history : HistoryValue) (workers : List WorkerState) (outboxes : List (List Parcel)) (posts : List (List Notice)) (core : CoreState)
+    → core ≡ core_of version history workers outboxes posts → history ≡ begun opening → workers ≡ replicate count idle → outboxes ≡ replicate SLOTS [] → posts ≡ replicate SLOTS []
+    → core ≡ start version opening count
+is_start version opening count history workers outboxes posts core is begins idles empty none =
     is
-    ∙ ap (λ (h : HistoryValue). core_of h workers outboxes posts) begins
-    ∙ ap (λ (ws : List WorkerState). core_of (begun opening) ws outboxes posts) idles
-    ∙ ap (λ (boxes : List (List Parcel)). core_of (begun opening) (replicate count idle) boxes posts) empty
-    ∙ ap (λ (waiting : List (List Notice)). core_of (begun opening) (replicate count idle) (replicate SLOTS []) waiting) none
+    ∙ ap (λ (h : HistoryValue). core_of version h workers outboxes posts) begins
+    ∙ ap (λ (ws : List WorkerState). core_of version (begun opening) ws outboxes posts) idles
+    ∙ ap (λ (boxes : List (List Parcel)). core_of version (begun opening) (replicate count idle) boxes posts) empty
+    ∙ ap (λ (waiting : List (List Notice)). core_of version (begun opening) (replicate count idle) (replicate SLOTS []) waiting) none
 
 pub kept_at_start : (opening : StateValue) (count : ℕ) (history : HistoryValue) (views : List ViewValue) (workers : List WorkerState) (outboxes : List (List Parcel)) (posts : List (List Notice))
     → history ≡ begun opening → All (IsViewOf opening []) views → length views ≡ count → count ≤ 255 → length workers ≡ count → length outboxes ≡ SLOTS → length posts ≡ SLOTS

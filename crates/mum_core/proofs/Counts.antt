@@ -13,6 +13,7 @@ use Rattle.mum_core.specs.declared.connection.Seat.{Seat}
 use Rattle.mum_core.specs.declared.worker.Outgoing.{Outgoing}
 use Rattle.mum_session.specs.declared.action.Action.{Action}
 use Rattle.mum_session.specs.declared.action.Action.TheVariants.{Ask, Voice, Echo, Keep, Ignore}
+use Rattle.mum_record.specs.declared.head.Version.{Version}
 use Rattle.mum_record.specs.declared.step.Step.TheVariants as steps
 use Rattle.mum_record.specs.declared.step.Step.{Step}
 use Rattle.mum_record.specs.declared.step.Step.TheVariants.{Open, Frame, Publish, Tell, Look, Offer, Post, Drain, Collect, Close, End}
@@ -277,9 +278,9 @@ left_start : (workers : ℕ) → sum_by (λ worker. length worker.copies) (repli
 left_start zero = refl
 left_start (suc n) = left_start n
 
-pub copies_are_counted : (opening : StateValue) (workers : ℕ) (run : List Step) → IsRun (start opening workers) run → length run < 2 ^ 64 - 1
-    → (ran (start opening workers) run).totals.copies + (ran (start opening workers) run).totals.full + left (ran (start opening workers) run) ≡ looked (start opening workers) run
-copies_are_counted opening workers run is room =
+pub copies_are_counted : (version : Version) (opening : StateValue) (workers : ℕ) (run : List Step) → IsRun (start version opening workers) run → length run < 2 ^ 64 - 1
+    → (ran (start version opening workers) run).totals.copies + (ran (start version opening workers) run).totals.full + left (ran (start version opening workers) run) ≡ looked (start version opening workers) run
+copies_are_counted version opening workers run is room =
     let begun = left_start workers in
-    let all = counted_from (start opening workers) run is (clean_start workers) (omega (arith, room)) in
+    let all = counted_from (start version opening workers) run is (clean_start workers) (omega (arith, room)) in
     omega (arith, begun, all)

@@ -1,9 +1,8 @@
 -- The seat that an accepted edit gives is below the limit.
-use Rattle.std.proofs.Common.{◌≡◌, ℕ, ◌<◌, ◌&&◌, Bool, true, false, List, length, None, Some, refl, arith}
+use Rattle.std.proofs.Common.{◌≡◌, ℕ, ◌<◌, ◌≤◌, ◌&&◌, Bool, true, false, List, length, None, Some, refl, arith}
 use Rattle.std.specs.Prelude.{◌==◌, IfSome, is_none, if◌then◌else◌}
 use Rattle.std.specs.List.{list_any}
 use Rattle.std.proofs.lemmas.Bool.{and_parts, eqb-true, leb-false}
-use Rattle.mum_users.specs.declared.user.TheConstants.{SESSIONS}
 use Rattle.mum_users.specs.declared.fault.UserFault.TheVariants.{NameInUse, Full, SessionsUsedUp}
 use Rattle.mum_users.specs.Sessions.{free_slot, is_full, is_used_up, join_fault, next_number, next_slot}
 use Rattle.mum_users.specs.State.{RosterState, are_tokens, has_name}
@@ -14,10 +13,10 @@ use Rattle.mum_state.specs.declared.verdict.Verdict.{Verdict}
 use Rattle.mum_state.specs.declared.verdict.Verdict.TheVariants.{Accepted}
 use Rattle.mum_state.specs.Fits.{gives_right_numbers, is_countable, sets_properly}
 use Rattle.mum_state.specs.Named.{names_there}
-use Rattle.mum_state.specs.Proper.{is_short}
+use Rattle.mum_state.specs.Proper.{IsProper, is_short}
 use Rattle.mum_state.specs.State.{StateValue}
 use Rattle.mum_rules_tree.specs.Decision.{FitsWhereAccepted}
-use Rattle.mum_core.specs.declared.slot.TheConstants.{SLOTS}
+use Rattle.mum_base.specs.declared.number.TheConstants.{SLOTS}
 use Rattle.mum_core.specs.Reply.{seat_of}
 
 not_full : (a b c : Bool) → is_none (if a then Some NameInUse else if b then Some Full else if c then Some SessionsUsedUp else None) ≡ true → b ≡ false
@@ -25,25 +24,25 @@ not_full true b c none = cc
 not_full false true c none = cc
 not_full false false c none = refl
 
-free_below : (roster : RosterState) (name : List ℕ) → is_none (join_fault SESSIONS roster name) ≡ true → free_slot roster < SLOTS
-free_below roster name none =
-    let room = not_full (list_any (has_name name) roster.sessions) (is_full SESSIONS roster) (is_used_up roster) none in
-    let few : length roster.sessions < SESSIONS = leb-false SESSIONS (length roster.sessions) room in
+free_below : (roster : RosterState) (name : List ℕ) → roster.limit ≤ SLOTS → is_none (join_fault roster name) ≡ true → free_slot roster < SLOTS
+free_below roster name within none =
+    let room = not_full (list_any (has_name name) roster.sessions) (is_full roster) (is_used_up roster) none in
+    let few : length roster.sessions < roster.limit = leb-false roster.limit (length roster.sessions) room in
     let low = free_slot_from-le 0 roster.sessions in
     omega arith
 
 -- a session that joins takes the least free slot
-pub fitting_seat : (state : StateValue) (decided : Verdict) → FitsWhereAccepted state decided → IfSome (seat_of decided) (λ seat. seat.slot.0 < SLOTS)
-fitting_seat state (Accepted (Join session slot name account tokens)) fit =
+pub fitting_seat : (state : StateValue) (decided : Verdict) → IsProper state → FitsWhereAccepted state decided → IfSome (seat_of decided) (λ seat. seat.slot.0 < SLOTS)
+fitting_seat state (Accepted (Join session slot name account tokens)) proper fit =
     let edit : Edit = Join session slot name account tokens in
     let counted = and_parts (names_there state edit && gives_right_numbers state edit && sets_properly state edit) (is_countable state edit) fit in
     let sets = and_parts (names_there state edit && gives_right_numbers state edit) (sets_properly state edit) counted.0 in
     let right = and_parts (names_there state edit) (gives_right_numbers state edit) sets.0 in
     let numbers = and_parts (session.0 == (next_number state.roster).0) (slot.0 == (next_slot state.roster).0) right.1 in
-    let named = and_parts (is_none (join_fault SESSIONS state.roster name) && is_short name) (are_tokens tokens) sets.1 in
-    let none = and_parts (is_none (join_fault SESSIONS state.roster name)) (is_short name) named.0 in
+    let named = and_parts (is_none (join_fault state.roster name) && is_short name) (are_tokens tokens) sets.1 in
+    let none = and_parts (is_none (join_fault state.roster name)) (is_short name) named.0 in
     let at : slot.0 ≡ free_slot state.roster = eqb-true slot.0 (next_slot state.roster).0 numbers.1 in
-    let low = free_below state.roster name none.0 in
+    let low = free_below state.roster name proper.roster.limit_fits none.0 in
     omega arith
-fitting_seat state (Accepted other) fit = tt
-fitting_seat state others fit = tt
+fitting_seat state (Accepted other) proper fit = tt
+fitting_seat state others proper fit = tt

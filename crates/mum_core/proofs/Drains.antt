@@ -26,8 +26,9 @@ use Rattle.mum_state.specs.Proper.{IsProper}
 use Rattle.mum_state.specs.State.{StateValue}
 use Rattle.mum_core.specs.declared.connection.Seat.{Seat}
 use Rattle.mum_core.specs.declared.outbox.Parcel.{Parcel}
-use Rattle.mum_core.specs.declared.slot.TheConstants.{SLOTS}
+use Rattle.mum_base.specs.declared.number.TheConstants.{SLOTS}
 use Rattle.mum_core.specs.declared.worker.Outgoing.{Outgoing}
+use Rattle.mum_record.specs.declared.head.Version.{Version}
 use Rattle.mum_record.specs.declared.step.Step.TheVariants as steps
 use Rattle.mum_record.specs.declared.step.Step.{Step}
 use Rattle.mum_record.specs.declared.step.Step.TheVariants.{Open, Frame, Publish, Tell, Look, Offer, Post, Drain, Collect, Close, End}
@@ -42,7 +43,7 @@ use Rattle.mum_core.specs.steps.{Drain.carried, Drain.copy_queues, Collect.frame
 use Rattle.mum_core.specs.steps.Post as post_step
 use Rattle.mum_core.proofs.Copies.{AllCopies, AllLooked, Still, boxes_step, copies_step, decided_still, each_looked, frame_still, idle_copies, looks_before, notes_still, rest_core}
 use Rattle.mum_core.proofs.Fitted.{IsLawful, current_proper, lawful_all, lawful_start, lawful_step, state_proper}
-use Rattle.mum_core.proofs.Present.{each_below, slot_below}
+use Rattle.mum_core.proofs.Present.{each_in_server, slot_below}
 use Rattle.mum_core.proofs.RunLaws.{posting_core, taken_core, told_core}
 use Rattle.mum_core.proofs.Lower.{keeps_proper, verdict_fits}
 use Rattle.mum_core.proofs.Notices.{decided_posts, drain_quiet, frame_quiet, notes_quiet, puts_quiet, slots_stay, waits}
@@ -185,7 +186,7 @@ one_by_one P (x ∷ xs) all = (all 0 x (omega arith), one_by_one P xs (λ k d wi
 
 user_below : (state : StateValue) (user : User) → IsProper state → Contains state.roster.sessions user → user.slot.0 < SLOTS
 user_below state user proper (k, within, is) =
-    subst (λ (one : User). one.slot.0 < SLOTS) is (all_at (λ (one : User). one.slot.0 < SLOTS) state.roster.sessions k user (each_below SLOTS 0 state.roster.sessions proper.roster.slots) within)
+    subst (λ (one : User). one.slot.0 < SLOTS) is (all_at (λ (one : User). one.slot.0 < SLOTS) state.roster.sessions k user (each_in_server state proper) within)
 
 addressee_below : (before : StateValue) (edit : Edit) (after : StateValue) (user : User) → IsProper before → IsProper after → IsAddressee before edit after user → user.slot.0 < SLOTS
 addressee_below before edit after user first last (inl there) = user_below after user last there
@@ -296,14 +297,14 @@ none_wait : (A : Type 0) (slots : ℕ) → let none : List A = [] in sum_by leng
 none_wait A zero = refl
 none_wait A (suc n) = none_wait A n
 
-pub copies_are_drained : (opening : StateValue) (workers : ℕ) (run : List Step) → IsProper opening → IsRun (start opening workers) run → length run < 2 ^ 64 - 1
-    → length (gathered wired (start opening workers) run) + length (gathered told_notice (start opening workers) run) + (ran (start opening workers) run).totals.stale
-    + sum_by length (ran (start opening workers) run).outboxes + sum_by length (ran (start opening workers) run).posts
-    ≡ (ran (start opening workers) run).totals.copies + length (gathered posted (start opening workers) run)
-copies_are_drained opening workers run proper is room =
-    let core : CoreState = ran (start opening workers) run in
-    let begun = lawful_start opening workers proper in
-    let lawful = lawful_all (start opening workers) run begun in
+pub copies_are_drained : (version : Version) (opening : StateValue) (workers : ℕ) (run : List Step) → IsProper opening → IsRun (start version opening workers) run → length run < 2 ^ 64 - 1
+    → length (gathered wired (start version opening workers) run) + length (gathered told_notice (start version opening workers) run) + (ran (start version opening workers) run).totals.stale
+    + sum_by length (ran (start version opening workers) run).outboxes + sum_by length (ran (start version opening workers) run).posts
+    ≡ (ran (start version opening workers) run).totals.copies + length (gathered posted (start version opening workers) run)
+copies_are_drained version opening workers run proper is room =
+    let core : CoreState = ran (start version opening workers) run in
+    let begun = lawful_start version opening workers proper in
+    let lawful = lawful_all (start version opening workers) run begun in
     let looks : (revision : ℕ) → AllLooked IsOfServer (state_at core revision) =
     λ revision. each_looked IsOfServer (state_at core revision) (λ held one user found. slot_below (state_at core revision) one.0 user (state_proper core revision lawful) found) in
     let none : List Parcel = [] in
@@ -312,5 +313,5 @@ copies_are_drained opening workers run proper is room =
     let slots : length (replicate SLOTS empty) ≡ SLOTS = length-replicate SLOTS empty in
     let first : sum_by length (replicate SLOTS none) ≡ 0 = none_wait Parcel SLOTS in
     let second : sum_by length (replicate SLOTS empty) ≡ 0 = none_wait Notice SLOTS in
-    let all = drained_from (start opening workers) run looks begun (boxes, idle_copies IsOfServer workers, slots, tt) (omega (arith, room)) (omega (arith, room)) in
+    let all = drained_from (start version opening workers) run looks begun (boxes, idle_copies IsOfServer workers, slots, tt) (omega (arith, room)) (omega (arith, room)) in
     omega (arith, first, second, all)

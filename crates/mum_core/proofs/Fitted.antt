@@ -21,6 +21,7 @@ use Rattle.mum_state.proofs.Seats.{seats_stand_lem}
 use Rattle.mum_history.proofs.Fronts.{all_fit_on}
 use Rattle.mum_rules_tree.specs.Decision.{FitsWhereAccepted}
 use Rattle.mum_session.specs.declared.command.Asked.{Asked}
+use Rattle.mum_record.specs.declared.head.Version.{Version}
 use Rattle.mum_record.specs.declared.step.Step.TheVariants as steps
 use Rattle.mum_record.specs.declared.step.Step.{Step}
 use Rattle.mum_record.specs.declared.step.Step.TheVariants.{Open, Frame, Publish, Tell, Look, Offer, Post, Drain, Collect, Close, End}
@@ -97,14 +98,14 @@ pub lawful_all : (core : CoreState) (run : List Step) → IsLawful core → IsLa
 lawful_all core [] lawful = lawful
 lawful_all core (step ∷ run) lawful = lawful_all (does core step) run (lawful_step core step lawful)
 
-pub lawful_start : (opening : StateValue) (workers : ℕ) → IsProper opening → IsLawful (start opening workers)
-lawful_start opening workers proper = record { proper = proper; fit = refl }
+pub lawful_start : (version : Version) (opening : StateValue) (workers : ℕ) → IsProper opening → IsLawful (start version opening workers)
+lawful_start version opening workers proper = record { proper = proper; fit = refl }
 
-pub edits_fit : (opening : StateValue) (workers : ℕ) (run : List Step) → IsProper opening → IsRun (start opening workers) run
-    → IsTrue (all_fit opening (ran (start opening workers) run).accepted)
-edits_fit opening workers run proper is =
-    let lawful = lawful_all (start opening workers) run (lawful_start opening workers proper) in
-    subst (λ (state : StateValue). IsTrue (all_fit state (ran (start opening workers) run).accepted)) (opening_stays (start opening workers) run) lawful.fit
+pub edits_fit : (version : Version) (opening : StateValue) (workers : ℕ) (run : List Step) → IsProper opening → IsRun (start version opening workers) run
+    → IsTrue (all_fit opening (ran (start version opening workers) run).accepted)
+edits_fit version opening workers run proper is =
+    let lawful = lawful_all (start version opening workers) run (lawful_start version opening workers proper) in
+    subst (λ (state : StateValue). IsTrue (all_fit state (ran (start version opening workers) run).accepted)) (opening_stays (start version opening workers) run) lawful.fit
 
 -- ---- their states are proper
 

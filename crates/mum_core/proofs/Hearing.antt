@@ -17,6 +17,7 @@ use Rattle.mum_core.specs.declared.connection.Connection.{Connection}
 use Rattle.mum_core.specs.declared.connection.Seat.{Seat}
 use Rattle.mum_core.specs.declared.outbox.Parcel.{Parcel}
 use Rattle.mum_core.specs.declared.worker.Outgoing.{Outgoing}
+use Rattle.mum_record.specs.declared.head.Version.{Version}
 use Rattle.mum_record.specs.declared.step.Step.{Step}
 use Rattle.mum_record.specs.declared.step.Step.TheVariants.{Drain}
 use Rattle.mum_core.specs.Connection.{fresh}
@@ -181,28 +182,28 @@ hears_none n core (step ∷ run) settled never =
 abbrev told_bytes : List Parcel → List (List ℕ)
 told_bytes parcels = map (λ (parcel : Parcel). parcel.bytes) parcels
 
-abbrev HeardIsSent : StateValue → ℕ → List Step → ℕ → Type 0
-HeardIsSent opening workers run n =
-    IsSubsequence (told_bytes (gathered (heard n) (start opening workers) run)) (map bytes_of (gathered (sent n) (start opening workers) run))
+abbrev HeardIsSent : Version → StateValue → ℕ → List Step → ℕ → Type 0
+HeardIsSent version opening workers run n =
+    IsSubsequence (told_bytes (gathered (heard n) (start version opening workers) run)) (map bytes_of (gathered (sent n) (start version opening workers) run))
 
-heard_is_sent : (opening : StateValue) (workers n : ℕ) (run : List Step) → IsProper opening → IsRun (start opening workers) run → HeardIsSent opening workers run n
-heard_is_sent opening workers n run proper is = from (find_seat n (ran (start opening workers) run).connections)
+heard_is_sent : (version : Version) (opening : StateValue) (workers n : ℕ) (run : List Step) → IsProper opening → IsRun (start version opening workers) run → HeardIsSent version opening workers run n
+heard_is_sent version opening workers n run proper is = from (find_seat n (ran (start version opening workers) run).connections)
   where
-    from : Seated n (ran (start opening workers) run).connections → HeardIsSent opening workers run n
+    from : Seated n (ran (start version opening workers) run).connections → HeardIsSent version opening workers run n
     from (inr nobody) =
-        subst (λ (xs : List Parcel). IsSubsequence (told_bytes xs) (map bytes_of (gathered (sent n) (start opening workers) run)))
-        (sym (hears_none n (start opening workers) run (settled_start opening workers) nobody)) tt
+        subst (λ (xs : List Parcel). IsSubsequence (told_bytes xs) (map bytes_of (gathered (sent n) (start version opening workers) run)))
+        (sym (hears_none n (start version opening workers) run (settled_start version opening workers) nobody)) tt
     from (inl place) =
-        let first : CoreState = start opening workers in
+        let first : CoreState = start version opening workers in
         let core : CoreState = ran first run in
         let (seat, here, number) = of_seat n (conn core place.0).seat place.1 in
-        let present = seats_present opening workers run place.0 (lawful_start opening workers proper) seat (inl here) in
+        let present = seats_present version opening workers run place.0 (lawful_start version opening workers proper) seat (inl here) in
         let m : ℕ = seat.session.0 in
         let left : List Parcel = filter (λ (parcel : Parcel). parcel.to.0 == m) (outbox_at core seat.slot.0) in
-        let conserved = sent_is_conserved opening workers present.0 seat.session seat.slot run proper is present.1 in
-        let part = stands_longer (gathered (heard m) first run) (gathered (removed m) first run) left (heard_is_of_removed opening workers m run) in
+        let conserved = sent_is_conserved version opening workers present.0 seat.session seat.slot run proper is present.1 in
+        let part = stands_longer (gathered (heard m) first run) (gathered (removed m) first run) left (heard_is_of_removed version opening workers m run) in
         let bytes = mapped_stand (λ (parcel : Parcel). parcel.bytes) (gathered (heard m) first run) (gathered (removed m) first run ++ left) part in
-        subst (HeardIsSent opening workers run) number
+        subst (HeardIsSent version opening workers run) number
         (subst (λ (all : List (List ℕ)). IsSubsequence (told_bytes (gathered (heard m) first run)) all) (sym conserved) bytes)
 
 -- ---- what is heard of one speaker
@@ -212,19 +213,19 @@ all_unit [] = tt
 all_unit (x ∷ xs) = (tt, all_unit xs)
 
 -- of the worker that took the packets of a speaker
-abbrev FollowsFrom : StateValue → ℕ → List Step → ℕ → ℕ → ℕ → Type 0
-FollowsFrom opening workers run n k w =
-    IsSubsequenceBy IsParcelOf (filter (λ parcel. is_by k parcel.bytes) (gathered (heard n) (start opening workers) run)) (of_speaker k (gathered (packet_taken w) (start opening workers) run))
+abbrev FollowsFrom : Version → StateValue → ℕ → List Step → ℕ → ℕ → ℕ → Type 0
+FollowsFrom version opening workers run n k w =
+    IsSubsequenceBy IsParcelOf (filter (λ parcel. is_by k parcel.bytes) (gathered (heard n) (start version opening workers) run)) (of_speaker k (gathered (packet_taken w) (start version opening workers) run))
 
-follows : (opening : StateValue) (workers n k w : ℕ) (run : List Step) → IsProper opening → IsRun (start opening workers) run
-    → ((v : ℕ) → (v ≡ w → ⊥) → of_speaker k (gathered (packet_taken v) (start opening workers) run) ≡ []) → FollowsFrom opening workers run n k w
-follows opening workers n k w run proper is others =
-    let first : CoreState = start opening workers in
+follows : (version : Version) (opening : StateValue) (workers n k w : ℕ) (run : List Step) → IsProper opening → IsRun (start version opening workers) run
+    → ((v : ℕ) → (v ≡ w → ⊥) → of_speaker k (gathered (packet_taken v) (start version opening workers) run) ≡ []) → FollowsFrom version opening workers run n k w
+follows version opening workers n k w run proper is others =
+    let first : CoreState = start version opening workers in
     let told : List Parcel = gathered (heard n) first run in
     let offers : List (ℕ × Outgoing) = gathered (sent n) first run in
     let whole : IsSubsequence (filter (is_by k) (told_bytes told)) (filter (is_by k) (map bytes_of offers)) =
     filtered_stand (λ (x y : List ℕ). x ≡ y) (λ y. Unit {0}) (is_by k) (is_by k) (λ x y good same. ap (is_by k) same) (told_bytes told) (map bytes_of offers) (all_unit (map bytes_of offers))
-    (heard_is_sent opening workers n run proper is) in
+    (heard_is_sent version opening workers n run proper is) in
     let left : filter (is_by k) (told_bytes told) ≡ told_bytes (filter (λ (parcel : Parcel). is_by k parcel.bytes) told) = filter-mapped (λ (parcel : Parcel). parcel.bytes) (is_by k) told in
     let right : filter (is_by k) (map bytes_of offers) ≡ map bytes_of (filter (λ offer. is_by k (bytes_of offer)) (filter (λ (offer : ℕ × Outgoing). offer.0 == w) offers)) =
     filter-mapped bytes_of (is_by k) offers ∙ ap (map bytes_of) (only_of w (λ offer. is_by k (bytes_of offer)) (λ (offer : ℕ × Outgoing). offer.0) offers (λ v other. none_of v (others v other))) in
@@ -235,34 +236,34 @@ follows opening workers n k w run proper is others =
     (stands_through IsOfferOf AreBytesOf bytes_of (λ offer held of. (offer.1.context, of.0, of.1)) (told_bytes (filter (λ (parcel : Parcel). is_by k parcel.bytes) told))
     (filter (λ offer. is_by k (bytes_of offer)) (filter (λ (offer : ℕ × Outgoing). offer.0 == w) offers)) (of_speaker k (gathered (packet_taken w) first run)) part (of_worker w))
   where
-    of_worker : (v : ℕ) → IsSubsequenceBy IsOfferOf (filter (λ offer. is_by k (bytes_of offer)) (filter (λ (offer : ℕ × Outgoing). offer.0 == v) (gathered (sent n) (start opening workers) run)))
-        (of_speaker k (gathered (packet_taken v) (start opening workers) run))
+    of_worker : (v : ℕ) → IsSubsequenceBy IsOfferOf (filter (λ offer. is_by k (bytes_of offer)) (filter (λ (offer : ℕ × Outgoing). offer.0 == v) (gathered (sent n) (start version opening workers) run)))
+        (of_speaker k (gathered (packet_taken v) (start version opening workers) run))
     of_worker v =
         filtered_stand IsOfferOf IsSmall (λ offer. is_by k (bytes_of offer)) (λ held. held.speaker.0 == k) (offer_is_by k)
-        (filter (λ (offer : ℕ × Outgoing). offer.0 == v) (gathered (sent n) (start opening workers) run)) (gathered (packet_taken v) (start opening workers) run)
-        (small_all v (start opening workers) run is (lawful_start opening workers proper) (λ i. none_present (start opening workers) 0))
-        (copies_follow_packets opening workers v n run proper is)
+        (filter (λ (offer : ℕ × Outgoing). offer.0 == v) (gathered (sent n) (start version opening workers) run)) (gathered (packet_taken v) (start version opening workers) run)
+        (small_all v (start version opening workers) run is (lawful_start version opening workers proper) (λ i. none_present (start version opening workers) 0))
+        (copies_follow_packets version opening workers v n run proper is)
 
-    none_of : (v : ℕ) → of_speaker k (gathered (packet_taken v) (start opening workers) run) ≡ []
-        → filter (λ offer. is_by k (bytes_of offer)) (filter (λ (offer : ℕ × Outgoing). offer.0 == v) (gathered (sent n) (start opening workers) run)) ≡ []
+    none_of : (v : ℕ) → of_speaker k (gathered (packet_taken v) (start version opening workers) run) ≡ []
+        → filter (λ offer. is_by k (bytes_of offer)) (filter (λ (offer : ℕ × Outgoing). offer.0 == v) (gathered (sent n) (start version opening workers) run)) ≡ []
     none_of v none =
-        stands_in_none IsOfferOf (filter (λ offer. is_by k (bytes_of offer)) (filter (λ (offer : ℕ × Outgoing). offer.0 == v) (gathered (sent n) (start opening workers) run)))
-        (subst (λ (ys : List HeldPacket). IsSubsequenceBy IsOfferOf (filter (λ offer. is_by k (bytes_of offer)) (filter (λ (offer : ℕ × Outgoing). offer.0 == v) (gathered (sent n) (start opening workers) run))) ys) none (of_worker v))
+        stands_in_none IsOfferOf (filter (λ offer. is_by k (bytes_of offer)) (filter (λ (offer : ℕ × Outgoing). offer.0 == v) (gathered (sent n) (start version opening workers) run)))
+        (subst (λ (ys : List HeldPacket). IsSubsequenceBy IsOfferOf (filter (λ offer. is_by k (bytes_of offer)) (filter (λ (offer : ℕ × Outgoing). offer.0 == v) (gathered (sent n) (start version opening workers) run))) ys) none (of_worker v))
 
-pub heard_in_order : (opening : StateValue) (workers n speaker : ℕ) (run : List Step) → IsProper opening → IsRun (start opening workers) run
-    → (w : ℕ) × ((v : ℕ) → (v ≡ w → ⊥) → of_speaker speaker (gathered (packet_taken v) (start opening workers) run) ≡ []) × FollowsFrom opening workers run n speaker w
-heard_in_order opening workers n speaker run proper is = from (find_seat speaker (ran (start opening workers) run).connections)
+pub heard_in_order : (version : Version) (opening : StateValue) (workers n speaker : ℕ) (run : List Step) → IsProper opening → IsRun (start version opening workers) run
+    → (w : ℕ) × ((v : ℕ) → (v ≡ w → ⊥) → of_speaker speaker (gathered (packet_taken v) (start version opening workers) run) ≡ []) × FollowsFrom version opening workers run n speaker w
+heard_in_order version opening workers n speaker run proper is = from (find_seat speaker (ran (start version opening workers) run).connections)
   where
-    whole : (w : ℕ) → ((v : ℕ) → (v ≡ w → ⊥) → of_speaker speaker (gathered (packet_taken v) (start opening workers) run) ≡ [])
-        → (w : ℕ) × ((v : ℕ) → (v ≡ w → ⊥) → of_speaker speaker (gathered (packet_taken v) (start opening workers) run) ≡ []) × FollowsFrom opening workers run n speaker w
-    whole w others = (w, others, follows opening workers n speaker w run proper is others)
+    whole : (w : ℕ) → ((v : ℕ) → (v ≡ w → ⊥) → of_speaker speaker (gathered (packet_taken v) (start version opening workers) run) ≡ [])
+        → (w : ℕ) × ((v : ℕ) → (v ≡ w → ⊥) → of_speaker speaker (gathered (packet_taken v) (start version opening workers) run) ≡ []) × FollowsFrom version opening workers run n speaker w
+    whole w others = (w, others, follows version opening workers n speaker w run proper is others)
 
-    from : Seated speaker (ran (start opening workers) run).connections
-        → (w : ℕ) × ((v : ℕ) → (v ≡ w → ⊥) → of_speaker speaker (gathered (packet_taken v) (start opening workers) run) ≡ []) × FollowsFrom opening workers run n speaker w
-    from (inr nobody) = whole 0 (λ v other. only_from v speaker (start opening workers) run is (settled_start opening workers) (λ p has at. nobody p has))
+    from : Seated speaker (ran (start version opening workers) run).connections
+        → (w : ℕ) × ((v : ℕ) → (v ≡ w → ⊥) → of_speaker speaker (gathered (packet_taken v) (start version opening workers) run) ≡ []) × FollowsFrom version opening workers run n speaker w
+    from (inr nobody) = whole 0 (λ v other. only_from v speaker (start version opening workers) run is (settled_start version opening workers) (λ p has at. nobody p has))
     from (inl place) =
-        let core : CoreState = ran (start opening workers) run in
-        let sound = sound_all (start opening workers) run (sound_start opening workers) in
+        let core : CoreState = ran (start version opening workers) run in
+        let sound = sound_all (start version opening workers) run (sound_start version opening workers) in
         whole (conn core place.0).worker
-        (λ v other. only_from v speaker (start opening workers) run is (settled_start opening workers)
+        (λ v other. only_from v speaker (start version opening workers) run is (settled_start version opening workers)
         (λ p has at. other (sym at ∙ ap (λ (i : ℕ). (conn core i).worker) (sound.alone place.0 p speaker (inl place.1) (inl has)))))

@@ -8,13 +8,14 @@ use Rattle.mum_state.specs.declared.verdict.Verdict.{Verdict}
 use Rattle.mum_state.specs.State.{StateValue}
 use Rattle.mum_notify.specs.declared.notice.Notice.{Notice}
 use Rattle.mum_voice.specs.Packet.{packet}
+use Rattle.mum_record.specs.declared.head.Version.{Version}
 use Rattle.mum_record.specs.declared.step.Step.{Step}
 use Rattle.mum_record.specs.declared.step.Step.TheVariants as steps
 use Rattle.mum_record.specs.declared.step.Step.TheVariants.{Open, Frame, Publish, Tell, Look, Offer, Post, Drain, Collect, Close, End}
 use Rattle.mum_session.specs.declared.action.Action.{Action}
 use Rattle.mum_session.specs.declared.action.Action.TheVariants.{Ask, Voice, Echo, Keep, Ignore}
 use Rattle.mum_core.specs.declared.connection.Seat.{Seat}
-use Rattle.mum_core.specs.declared.slot.TheConstants.{SLOTS}
+use Rattle.mum_base.specs.declared.number.TheConstants.{SLOTS}
 use Rattle.mum_core.specs.declared.worker.Outgoing.{Outgoing}
 use Rattle.mum_core.specs.Core.{CoreState, start, connection_at, current, posts_at, at_posts, at_session}
 use Rattle.mum_core.specs.Laws.{collected, collected_by, gathered, noticed, offered, posted_in, ran}
@@ -120,9 +121,9 @@ waits_all core (step ∷ run) =
     joined core.pending (noticed core step) (gathered noticed (does core step) run) (offered core step) (does core step).pending (gathered offered (does core step) run) (ran (does core step) run).pending
     (waits core step) (waits_all (does core step) run)
 
-pub notices_are_posted : (opening : StateValue) (workers : ℕ) (run : List Step)
-    → gathered noticed (start opening workers) run ≡ gathered offered (start opening workers) run ++ (ran (start opening workers) run).pending
-notices_are_posted opening workers run = waits_all (start opening workers) run
+pub notices_are_posted : (version : Version) (opening : StateValue) (workers : ℕ) (run : List Step)
+    → gathered noticed (start version opening workers) run ≡ gathered offered (start version opening workers) run ++ (ran (start version opening workers) run).pending
+notices_are_posted version opening workers run = waits_all (start version opening workers) run
 
 -- ---- the posts of a slot
 
@@ -245,11 +246,11 @@ none_there zero (suc slot) = refl
 none_there (suc count) zero = refl
 none_there (suc count) (suc slot) = none_there count slot
 
-pub posts_are_collected : (opening : StateValue) (workers slot : ℕ) (run : List Step) → slot < SLOTS
-    → gathered (posted_in slot) (start opening workers) run ≡ gathered (collected slot) (start opening workers) run ++ posts_at (ran (start opening workers) run) slot
-posts_are_collected opening workers slot run within =
+pub posts_are_collected : (version : Version) (opening : StateValue) (workers slot : ℕ) (run : List Step) → slot < SLOTS
+    → gathered (posted_in slot) (start version opening workers) run ≡ gathered (collected slot) (start version opening workers) run ++ posts_at (ran (start version opening workers) run) slot
+posts_are_collected version opening workers slot run within =
     let none : List Notice = [] in
     let begun : length (replicate SLOTS none) ≡ SLOTS = length-replicate SLOTS none in
-    let first : posts_at (start opening workers) slot ≡ [] = none_there SLOTS slot in
-    ap (λ (xs : List Notice). xs ++ gathered (posted_in slot) (start opening workers) run) (sym first)
-    ∙ conserved_all slot (start opening workers) run (subst (λ (n : ℕ). slot < n) (sym begun) within)
+    let first : posts_at (start version opening workers) slot ≡ [] = none_there SLOTS slot in
+    ap (λ (xs : List Notice). xs ++ gathered (posted_in slot) (start version opening workers) run) (sym first)
+    ∙ conserved_all slot (start version opening workers) run (subst (λ (n : ℕ). slot < n) (sym begun) within)

@@ -17,8 +17,9 @@ use Rattle.mum_state.specs.State.{StateValue}
 use Rattle.mum_state.proofs.Each.{shown}
 use Rattle.mum_core.specs.declared.connection.Seat.{Seat}
 use Rattle.mum_core.specs.declared.outbox.Parcel.{Parcel}
-use Rattle.mum_core.specs.declared.slot.TheConstants.{SLOTS}
+use Rattle.mum_base.specs.declared.number.TheConstants.{SLOTS}
 use Rattle.mum_core.specs.declared.worker.Outgoing.{Outgoing}
+use Rattle.mum_record.specs.declared.head.Version.{Version}
 use Rattle.mum_record.specs.declared.step.Step.TheVariants as steps
 use Rattle.mum_record.specs.declared.step.Step.{Step}
 use Rattle.mum_record.specs.declared.step.Step.TheVariants.{Open, Frame, Publish, Tell, Look, Offer, Post, Drain, Collect, Close, End}
@@ -110,8 +111,8 @@ fits_step n slot core step looks fits =
       parcels = parcels_step n slot core step fits.copies fits.parcels;
     }
 
-pub fits_start : (n slot : ℕ) (opening : StateValue) (workers : ℕ) → Fits n slot (start opening workers)
-fits_start n slot opening workers =
+pub fits_start : (n slot : ℕ) (version : Version) (opening : StateValue) (workers : ℕ) → Fits n slot (start version opening workers)
+fits_start n slot version opening workers =
     record {
       boxes = let none : List Parcel = [] in length-replicate SLOTS none;
       copies = idle_copies (FitsCopy n slot) workers;
@@ -277,19 +278,19 @@ conserved_all n slot core (step ∷ run) within looks fits =
     ∙ (sym (append_assoc (bytes_of take) (bytes_of takes) new)
     ∙ ap (λ (xs : List (List ℕ)). xs ++ new) (sym (map-append (λ (parcel : Parcel). parcel.bytes) take takes)))))))
 
-pub sent_is_conserved : (opening : StateValue) (workers revision : ℕ) (session : SessionId) (slot : Slot) (run : List Step) → IsProper opening → IsRun (start opening workers) run
-    → IsInSlot (state_at (ran (start opening workers) run) revision) session slot
-    → map (λ offer. offer.1.bytes) (gathered (sent session.0) (start opening workers) run)
-    ≡ map (λ parcel. parcel.bytes) (gathered (removed session.0) (start opening workers) run ++ filter (λ parcel. parcel.to.0 == session.0) (outbox_at (ran (start opening workers) run) slot.0))
-sent_is_conserved opening workers revision session slot run proper is sits =
-    let core : CoreState = ran (start opening workers) run in
-    let lawful = lawful_all (start opening workers) run (lawful_start opening workers proper) in
+pub sent_is_conserved : (version : Version) (opening : StateValue) (workers revision : ℕ) (session : SessionId) (slot : Slot) (run : List Step) → IsProper opening → IsRun (start version opening workers) run
+    → IsInSlot (state_at (ran (start version opening workers) run) revision) session slot
+    → map (λ offer. offer.1.bytes) (gathered (sent session.0) (start version opening workers) run)
+    ≡ map (λ parcel. parcel.bytes) (gathered (removed session.0) (start version opening workers) run ++ filter (λ parcel. parcel.to.0 == session.0) (outbox_at (ran (start version opening workers) run) slot.0))
+sent_is_conserved version opening workers revision session slot run proper is sits =
+    let core : CoreState = ran (start version opening workers) run in
+    let lawful = lawful_all (start version opening workers) run (lawful_start version opening workers proper) in
     let (user, found, here) = shown (λ (user : User). user.slot) (session_of (state_at core revision).roster session) slot sits in
     let within : slot.0 < SLOTS = subst (λ (s : Slot). s.0 < SLOTS) here (slot_below (state_at core revision) session user (state_proper core revision lawful) found) in
-    let all = conserved_all session.0 slot.0 (start opening workers) run within (looks_fit core revision session slot lawful sits) (fits_start session.0 slot.0 opening workers) in
-    let none : bytes_of (mine session.0 (outbox_at (start opening workers) slot.0)) ≡ [] = ap (λ (box : List Parcel). bytes_of (mine session.0 box)) (empty_box SLOTS slot.0) in
-    ap (λ (xs : List (List ℕ)). xs ++ copies_of (gathered (sent session.0) (start opening workers) run)) (sym none)
-    ∙ (all ∙ sym (map-append (λ (parcel : Parcel). parcel.bytes) (gathered (removed session.0) (start opening workers) run) (mine session.0 (outbox_at core slot.0))))
+    let all = conserved_all session.0 slot.0 (start version opening workers) run within (looks_fit core revision session slot lawful sits) (fits_start session.0 slot.0 version opening workers) in
+    let none : bytes_of (mine session.0 (outbox_at (start version opening workers) slot.0)) ≡ [] = ap (λ (box : List Parcel). bytes_of (mine session.0 box)) (empty_box SLOTS slot.0) in
+    ap (λ (xs : List (List ℕ)). xs ++ copies_of (gathered (sent session.0) (start version opening workers) run)) (sym none)
+    ∙ (all ∙ sym (map-append (λ (parcel : Parcel). parcel.bytes) (gathered (removed session.0) (start version opening workers) run) (mine session.0 (outbox_at core slot.0))))
 
 -- ---- none is sent to who was never there
 
@@ -327,13 +328,13 @@ none_sent_on n core (step ∷ run) looks others =
     let later = none_sent_on n (does core step) run looks (copies_step (IsForOthers n) core step (looks_before (IsForOthers n) core (step ∷ run) looks) others) in
     rw (first, later) refl
 
-pub none_sent_to_absent : (opening : StateValue) (workers : ℕ) (session : SessionId) (run : List Step) → IsProper opening → IsRun (start opening workers) run
-    → ((revision : ℕ) → session_of (state_at (ran (start opening workers) run) revision).roster session ≡ None)
-    → gathered (sent session.0) (start opening workers) run ≡ []
-none_sent_to_absent opening workers session run proper is absent =
-    none_sent_on session.0 (start opening workers) run
-    (λ revision. each_looked (IsForOthers session.0) (state_at (ran (start opening workers) run) revision)
+pub none_sent_to_absent : (version : Version) (opening : StateValue) (workers : ℕ) (session : SessionId) (run : List Step) → IsProper opening → IsRun (start version opening workers) run
+    → ((revision : ℕ) → session_of (state_at (ran (start version opening workers) run) revision).roster session ≡ None)
+    → gathered (sent session.0) (start version opening workers) run ≡ []
+none_sent_to_absent version opening workers session run proper is absent =
+    none_sent_on session.0 (start version opening workers) run
+    (λ revision. each_looked (IsForOthers session.0) (state_at (ran (start version opening workers) run) revision)
     (λ held one user found to.
     let number : one.0 ≡ session = ap (λ n. record { 0 = n }) to in
-    none-some user (sym (absent revision) ∙ ap (session_of (state_at (ran (start opening workers) run) revision).roster) (sym number) ∙ found)))
+    none-some user (sym (absent revision) ∙ ap (session_of (state_at (ran (start version opening workers) run) revision).roster) (sym number) ∙ found)))
     (idle_copies (IsForOthers session.0) workers)

@@ -13,6 +13,7 @@ use Rattle.mum_session.specs.declared.action.Action.{Action}
 use Rattle.mum_session.specs.declared.action.Action.TheVariants.{Ask, Voice, Echo, Keep, Ignore}
 use Rattle.mum_core.specs.declared.route.Member.{Member}
 use Rattle.mum_core.specs.declared.worker.Outgoing.{Outgoing}
+use Rattle.mum_record.specs.declared.head.Version.{Version}
 use Rattle.mum_record.specs.declared.step.Step.TheVariants as steps
 use Rattle.mum_record.specs.declared.step.Step.{Step}
 use Rattle.mum_record.specs.declared.step.Step.TheVariants.{Open, Frame, Publish, Tell, Look, Offer, Post, Drain, Collect, Close, End}
@@ -292,10 +293,10 @@ of_packets (offer ∷ offers) [] h = absurd h
 of_packets (offer ∷ offers) (one ∷ held) (inl (is, rest)) = inl (is, of_packets offers held rest)
 of_packets (offer ∷ offers) (one ∷ held) (inr later) = inr (of_packets (offer ∷ offers) held later)
 
-pub copies_follow_packets : (opening : StateValue) (workers v n : ℕ) (run : List Step) → IsProper opening → IsRun (start opening workers) run
-    → IsSubsequenceBy IsOfferOf (filter (λ offer. offer.0 == v) (gathered (sent n) (start opening workers) run)) (gathered (packet_taken v) (start opening workers) run)
-copies_follow_packets opening workers v n run proper is =
-    let all = sent_all n v (start opening workers) run is (clean_start workers) (lawful_start opening workers proper) in
-    let nothing : in_sight n (worker_at (start opening workers) v) ≡ [] = ap (in_sight n) (idle_at workers v) in
-    of_packets (by_worker v (gathered (sent n) (start opening workers) run)) (gathered (packet_taken v) (start opening workers) run)
-    (subst (λ (seen : List Source). Stands (by_worker v (gathered (sent n) (start opening workers) run)) (seen ++ map Held (gathered (packet_taken v) (start opening workers) run))) nothing all)
+pub copies_follow_packets : (version : Version) (opening : StateValue) (workers v n : ℕ) (run : List Step) → IsProper opening → IsRun (start version opening workers) run
+    → IsSubsequenceBy IsOfferOf (filter (λ offer. offer.0 == v) (gathered (sent n) (start version opening workers) run)) (gathered (packet_taken v) (start version opening workers) run)
+copies_follow_packets version opening workers v n run proper is =
+    let all = sent_all n v (start version opening workers) run is (clean_start workers) (lawful_start version opening workers proper) in
+    let nothing : in_sight n (worker_at (start version opening workers) v) ≡ [] = ap (in_sight n) (idle_at workers v) in
+    of_packets (by_worker v (gathered (sent n) (start version opening workers) run)) (gathered (packet_taken v) (start version opening workers) run)
+    (subst (λ (seen : List Source). Stands (by_worker v (gathered (sent n) (start version opening workers) run)) (seen ++ map Held (gathered (packet_taken v) (start version opening workers) run))) nothing all)

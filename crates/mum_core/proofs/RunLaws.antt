@@ -13,6 +13,7 @@ use Rattle.mum_core.specs.declared.connection.Seat.{Seat}
 use Rattle.mum_core.specs.declared.worker.Outgoing.{Outgoing}
 use Rattle.mum_session.specs.declared.action.Action.{Action}
 use Rattle.mum_session.specs.declared.action.Action.TheVariants.{Ask, Voice, Echo, Keep, Ignore}
+use Rattle.mum_record.specs.declared.head.Version.{Version}
 use Rattle.mum_record.specs.declared.step.Step.TheVariants as steps
 use Rattle.mum_record.specs.declared.step.Step.{Step}
 use Rattle.mum_record.specs.declared.step.Step.TheVariants.{Open, Frame, Publish, Tell, Look, Offer, Post, Drain, Collect, Close, End}
@@ -169,8 +170,8 @@ pub within_all : (core : CoreState) (run : List Step) → IsWithin core → IsWi
 within_all core [] h = h
 within_all core (step ∷ run) h = within_all (does core step) run (within core step h)
 
-pub published_is_accepted : (opening : StateValue) (workers : ℕ) (run : List Step) → IsWithin (ran (start opening workers) run)
-published_is_accepted opening workers run = within_all (start opening workers) run (omega arith)
+pub published_is_accepted : (version : Version) (opening : StateValue) (workers : ℕ) (run : List Step) → IsWithin (ran (start version opening workers) run)
+published_is_accepted version opening workers run = within_all (start version opening workers) run (omega arith)
 
 -- what is published never falls
 decided_published : (core : CoreState) (c : ℕ) (verdict : Option Verdict) → (option_map_or (edit_step.decides core c) verdict core).published ≡ core.published
@@ -201,9 +202,9 @@ published_on core (step ∷ run) h =
     let later = published_on (does core step) run (within core step h) in
     omega (arith, first, later)
 
-pub published_never_falls : (opening : StateValue) (workers : ℕ) (run more : List Step)
-    → (ran (start opening workers) run).published ≤ (ran (ran (start opening workers) run) more).published
-published_never_falls opening workers run more = published_on (ran (start opening workers) run) more (published_is_accepted opening workers run)
+pub published_never_falls : (version : Version) (opening : StateValue) (workers : ℕ) (run more : List Step)
+    → (ran (start version opening workers) run).published ≤ (ran (ran (start version opening workers) run) more).published
+published_never_falls version opening workers run more = published_on (ran (start version opening workers) run) more (published_is_accepted version opening workers run)
 
 -- ---- workers
 

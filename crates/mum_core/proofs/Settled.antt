@@ -12,6 +12,7 @@ use Rattle.mum_session.specs.declared.command.Asked.{Asked}
 use Rattle.mum_core.specs.declared.connection.Connection.{Connection}
 use Rattle.mum_core.specs.declared.connection.Reply.{Reply}
 use Rattle.mum_core.specs.declared.connection.Seat.{Seat}
+use Rattle.mum_record.specs.declared.head.Version.{Version}
 use Rattle.mum_record.specs.declared.step.Step.TheVariants as steps
 use Rattle.mum_record.specs.declared.step.Step.{Step}
 use Rattle.mum_record.specs.declared.step.Step.TheVariants.{Frame, Tell, Close}
@@ -99,8 +100,8 @@ seat_all core (step ∷ run) i settled =
 abbrev pub AreSettled : CoreState → Type 0
 AreSettled core = (i : ℕ) → IsSettled (conn core i)
 
-pub settled_start : (opening : StateValue) (workers : ℕ) → AreSettled (start opening workers)
-settled_start opening workers i seat is = cc
+pub settled_start : (version : Version) (opening : StateValue) (workers : ℕ) → AreSettled (start version opening workers)
+settled_start version opening workers i seat is = cc
 
 pub settled_step : (core : CoreState) (step : Step) → AreSettled core → AreSettled (does core step)
 settled_step core step settled i = (seat_step core step i (settled i)).0
@@ -119,10 +120,10 @@ seat_on core run c seat settled is =
     let here : (conn core (c - 1)).seat ≡ Some seat = sym (ap (λ (x : Connection). x.seat) (placed core c first)) ∙ is in
     ap (λ (x : Connection). x.seat) (placed (ran core run) c first) ∙ (seat_all core run (c - 1) (settled (c - 1))).1 seat here
 
-pub seats_stay : (opening : StateValue) (workers c : ℕ) (run more : List Step) (seat : Seat) → IsRun (start opening workers) run → IsRun (ran (start opening workers) run) more
-    → (connection_at (ran (start opening workers) run) c).seat ≡ Some seat → (connection_at (ran (ran (start opening workers) run) more) c).seat ≡ Some seat
-seats_stay opening workers c run more seat is_run is_more is =
-    seat_on (ran (start opening workers) run) more c seat (λ i. (seat_all (start opening workers) run i (settled_start opening workers i)).0) is
+pub seats_stay : (version : Version) (opening : StateValue) (workers c : ℕ) (run more : List Step) (seat : Seat) → IsRun (start version opening workers) run → IsRun (ran (start version opening workers) run) more
+    → (connection_at (ran (start version opening workers) run) c).seat ≡ Some seat → (connection_at (ran (ran (start version opening workers) run) more) c).seat ≡ Some seat
+seats_stay version opening workers c run more seat is_run is_more is =
+    seat_on (ran (start version opening workers) run) more c seat (λ i. (seat_all (start version opening workers) run i (settled_start version opening workers i)).0) is
 
 -- ---- the close
 

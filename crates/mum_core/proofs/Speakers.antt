@@ -22,6 +22,7 @@ use Rattle.mum_session.specs.declared.command.Asked.{Asked}
 use Rattle.mum_core.specs.declared.connection.Connection.{Connection}
 use Rattle.mum_core.specs.declared.connection.Reply.{Reply}
 use Rattle.mum_core.specs.declared.connection.Seat.{Seat}
+use Rattle.mum_record.specs.declared.head.Version.{Version}
 use Rattle.mum_record.specs.declared.step.Step.TheVariants as steps
 use Rattle.mum_record.specs.declared.step.Step.{Step}
 use Rattle.mum_record.specs.declared.step.Step.TheVariants.{Open, Frame, Publish, Tell, Look, Offer, Post, Drain, Collect, Close, End}
@@ -192,8 +193,8 @@ owns_step core step i k owns =
     let rises = count_rises core step in
     record { given = omega (arith, low, rises); alone = λ j has. owned_by core (does core step) (grants_at step) i j k owns (grants core step j k has) }
 
-pub sound_start : (opening : StateValue) (workers : ℕ) → Sound (start opening workers)
-sound_start opening workers = record { given = λ j k has. neither has; alone = λ i j k hi hj. neither hi }
+pub sound_start : (version : Version) (opening : StateValue) (workers : ℕ) → Sound (start version opening workers)
+sound_start version opening workers = record { given = λ j k has. neither has; alone = λ i j k hi hj. neither hi }
 
 -- ---- whose packet a step takes
 
@@ -325,10 +326,10 @@ one_of_two core (step ∷ run) v w k is sound other = from (source v k core step
     from (inl nv) (inl nw) (inl none) = inl (joined_none k (packet_taken v core step) (gathered (packet_taken v) (does core step) run) nv none)
     from (inl nv) (inl nw) (inr none) = inr (joined_none k (packet_taken w core step) (gathered (packet_taken w) (does core step) run) nw none)
 
-pub one_worker_a_speaker : (opening : StateValue) (workers v w speaker : ℕ) (run : List Step) → IsRun (start opening workers) run → (v ≡ w → ⊥)
-    → (filter (λ held. held.speaker.0 == speaker) (gathered (packet_taken v) (start opening workers) run) ≡ [])
-    ⊎ (filter (λ held. held.speaker.0 == speaker) (gathered (packet_taken w) (start opening workers) run) ≡ [])
-one_worker_a_speaker opening workers v w speaker run is other = one_of_two (start opening workers) run v w speaker is (sound_start opening workers) other
+pub one_worker_a_speaker : (version : Version) (opening : StateValue) (workers v w speaker : ℕ) (run : List Step) → IsRun (start version opening workers) run → (v ≡ w → ⊥)
+    → (filter (λ held. held.speaker.0 == speaker) (gathered (packet_taken v) (start version opening workers) run) ≡ [])
+    ⊎ (filter (λ held. held.speaker.0 == speaker) (gathered (packet_taken w) (start version opening workers) run) ≡ [])
+one_worker_a_speaker version opening workers v w speaker run is other = one_of_two (start version opening workers) run v w speaker is (sound_start version opening workers) other
 
 -- ---- the connection of a session
 
@@ -350,11 +351,11 @@ seated core c k has = from (nat_lt 0 c) refl has
     from true e has = (ltb-true 0 c e, inl has)
     from false e has = absurd has
 
-pub one_connection_a_session : (opening : StateValue) (workers c d : ℕ) (run more : List Step) (seat other : Seat) → IsRun (start opening workers) run → IsRun (ran (start opening workers) run) more
-    → (connection_at (ran (start opening workers) run) c).seat ≡ Some seat → (connection_at (ran (ran (start opening workers) run) more) d).seat ≡ Some other → seat.session.0 ≡ other.session.0 → c ≡ d
-one_connection_a_session opening workers c d run more seat other is later first second same =
-    let core : CoreState = ran (start opening workers) run in
-    let sound = sound_all (start opening workers) run (sound_start opening workers) in
+pub one_connection_a_session : (version : Version) (opening : StateValue) (workers c d : ℕ) (run more : List Step) (seat other : Seat) → IsRun (start version opening workers) run → IsRun (ran (start version opening workers) run) more
+    → (connection_at (ran (start version opening workers) run) c).seat ≡ Some seat → (connection_at (ran (ran (start version opening workers) run) more) d).seat ≡ Some other → seat.session.0 ≡ other.session.0 → c ≡ d
+one_connection_a_session version opening workers c d run more seat other is later first second same =
+    let core : CoreState = ran (start version opening workers) run in
+    let sound = sound_all (start version opening workers) run (sound_start version opening workers) in
     let here = seated core c seat.session.0 (given_of (connection_at core c).seat seat seat.session.0 first refl) in
     let there = seated (ran core more) d seat.session.0 (given_of (connection_at (ran core more) d).seat other seat.session.0 second (sym same)) in
     let owns : Owns core (c - 1) seat.session.0 =

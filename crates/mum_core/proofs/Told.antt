@@ -5,6 +5,7 @@ use Rattle.std.proofs.lemmas.Bool.{eqb-true}
 use Rattle.mum_state.specs.State.{StateValue}
 use Rattle.mum_core.specs.declared.connection.Seat.{Seat}
 use Rattle.mum_core.specs.declared.outbox.Parcel.{Parcel}
+use Rattle.mum_record.specs.declared.head.Version.{Version}
 use Rattle.mum_record.specs.declared.step.Step.TheVariants as steps
 use Rattle.mum_record.specs.declared.step.Step.{Step}
 use Rattle.mum_record.specs.declared.step.Step.TheVariants.{Open, Frame, Publish, Tell, Look, Offer, Post, Drain, Collect, Close, End}
@@ -47,8 +48,8 @@ all_heard n core (step ∷ run) =
     parts_stand (heard n core step) (removed n core step) (gathered (heard n) (does core step) run) (gathered (removed n) (does core step) run)
     (heard_is_removed n core step) (all_heard n (does core step) run)
 
-pub heard_is_of_removed : (opening : StateValue) (workers n : ℕ) (run : List Step) → IsSubsequence (gathered (heard n) (start opening workers) run) (gathered (removed n) (start opening workers) run)
-heard_is_of_removed opening workers n run = all_heard n (start opening workers) run
+pub heard_is_of_removed : (version : Version) (opening : StateValue) (workers n : ℕ) (run : List Step) → IsSubsequence (gathered (heard n) (start version opening workers) run) (gathered (removed n) (start version opening workers) run)
+heard_is_of_removed version opening workers n run = all_heard n (start version opening workers) run
 
 other_by : (n : ℕ) (core : CoreState) (seat : Seat) (b : Bool) → (seat.session.0 == n) ≡ b → (seat.session.0 ≡ n → ⊥) → cond b (own_front core (Some seat)) [] ≡ []
 other_by n core seat true e other = absurd (other (eqb-true seat.session.0 n e))

@@ -1,11 +1,15 @@
 -- The core as plain data, and the changes of one connection, one worker or one outbox.
-use Rattle.std.specs.Prelude.{ℕ, ◌+◌, ◌-◌, ◌^◌, ◌&&◌, min, Bool, List, [], length, map, replicate, nat_lt, slice_index_or, if◌then◌else◌}
-use Rattle.mum_base.specs.declared.number.SessionId.{SessionId}
+use Rattle.std.specs.Prelude.{ℕ, ◌+◌, ◌-◌, ◌^◌, ◌&&◌, min, Bool, List, [], ◌∷◌, length, map, replicate, nat_lt, slice_index_or, if◌then◌else◌}
+use Rattle.mum_base.specs.declared.{number.SessionId.SessionId, number.TheConstants.SLOTS}
 use Rattle.mum_state.specs.declared.edit.Edit.{Edit}
+use Rattle.mum_state.specs.declared.edit.Edit.TheVariants.{SetLimits}
 use Rattle.mum_state.specs.After.{at, led_to}
 use Rattle.mum_state.specs.State.{StateValue}
 use Rattle.mum_notify.specs.declared.notice.Notice.{Notice}
-use Rattle.mum_core.specs.declared.{connection.Connection.Connection, machine.Totals.Totals, outbox.Parcel.Parcel, slot.TheConstants.SLOTS}
+use Rattle.mum_record.specs.Head.{first_step_line}
+use Rattle.mum_record.specs.declared.head.Version.{Version}
+use Rattle.mum_record.specs.declared.head.Version.TheVariants.{One, Two}
+use Rattle.mum_core.specs.declared.{connection.Connection.Connection, machine.Totals.Totals, outbox.Parcel.Parcel}
 use Rattle.mum_core.specs.Connection.{fresh, is_of}
 use Rattle.mum_core.specs.Lists.{changed_at}
 use Rattle.mum_core.specs.Worker.{WorkerState, idle}
@@ -29,12 +33,13 @@ pub record CoreState : Type 0 where
   -- how many notices were posted, or found the posts of their slot full
   pub posted : ℕ
   pub totals : Totals
-  -- the number of the last line that was taken: the steps stand behind the three lines of the head
+  -- the number of the last line that was taken: the steps stand behind the lines of the head
   pub line : ℕ
 
--- the core of this many workers at an opening state, that nothing happened to
-abbrev pub start : StateValue → ℕ → CoreState
-start opening workers =
+-- the core of this many workers at an opening state, that nothing happened to: its steps stand in a recording of this
+-- version
+abbrev pub start : Version → StateValue → ℕ → CoreState
+start version opening workers =
     record {
       opening = opening;
       accepted = [];
@@ -46,8 +51,13 @@ start opening workers =
       posts = replicate SLOTS [];
       posted = 0;
       totals = record { looks = 0; copies = 0; full = 0; stale = 0 };
-      line = 3;
+      line = first_step_line version - 1;
     }
+
+-- the version of a recording whose steps begin after these edits: in version 2 the first of them sets the limits
+abbrev pub version_of : List Edit → Version
+version_of (SetLimits sessions channels ∷ edits) = Two
+version_of edits = One
 
 -- the state after the first so many accepted edits, and after all of them
 abbrev pub state_at : CoreState → ℕ → StateValue

@@ -3,10 +3,11 @@ use Rattle.std.specs.Prelude.{◌≡◌, ◌≤◌, List, [], length, Result, Ok
 use Rattle.std.specs.List.{All}
 use Rattle.mum_voice.specs.declared.fault.BadVoice.{BadVoice}
 use Rattle.mum_voice.specs.Packet.{Parts}
+use Rattle.mum_base.specs.declared.number.TheConstants.{SLOTS}
 use Rattle.mum_history.specs.History.{HistoryValue}
 use Rattle.mum_history.specs.View.{IsViewOf, ViewValue}
 use Rattle.mum_notify.specs.declared.notice.Notice.{Notice}
-use Rattle.mum_core.specs.declared.{outbox.Parcel.Parcel, slot.TheConstants.SLOTS}
+use Rattle.mum_core.specs.declared.outbox.Parcel.{Parcel}
 use Rattle.mum_core.specs.Worker.{WorkerState}
 
 -- each worker has a view of the history, and each slot an outbox and posts

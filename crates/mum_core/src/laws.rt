@@ -15,6 +15,7 @@ ghost use Rattle.mum_route.specs.Route.{route};
 ghost use Rattle.mum_route.specs.declared.routes.TheConstants.{LOOPBACK};
 ghost use Rattle.mum_core.specs.declared.connection.Seat.{Seat};
 ghost use Rattle.mum_core.specs.declared.worker.Outgoing.{Outgoing};
+ghost use Rattle.mum_record.specs.declared.head.Version.{Version};
 ghost use Rattle.mum_record.specs.declared.step.Step.{Step};
 ghost use Rattle.mum_record.specs.declared.step.Step.TheVariants.{Collect, Drain, Frame, Look, Offer};
 ghost use Rattle.mum_core.specs.Core.{CoreState, start, state_at, connection_at, is_opened, outbox_at, posts_at, worker_at};
@@ -25,11 +26,10 @@ ghost use Rattle.mum_core.specs.Worker.{HeldPacket};
 ghost use Rattle.mum_core.specs.steps.Look.{copy_to};
 
 use crate::outbox::OUTBOX_CAPACITY;
-use crate::slot::SLOTS;
+use mum_base::SLOTS;
 
-/// The numbers for which the limits stand: slots of the server, copies of an outbox.
+/// The number for which the limit stands: copies of an outbox.
 pub fn limits()
-    ensures slots { SLOTS ≡ 128 }
     ensures outbox { OUTBOX_CAPACITY ≡ 128 }
 {}
 
@@ -40,13 +40,13 @@ pub fn accepted_edits_are_one_list()
         (more : List Edit) × ((ran core steps).accepted ≡ core.accepted ++ more) }
     ensures opening { (core : CoreState) (steps : List Step) →
         (ran core steps).opening ≡ core.opening }
-    ensures fit { (opening : StateValue) (workers : ℕ) (steps : List Step) → IsProper opening →
-        IsRun (start opening workers) steps →
-        IsTrue (all_fit opening (ran (start opening workers) steps).accepted) }
-    ensures published { (opening : StateValue) (workers : ℕ) (steps : List Step) →
-        let core = ran (start opening workers) steps in core.published ≤ length core.accepted }
-    ensures never_back { (opening : StateValue) (workers : ℕ) (steps more : List Step) →
-        let core = ran (start opening workers) steps in core.published ≤ (ran core more).published }
+    ensures fit { (version : Version) (opening : StateValue) (workers : ℕ) (steps : List Step) →
+        IsProper opening → IsRun (start version opening workers) steps →
+        IsTrue (all_fit opening (ran (start version opening workers) steps).accepted) }
+    ensures published { (version : Version) (opening : StateValue) (workers : ℕ) (steps : List Step) →
+        let core = ran (start version opening workers) steps in core.published ≤ length core.accepted }
+    ensures never_back { (version : Version) (opening : StateValue) (workers : ℕ) (steps more : List Step) →
+        let core = ran (start version opening workers) steps in core.published ≤ (ran core more).published }
 {}
 
 /// What a worker has seen and was told never falls; a look is at a published revision, and not
@@ -76,11 +76,11 @@ pub fn copies_are_offered_once()
         AllByRecursion (λ m. m.session.0 ≡ speaker.0 → ⊥) (members state speaker target) }
     ensures loopback { (state : StateValue) (speaker : SessionId) →
         AllByRecursion (λ m. m.session.0 ≡ speaker.0) (members state speaker LOOPBACK) }
-    ensures each_once { (opening : StateValue) (workers : ℕ) (steps : List Step)
+    ensures each_once { (version : Version) (opening : StateValue) (workers : ℕ) (steps : List Step)
         (revision : ℕ) (speaker : SessionId) (target : ℕ) →
-        IsProper opening → IsRun (start opening workers) steps →
+        IsProper opening → IsRun (start version opening workers) steps →
         AllPairs (λ m other. (m.slot.0 < other.slot.0) × (m.session.0 ≡ other.session.0 → ⊥))
-        (members (state_at (ran (start opening workers) steps) revision) speaker target) }
+        (members (state_at (ran (start version opening workers) steps) revision) speaker target) }
     ensures in_order { (core : CoreState) (w : ℕ) → illegal core (Offer w) ≡ None →
         (copy : Outgoing)
         × ((worker_at core w).copies ≡ copy ∷ (worker_at (does core (Offer w)) w).copies) }
@@ -91,18 +91,18 @@ pub fn copies_are_offered_once()
 /// posted, are what was told to connections, what was dropped, and what waits: until a count stands at
 /// the end of its type.
 pub fn each_copy_is_counted()
-    ensures offered { (opening : StateValue) (workers : ℕ) (steps : List Step) →
-        IsRun (start opening workers) steps → length steps < 2 ^ 64 - 1 →
-        let core = ran (start opening workers) steps in
+    ensures offered { (version : Version) (opening : StateValue) (workers : ℕ) (steps : List Step) →
+        IsRun (start version opening workers) steps → length steps < 2 ^ 64 - 1 →
+        let core = ran (start version opening workers) steps in
         core.totals.copies + core.totals.full + sum_by (λ worker. length worker.copies) core.workers
-        ≡ looked (start opening workers) steps }
-    ensures drained { (opening : StateValue) (workers : ℕ) (steps : List Step) →
-        IsProper opening → IsRun (start opening workers) steps → length steps < 2 ^ 64 - 1 →
-        let core = ran (start opening workers) steps in
-        length (gathered wired (start opening workers) steps)
-        + length (gathered told_notice (start opening workers) steps) + core.totals.stale
+        ≡ looked (start version opening workers) steps }
+    ensures drained { (version : Version) (opening : StateValue) (workers : ℕ) (steps : List Step) →
+        IsProper opening → IsRun (start version opening workers) steps → length steps < 2 ^ 64 - 1 →
+        let core = ran (start version opening workers) steps in
+        length (gathered wired (start version opening workers) steps)
+        + length (gathered told_notice (start version opening workers) steps) + core.totals.stale
         + sum_by length core.outboxes + sum_by length core.posts
-        ≡ core.totals.copies + length (gathered posted (start opening workers) steps) }
+        ≡ core.totals.copies + length (gathered posted (start version opening workers) steps) }
 {}
 
 /// A connection stays at its worker and keeps the seat that it was told; a session is never of two
@@ -111,22 +111,22 @@ pub fn each_copy_is_counted()
 pub fn connections_stay_as_they_are()
     ensures stays { (core : CoreState) (steps : List Step) (c : ℕ) → is_opened core c ≡ true →
         (connection_at (ran core steps) c).worker ≡ (connection_at core c).worker }
-    ensures seat_stays { (opening : StateValue) (workers c : ℕ) (steps more : List Step)
+    ensures seat_stays { (version : Version) (opening : StateValue) (workers c : ℕ) (steps more : List Step)
         (seat : Seat) →
-        let core = ran (start opening workers) steps in
-        IsRun (start opening workers) steps → IsRun core more →
+        let core = ran (start version opening workers) steps in
+        IsRun (start version opening workers) steps → IsRun core more →
         (connection_at core c).seat ≡ Some seat → (connection_at (ran core more) c).seat ≡ Some seat }
-    ensures one_connection { (opening : StateValue) (workers c d : ℕ) (steps more : List Step)
+    ensures one_connection { (version : Version) (opening : StateValue) (workers c d : ℕ) (steps more : List Step)
         (seat other : Seat) →
-        let core = ran (start opening workers) steps in
-        IsRun (start opening workers) steps → IsRun core more →
+        let core = ran (start version opening workers) steps in
+        IsRun (start version opening workers) steps → IsRun core more →
         (connection_at core c).seat ≡ Some seat →
         (connection_at (ran core more) d).seat ≡ Some other →
         seat.session.0 ≡ other.session.0 → c ≡ d }
-    ensures one_worker { (opening : StateValue) (workers v w speaker : ℕ) (steps : List Step) →
+    ensures one_worker { (version : Version) (opening : StateValue) (workers v w speaker : ℕ) (steps : List Step) →
         let taken = λ (worker : ℕ). filter (λ held. held.speaker.0 == speaker)
-        (gathered (packet_taken worker) (start opening workers) steps) in
-        IsRun (start opening workers) steps → (v ≡ w → ⊥) → (taken v ≡ []) ⊎ (taken w ≡ []) }
+        (gathered (packet_taken worker) (start version opening workers) steps) in
+        IsRun (start version opening workers) steps → (v ≡ w → ⊥) → (taken v ≡ []) ⊎ (taken w ≡ []) }
     ensures closed_stays { (core : CoreState) (c line : ℕ) (steps : List Step) →
         IsRun core steps → (connection_at core c).closed ≡ Some line →
         (connection_at (ran core steps) c).closed ≡ Some line }
@@ -142,51 +142,51 @@ pub fn connections_stay_as_they_are()
 /// doubled, changed or overtaken. Its own connection is told what it drains of that; what another
 /// connection of the slot drains is dropped, and where there is no other, it drains all.
 pub fn copies_keep_their_order()
-    ensures sent { (opening : StateValue) (workers w n : ℕ) (steps : List Step) →
-        IsProper opening → IsRun (start opening workers) steps →
+    ensures sent { (version : Version) (opening : StateValue) (workers w n : ℕ) (steps : List Step) →
+        IsProper opening → IsRun (start version opening workers) steps →
         let offers = filter (λ offer. offer.0 == w)
-        (gathered (sent n) (start opening workers) steps) in
-        let packets = gathered (packet_taken w) (start opening workers) steps in
+        (gathered (sent n) (start version opening workers) steps) in
+        let packets = gathered (packet_taken w) (start version opening workers) steps in
         IsSubsequenceBy IsOfferOf offers packets }
-    ensures only_there { (opening : StateValue) (workers : ℕ) (session : SessionId)
+    ensures only_there { (version : Version) (opening : StateValue) (workers : ℕ) (session : SessionId)
         (steps : List Step) →
-        let core = ran (start opening workers) steps in
-        IsProper opening → IsRun (start opening workers) steps →
+        let core = ran (start version opening workers) steps in
+        IsProper opening → IsRun (start version opening workers) steps →
         ((revision : ℕ) → session_of (state_at core revision).roster session ≡ None) →
-        gathered (sent session.0) (start opening workers) steps ≡ [] }
-    ensures conserved { (opening : StateValue) (workers revision : ℕ) (session : SessionId)
+        gathered (sent session.0) (start version opening workers) steps ≡ [] }
+    ensures conserved { (version : Version) (opening : StateValue) (workers revision : ℕ) (session : SessionId)
         (slot : Slot) (steps : List Step) →
-        let core = ran (start opening workers) steps in
-        let offers = gathered (sent session.0) (start opening workers) steps in
-        let gone = gathered (removed session.0) (start opening workers) steps in
+        let core = ran (start version opening workers) steps in
+        let offers = gathered (sent session.0) (start version opening workers) steps in
+        let gone = gathered (removed session.0) (start version opening workers) steps in
         let left = filter (λ parcel. parcel.to.0 == session.0) (outbox_at core slot.0) in
-        IsProper opening → IsRun (start opening workers) steps →
+        IsProper opening → IsRun (start version opening workers) steps →
         IsInSlot (state_at core revision) session slot →
         map (λ offer. offer.1.bytes) offers ≡ map (λ parcel. parcel.bytes) (gone ++ left) }
-    ensures drained { (opening : StateValue) (workers n : ℕ) (steps : List Step) →
-        IsSubsequence (gathered (heard n) (start opening workers) steps)
-        (gathered (removed n) (start opening workers) steps) }
+    ensures drained { (version : Version) (opening : StateValue) (workers n : ℕ) (steps : List Step) →
+        IsSubsequence (gathered (heard n) (start version opening workers) steps)
+        (gathered (removed n) (start version opening workers) steps) }
     ensures own { (core : CoreState) (n c : ℕ) (seat : Seat) →
         (connection_at core c).seat ≡ Some seat → (seat.session.0 ≡ n → ⊥) → heard n core (Drain c) ≡ [] }
-    ensures alone { (opening : StateValue) (workers c : ℕ) (seat : Seat) (steps : List Step) →
-        let core = ran (start opening workers) steps in
-        IsProper opening → IsRun (start opening workers) steps →
+    ensures alone { (version : Version) (opening : StateValue) (workers c : ℕ) (seat : Seat) (steps : List Step) →
+        let core = ran (start version opening workers) steps in
+        IsProper opening → IsRun (start version opening workers) steps →
         (connection_at core c).seat ≡ Some seat →
         ((d : ℕ) (other : Seat) → (connection_at core d).seat ≡ Some other →
         other.slot.0 ≡ seat.slot.0 → d ≡ c) →
-        gathered (heard seat.session.0) (start opening workers) steps
-        ≡ gathered (removed seat.session.0) (start opening workers) steps }
+        gathered (heard seat.session.0) (start version opening workers) steps
+        ≡ gathered (removed seat.session.0) (start version opening workers) steps }
 {}
 
 /// What a connection is told of one speaker are copies of packets that this speaker sent, in their order,
 /// one at most of each: one worker took all of that speaker's packets.
 pub fn speakers_are_heard_in_order()
-    ensures { (opening : StateValue) (workers n speaker : ℕ) (steps : List Step) →
+    ensures { (version : Version) (opening : StateValue) (workers n speaker : ℕ) (steps : List Step) →
         let sent_by = λ (worker : ℕ). filter (λ held. held.speaker.0 == speaker)
-        (gathered (packet_taken worker) (start opening workers) steps) in
+        (gathered (packet_taken worker) (start version opening workers) steps) in
         let told = filter (λ parcel. is_by speaker parcel.bytes)
-        (gathered (heard n) (start opening workers) steps) in
-        IsProper opening → IsRun (start opening workers) steps →
+        (gathered (heard n) (start version opening workers) steps) in
+        IsProper opening → IsRun (start version opening workers) steps →
         (w : ℕ) × ((v : ℕ) → (v ≡ w → ⊥) → sent_by v ≡ []) × IsSubsequenceBy IsParcelOf told (sent_by w) }
 {}
 
@@ -194,11 +194,11 @@ pub fn speakers_are_heard_in_order()
 /// into a slot is collected from it in that order, or waits there: none is lost, doubled, changed or
 /// overtaken.
 pub fn notices_keep_their_order()
-    ensures posted { (opening : StateValue) (workers : ℕ) (steps : List Step) →
-        gathered noticed (start opening workers) steps
-        ≡ gathered offered (start opening workers) steps ++ (ran (start opening workers) steps).pending }
-    ensures conserved { (opening : StateValue) (workers slot : ℕ) (steps : List Step) → slot < SLOTS →
-        gathered (posted_in slot) (start opening workers) steps
-        ≡ gathered (collected slot) (start opening workers) steps
-        ++ posts_at (ran (start opening workers) steps) slot }
+    ensures posted { (version : Version) (opening : StateValue) (workers : ℕ) (steps : List Step) →
+        gathered noticed (start version opening workers) steps
+        ≡ gathered offered (start version opening workers) steps ++ (ran (start version opening workers) steps).pending }
+    ensures conserved { (version : Version) (opening : StateValue) (workers slot : ℕ) (steps : List Step) → slot < SLOTS →
+        gathered (posted_in slot) (start version opening workers) steps
+        ≡ gathered (collected slot) (start version opening workers) steps
+        ++ posts_at (ran (start version opening workers) steps) slot }
 {}

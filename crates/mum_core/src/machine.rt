@@ -4,19 +4,19 @@
 ghost use Rattle.std.specs.Prelude.{◌≡◌, ◌∷◌, [], IfOk, length, replicate};
 ghost use Rattle.mum_record.specs.Grammar.{IsRecordable};
 ghost use Rattle.mum_core.specs.declared.machine.StepFault.TheVariants.{Illegal};
-ghost use Rattle.mum_core.specs.declared.slot.TheConstants.{SLOTS as slots};
+ghost use Rattle.mum_base.specs.declared.number.TheConstants.{SLOTS as slots};
+ghost use Rattle.mum_core.specs.Core as spec;
 ghost use Rattle.mum_core.specs.Worker.{idle};
 
 use crate::connection::Connection;
 use crate::outbox::Outbox;
 use crate::post::empty_posts;
-use crate::slot::SLOTS;
 use crate::worker::Worker;
-use mum_base::{Items, OutOfMemory, Text};
+use mum_base::{Items, OutOfMemory, SLOTS, Text};
 use mum_history::{History, View, readers, state_after};
 use mum_notify::NoticeQueue;
-use mum_record::Step;
-use mum_state::Edit;
+use mum_record::{Step, Version};
+use mum_state::{Edit, State};
 use mum_tree::Scratch;
 use std::alloc::{AllocError, Global};
 use std::marker::Model;
@@ -76,9 +76,6 @@ pub struct Totals {
     pub full: u64,
     pub stale: u64,
 }
-
-/// The lines of a recording before its first step.
-const HEAD_LINES: u64 = 3;
 
 /// The core of the server.
 #[derive(Drop)]
@@ -162,23 +159,36 @@ fn idle_hands(alloc: Global, count: u8) -> Result<(Vec<Worker>, Vec<Outbox>), Ou
     Ok((workers, outboxes))
 }
 
+/// The version of a recording whose steps begin after these edits.
+fn version_of(edits: &[Edit]) -> Version
+    ensures { result ≡ spec.version_of edits.now }
+{
+    match edits.first() {
+        Some(Edit::SetLimits { .. }) => Version::Two,
+        _ => Version::One,
+    }
+}
+
 impl Core {
-    ghost use Rattle.std.specs.Prelude.{◌≡◌, ◌++◌, ◌∷◌, [], ◌+◌, ◌<◌, IfOk, IfSome, OnOk, IsSome, IsTrue, is_some, false, true, length, map, nat_lt, string_bytes, vec_capacity, vec_len, ◌⊎◌};
+    ghost use Rattle.std.specs.Prelude.{◌≡◌, ◌++◌, ◌∷◌, [], ◌+◌, ◌-◌, ◌<◌, IfOk, IfSome, OnOk, IsSome, IsTrue, is_some, false, true, length, map, nat_lt, string_bytes, vec_capacity, vec_len, ◌⊎◌};
     ghost use Rattle.mum_base.specs.Refusal.{Gives, Settles};
     ghost use Rattle.mum_state.specs.After.{after, all_fit};
     ghost use Rattle.mum_state.specs.State.{empty_state};
+    ghost use Rattle.mum_record.specs.Head.{first_step_line};
     ghost use Rattle.mum_record.specs.Words.{line_of_words};
     ghost use Rattle.mum_core.specs.Case.{IsStarved, named_cause};
-    ghost use Rattle.mum_core.specs.Core.{start, is_opened, connection_at, up, worker_at};
+    ghost use Rattle.mum_core.specs.Core.{start, version_of, is_opened, connection_at, up, worker_at};
     ghost use Rattle.mum_core.specs.Kept.{IsKept};
     ghost use Rattle.mum_core.specs.Line.{joined};
     ghost use Rattle.mum_core.specs.Step.{changes, does, illegal, is_tell, lines};
     ghost use Rattle.mum_core.specs.Worker.{in_hand};
     ghost use Rattle.mum_core.specs.declared.machine.StepFault.TheVariants as faults;
 
-    /// A core to which nothing was counted, of parts that fit one another.
+    /// A core to which nothing was counted, of parts that fit one another; its steps stand in a recording
+    /// of this version.
     fn of(
         alloc: Global,
+        version: Version,
         history: History,
         views: Vec<View>,
         workers: Vec<Worker>,
@@ -198,7 +208,7 @@ impl Core {
           posts = posts.items;
           posted = 0;
           totals = record { looks = 0; copies = 0; full = 0; stale = 0 };
-          line = 3;
+          line = first_step_line version - 1;
         } }
     {
         Core {
@@ -218,21 +228,42 @@ impl Core {
                 full: 0,
                 stale: 0,
             },
-            line: HEAD_LINES,
+            line: version.first_step_line().saturating_sub(1),
         }
     }
 
-    /// A core of so many workers that nothing happened to, at the state after edits of which each fits
-    /// where it stands. They are no part of its accepted edits: revisions count from here on.
-    pub fn open(alloc: Global, workers: u8, edits: &[Edit]) -> Result<Core, OutOfMemory>
-        requires { IsTrue (all_fit empty_state edits.now) }
-        ensures { IfOk result (λ core. core ≡ start (after edits.now) workers) }
+    /// A core of so many workers that nothing happened to, at this state; its steps stand in a recording of
+    /// this version. The edits that lead to the state are no part of its accepted ones: revisions count from
+    /// here on.
+    pub fn begin(
+        alloc: Global,
+        version: Version,
+        workers: u8,
+        opening: State,
+    ) -> Result<Core, OutOfMemory>
+        ensures { IfOk result (λ core. core ≡ start version opening workers) }
     {
         let (hands, outboxes) = idle_hands(alloc, workers)?;
         let posts = empty_posts(alloc)?;
         let scratch = Scratch::new(alloc)?;
-        let (history, views) = readers(alloc, workers, state_after(alloc, edits)?)?;
-        Ok(Core::of(alloc, history, views, hands, outboxes, posts, scratch))
+        let (history, views) = readers(alloc, workers, opening)?;
+        Ok(Core::of(
+            alloc, version, history, views, hands, outboxes, posts, scratch,
+        ))
+    }
+
+    /// The same at the state after edits of which each fits where it stands. Its first step stands at line 5
+    /// where the first of the edits sets the limits, and else at line 4.
+    pub fn open(alloc: Global, workers: u8, edits: &[Edit]) -> Result<Core, OutOfMemory>
+        requires { IsTrue (all_fit empty_state edits.now) }
+        ensures { IfOk result (λ core. core ≡ start (version_of edits.now) (after edits.now) workers) }
+    {
+        Core::begin(
+            alloc,
+            version_of(edits),
+            workers,
+            state_after(alloc, edits)?,
+        )
     }
 
     /// Takes a step, and appends the lines that the transcript gains, parted by line feeds. A refusal

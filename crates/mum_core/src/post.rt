@@ -2,10 +2,9 @@
 
 ghost use Rattle.std.specs.Prelude.{◌≡◌, [], ◌∷◌, ◌++◌, length, IfOk, OnErr, OnOk, drop, nat_lt, replicate, slice_index_or};
 ghost use Rattle.mum_core.specs.Lists.{changed_at};
-ghost use Rattle.mum_core.specs.declared.slot.TheConstants.{SLOTS as slots};
+ghost use Rattle.mum_base.specs.declared.number.TheConstants.{SLOTS as slots};
 
-use crate::slot::SLOTS;
-use mum_base::OutOfMemory;
+use mum_base::{OutOfMemory, SLOTS};
 use mum_notify::{Notice, NoticeQueue};
 use std::alloc::Global;
 

@@ -3,10 +3,11 @@
 ghost use Rattle.std.specs.Prelude.{◌≡◌, ◌<◌, IfOk, IfSome, Some, is_some, true};
 ghost use Rattle.std.specs.List.{AllByRecursion};
 ghost use Rattle.std.specs.Option.{option_map};
+ghost use Rattle.mum_state.specs.Proper.{IsProper};
 ghost use Rattle.mum_rules_tree.specs.Decision.{FitsWhereAccepted};
 ghost use Rattle.mum_notify.specs.Notices.{FitsFrame};
 ghost use Rattle.mum_session.specs.Verdict.{edits_of, verdict};
-ghost use Rattle.mum_core.specs.declared.slot.TheConstants.{SLOTS as slots};
+ghost use Rattle.mum_base.specs.declared.number.TheConstants.{SLOTS as slots};
 ghost use Rattle.mum_core.specs.Connection.{next_command, session_of};
 ghost use Rattle.mum_core.specs.Reply.{reply, seat_in, seat_of};
 
@@ -19,6 +20,13 @@ use mum_state::{State, Verdict};
 use std::alloc::Global;
 use std::mem::drop;
 
+// That the slots of the sessions are below the greatest limit.
+fn know_proper(state: &State)
+    ensures { IsProper state.now }
+{
+    let _roster = state.roster();
+}
+
 /// What is decided at a state of the next command of a connection: that of its frame, or else its leave.
 pub(crate) fn decide_next(
     alloc: Global,
@@ -29,7 +37,9 @@ pub(crate) fn decide_next(
     ensures verdict { IfOk result (λ decided. option_map (verdict state.now (session_of connection.now)) (next_command connection.now) ≡ Some decided) }
     ensures fits { IfOk result (FitsWhereAccepted state.now) }
     ensures framed { IfOk result (λ decided. AllByRecursion FitsFrame (edits_of decided)) }
+    ensures seated { IfOk result (λ decided. IfSome (seat_of decided) (λ seat. seat.slot.0 < slots)) }
 {
+    know_proper(state);
     let session = connection.session();
     match connection.next_of_frame() {
         Some(command) => decide(alloc, state, session, command),

@@ -2,6 +2,7 @@
 
 ghost use Rattle.std.specs.Prelude.{◌≡◌, ◌++◌, ◌∷◌, ◌<◌, ◌≤◌, [], Some, map, IfOk, OnOk};
 ghost use Rattle.std.specs.List.{filter_map};
+ghost use Rattle.mum_route.specs.Hearers.{member_of};
 ghost use Rattle.mum_route.specs.Route.{route};
 ghost use Rattle.mum_route.specs.declared.routes.TheConstants.{LOOPBACK};
 ghost use Rattle.mum_core.specs.Route.{in_its_slot, members, share_context};
@@ -74,7 +75,7 @@ fn counted<L: Ledger>(
     requires parts { blank.parts ≡ L.parts }
     requires some { 0 < blank.parts }
     requires target { target ≤ LOOPBACK }
-    ensures { result ≡ route state.now speaker target }
+    ensures { map member_of result ≡ route state.now speaker target }
 {
     let mut steps = Steps::<L>::new(blank);
     route(state, speaker, target, scratch, &mut steps)
@@ -83,7 +84,7 @@ fn counted<L: Ledger>(
 /// Who hears what a session says to a target, for those who count no steps.
 fn routed(state: &State, speaker: SessionId, target: u8, scratch: &mut Scratch) -> Audience
     requires { target ≤ LOOPBACK }
-    ensures { result ≡ route state.now speaker target }
+    ensures { map member_of result ≡ route state.now speaker target }
 {
     counted::<Brand>(Blank::new(1), state, speaker, target, scratch)
 }

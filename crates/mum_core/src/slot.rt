@@ -2,14 +2,10 @@
 
 ghost use Rattle.std.specs.Prelude.{◌≡◌, ◌<◌};
 
-use mum_base::Slot;
-use mum_users::user::SESSIONS;
+use mum_base::{SLOTS, Slot};
 use std::marker::Model;
 
-/// As many slots as sessions there can be.
-pub const SLOTS: usize = SESSIONS;
-
-/// A slot that there is: its number is below 128.
+/// A slot that there may be, whatever the limit of sessions is: its number is below 512.
 #[derive(Clone, Copy)]
 pub struct ValidSlot {
     slot: Slot,
@@ -18,7 +14,7 @@ pub struct ValidSlot {
 impl Model for ValidSlot {
     ghost use Rattle.std.specs.Prelude.{◌<◌};
     ghost use Rattle.mum_base.specs.declared.number.Slot.{Slot};
-    ghost use Rattle.mum_core.specs.declared.slot.TheConstants.{SLOTS};
+    ghost use Rattle.mum_base.specs.declared.number.TheConstants.{SLOTS};
 
     ghost Value = { Slot };
 
@@ -35,7 +31,7 @@ impl ValidSlot {
         ensures { result ≡ record { 0 = number } }
     {
         ValidSlot {
-            slot: Slot(number as u8),
+            slot: Slot(number as u16),
         }
     }
 

@@ -9,19 +9,21 @@ use Rattle.mum_document.specs.declared.fault.BadConfig.TheVariants as bad
 use Rattle.mum_document.specs.declared.fault.ConfigFault.{ConfigFault}
 use Rattle.mum_record.specs.declared.step.Step.{Step}
 use Rattle.mum_record.specs.declared.step.Step.TheVariants as words
-use Rattle.mum_record.specs.Head.{config_of}
+use Rattle.mum_record.specs.Head.{config_of, version_with}
+use Rattle.mum_record.specs.declared.head.Version.{Version}
 use Rattle.mum_record.specs.Reading.{step_of}
 use Rattle.mum_core.specs.Core.{CoreState, start}
 use Rattle.mum_core.specs.Line.{text_of}
 use Rattle.mum_core.specs.Step.{does, lines}
 use Rattle.mum_state.specs.After.{after}
 use Rattle.mum_state.specs.declared.edit.Edit.{Edit}
+use Rattle.mum_state.specs.State.{StateValue}
 use Rattle.mum_server.specs.declared.replay.Phase.{Phase}
-use Rattle.mum_server.specs.declared.replay.Phase.TheVariants.{Config, Running, Over}
+use Rattle.mum_server.specs.declared.replay.Phase.TheVariants.{Config, LimitedConfig, Running, Over}
 use Rattle.mum_server.specs.declared.end.LineFault.TheVariants.{TooLong, BadRecording, BadConfig, IllegalStep}
 use Rattle.mum_server.specs.declared.end.End.{End}
 use Rattle.mum_server.specs.declared.end.End.TheVariants.{Finished, Faulty, ReadFault, WriteFault, OutOfMemory}
-use Rattle.mum_server.specs.Opening.{document_edits, document_fault, opening}
+use Rattle.mum_server.specs.Opening.{document_edits, document_fault, limits_edits, opening}
 use Rattle.mum_server.specs.Replay.{Goes, Stops, answer, config_answer, opening_answer, phase_after, step_answer}
 use Rattle.mum_server.specs.Runs.{Begins, Describes, Names, Opens, is_end}
 
@@ -36,49 +38,60 @@ unfolding ConfigNames
 undescribed n [] cause key filled reads = absurd (filled refl)
 undescribed n (byte ∷ bytes) cause key filled reads = (reads, refl)
 
--- a document without a fault opens at what it describes
-pub config_opens : (w : ℕ) (document : List ℕ) (edits : List Edit) (core : CoreState) → document_fault document ≡ None → edits ≡ document_edits document → core ≡ start (after edits) w
-    → config_answer w (Some document) ≡ Goes (Running core) []
-config_opens w document edits core good are is =
-    ap (λ (fault : Option Fault). opening_answer fault (Running (start (opening document) w))) good
-    ∙ ap (λ (c : CoreState). Goes (Running c) []) (ap (λ (es : List Edit). start (after es) w) (sym are) ∙ sym is)
+-- a document without a fault opens at what it describes, once the limits are set
+pub config_opens : (w : ℕ) (limits : Option (ℕ × ℕ)) (document : List ℕ) (edits : List Edit) (version : Version) (state : StateValue) (core : CoreState) → document_fault document ≡ None
+    → edits ≡ document_edits document → version ≡ version_with limits → state ≡ after (limits_edits limits ++ edits) → core ≡ start version state w
+    → config_answer w limits (Some document) ≡ Goes (Running core) []
+config_opens w limits document edits version state core good are of leads is =
+    ap (λ (fault : Option Fault). opening_answer fault (Running (start (version_with limits) (opening limits document) w))) good
+    ∙ ap (λ (c : CoreState). Goes (Running c) [])
+    (ap (λ (es : List Edit). start (version_with limits) (after (limits_edits limits ++ es)) w) (sym are)
+    ∙ ap (λ (s : StateValue). start (version_with limits) s w) (sym leads)
+    ∙ ap (λ (v : Version). start v state w) (sym of)
+    ∙ sym is)
 
 -- one with a fault stops there
-pub config_stops : (w : ℕ) (document : List ℕ) (fault : Fault) → document_fault document ≡ Some fault → config_answer w (Some document) ≡ Stops (BadConfig fault.cause fault.key)
-config_stops w document fault bad = ap (λ (f : Option Fault). opening_answer f (Running (start (opening document) w))) bad
+pub config_stops : (w : ℕ) (limits : Option (ℕ × ℕ)) (document : List ℕ) (fault : Fault) → document_fault document ≡ Some fault → config_answer w limits (Some document) ≡ Stops (BadConfig fault.cause fault.key)
+config_stops w limits document fault bad =
+    ap (λ (f : Option Fault). opening_answer f (Running (start (version_with limits) (opening limits document) w))) bad
 
 -- where no edits are described, nothing is opened
-pub opens_not : (n w : ℕ) (document : List ℕ) (end : End) → Describes n document (Err end) → Opens n w document (Err end)
-opens_not n w document (Faulty m (BadConfig cause key)) h = (config_stops w document (record { cause = cause; key = key }) h.0, h.1)
-opens_not n w document (Faulty m TooLong) h = absurd h
-opens_not n w document (Faulty m BadRecording) h = absurd h
-opens_not n w document (Faulty m (IllegalStep given against)) h = absurd h
-opens_not n w document OutOfMemory h = tt
-opens_not n w document Finished h = absurd h
-opens_not n w document ReadFault h = absurd h
-opens_not n w document WriteFault h = absurd h
+pub opens_not : (n w : ℕ) (limits : Option (ℕ × ℕ)) (document : List ℕ) (end : End) → Describes n document (Err end) → Opens n w limits document (Err end)
+opens_not n w limits document (Faulty m (BadConfig cause key)) h = (config_stops w limits document (record { cause = cause; key = key }) h.0, h.1)
+opens_not n w limits document (Faulty m TooLong) h = absurd h
+opens_not n w limits document (Faulty m BadRecording) h = absurd h
+opens_not n w limits document (Faulty m (IllegalStep given against)) h = absurd h
+opens_not n w limits document OutOfMemory h = tt
+opens_not n w limits document Finished h = absurd h
+opens_not n w limits document ReadFault h = absurd h
+opens_not n w limits document WriteFault h = absurd h
 
 -- behind a line that names no document nothing begins
-pub unnamed_begins_not : (n w : ℕ) (line : List ℕ) (end : End) → Names n (config_of line) (Err end) → Begins n w line (Err end)
-unnamed_begins_not n w line (Faulty m fault) h = (ap (config_answer w) h.0 ∙ ap Stops (sym h.1), h.2)
-unnamed_begins_not n w line OutOfMemory h = tt
-unnamed_begins_not n w line Finished h = absurd h
-unnamed_begins_not n w line ReadFault h = absurd h
-unnamed_begins_not n w line WriteFault h = absurd h
+pub unnamed_begins_not : (n w : ℕ) (limits : Option (ℕ × ℕ)) (line : List ℕ) (end : End) → Names n (config_of line) (Err end) → Begins n w limits line (Err end)
+unnamed_begins_not n w limits line (Faulty m fault) h = (ap (config_answer w limits) h.0 ∙ ap Stops (sym h.1), h.2)
+unnamed_begins_not n w limits line OutOfMemory h = tt
+unnamed_begins_not n w limits line Finished h = absurd h
+unnamed_begins_not n w limits line ReadFault h = absurd h
+unnamed_begins_not n w limits line WriteFault h = absurd h
 
 -- behind one that names a document begins what that opens
-pub named_begins : (n w : ℕ) (line document : List ℕ) (result : Result CoreState End) → config_of line ≡ Some document → Opens n w document result → Begins n w line result
-named_begins n w line document (Ok core) is h = ap (config_answer w) is ∙ h
-named_begins n w line document (Err (Faulty m fault)) is h = (ap (config_answer w) is ∙ h.0, h.1)
-named_begins n w line document (Err OutOfMemory) is h = tt
-named_begins n w line document (Err Finished) is h = absurd h
-named_begins n w line document (Err ReadFault) is h = absurd h
-named_begins n w line document (Err WriteFault) is h = absurd h
+pub named_begins : (n w : ℕ) (limits : Option (ℕ × ℕ)) (line document : List ℕ) (result : Result CoreState End) → config_of line ≡ Some document → Opens n w limits document result → Begins n w limits line result
+named_begins n w limits line document (Ok core) is h = ap (config_answer w limits) is ∙ h
+named_begins n w limits line document (Err (Faulty m fault)) is h = (ap (config_answer w limits) is ∙ h.0, h.1)
+named_begins n w limits line document (Err OutOfMemory) is h = tt
+named_begins n w limits line document (Err Finished) is h = absurd h
+named_begins n w limits line document (Err ReadFault) is h = absurd h
+named_begins n w limits line document (Err WriteFault) is h = absurd h
 
 -- and the line is answered so
-pub config_goes : (w : ℕ) (line : List ℕ) (core : CoreState) (phase : Phase) → config_answer w (config_of line) ≡ Goes (Running core) [] → phase ≡ Running core → answer (Config w) line ≡ Goes phase []
+pub config_goes : (w : ℕ) (line : List ℕ) (core : CoreState) (phase : Phase) → config_answer w None (config_of line) ≡ Goes (Running core) [] → phase ≡ Running core → answer (Config w) line ≡ Goes phase []
 unfolding answer
 config_goes w line core phase opens is = opens ∙ ap (λ (p : Phase). Goes p []) (sym is)
+
+pub limited_config_goes : (w : ℕ) (limits : ℕ × ℕ) (line : List ℕ) (core : CoreState) (phase : Phase) → config_answer w (Some limits) (config_of line) ≡ Goes (Running core) [] → phase ≡ Running core
+    → answer (LimitedConfig w limits) line ≡ Goes phase []
+unfolding answer
+limited_config_goes w limits line core phase opens is = opens ∙ ap (λ (p : Phase). Goes p []) (sym is)
 
 abbrev pub IsDone : CoreState → Step → List ℕ → CoreState → List ℕ → Type 0
 IsDone core step old new text =

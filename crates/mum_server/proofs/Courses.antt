@@ -4,6 +4,7 @@ use Rattle.std.specs.Prelude.{map, if◌then◌else◌, is_some}
 use Rattle.std.specs.List.{flat_map}
 use Rattle.mum_record.specs.declared.step.Step.{Step}
 use Rattle.mum_record.specs.declared.step.Step.TheVariants.{Drain, Edit, End, Frame, Look, Offer, Open, Publish, Tell}
+use Rattle.mum_record.specs.declared.head.Version.TheVariants.{One}
 use Rattle.mum_core.specs.Core.{CoreState, start, worker_at}
 use Rattle.mum_core.specs.Laws.{IsRun, ran}
 use Rattle.mum_core.specs.Step.{does, illegal}
@@ -77,7 +78,7 @@ speech_goes first c bytes course on =
     delivery_goes first (worker_of c) (taken heard look) (course_goes first heard look (course_goes first course (Frame c bytes) on))
 
 abbrev pub opens : CoreState
-opens = start (opening document) WORKERS
+opens = start One (opening None document) WORKERS
 
 joined_goes : (i : ℕ) → IsCourse opens (joined i)
 unfolding joined

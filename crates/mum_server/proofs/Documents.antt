@@ -15,6 +15,7 @@ use Rattle.mum_config.specs.Document.{fault_of, object_fault_of}
 use Rattle.mum_document.specs.Fault.{Fault, or_else, within}
 use Rattle.mum_document.specs.Value.{needed, wanted}
 use Rattle.serde_json.specs.Read.{number_of}
+use Rattle.mum_record.specs.declared.head.Version.TheVariants.{One}
 use Rattle.mum_core.specs.Core.{CoreState, start}
 use Rattle.mum_server.specs.Exercise.{document}
 use Rattle.mum_server.specs.Opening.{document_fault, opening}
@@ -36,6 +37,6 @@ opened_at None opened core goes = cc
 opened_at (Some fault) opened core goes = absurd cc
 
 -- where the bytes of the document open a core, it is at what the document describes
-pub opens_at : (bytes : List ℕ) (core : CoreState) → bytes ≡ document → config_answer WORKERS (Some bytes) ≡ Goes (Running core) [] → core ≡ start (opening document) WORKERS
+pub opens_at : (bytes : List ℕ) (core : CoreState) → bytes ≡ document → config_answer WORKERS None (Some bytes) ≡ Goes (Running core) [] → core ≡ start One (opening None document) WORKERS
 opens_at bytes core is goes =
-    opened_at (document_fault document) (start (opening document) WORKERS) core (ap (λ (b : List ℕ). config_answer WORKERS (Some b)) (sym is) ∙ goes)
+    opened_at (document_fault document) (start One (opening None document) WORKERS) core (ap (λ (b : List ℕ). config_answer WORKERS None (Some b)) (sym is) ∙ goes)

@@ -3,7 +3,7 @@ use Rattle.std.proofs.Common.{◌≡◌, ℕ, List, Option, Some, None, sym, ap,
 use Rattle.std.specs.Prelude.{IfSome}
 use Rattle.mum_io.specs.Outside.{IsAllOrLonger}
 use Rattle.mum_server.specs.declared.end.End.{End}
-use Rattle.mum_server.specs.declared.replay.TheConstants.{INPUT_LIMIT}
+use Rattle.mum_record.specs.declared.split.TheConstants.{INPUT_LIMIT}
 use Rattle.mum_server.specs.Program.{Ends}
 use Rattle.mum_server.specs.Replay.{Outcome, replayed}
 use Rattle.mum_server.proofs.Longer.{replayed_longer}

@@ -3,6 +3,7 @@ pub mod Answered
 pub mod Asked
 pub mod Told
 pub mod Reported
+pub mod Limited
 pub mod Longer
 pub mod Underway
 pub mod Ends

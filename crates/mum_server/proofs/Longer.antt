@@ -4,10 +4,10 @@ use Rattle.std.specs.Prelude.{◌||◌}
 use Rattle.std.specs.List.{slice_split, onto_first}
 use Rattle.std.proofs.lemmas.Bool.{ltb-false, lt-ltb}
 use Rattle.mum_server.specs.declared.replay.Phase.{Phase}
-use Rattle.mum_server.specs.declared.replay.Phase.TheVariants.{Head, Workers, Config, Running, Over}
+use Rattle.mum_server.specs.declared.replay.Phase.TheVariants.{Head, Workers, Limits, Config, LimitedConfig, Running, Over}
 use Rattle.mum_server.specs.declared.end.LineFault.TheVariants.{TooLong, BadRecording}
 use Rattle.mum_server.specs.declared.end.End.TheVariants.{Faulty}
-use Rattle.mum_server.specs.declared.replay.TheConstants.{LINE_LIMIT, INPUT_LIMIT}
+use Rattle.mum_record.specs.declared.split.TheConstants.{LINE_LIMIT, INPUT_LIMIT}
 use Rattle.mum_core.specs.Line.{text_of}
 use Rattle.mum_server.specs.Replay.{Answer, Goes, Stops, Outcome, behind, goes_on, answer, line_answer, is_too_long, end_fault, ending_of, outcome_from, replayed}
 use Rattle.mum_record.specs.Lines.{is_line_feed}
@@ -83,8 +83,10 @@ or-false false b h = h
 
 ending_cut : (phase : Phase) (n left x : ℕ) (xs : List ℕ) → ending_of phase n left (x ∷ xs) ≡ Faulty n (end_fault left (x ∷ xs))
 ending_cut Head n left x xs = refl
-ending_cut Workers n left x xs = refl
+ending_cut (Workers version) n left x xs = refl
+ending_cut (Limits w) n left x xs = refl
 ending_cut (Config w) n left x xs = refl
+ending_cut (LimitedConfig w limits) n left x xs = refl
 ending_cut (Running core) n left x xs = refl
 ending_cut Over n left x xs = refl
 

@@ -1,18 +1,25 @@
--- The state that the document of a recording describes is proper.
+-- The state at which the steps of a recording begin is proper.
 use Rattle.std.proofs.Common.{◌≡◌, ℕ, List, [], ◌∷◌, Option, Some, None, true, refl, ap, arith}
 use Rattle.std.specs.Option.{option_map, option_map_or}
 use Rattle.serde_json.specs.Data.{Data}
 use Rattle.mum_config.proofs.Bare.{empty_bare}
-use Rattle.mum_config.proofs.FitDocument.{text_fits}
+use Rattle.mum_config.proofs.FitDocument.{text_fits, text_fits_limits}
+use Rattle.mum_config.specs.Limits.{FitAfterLimits}
 use Rattle.mum_config.specs.Document.{config_of, fault_of, value_of}
 use Rattle.mum_config.specs.declared.config.Config.{Config}
-use Rattle.std.specs.Prelude.{Ok}
+use Rattle.std.specs.Prelude.{IfSome, Ok}
+use Rattle.std.proofs.lemmas.Bool.{and_from}
+use Rattle.mum_record.specs.Head.{AreLimits}
+use Rattle.mum_state.specs.Applied.{applied}
+use Rattle.mum_state.specs.Fits.{fits}
+use Rattle.mum_state.specs.declared.edit.Edit.TheVariants.{SetLimits}
 use Rattle.mum_state.proofs.Keeping.{keeps_proper_lem}
 use Rattle.mum_state.specs.After.{all_fit}
 use Rattle.mum_state.specs.Proper.{IsProper}
 use Rattle.mum_state.specs.State.{empty_state}
 use Rattle.mum_state.specs.declared.edit.Edit.{Edit}
-use Rattle.mum_server.specs.Opening.{document_edits, document_fault, opening}
+use Rattle.mum_server.specs.Opening.{document_edits, document_fault, opening, opening_edits}
+use Rattle.mum_server.proofs.Limited.{limited_fits}
 
 abbrev pub edits_in : Option Data → List Edit
 edits_in found = option_map_or (λ (config : Config). config.edits) (option_map config_of found) []
@@ -25,5 +32,22 @@ document_fits : (document : List ℕ) → document_fault document ≡ None → a
 document_fits [] none = refl
 document_fits (byte ∷ bytes) none = value_fits (byte ∷ bytes) (value_of (byte ∷ bytes)) refl none
 
-pub opens_properly : (document : List ℕ) → document_fault document ≡ None → IsProper (opening document)
-opens_properly document none = keeps_proper_lem empty_state (document_edits document) (empty_bare 0 (omega arith)).proper (document_fits document none)
+-- they fit as well where limits are set first
+value_fits_limits : (text : List ℕ) (found : Option Data) → value_of text ≡ found → fault_of text ≡ None → FitAfterLimits (edits_in found)
+value_fits_limits text None is none = λ sessions channels fit. refl
+value_fits_limits text (Some value) is none = text_fits_limits text (Ok (config_of value)) (none, ap (option_map config_of) is)
+
+document_fits_limits : (document : List ℕ) → document_fault document ≡ None → FitAfterLimits (document_edits document)
+document_fits_limits [] none = λ sessions channels fit. refl
+document_fits_limits (byte ∷ bytes) none = value_fits_limits (byte ∷ bytes) (value_of (byte ∷ bytes)) refl none
+
+opening_fits : (limits : Option (ℕ × ℕ)) (document : List ℕ) → IfSome limits AreLimits → document_fault document ≡ None → all_fit empty_state (opening_edits limits document) ≡ true
+opening_fits None document are none = document_fits document none
+opening_fits (Some limits) document are none =
+    let fit : fits empty_state (SetLimits limits.0 limits.1) ≡ true = limited_fits limits are in
+    and_from (fits empty_state (SetLimits limits.0 limits.1)) (all_fit (applied empty_state (SetLimits limits.0 limits.1)) (document_edits document)) fit
+    (document_fits_limits document none limits.0 limits.1 fit)
+
+pub opens_properly : (limits : Option (ℕ × ℕ)) (document : List ℕ) → IfSome limits AreLimits → document_fault document ≡ None → IsProper (opening limits document)
+opens_properly limits document are none =
+    keeps_proper_lem empty_state (opening_edits limits document) (empty_bare 0 (omega arith)).proper (opening_fits limits document are none)

@@ -5,11 +5,11 @@ use Rattle.std.proofs.lemmas.List.{append-nil}
 use Rattle.mum_io.specs.Outside.{Appends, AppendsFront}
 use Rattle.mum_io.proofs.OutsideLemmas.{Appends-nil, Appends-trans, AppendsFront-behind, AppendsFront-longer, AppendsFront-whole}
 use Rattle.mum_server.specs.declared.replay.Phase.{Phase}
-use Rattle.mum_server.specs.declared.replay.Phase.TheVariants.{Head, Workers, Config, Running, Over}
+use Rattle.mum_server.specs.declared.replay.Phase.TheVariants.{Head, Workers, Limits, Config, LimitedConfig, Running, Over}
 use Rattle.mum_server.specs.declared.end.LineFault.{LineFault}
 use Rattle.mum_server.specs.declared.end.End.{End}
 use Rattle.mum_server.specs.declared.end.End.TheVariants.{Finished, Faulty, ReadFault, WriteFault, OutOfMemory}
-use Rattle.mum_server.specs.declared.replay.TheConstants.{INPUT_LIMIT}
+use Rattle.mum_record.specs.declared.split.TheConstants.{INPUT_LIMIT}
 use Rattle.mum_server.specs.declared.replay.Run.{Run}
 use Rattle.mum_server.specs.Program.{Ends}
 use Rattle.mum_server.specs.Runs.{Advances}
@@ -124,8 +124,10 @@ closed : (phase : Phase) (n left : ℕ) (rest : List ℕ) (P : End → Type 0) �
 closed Over n left [] P finished faulty = finished
 closed Over n left (x ∷ xs) P finished faulty = faulty _
 closed Head n left rest P finished faulty = faulty _
-closed Workers n left rest P finished faulty = faulty _
+closed (Workers version) n left rest P finished faulty = faulty _
+closed (Limits w) n left rest P finished faulty = faulty _
 closed (Config w) n left rest P finished faulty = faulty _
+closed (LimitedConfig w limits) n left rest P finished faulty = faulty _
 closed (Running core) n left rest P finished faulty = faulty _
 
 pub closes : (old new : Option (List ℕ)) (phase : Phase) (n left : ℕ) (rest bytes : List ℕ) → Underway old new phase n left rest bytes

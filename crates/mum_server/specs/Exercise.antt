@@ -7,6 +7,7 @@ use Rattle.mum_base.specs.declared.reply.Mark.{Mark}
 use Rattle.mum_base.specs.declared.reply.Mark.TheVariants as marks
 use Rattle.mum_notify.specs.declared.notice.Notice.{Notice}
 use Rattle.mum_record.specs.Words.{line_of_words}
+use Rattle.mum_record.specs.declared.head.Version.TheVariants.{One}
 use Rattle.mum_record.specs.declared.step.Step.{Step}
 use Rattle.mum_record.specs.declared.step.Step.TheVariants.{Open, Frame, Edit, Publish, Tell, Look, Offer, Post, Drain, Collect, End}
 use Rattle.mum_core.specs.Connection.{is_accepted}
@@ -52,7 +53,7 @@ pub record IsAlike (one other : CourseValue) : Type 0 where
 
 abbrev pub begun : CourseValue
 begun = record {
-  core = start (opening document) WORKERS;
+  core = start One (opening None document) WORKERS;
   steps = [];
   tally = record { accepted = 0; lacks = 0; refused = 0; ignored = 0 };
 }

@@ -1,9 +1,10 @@
--- The configuration of a recording: the document of its third line, and the state at which its steps begin.
-use Rattle.std.specs.Prelude.{ℕ, List, [], ◌∷◌, Option, None}
+-- The configuration of a recording: the document of the last line of its head, and the edits after which its steps begin.
+use Rattle.std.specs.Prelude.{ℕ, List, [], ◌∷◌, ◌++◌, Option, Some, None}
 use Rattle.std.specs.Option.{option_map_or}
 use Rattle.mum_config.specs.Document.{config_in, fault_of}
 use Rattle.mum_document.specs.Fault.{Fault}
 use Rattle.mum_state.specs.declared.edit.Edit.{Edit}
+use Rattle.mum_state.specs.declared.edit.Edit.TheVariants.{SetLimits}
 use Rattle.mum_state.specs.After.{after}
 use Rattle.mum_state.specs.State.{StateValue}
 
@@ -18,6 +19,15 @@ abbrev pub document_edits : List ℕ → List Edit
 document_edits [] = []
 document_edits (byte ∷ bytes) = option_map_or (λ config. config.edits) (config_in (byte ∷ bytes)) []
 
+-- the edit that sets limits of sessions and of channels, where a recording names them
+abbrev pub limits_edits : Option (ℕ × ℕ) → List Edit
+limits_edits None = []
+limits_edits (Some limits) = SetLimits limits.0 limits.1 ∷ []
+
+-- the edits after which the steps begin: limits come first
+abbrev pub opening_edits : Option (ℕ × ℕ) → List ℕ → List Edit
+opening_edits limits document = limits_edits limits ++ document_edits document
+
 -- the state at which the steps begin
-abbrev pub opening : List ℕ → StateValue
-opening document = after (document_edits document)
+abbrev pub opening : Option (ℕ × ℕ) → List ℕ → StateValue
+opening limits document = after (opening_edits limits document)

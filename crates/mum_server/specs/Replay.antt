@@ -3,13 +3,16 @@ use Rattle.std.specs.Prelude.{ℕ, ◌+◌, ◌-◌, ◌==◌, ◌||◌, Bool, L
 use Rattle.std.specs.List.{slice_split}
 use Rattle.mum_record.specs.declared.step.Step.{Step}
 use Rattle.mum_record.specs.declared.step.Step.TheVariants as steps
-use Rattle.mum_record.specs.Head.{is_head_line, workers_of, config_of}
+use Rattle.mum_record.specs.Head.{recording_version, version_with, workers_of, limits_of, config_of}
+use Rattle.mum_record.specs.declared.head.Version.{Version}
+use Rattle.mum_record.specs.declared.head.Version.TheVariants.{One, Two}
 use Rattle.mum_record.specs.Reading.{step_of}
 use Rattle.mum_record.specs.Lines.{is_line_feed}
+use Rattle.mum_record.specs.declared.split.TheConstants.{LINE_LIMIT, INPUT_LIMIT}
 use Rattle.mum_document.specs.Fault.{Fault}
-use Rattle.mum_server.specs.declared.{end.End.End, end.End.TheVariants.Finished, end.End.TheVariants.Faulty, end.LineFault.LineFault, replay.Phase.Phase, replay.TheConstants.LINE_LIMIT, replay.TheConstants.INPUT_LIMIT}
+use Rattle.mum_server.specs.declared.{end.End.End, end.End.TheVariants.Finished, end.End.TheVariants.Faulty, end.LineFault.LineFault, replay.Phase.Phase}
 use Rattle.mum_server.specs.declared.end.LineFault.TheVariants.{TooLong, BadRecording, BadConfig, IllegalStep}
-use Rattle.mum_server.specs.declared.replay.Phase.TheVariants.{Head, Workers, Config, Running, Over}
+use Rattle.mum_server.specs.declared.replay.Phase.TheVariants.{Head, Workers, Limits, Config, LimitedConfig, Running, Over}
 use Rattle.mum_core.specs.Core.{CoreState, start}
 use Rattle.mum_core.specs.Line.{text_of}
 use Rattle.mum_core.specs.Step.{does, illegal, lines}
@@ -34,24 +37,40 @@ abbrev pub step_answer : CoreState → Option Step → Answer
 step_answer core None = Stops BadRecording
 step_answer core (Some step) = allowed_answer core step (illegal core step)
 
-abbrev pub workers_answer : Option ℕ → Answer
-workers_answer None = Stops BadRecording
-workers_answer (Some workers) = Goes (Config workers) []
+abbrev pub version_answer : Option Version → Answer
+version_answer None = Stops BadRecording
+version_answer (Some version) = Goes (Workers version) []
+
+-- the limits stand behind the workers in version 2 alone
+abbrev pub phase_behind_workers : Version → ℕ → Phase
+phase_behind_workers One workers = Config workers
+phase_behind_workers Two workers = Limits workers
+
+abbrev pub workers_answer : Version → Option ℕ → Answer
+workers_answer version None = Stops BadRecording
+workers_answer version (Some workers) = Goes (phase_behind_workers version workers) []
+
+abbrev pub limits_answer : ℕ → Option (ℕ × ℕ) → Answer
+limits_answer workers None = Stops BadRecording
+limits_answer workers (Some limits) = Goes (LimitedConfig workers limits) []
 
 -- a document is refused for its first fault; where it has none, the steps begin at what it describes
 abbrev pub opening_answer : Option Fault → Phase → Answer
 opening_answer (Some fault) phase = Stops (BadConfig fault.cause fault.key)
 opening_answer None phase = Goes phase []
 
-abbrev pub config_answer : ℕ → Option (List ℕ) → Answer
-config_answer workers None = Stops BadRecording
-config_answer workers (Some document) = opening_answer (document_fault document) (Running (start (opening document) workers))
+abbrev pub config_answer : ℕ → Option (ℕ × ℕ) → Option (List ℕ) → Answer
+config_answer workers limits None = Stops BadRecording
+config_answer workers limits (Some document) =
+    opening_answer (document_fault document) (Running (start (version_with limits) (opening limits document) workers))
 
 -- what a line of at most the greatest length does in each phase of the recording
 unfoldable pub answer : Phase → List ℕ → Answer
-answer Head line = if is_head_line line then Goes Workers [] else Stops BadRecording
-answer Workers line = workers_answer (workers_of line)
-answer (Config workers) line = config_answer workers (config_of line)
+answer Head line = version_answer (recording_version line)
+answer (Workers version) line = workers_answer version (workers_of line)
+answer (Limits workers) line = limits_answer workers (limits_of line)
+answer (Config workers) line = config_answer workers None (config_of line)
+answer (LimitedConfig workers limits) line = config_answer workers (Some limits) (config_of line)
 answer (Running core) line = step_answer core (step_of line)
 answer Over line = Stops BadRecording
 

@@ -34,19 +34,19 @@ Describes n document (Err (Faulty m (BadConfig cause key))) = (document_fault do
 Describes n document (Err OutOfMemory) = Unit {0}
 Describes n document (Err others) = ⊥
 
--- the core at what a document of line n describes, or the document's first fault
-abbrev pub Opens : ℕ → ℕ → List ℕ → Result CoreState End → Type 0
-Opens n workers document (Ok core) = config_answer workers (Some document) ≡ Goes (Running core) []
-Opens n workers document (Err (Faulty m fault)) = (config_answer workers (Some document) ≡ Stops fault) × (m ≡ n)
-Opens n workers document (Err OutOfMemory) = Unit {0}
-Opens n workers document (Err others) = ⊥
+-- the core at the limits, where there are any, and what a document of line n describes, or the document's first fault
+abbrev pub Opens : ℕ → ℕ → Option (ℕ × ℕ) → List ℕ → Result CoreState End → Type 0
+Opens n workers limits document (Ok core) = config_answer workers limits (Some document) ≡ Goes (Running core) []
+Opens n workers limits document (Err (Faulty m fault)) = (config_answer workers limits (Some document) ≡ Stops fault) × (m ≡ n)
+Opens n workers limits document (Err OutOfMemory) = Unit {0}
+Opens n workers limits document (Err others) = ⊥
 
 -- the core at which the steps begin behind line n, or why the run ends there
-abbrev pub Begins : ℕ → ℕ → List ℕ → Result CoreState End → Type 0
-Begins n workers line (Ok core) = config_answer workers (config_of line) ≡ Goes (Running core) []
-Begins n workers line (Err (Faulty m fault)) = (config_answer workers (config_of line) ≡ Stops fault) × (m ≡ n)
-Begins n workers line (Err OutOfMemory) = Unit {0}
-Begins n workers line (Err others) = ⊥
+abbrev pub Begins : ℕ → ℕ → Option (ℕ × ℕ) → List ℕ → Result CoreState End → Type 0
+Begins n workers limits line (Ok core) = config_answer workers limits (config_of line) ≡ Goes (Running core) []
+Begins n workers limits line (Err (Faulty m fault)) = (config_answer workers limits (config_of line) ≡ Stops fault) × (m ≡ n)
+Begins n workers limits line (Err OutOfMemory) = Unit {0}
+Begins n workers limits line (Err others) = ⊥
 
 -- the step that line n says, or that it says none
 abbrev pub Says : ℕ → Option Step → Result Step End → Type 0

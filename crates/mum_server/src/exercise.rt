@@ -7,6 +7,7 @@ ghost use Rattle.std.specs.List.{flat_map};
 ghost use Rattle.mum_frame.specs.Frame.{IsOneFrame};
 ghost use Rattle.mum_record.specs.Grammar.{IsRecordable};
 ghost use Rattle.mum_record.specs.Words.{line_of_words};
+ghost use Rattle.mum_record.specs.declared.head.Version.TheVariants.{One};
 ghost use Rattle.mum_record.specs.declared.step.Step.TheVariants.{Collect, Drain, Frame, Offer, Post};
 ghost use Rattle.mum_core.specs.Core.{start, worker_at};
 ghost use Rattle.mum_server.specs.Exercise.{IsAlike, account, all_taken, answered, begun, commanded, delivered, document, exercised, informed, joined, joins, note, numbers_words, played, progress, spoken, taken, worker_of};
@@ -40,10 +41,10 @@ pub const DOCUMENT: &str =
 /// A core at the configuration of an exercise, to which nothing happened. The configuration has no fault,
 /// so any error is want of memory.
 fn core_at_opening(alloc: Global) -> Result<Core, OutOfMemory>
-    ensures core { IfOk result (λ core. core ≡ start (opening document) WORKERS) }
+    ensures core { IfOk result (λ core. core ≡ start One (opening None document) WORKERS) }
     ensures good { document_fault document ≡ None }
 {
-    match open_core(alloc, CONFIG_LINE, WORKERS, DOCUMENT.as_bytes()) {
+    match open_core(alloc, CONFIG_LINE, WORKERS, None, DOCUMENT.as_bytes()) {
         Ok(core) => Ok(core),
         Err(_) => Err(AllocError),
     }

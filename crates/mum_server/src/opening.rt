@@ -1,18 +1,70 @@
-//! The configuration of a recording: its third line, and the core at which its steps begin.
+//! The limits and the configuration of a recording, and the core at which its steps begin.
 
-ghost use Rattle.std.specs.Prelude.{◌≡◌, IfOk, IsTrue};
-ghost use Rattle.mum_record.specs.Head.{config_of};
-ghost use Rattle.mum_state.specs.After.{all_fit};
+ghost use Rattle.std.specs.Prelude.{◌≡◌, ◌++◌, IfOk, IsTrue};
+ghost use Rattle.mum_record.specs.Head.{config_of, version_with};
+ghost use Rattle.mum_config.specs.Limits.{FitAfterLimits};
+ghost use Rattle.mum_state.specs.After.{after, all_fit};
 ghost use Rattle.mum_state.specs.State.{empty_state};
+ghost use Rattle.mum_server.specs.Opening.{limits_edits};
 ghost use Rattle.mum_server.specs.Runs.{Begins, Describes, Names, Opens};
 
 use crate::end::{End, LineFault};
-use mum_base::{Items, Octets};
+use mum_base::{Items, Octets, OutOfMemory};
 use mum_config::{BadConfig, Config, read_config};
 use mum_core::Core;
-use mum_record::read_config_line;
-use mum_state::Edit;
+use mum_history::{state_after, state_from};
+use mum_record::{Version, read_config_line, read_limits};
+use mum_state::{Edit, State};
 use std::alloc::Global;
+use std::marker::Model;
+
+/// Limits of sessions and of channels that a recording may name: 128 to 512 sessions, and 1,024 to 2,048
+/// channels.
+#[derive(Clone, Copy)]
+pub struct Limits {
+    sessions: u16,
+    channels: u32,
+}
+
+impl Model for Limits {
+    ghost use Rattle.std.specs.Prelude.{ℕ};
+    ghost use Rattle.mum_record.specs.Head.{AreLimits};
+
+    ghost Value = { ℕ × ℕ };
+
+    ghost view = { λ l. (l.sessions, l.channels) };
+
+    ghost invariant = { λ l. AreLimits (l.sessions, l.channels) };
+
+    ghost inverse = { λ l. record { sessions = l.0; channels = l.1 } };
+}
+
+impl Limits {
+    ghost use Rattle.std.specs.Prelude.{◌≡◌, IsTrue};
+    ghost use Rattle.mum_record.specs.Head.{limits_of};
+    ghost use Rattle.mum_state.specs.declared.edit.Edit.TheVariants.{SetLimits};
+    ghost use Rattle.mum_state.specs.Fits.{fits};
+    ghost use Rattle.mum_state.specs.State.{empty_state};
+
+    /// The limits that a line names.
+    pub(crate) fn read(line: &[u8]) -> Option<Limits>
+        ensures { result ≡ limits_of line.now }
+    {
+        let (sessions, channels) = read_limits(line)?;
+        Some(Limits { sessions, channels })
+    }
+
+    /// The edit that sets them. It fits the empty state.
+    fn edit(self) -> Edit
+        ensures edit { result ≡ SetLimits self.0 self.1 }
+        ensures fits { IsTrue (fits empty_state (SetLimits self.0 self.1)) }
+    {
+        Edit::SetLimits {
+            sessions: self.sessions,
+            channels: self.channels,
+        }
+    }
+}
 
 /// The document that line `n` names; it has no bytes where the line says that there is none.
 fn read_document(alloc: Global, n: u64, line: &[u8]) -> Result<Octets, End>
@@ -29,6 +81,7 @@ fn read_document(alloc: Global, n: u64, line: &[u8]) -> Result<Octets, End>
 fn edits_of(alloc: Global, n: u64, document: &[u8]) -> Result<Items<Edit>, End>
     ensures describes { Describes n document.now result }
     ensures fit { IfOk result (λ edits. IsTrue (all_fit empty_state edits)) }
+    ensures limited { IfOk result FitAfterLimits }
 {
     if document.is_empty() {
         return Ok(Items::new(alloc));
@@ -42,19 +95,61 @@ fn edits_of(alloc: Global, n: u64, document: &[u8]) -> Result<Items<Edit>, End>
     }
 }
 
-/// A core of so many workers at what the document of line `n` describes, to which nothing happened; or the
-/// first fault of the document. How many workers the document names is not looked at.
-pub(crate) fn open_core(alloc: Global, n: u64, workers: u8, document: &[u8]) -> Result<Core, End>
-    ensures { Opens n workers document.now result }
+/// The state at which the steps begin: limits, where there are any, are set before what the document
+/// describes.
+fn opening_state(
+    alloc: Global,
+    limits: Option<Limits>,
+    edits: &[Edit],
+) -> Result<State, OutOfMemory>
+    requires fit { IsTrue (all_fit empty_state edits.now) }
+    requires limited { FitAfterLimits edits.now }
+    ensures { IfOk result (λ state. state ≡ after (limits_edits limits ++ edits.now)) }
+{
+    let Some(limits) = limits else {
+        return state_after(alloc, edits);
+    };
+    let limited = state_after(alloc, &[limits.edit()])?;
+    state_from(limited, edits)
+}
+
+/// The version of a recording with these limits, or without any.
+fn version_with(limits: Option<Limits>) -> Version
+    ensures { result ≡ version_with limits }
+{
+    match limits {
+        Some(_) => Version::Two,
+        None => Version::One,
+    }
+}
+
+/// A core of so many workers to which nothing happened, at the limits, where there are any, and what the
+/// document of line `n` describes; or the first fault of the document. How many workers the document names is
+/// not looked at.
+pub(crate) fn open_core(
+    alloc: Global,
+    n: u64,
+    workers: u8,
+    limits: Option<Limits>,
+    document: &[u8],
+) -> Result<Core, End>
+    ensures { Opens n workers limits document.now result }
 {
     let edits = edits_of(alloc, n, document)?;
-    Ok(Core::open(alloc, workers, edits.as_slice())?)
+    let opening = opening_state(alloc, limits, edits.as_slice())?;
+    Ok(Core::begin(alloc, version_with(limits), workers, opening)?)
 }
 
 /// The core at which the steps begin behind line `n`, which names the configuration.
-pub(crate) fn begin(alloc: Global, n: u64, workers: u8, line: &[u8]) -> Result<Core, End>
-    ensures { Begins n workers line.now result }
+pub(crate) fn begin(
+    alloc: Global,
+    n: u64,
+    workers: u8,
+    limits: Option<Limits>,
+    line: &[u8],
+) -> Result<Core, End>
+    ensures { Begins n workers limits line.now result }
 {
     let document = read_document(alloc, n, line)?;
-    open_core(alloc, n, workers, document.as_slice())
+    open_core(alloc, n, workers, limits, document.as_slice())
 }

@@ -14,8 +14,9 @@ ghost use Rattle.mum_server.specs.declared.end.End.TheVariants.{Faulty};
 use crate::command::{Command, command_of};
 use crate::end::{End, LineFault, MEMORY_LINE, READ_FAULT_LINE, WRITE_FAULT_LINE};
 use crate::exercise::account;
-use crate::replay::{INPUT_LIMIT, replay};
+use crate::replay::replay;
 use mum_io::{ReadFault, Sink, Source, read_up_to, write_all};
+use mum_record::INPUT_LIMIT;
 use std::alloc::Global;
 
 pub(crate) const USAGE_LINE: &str =

@@ -4,40 +4,34 @@ ghost use Rattle.std.specs.Prelude.{position, ◌≡◌, ◌+◌, ◌<◌, ◌^�
 ghost use Rattle.mum_io.specs.Outside.{Appends, AppendsFront, Rose};
 ghost use Rattle.mum_record.specs.Grammar.{IsRecordable};
 ghost use Rattle.mum_record.specs.Reading.{step_of};
+ghost use Rattle.mum_record.specs.declared.split.TheConstants.{INPUT_LIMIT};
 ghost use Rattle.mum_server.specs.Program.{Ends, WritesCounted};
-ghost use Rattle.mum_server.specs.Replay.{replayed, ending_of};
+ghost use Rattle.mum_server.specs.Replay.{replayed, ending_of, phase_behind_workers};
 ghost use Rattle.mum_server.specs.Runs.{Answers, Says, Advances, StepAnswers, is_end};
-ghost use Rattle.mum_server.specs.declared.replay.TheConstants.{INPUT_LIMIT};
 
 use crate::end::{End, LineFault};
-use crate::opening::begin;
+use crate::opening::{Limits, begin};
 use mum_core::{Core, StepFault};
 use mum_io::{Sink, write_all};
-use mum_record::{Step, is_recording, read_step, read_workers, split_line};
+use mum_record::{
+    INPUT_LIMIT, LINE_LIMIT, Step, Version, read_step, read_workers, recording_version, split_line,
+};
 use std::alloc::Global;
 use std::mem::{drop, replace};
-
-/// The most bytes of a line, its line feed not counted.
-pub const LINE_LIMIT: usize = 131_200;
-
-/// The most bytes of a recording.
-pub const INPUT_LIMIT: usize = 67_108_864;
-
-/// The limits of a recording. This does nothing: its contract is what they are.
-pub fn limits()
-    ensures line { LINE_LIMIT ≡ 131200 }
-    ensures input { INPUT_LIMIT ≡ 67108864 }
-{}
 
 /// Which lines may come next.
 #[derive(Drop)]
 pub enum Phase {
-    /// The line `recording 1`.
+    /// The line `recording 1` or `recording 2`.
     Head,
-    /// The line that tells the number of workers.
-    Workers,
+    /// The line that tells the number of workers, in this version.
+    Workers(Version),
+    /// The line of the limits, behind the number of workers.
+    Limits(u8),
     /// The line of the configuration, behind the number of workers.
     Config(u8),
+    /// The line of the configuration, behind the number of workers and the limits.
+    LimitedConfig(u8, Limits),
     /// The lines of steps.
     Running(Core),
     /// None.
@@ -79,6 +73,17 @@ fn is_end(step: &Step) -> bool
     matches!(step, Step::End)
 }
 
+/// What comes behind the line of the workers: that of the limits in version 2, and else that of the
+/// configuration.
+fn behind_workers(version: Version, workers: u8) -> Phase
+    ensures { result ≡ phase_behind_workers version workers }
+{
+    match version {
+        Version::One => Phase::Config(workers),
+        Version::Two => Phase::Limits(workers),
+    }
+}
+
 impl Phase {
     /// Goes over to another phase.
     #[inline(never)]
@@ -97,21 +102,35 @@ impl Phase {
     {
         match self {
             Phase::Head => {
-                if !is_recording(line) {
+                let Some(version) = recording_version(line) else {
                     return Err(End::faulty(n, LineFault::BadRecording));
-                }
-                self.turn(Phase::Workers);
+                };
+                self.turn(Phase::Workers(version));
                 Ok(())
             }
-            Phase::Workers => {
+            Phase::Workers(version) => {
                 let Some(workers) = read_workers(line) else {
                     return Err(End::faulty(n, LineFault::BadRecording));
                 };
-                self.turn(Phase::Config(workers));
+                let next = behind_workers(*version, workers);
+                self.turn(next);
+                Ok(())
+            }
+            Phase::Limits(workers) => {
+                let Some(limits) = Limits::read(line) else {
+                    return Err(End::faulty(n, LineFault::BadRecording));
+                };
+                let next = Phase::LimitedConfig(*workers, limits);
+                self.turn(next);
                 Ok(())
             }
             Phase::Config(workers) => {
-                let core = begin(alloc, n, *workers, line)?;
+                let core = begin(alloc, n, *workers, None, line)?;
+                self.turn(Phase::Running(core));
+                Ok(())
+            }
+            Phase::LimitedConfig(workers, limits) => {
+                let core = begin(alloc, n, *workers, Some(*limits), line)?;
                 self.turn(Phase::Running(core));
                 Ok(())
             }

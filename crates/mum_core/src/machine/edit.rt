@@ -16,7 +16,7 @@ ghost use Rattle.mum_core.specs.Line.{joined, said_of};
 ghost use Rattle.mum_session.specs.Reply.{mark};
 ghost use Rattle.mum_session.specs.Verdict.{edits_of};
 ghost use Rattle.mum_core.specs.Reply.{reply, seat_of};
-ghost use Rattle.mum_core.specs.declared.slot.TheConstants.{SLOTS as slots};
+ghost use Rattle.mum_base.specs.declared.number.TheConstants.{SLOTS as slots};
 ghost use Rattle.mum_core.specs.steps.Edit.{forbids, does, lines, next_revision, noticed, with_reply};
 ghost use Rattle.mum_notify.specs.Notices.{FitsFrame, notices as edit_notices};
 ghost use Rattle.mum_record.specs.Journal.{verdict_words};

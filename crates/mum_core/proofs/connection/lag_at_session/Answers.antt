@@ -1,6 +1,6 @@
 use Rattle.std.proofs.Common.{◌≡◌, ◌∙◌, ◌<◌, ℕ, List, length, get_or, set, ap, sym, arith}
 use Rattle.std.specs.Prelude.{if◌then◌else◌}
-use Rattle.mum_users.proofs.Seats.{set-mapped}
+use Rattle.mum_users.proofs.Placed.{set-mapped}
 use Rattle.mum_core.specs.Connection.{is_of, lagging}
 use Rattle.mum_core.specs.declared.connection.Connection.{Connection}
 use Rattle.mum_core.proofs.connection.lag_at_session.Goals as goal

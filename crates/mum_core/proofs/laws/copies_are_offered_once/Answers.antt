@@ -22,7 +22,7 @@ pub returns-clause-in_order : goal.returns-clause-in_order
 returns-clause-in_order c = offers_take_the_first
 
 pub returns-clause-each_once : goal.returns-clause-each_once
-returns-clause-each_once c = λ opening workers steps revision speaker target proper is.
-    let core = ran (start opening workers) steps in
-    let fine = state_proper core revision (lawful_all (start opening workers) steps (lawful_start opening workers proper)) in
+returns-clause-each_once c = λ version opening workers steps revision speaker target proper is.
+    let core = ran (start version opening workers) steps in
+    let fine = state_proper core revision (lawful_all (start version opening workers) steps (lawful_start version opening workers proper)) in
     pairs_apart (members (state_at core revision) speaker target) (members_are_apart (state_at core revision) speaker target fine)

@@ -2,6 +2,7 @@ use Rattle.std.proofs.Common.{sym}
 use Rattle.std.proofs.lemmas.Result.{IfOk-weaker}
 use Rattle.mum_rules_user.specs.declared.message.UserMessage.TheVariants as messages
 use Rattle.mum_session.specs.declared.command.Asked.TheVariants.{User}
+use Rattle.mum_core.proofs.Decided.{fitting_seat}
 use Rattle.mum_core.proofs.Nexts.{decided_of, frame_next, leave_next}
 use Rattle.mum_core.proofs.reply.decide_next.Goals as goal
 
@@ -19,3 +20,11 @@ returns-in-None-clause-verdict c =
     IfOk-weaker c.decide-in-None.result _ _
     (λ decided is. decided_of c.args.state.now c.session-session.result asker (User messages.Leave) decided c.session-session.ensures (leave_next asker (sym c.in-None.ensures) c.requires) is)
     c.decide-in-None.ensures.verdict
+
+pub returns-in-Some-clause-seated : goal.returns-in-Some-clause-seated
+returns-in-Some-clause-seated c =
+    IfOk-weaker c.decide.result _ _ (λ decided fit. fitting_seat c.args.state.now decided c.know_proper.ensures fit) c.decide.ensures.fits
+
+pub returns-in-None-clause-seated : goal.returns-in-None-clause-seated
+returns-in-None-clause-seated c =
+    IfOk-weaker c.decide-in-None.result _ _ (λ decided fit. fitting_seat c.args.state.now decided c.know_proper.ensures fit) c.decide-in-None.ensures.fits

@@ -1,10 +1,11 @@
-use Rattle.std.proofs.Common.{◌≡◌, ℕ, ◌+◌, List, [], ◌∷◌, ◌++◌, Option, Some, take, sym, ap, arith, ◌∙◌}
+use Rattle.std.proofs.Common.{◌≡◌, ℕ, ◌+◌, List, [], ◌∷◌, ◌++◌, Option, Some, map, take, sym, ap, arith, ◌∙◌}
 use Rattle.std.specs.Prelude.{slice_get}
 use Rattle.std.specs.List.{filter_map}
 use Rattle.std.proofs.lemmas.Grind.{take_at_read}
-use Rattle.std.proofs.lemmas.List.{take_all}
+use Rattle.std.proofs.lemmas.List.{length-map, take_all}
 use Rattle.std.proofs.lemmas.List.Elements.{filter_map-append}
 use Rattle.std.proofs.lemmas.Option.{slice_get_within, get_or_from_slice_get}
+use Rattle.mum_route.specs.Hearers.{member_of}
 use Rattle.mum_core.specs.Route.{in_its_slot, members}
 use Rattle.mum_core.specs.declared.route.Member.{Member}
 use Rattle.mum_core.proofs.route.members.Goals as goal
@@ -23,12 +24,12 @@ loop-i-preserved c =
     let one = c.at-context.result in
     c.in_ok-push_member.ensures
     ∙ ap (λ (listed : List Member). listed ++ filter_map f (one ∷ [])) c.loop-i.invariant
-    ∙ sym (one_more f c.routed-audience.result c.loop-i.i one c.at-context.ensures.member)
+    ∙ sym (one_more f (map member_of c.routed-audience.result) c.loop-i.i one c.at-context.ensures.member)
 
 pub returns : goal.returns
 unfolding members
 returns c =
     let f = in_its_slot c.args.state.now in
-    let heard = c.routed-audience.result in
-    let all : take c.loop-i.i heard ≡ heard = take_all c.loop-i.i heard (omega arith) in
+    let heard = map member_of c.routed-audience.result in
+    let all : take c.loop-i.i heard ≡ heard = take_all c.loop-i.i heard (omega (arith, length-map c.routed-audience.result member_of)) in
     c.loop-i.invariant ∙ ap (filter_map f) all ∙ ap (filter_map f) c.routed-audience.ensures

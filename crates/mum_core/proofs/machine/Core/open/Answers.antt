@@ -1,15 +1,15 @@
-use Rattle.std.proofs.Common.{◌∙◌, ap, arith}
+use Rattle.std.proofs.Common.{◌∙◌, ap}
+use Rattle.std.proofs.lemmas.Result.{IfOk-weaker}
+use Rattle.mum_record.specs.declared.head.Version.{Version}
 use Rattle.mum_state.specs.State.{StateValue}
-use Rattle.mum_history.specs.History.{begun}
-use Rattle.mum_core.proofs.Begun.{is_start, kept_at_start}
+use Rattle.mum_core.specs.Core.{start, version_of}
 use Rattle.mum_core.proofs.machine.Core.open.Goals as goal
-
-pub of-requires : goal.of-requires
-of-requires c =
-    kept_at_start _ _ _ _ _ _ _ c.in_ok-history.ensures.history c.in_ok-history.ensures.each c.in_ok-history.ensures.count (omega (arith, c.ranges.workers)) c.in_ok-hands.ensures.count
-    c.in_ok-hands.ensures.slots c.in_ok-posts.ensures.count
 
 pub returns : goal.returns
 returns c =
-    is_start _ _ _ _ _ _ _ c.of.ensures (c.in_ok-history.ensures.history ∙ ap (λ (state : StateValue). begun state) c.in_ok-state_after.ensures)
-    c.in_ok-hands.ensures.idle c.in_ok-hands.ensures.empty c.in_ok-posts.ensures.empty
+    IfOk-weaker c.begin.result _ _
+    (λ core is.
+    is
+    ∙ ap (λ (version : Version). start version c.in_ok-state_after.field-0 c.args.workers) c.version_of.ensures
+    ∙ ap (λ (state : StateValue). start (version_of c.args.edits.now) state c.args.workers) c.in_ok-state_after.ensures)
+    c.begin.ensures

@@ -7,6 +7,7 @@ line of totals that follows from them. Prints a line a test; the status is 1 whe
 import json
 import os
 import re
+import resource
 import signal
 import socket
 import struct
@@ -20,7 +21,9 @@ from client import (AUTHENTICATE, REJECT, TEXT_MESSAGE, USER_REMOVE, USER_STATE,
 from trial import PROGRAM, free_port, run_checks, wait
 
 # The most connections that a server has open at once.
-CONNECTION_LIMIT = 256
+CONNECTION_LIMIT = 1024
+# How many descriptors these tests and their servers may have open.
+DESCRIPTORS = 4096
 # How long an address may wait for the header of its relay, in seconds.
 HEADER_PATIENCE = 10
 # What comes before a client's address in a PROXY header, version 2.
@@ -439,6 +442,9 @@ def a_signal_ends_it_and_its_clients_see_that(folder):
 
 
 def main():
+    soft, hard = resource.getrlimit(resource.RLIMIT_NOFILE)
+    if soft < DESCRIPTORS:
+        resource.setrlimit(resource.RLIMIT_NOFILE, (DESCRIPTORS, hard))
     checks = [check for check in TESTS if check.__name__ in sys.argv[1:] or len(sys.argv) == 1]
     return run_checks(checks)
 

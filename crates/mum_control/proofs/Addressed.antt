@@ -44,13 +44,19 @@ found_in_slot limit low session (x ∷ users) user rise found =
     let rest : x.slot.0 + 1 ≤ limit = low_limit limit (x.slot.0 + 1) users rise.1 in
     found_by (has_number session x) limit x user (find (has_number session) users) found (omega arith) (found_in_slot limit (x.slot.0 + 1) session users user rise.1)
 
+-- the slots of a proper state have boxes, whatever its limit is
+has_box : (state : StateValue) (slot : ℕ) → IsProper state → slot < state.roster.limit → slot < SLOTS
+has_box state slot proper below = let most : state.roster.limit ≤ SLOTS = proper.roster.limit_fits in omega (arith, below, most)
+
 -- the slot of a session that is in a proper state has a box
 pub session_in_slot : (state : StateValue) (session : SessionId) (user : User) → IsProper state → session_of state.roster session ≡ Some user → user.slot.0 < SLOTS
-session_in_slot state session user proper found = found_in_slot SLOTS 0 session state.roster.sessions user proper.roster.slots found
+session_in_slot state session user proper found =
+    has_box state user.slot.0 proper (found_in_slot state.roster.limit 0 session state.roster.sessions user proper.roster.slots found)
 
 user_in_slot : (state : StateValue) (user : User) → IsProper state → Contains state.roster.sessions user → user.slot.0 < SLOTS
 user_in_slot state user proper (k, within, is) =
-    subst (λ (one : User). one.slot.0 < SLOTS) is (slot_at SLOTS 0 state.roster.sessions k user proper.roster.slots within)
+    has_box state user.slot.0 proper
+    (subst (λ (one : User). one.slot.0 < state.roster.limit) is (slot_at state.roster.limit 0 state.roster.sessions k user proper.roster.slots within))
 
 addressee_in_slot : (before : StateValue) (edit : Edit) (after : StateValue) (user : User) → IsProper before → IsProper after → IsAddressee before edit after user → user.slot.0 < SLOTS
 addressee_in_slot before edit after user first last (inl there) = user_in_slot after user last there

@@ -165,7 +165,8 @@ few_users limit low (user ∷ users) rise =
 pub few_sessions : (state : StateValue) (sessions : List SessionId) → IsProper state → IsListing state sessions → length sessions ≤ SLOTS
 few_sessions state sessions proper listing =
     let listed : length sessions ≤ length state.roster.sessions = few_listed state.roster.sessions sessions listing.apart listing.present in
-    let users : 0 + length state.roster.sessions ≤ SLOTS = few_users SLOTS 0 state.roster.sessions proper.roster.slots in
+    let users : 0 + length state.roster.sessions ≤ state.roster.limit = few_users state.roster.limit 0 state.roster.sessions proper.roster.slots in
+    let most : state.roster.limit ≤ SLOTS = proper.roster.limit_fits in
     omega arith
 
 -- there is room to list one that is there and not listed

@@ -10,7 +10,7 @@ use Rattle.mum_base.specs.declared.perm.Perm.{Perm}
 use Rattle.mum_base.specs.Perm.{Holds}
 use Rattle.mum_users.specs.Sessions.{next_join, session_of}
 use Rattle.mum_state.specs.Permissions.{perm_of}
-use Rattle.mum_state.specs.State.{StateValue, session_limit}
+use Rattle.mum_state.specs.State.{StateValue}
 use Rattle.mum_notify.specs.declared.notice.Notice.{Notice}
 use Rattle.mum_outbox.specs.declared.parcel.PostParcel.{PostParcel}
 use Rattle.mum_outbox.specs.Facts.{PassFacts as BoxFacts}
@@ -27,7 +27,7 @@ slot_of state session = option_map (λ user. user.slot) (session_of state.roster
 
 -- the slot that the next session that joins gets; none where no more may join
 abbrev pub next_slot : StateValue → Option Slot
-next_slot state = option_map (λ next. next.1) (next_join (session_limit state) state.roster)
+next_slot state = option_map (λ next. next.1) (next_join state.roster)
 
 -- the session has this permission in the channel, and both are in the state
 abbrev pub MayIn : StateValue → SessionId → Perm → ChannelId → Type 0

@@ -11,11 +11,10 @@ use Rattle.mum_session.specs.Heard.{command_heard, login_heard}
 use Rattle.mum_session.specs.Machine.{Machine, is_rejected, session_of}
 use Rattle.mum_session.specs.declared.action.Action.{Action}
 use Rattle.mum_session.specs.declared.action.Action.TheVariants.{Ask, Voice, Echo, Keep, Ignore}
-use Rattle.mum_session.specs.declared.action.Ignored.TheVariants.{Because}
 use Rattle.mum_session.specs.declared.command.Asked.{Asked}
 use Rattle.mum_session.specs.declared.heard.Heard.{Heard}
 use Rattle.mum_session.specs.declared.heard.Heard.TheVariants as heard
-use Rattle.mum_rules_tree.specs.declared.reason.Reason.TheVariants.{Gone}
+use Rattle.mum_base.specs.declared.outcome.Reason.TheVariants.{Gone}
 use Rattle.mum_port.specs.Did.{action_of}
 use Rattle.mum_port.specs.Turn.{RoutesPacket}
 use Rattle.mum_port.proofs.HandlePart.{RoutesOf}
@@ -51,7 +50,7 @@ later-silent (Some session) a silent = silent
 stranger-silent : (machine : Machine) (kind : ℕ) (payload : List ℕ) → session_of machine.stage ≡ None → is_voice (action machine kind payload) ≡ false
 unfolding action
 stranger-silent machine kind payload none =
-    either_silent (is_rejected machine.stage) (ignore (Because Gone)) _ refl
+    either_silent (is_rejected machine.stage) (ignore Gone) _ refl
     (either_silent (kind == UDP_TUNNEL) (voice_action (session_of machine.stage) payload) _ (ap (λ (s : Option SessionId). is_voice (voice_action s payload)) none)
     (either_silent (kind == VERSION) (version_action (decoded version payload)) _ (version-silent (decoded version payload))
     (either_silent (kind == PING) (ping_action (decoded ping payload)) _ (ping-silent (decoded ping payload))

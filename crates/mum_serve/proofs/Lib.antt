@@ -1,3 +1,4 @@
 mod Leading
 mod Ended
+mod Limited
 mod Refused

@@ -10,6 +10,7 @@ use Rattle.mum_io.specs.Counts.{Counts, Rose}
 use Rattle.mum_io.specs.Outside.{Appends, AppendsFront, Keeps}
 use Rattle.mum_record.specs.Words.{line_of_words}
 use Rattle.mum_state.specs.After.{after}
+use Rattle.mum_serve.specs.Opening.{opening_edits}
 use Rattle.mum_serve.specs.Serving.{ServesOver}
 use Rattle.mum_serve.specs.declared.program.ServerEnd.{ServerEnd}
 use Rattle.mum_serve.specs.declared.program.ServerEnd.TheVariants.{Finished, BadConfig, ReadFault, WriteFault, DoorFault, CrewFault, OutOfMemory}
@@ -95,13 +96,13 @@ module _ {D : Type 0} (L : Type 0) (counts : D → Counts) (given : D → ℕ) (
     pub totals : Totals
     pub no_memory : Bool
     pub door_failed : Bool
-    pub serves : ServesOver L counts given opened_at address (after config.edits) connections config.workers door (Whole totals no_memory door_failed) left
+    pub serves : ServesOver L counts given opened_at address (after (opening_edits config.edits)) connections config.workers door (Whole totals no_memory door_failed) left
     pub writes : WritesTotals totals no_memory door_failed end old new
 
   -- the door did not open
   abbrev pub StaysShut : List ℕ → ℕ → Config → Option D → Option D → Type 0
   StaysShut address connections config door left =
-      ServesOver L counts given opened_at address (after config.edits) connections config.workers door DoorStaysShut left
+      ServesOver L counts given opened_at address (after (opening_edits config.edits)) connections config.workers door DoorStaysShut left
 
   -- all were served; or the door did not open, the crew did not start, or memory ran out, and nothing is written
   abbrev pub EndsWith : List ℕ → ℕ → Config → ServerEnd → Option D → Option D → Option (List ℕ) → Option (List ℕ) → Type 0

@@ -1,6 +1,7 @@
 //! A run of the program that serves: from the configuration that the input is to the line of the totals.
 
 ghost use Rattle.std.specs.Prelude.{◌≡◌, ◌<◌, ◌≤◌, ℕ, IfErr, IfOk, IfSome, IsTrue, is_some, string_bytes, true};
+ghost use Rattle.mum_serve.specs.Opening.{opening_edits};
 ghost use Rattle.mum_serve.specs.Program.{Describes, EndsAt, EndsWith, IsRefusal, ReadsCounted, RunsInCrew, WritesCounted, WritesTotals, document_of, refusal, served_line};
 ghost use Rattle.mum_state.specs.After.{all_fit};
 ghost use Rattle.mum_state.specs.State.{empty_state};
@@ -61,7 +62,7 @@ fn refusal(error: BadConfig) -> ServerEnd
 // The configuration that these bytes describe.
 fn described(alloc: Global, bytes: &[u8]) -> Result<Config, ServerEnd>
     ensures describes { Describes bytes.now result }
-    ensures fits { IfOk result (λ config. IsTrue (all_fit empty_state config.edits)) }
+    ensures fits { IfOk result (λ config. IsTrue (all_fit empty_state (opening_edits config.edits))) }
     ensures workers { IfOk result (λ config. (1 ≤ config.workers) × (config.workers ≤ 8)) }
     ensures refuses { IfErr result IsRefusal }
     ensures not_read { (faults : ℕ) → IfErr result (λ end. ReadsCounted end faults faults) }
@@ -75,7 +76,7 @@ fn described(alloc: Global, bytes: &[u8]) -> Result<Config, ServerEnd>
 // The configuration that the input is.
 fn config_in<I: Source>(alloc: Global, input: &mut I) -> Result<Config, ServerEnd>
     ensures describes { IfSome (I.left input.old) (λ bytes. Describes bytes result) }
-    ensures fits { IfOk result (λ config. IsTrue (all_fit empty_state config.edits)) }
+    ensures fits { IfOk result (λ config. IsTrue (all_fit empty_state (opening_edits config.edits))) }
     ensures workers { IfOk result (λ config. (1 ≤ config.workers) × (config.workers ≤ 8)) }
     ensures refuses { IfErr result IsRefusal }
     ensures read { IfOk result (λ _. I.faults input.new ≡ I.faults input.old) }
@@ -150,7 +151,7 @@ fn serve_config<R: Wait + Copy + Send, O: Sink, D: Door + Send, C: Crew>(
     door: &mut Option<D>,
     crew: &mut C,
 ) -> ServerEnd
-    requires fits { IsTrue (all_fit empty_state config.now.edits) }
+    requires fits { IsTrue (all_fit empty_state (opening_edits config.now.edits)) }
     requires workers { (1 ≤ config.now.workers) × (config.now.workers ≤ 8) }
     requires door { is_some door.old ≡ true }
     requires connections { 0 < connections }

@@ -3,22 +3,26 @@
 ghost use Rattle.std.specs.Prelude.{◌≡◌, ◌<◌, ◌≤◌, [], IfOk, IsTrue, Some, is_some, length, true};
 ghost use Rattle.std.specs.List.{All};
 ghost use Rattle.mum_published.specs.Calls.{IsFresh, appended, latest};
+ghost use Rattle.mum_base.specs.declared.number.TheConstants.{PLACES as places, SLOTS as slots};
+ghost use Rattle.mum_serve.specs.Opening.{opening_edits};
 ghost use Rattle.mum_serve.specs.Serving.{Runs, RunsCounted, Serves, ServesOver, opening_at};
 ghost use Rattle.mum_state.specs.After.{after, all_fit};
+ghost use Rattle.mum_state.specs.Fits.{fits};
 ghost use Rattle.mum_state.specs.Proper.{IsProper};
 ghost use Rattle.mum_state.specs.State.{empty_state};
+ghost use Rattle.mum_state.specs.declared.edit.Edit.TheVariants.{SetLimits};
 
 use crate::collect::{Collected, collect};
 use crate::start::roles;
 use crate::totals::Totals;
-use mum_base::OutOfMemory;
+use mum_base::{OutOfMemory, PLACES, SLOTS};
 use mum_config::Config;
 use mum_crew::{Crew, CrewEnd};
-use mum_history::state_after;
+use mum_history::{state_after, state_from};
 use mum_io::{Door, DoorOpen};
 use mum_owner::Serving;
 use mum_published::{Pass, Publisher, open};
-use mum_state::State;
+use mum_state::{Edit, State};
 use std::alloc::Global;
 use std::marker::Brand;
 use std::mem::drop;
@@ -100,12 +104,32 @@ fn run<N: Serving + Send, R: Wait + Copy + Send, D: Door + Send, C: Crew>(
     }
 }
 
-// The state that a configuration describes, twice.
-fn states(alloc: Global, config: &Config) -> Result<(State, State), OutOfMemory>
-    requires { IsTrue (all_fit empty_state config.now.edits) }
-    ensures { IfOk result (λ states. (states.0 ≡ after config.now.edits) × (states.1 ≡ after config.now.edits)) }
+// The edit that gives a server room for a session in each slot, and for a channel at each place.
+fn greatest_limits() -> Edit
+    ensures edit { result ≡ SetLimits slots places }
+    ensures fits { IsTrue (fits empty_state (SetLimits slots places)) }
 {
-    let state = state_after(alloc, config.edits.as_slice())?;
+    Edit::SetLimits {
+        sessions: SLOTS as u16,
+        channels: PLACES as u32,
+    }
+}
+
+// The state at which a server begins.
+fn opening_state(alloc: Global, edits: &[Edit]) -> Result<State, OutOfMemory>
+    requires { IsTrue (all_fit empty_state (opening_edits edits.now)) }
+    ensures { IfOk result (λ state. state ≡ after (opening_edits edits.now)) }
+{
+    let limited = state_after(alloc, &[greatest_limits()])?;
+    state_from(limited, edits)
+}
+
+// The state at which a server begins, twice.
+fn states(alloc: Global, edits: &[Edit]) -> Result<(State, State), OutOfMemory>
+    requires { IsTrue (all_fit empty_state (opening_edits edits.now)) }
+    ensures { IfOk result (λ states. (states.0 ≡ after (opening_edits edits.now)) × (states.1 ≡ after (opening_edits edits.now))) }
+{
+    let state = opening_state(alloc, edits)?;
     match state.copy(alloc) {
         Ok(copy) => Ok((state, copy)),
         Err(error) => {
@@ -206,14 +230,14 @@ fn serve_over<R: Wait + Copy + Send, D: Door + Send, C: Crew>(
     door: D,
     crew: &mut C,
 ) -> (Served, D)
-    requires fits { IsTrue (all_fit empty_state config.now.edits) }
+    requires fits { IsTrue (all_fit empty_state (opening_edits config.now.edits)) }
     requires workers { (0 < config.now.workers) × (config.now.workers ≤ 10) }
     requires connections { 0 < connections }
     ensures counts { RunsCounted result.0 (C.counts crew.old) (C.counts crew.new) }
-    ensures serves { Serves D.Conn D.counts D.given D.opened_at address.now (after config.now.edits) connections config.now.workers
+    ensures serves { Serves D.Conn D.counts D.given D.opened_at address.now (after (opening_edits config.now.edits)) connections config.now.workers
         door result.0 result.1 }
 {
-    let Ok((state, copy)) = states(alloc, config) else {
+    let Ok((state, copy)) = states(alloc, config.edits.as_slice()) else {
         return (Served::OutOfMemory, door);
     };
     let (mut publisher, passes) = match open(rt, alloc, copy, config.workers) {
@@ -240,7 +264,8 @@ fn serve_over<R: Wait + Copy + Send, D: Door + Send, C: Crew>(
 }
 
 /// Serves the connections that come to a door: this many, or fewer where the door ends or fails. It returns when
-/// all are closed. The door is back at every return.
+/// all are closed. The door is back at every return. A server has room for 512 sessions and 2,048 channels; these
+/// limits are set before what the configuration describes.
 pub fn serve<R: Wait + Copy + Send, D: Door + Send, C: Crew>(
     rt: &R,
     alloc: Global,
@@ -250,12 +275,12 @@ pub fn serve<R: Wait + Copy + Send, D: Door + Send, C: Crew>(
     door: &mut Option<D>,
     crew: &mut C,
 ) -> Served
-    requires fits { IsTrue (all_fit empty_state config.now.edits) }
+    requires fits { IsTrue (all_fit empty_state (opening_edits config.now.edits)) }
     requires workers { (0 < config.now.workers) × (config.now.workers ≤ 10) }
     requires door { is_some door.old ≡ true }
     requires connections { 0 < connections }
     ensures counts { RunsCounted result (C.counts crew.old) (C.counts crew.new) }
-    ensures serves { ServesOver D.Conn D.counts D.given D.opened_at address.now (after config.now.edits) connections
+    ensures serves { ServesOver D.Conn D.counts D.given D.opened_at address.now (after (opening_edits config.now.edits)) connections
         config.now.workers door.old result door.new }
 {
     let Some(taken) = door.take() else {

@@ -156,6 +156,7 @@ fn text_of(alloc: Global, entries: Vec<ControlEntry>) -> Result<Octets, OutOfMem
     by_worker.push(Items::new(alloc))?;
     let journal = Journal {
         workers: 1,
+        limits: None,
         config: Octets::from_vec(Vec::new(alloc)),
         controls: Items::from_vec(entries),
         by_worker,

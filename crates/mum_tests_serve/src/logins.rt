@@ -72,6 +72,26 @@ fn a_fault_has_its_status_and_its_line(rt: HostRuntime) -> Result<(), Fail> {
 }
 
 #[test]
+fn a_door_that_fails_on_the_way(rt: HostRuntime) -> Result<(), Fail> {
+    let alloc: Global = rt.alloc();
+    let mut events = Vec::new(alloc);
+    events.push(DoorEvent::Conn(link(alloc, &[ANN, LOOPBACK])?))?;
+    events.push(DoorEvent::NotYet)?;
+    events.push(DoorEvent::Fail)?;
+    events.push(DoorEvent::Conn(link(alloc, &[BOB])?))?;
+    let door = MemDoor::new(alloc, events, true)?;
+    let mut crew = TurnCrew::new(rt, Vec::new(alloc));
+    let outcome = ran(&rt, alloc, "3", "", door, &mut crew)?;
+    // who came before is served to the end, and nobody is taken in afterwards
+    let line = "served connections 1 accepted 2 looks 1 copies 1 full 0 stale 0\n";
+    assert_eq!(rt; outcome.output(), line);
+    assert_eq!(rt; outcome.errors(), "murmur: 8 DoorFault\n");
+    assert_eq!(rt; outcome.status, 8);
+    assert!(rt; outcome.door.is_some());
+    Ok(())
+}
+
+#[test]
 fn a_crew_that_does_not_start(rt: HostRuntime) -> Result<(), Fail> {
     let alloc: Global = rt.alloc();
     let mut crew = NoThreads::new(rt);
@@ -106,7 +126,7 @@ fn one_connection(rt: HostRuntime) -> Result<(), Fail> {
     Ok(())
 }
 
-/// How many clients log in, one after another: more than there are slots.
+/// How many clients log in, one after another.
 const LOGINS: u8 = 130;
 
 /// Logs in once those before it have left, and hears itself.

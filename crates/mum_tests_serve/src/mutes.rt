@@ -7,7 +7,7 @@ use mum_crew::TurnCrew;
 use std::alloc::{AllocError, Global};
 use std::test::Fail;
 
-/// As many users as there are slots.
+/// How many users there are. Each change of one is told to all of them.
 const USERS: u8 = 128;
 
 const MUTE: &[u8] = b"\x00\x09\x00\x00\x00\x02\x48\x01";

@@ -2,7 +2,7 @@
 use Rattle.std.specs.Prelude.{◌≡◌, ℕ, false, List, [], Option, Some}
 use Rattle.mum_base.specs.declared.number.SessionId.{SessionId}
 use Rattle.mum_published.specs.Facts.{Opening, PassFacts}
-use Rattle.mum_route.specs.Route.{Member}
+use Rattle.mum_route.specs.declared.hearer.Hearer.{Hearer}
 use Rattle.mum_router.specs.Picking.{Picks}
 use Rattle.mum_router.specs.Routing.{Routes}
 use Rattle.mum_router.specs.declared.offering.Routed.{Routed}
@@ -22,7 +22,7 @@ module _ {L : Type 0} where
     pub nothing_put : worker.desk.offered ≡ []
 
   -- one look for a packet of the port's session
-  pub record PicksFor (opening : Opening) (old : WorkerFacts L) (port : ℕ) (packet : Parts) (new : WorkerFacts L) (audience : List Member) : Type 0 where
+  pub record PicksFor (opening : Opening) (old : WorkerFacts L) (port : ℕ) (packet : Parts) (new : WorkerFacts L) (audience : List Hearer) : Type 0 where
     pub speaker : SessionId
     pub speaker_is : speaker_of old.ports port ≡ Some speaker
     pub picks : Picks opening old.common.router speaker packet new.common.router audience

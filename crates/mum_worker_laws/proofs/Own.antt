@@ -7,13 +7,12 @@ use Rattle.mum_fields.specs.Table.{decoded}
 use Rattle.mum_frame.specs.declared.frame.Frame.{Frame}
 use Rattle.mum_frame.specs.declared.kind.TheConstants.{UDP_TUNNEL, VERSION, PING, AUTHENTICATE}
 use Rattle.mum_msg_state.specs.Messages.{ping, version}
-use Rattle.mum_rules_tree.specs.declared.reason.Reason.TheVariants.{Gone}
+use Rattle.mum_base.specs.declared.outcome.Reason.TheVariants.{Gone}
 use Rattle.mum_session.specs.Action.{Decoded, action, after_login, command_action, commands_after_login, ignore, login_action, ping_action, tree_or_user_action, version_action, voice_action}
 use Rattle.mum_session.specs.Heard.{command_heard, login_heard}
 use Rattle.mum_session.specs.Machine.{Machine, is_rejected, session_of}
 use Rattle.mum_session.specs.declared.action.Action.{Action}
 use Rattle.mum_session.specs.declared.action.Action.TheVariants.{Ask, Voice, Echo, Keep, Ignore}
-use Rattle.mum_session.specs.declared.action.Ignored.TheVariants.{Because}
 use Rattle.mum_session.specs.declared.command.Asked.{Asked}
 use Rattle.mum_session.specs.declared.heard.Heard.{Heard}
 use Rattle.mum_session.specs.declared.heard.Heard.TheVariants as heard
@@ -65,7 +64,7 @@ later-own connection (Some session) a own = own
 action-own : (machine : Machine) (kind : ℕ) (payload : List ℕ) → asks_own machine.connection (action machine kind payload) ≡ true
 unfolding action
 action-own machine kind payload =
-    either_own machine.connection (is_rejected machine.stage) (ignore (Because Gone)) _ refl
+    either_own machine.connection (is_rejected machine.stage) (ignore Gone) _ refl
     (either_own machine.connection (kind == UDP_TUNNEL) (voice_action (session_of machine.stage) payload) _ (voice-own machine.connection (session_of machine.stage) payload)
     (either_own machine.connection (kind == VERSION) (version_action (decoded version payload)) _ (version-own machine.connection (decoded version payload))
     (either_own machine.connection (kind == PING) (ping_action (decoded ping payload)) _ (ping-own machine.connection (decoded ping payload))

@@ -2,7 +2,6 @@ use Rattle.std.proofs.Common.{◌∙◌, ap, sym}
 use Rattle.std.specs.Option.{option_map}
 use Rattle.mum_base.specs.declared.number.SessionId.{SessionId}
 use Rattle.mum_base.specs.declared.number.Slot.{Slot}
-use Rattle.mum_users.specs.declared.user.TheConstants.{SESSIONS}
 use Rattle.mum_users.specs.Sessions.{next_join}
 use Rattle.mum_users.specs.State.{RosterState}
 use Rattle.mum_control.proofs.sessions.next_slot.Goals as goal
@@ -10,9 +9,9 @@ use Rattle.mum_control.proofs.sessions.next_slot.Goals as goal
 pub returns-in-Some : goal.returns-in-Some
 returns-in-Some c =
     ap (option_map (λ (next : SessionId × Slot). next.1))
-    (sym c.in-Some.is ∙ c.next_join.ensures.next ∙ ap (λ (roster : RosterState). next_join SESSIONS roster) c.roster-roster.ensures.roster)
+    (sym c.in-Some.is ∙ c.next_join.ensures.next ∙ ap (λ (roster : RosterState). next_join roster) c.roster-roster.ensures.roster)
 
 pub returns-in-None : goal.returns-in-None
 returns-in-None c =
     ap (option_map (λ (next : SessionId × Slot). next.1))
-    (sym c.in-None.is ∙ c.next_join.ensures.next ∙ ap (λ (roster : RosterState). next_join SESSIONS roster) c.roster-roster.ensures.roster)
+    (sym c.in-None.is ∙ c.next_join.ensures.next ∙ ap (λ (roster : RosterState). next_join roster) c.roster-roster.ensures.roster)

@@ -1,5 +1,6 @@
 -- The document says what it is read as.
 use Rattle.std.proofs.Common.{Err, Ok, List, ℕ, subst}
+use Rattle.mum_serve.proofs.Limited.{all_behind}
 use Rattle.mum_serve.proofs.Refused.{is_refusal, read_as, refusal_reads, refused_as}
 use Rattle.mum_serve.specs.Program.{Describes, IsRefusal, ReadsCounted}
 use Rattle.mum_serve.specs.declared.program.ServerEnd.{ServerEnd}
@@ -7,6 +8,9 @@ use Rattle.mum_serve.proofs.program.described.Goals as goal
 
 pub returns-in-Ok-clause-describes : goal.returns-in-Ok-clause-describes
 returns-in-Ok-clause-describes c = read_as c.args.bytes.now c.document_of.result.now c.in-Ok.config c.document_of.ensures c.in-Ok.ensures.reads
+
+pub returns-in-Ok-clause-fits : goal.returns-in-Ok-clause-fits
+returns-in-Ok-clause-fits c = all_behind c.in-Ok.config.edits c.in-Ok.ensures.limited
 
 pub returns-in-Err-clause-describes : goal.returns-in-Err-clause-describes
 returns-in-Err-clause-describes c =

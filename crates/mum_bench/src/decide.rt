@@ -1,15 +1,21 @@
-//! Decisions on channels: what a denied and an accepted message cost, and a walk of one path.
+//! Decisions: what a denied and an accepted message on channels cost, what a text costs that names one
+//! channel as often as it can, and a walk of one path.
 
 use crate::edits::{FIRST, Rule, add_channel, add_channels, add_sessions, asked};
 use anyhow::{Result, bail, ensure};
-use mum_base::{Items, OutOfMemory, Perm};
+use mum_base::{Items, OutOfMemory, Perm, Text};
+use mum_msg_rule::TextMessage;
 use mum_msg_state::ChannelState;
 use mum_rules_tree::{TreeMessage, decide_tree};
+use mum_rules_user::{UserMessage, decide_user};
 use mum_state::{State, Verdict};
 use std::alloc::Global;
 
 /// The channels below the last of the path but one.
 const LEAVES: u32 = 4;
+
+/// As many names of a channel, each of two bytes, as a command has room for beside a word.
+const NAMES: u32 = 32_490;
 
 /// The entries of each channel: everybody may do all.
 const GRANTED: Rule<'static> = Rule {
@@ -75,13 +81,54 @@ fn message_of(alloc: Global, kind: &str, first: u32) -> Result<TreeMessage> {
     }
 }
 
-/// Decides a message: one where it was accepted, none where a permission is missing.
-fn decide_once(alloc: Global, state: &State, message: &TreeMessage) -> Result<u64> {
-    match decide_tree(alloc, state, FIRST, message)? {
+/// A channel, so often.
+fn repeated(alloc: Global, id: u32, count: u32) -> Result<Items<u32>, OutOfMemory> {
+    let mut channels = Items::new(alloc);
+    for _ in 0..count {
+        channels.push(id)?;
+    }
+    Ok(channels)
+}
+
+/// A text for a channel, which it names as often as it can.
+fn text_for(alloc: Global, id: u32) -> Result<UserMessage> {
+    let channel_id = repeated(alloc, id, NAMES)?;
+    Ok(UserMessage::Text(TextMessage {
+        actor: None,
+        session: Items::new(alloc),
+        channel_id,
+        tree_id: Items::new(alloc),
+        message: Some(Text::of(alloc, "word")?),
+    }))
+}
+
+/// One where a message was accepted, none where a permission is missing.
+fn counted(verdict: &Verdict) -> Result<u64> {
+    match verdict {
         Verdict::Accepted(_) => Ok(1),
         Verdict::Lacks { .. } => Ok(0),
         _ => bail!("a message of a workload meets no limit"),
     }
+}
+
+fn decide_once(alloc: Global, state: &State, message: &TreeMessage) -> Result<u64> {
+    let verdict = decide_tree(alloc, state, FIRST, message)?;
+    counted(&verdict)
+}
+
+fn decide_text_once(alloc: Global, state: &State, message: &UserMessage) -> Result<u64> {
+    let verdict = decide_user(alloc, state, Some(FIRST), message)?;
+    counted(&verdict)
+}
+
+/// Decides a text for a channel so many times; how often it was accepted.
+fn texts_decided(alloc: Global, state: &State, id: u32, count: u32) -> Result<u64> {
+    let message = text_for(alloc, id)?;
+    let mut sum: u64 = 0;
+    for _ in 0..count {
+        sum = sum.wrapping_add(decide_text_once(alloc, state, &message)?);
+    }
+    Ok(sum)
 }
 
 /// Decides a message so many times; how often it was accepted.
@@ -97,13 +144,17 @@ fn decided(alloc: Global, state: &State, message: &TreeMessage, count: u32) -> R
 /// four, each with 128 entries on its list. `walk` asks what one may do in the first of the four. `accepted`
 /// gives that one a position, which needs one permission; `denied` gives the last one a position, where that
 /// permission is missing; `linked` links the first to the two that come next, which needs three, and
-/// `denied-last` to all of the others, where the fourth and last is missing.
+/// `denied-last` to all of the others, where the fourth and last is missing. `text` is a text for the first
+/// that names it 32,490 times, which is to need it once.
 pub fn work(alloc: Global, state: &mut State, kind: &str, length: u32, count: u32) -> Result<u64> {
     ensure!(length > 1, "a path has the root and one more");
     fill(alloc, state, length - 2)?;
     let first = length - 1;
     if kind == "walk" {
         return Ok(asked(state, None, first, count));
+    }
+    if kind == "text" {
+        return texts_decided(alloc, state, first, count);
     }
     let message = message_of(alloc, kind, first)?;
     decided(alloc, state, &message, count)

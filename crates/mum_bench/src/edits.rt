@@ -7,6 +7,7 @@ use mum_base::{AccountId, ChannelId, Items, OutOfMemory, Perm, SessionId, Text};
 use mum_policy::{AclEntry, ChannelPolicy, Who, Whom};
 use mum_state::{Edit, State};
 use mum_tree::ChannelInfo;
+use mum_users::ChannelList;
 use std::alloc::Global;
 
 /// The session that joins first.
@@ -144,7 +145,7 @@ pub fn set_user(
     channel: Option<ChannelId>,
     mute: Option<bool>,
     listen: Items<ChannelId>,
-    unlisten: Items<ChannelId>,
+    unlisten: ChannelList,
 ) -> Edit {
     Edit::SetUser {
         session,
@@ -230,6 +231,7 @@ pub fn asked(state: &State, account: Option<AccountId>, channel: u32, count: u32
         session: FIRST,
         account,
         channel: ChannelId::ROOT,
+        home: &[ChannelId::ROOT],
         tokens: &[],
     };
     let mut sum: u64 = 0;

@@ -8,6 +8,7 @@ mod decide;
 mod edits;
 mod frames;
 mod notices;
+mod parts;
 mod published;
 mod recording;
 mod routes;
@@ -37,6 +38,7 @@ fn on_state(
         "acl" => acl::work(alloc, state, kind, length, count),
         "decide" => decide::work(alloc, state, kind, length, count),
         "notices" => notices::work(alloc, state, kind, length, count),
+        "parts" => parts::work(alloc, state, kind, length, count),
         "route" => routes::work(alloc, state, kind, length, count),
         _ => bail!("no such workload"),
     }

@@ -6,11 +6,12 @@ use anyhow::{Result, bail, ensure};
 use mum_base::{Items, Perm, SessionId};
 use mum_notify::{Notice, fits_frame, notices, sync_block};
 use mum_state::{Edit, State};
-use mum_users::user::SESSIONS;
+use mum_users::ChannelList;
+use mum_users::user::DEFAULT_SESSIONS_LIMIT;
 use std::alloc::Global;
 
 /// The session that joins last.
-const LAST: SessionId = SessionId(SESSIONS as u32);
+const LAST: SessionId = SessionId(DEFAULT_SESSIONS_LIMIT as u32);
 
 /// The channels have no entries.
 const NONE: Rule<'static> = Rule {
@@ -52,7 +53,13 @@ fn make_and_tell(
 
 /// Mutes the last session, and tells of it so many times.
 fn mute_and_tell(alloc: Global, before: &State, after: &mut State, count: u32) -> Result<u64> {
-    let edit = set_user(LAST, None, Some(true), Items::new(alloc), Items::new(alloc));
+    let edit = set_user(
+        LAST,
+        None,
+        Some(true),
+        Items::new(alloc),
+        ChannelList::new(alloc),
+    );
     make_and_tell(alloc, before, &edit, after, count)
 }
 
@@ -80,7 +87,7 @@ pub fn work(
     count: u32,
 ) -> Result<u64> {
     add_channels(alloc, state, channels, u32::MAX, NONE)?;
-    add_sessions(alloc, state, SESSIONS as u32)?;
+    add_sessions(alloc, state, u32::from(DEFAULT_SESSIONS_LIMIT))?;
     match kind {
         "mute" => mutes(alloc, state, count),
         "sync" => greetings(alloc, state, count),

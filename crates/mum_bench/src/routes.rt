@@ -6,10 +6,11 @@ use crate::edits::{
     FIRST, Rule, add_channels, add_sessions, channels_from, edit_channel, set_user, take,
 };
 use anyhow::{Result, bail, ensure};
-use mum_base::{ChannelId, Items, Perm, SessionId, Steps};
+use mum_base::{ChannelId, Perm, SessionId, Steps};
 use mum_route::{Audience, TALK, route};
 use mum_state::{Edit, State};
 use mum_tree::{CHANNEL_LIMIT, Scratch};
+use mum_users::ChannelList;
 use std::alloc::Global;
 use std::marker::Brand;
 use std::sync::ledger::{Blank, Ledger};
@@ -40,11 +41,17 @@ fn link(alloc: Global, id: u32) -> Result<Edit> {
 fn enter(alloc: Global, session: u32, channel: u32, first: u32) -> Result<Edit> {
     let listen = channels_from(alloc, first, LISTENED)?;
     let channel = Some(ChannelId(channel));
-    Ok(set_user(SessionId(session), channel, None, listen, Items::new(alloc)))
+    Ok(set_user(
+        SessionId(session),
+        channel,
+        None,
+        listen,
+        ChannelList::new(alloc),
+    ))
 }
 
 /// Links each channel but the last to the one before it.
-fn link_all(alloc: Global, state: &mut State, channels: u32) -> Result<()> {
+pub fn link_all(alloc: Global, state: &mut State, channels: u32) -> Result<()> {
     for id in 1..channels.saturating_sub(1) {
         take(state, link(alloc, id))?;
     }

@@ -11,7 +11,7 @@ use Rattle.mum_base.specs.declared.perm.TheConstants.Perm.{START, TRAVERSE, WRIT
 use Rattle.mum_policy.specs.declared.policy.AclEntry.{AclEntry}
 use Rattle.mum_policy.specs.declared.policy.ChannelPolicy.{ChannelPolicy}
 use Rattle.mum_policy.specs.declared.walk.Walk.{Walk}
-use Rattle.mum_policy.specs.Member.{Asker, PolicyMap}
+use Rattle.mum_policy.specs.Member.{Actor, PolicyMap}
 use Rattle.mum_policy.specs.Walk.{after_channel, after_entries, after_match, applies, entering, granted, holds, marked, matches}
 use Rattle.mum_policy.specs.Laws.{AreDeniesIn32Bits, IsPermission, entries_of, held_after, held_by, last_naming, matching_at, names_permission, starts_over}
 use Rattle.mum_policy.proofs.Bits.{holds_or, holds_without}
@@ -105,7 +105,7 @@ set_after p is matching asked (entry ∷ entries) fit walk =
 -- ---- one channel
 
 -- the marks after a channel
-pub traverse_passed : (policies : PolicyMap) (path : List ChannelId) (who : Asker) (place : ℕ) (asked : Bool) (channel : ChannelId) (walk : Walk)
+pub traverse_passed : (policies : PolicyMap) (path : List ChannelId) (who : Actor) (place : ℕ) (asked : Bool) (channel : ChannelId) (walk : Walk)
     → (after_channel policies path who place asked (policies channel) walk).traverse ≡ held_after TRAVERSE.0 walk.traverse (matching_at policies path who place channel)
 unfolding after_channel
 traverse_passed policies path who place asked channel walk = elim (policies channel) as (λ policy. (after_channel policies path who place asked policy walk).traverse ≡ held_after TRAVERSE.0 walk.traverse (filter (matches policies path who place) (entries_of policy))) [
@@ -113,7 +113,7 @@ traverse_passed policies path who place asked channel walk = elim (policies chan
   | Some policy ↦ traverse_after (matches policies path who place) asked policy.acls (entering policy.inherit_acls walk)
 ]
 
-pub write_passed : (policies : PolicyMap) (path : List ChannelId) (who : Asker) (place : ℕ) (asked : Bool) (channel : ChannelId) (walk : Walk)
+pub write_passed : (policies : PolicyMap) (path : List ChannelId) (who : Actor) (place : ℕ) (asked : Bool) (channel : ChannelId) (walk : Walk)
     → (after_channel policies path who place asked (policies channel) walk).write ≡ held_after WRITE.0 walk.write (matching_at policies path who place channel)
 unfolding after_channel
 write_passed policies path who place asked channel walk = elim (policies channel) as (λ policy. (after_channel policies path who place asked policy walk).write ≡ held_after WRITE.0 walk.write (filter (matches policies path who place) (entries_of policy))) [
@@ -129,7 +129,7 @@ entered : (p : ℕ) (inherit : Bool) (walk : Walk) → holds (entering inherit w
 entered p true walk = refl
 entered p false walk = refl
 
-set_of_policy : (p : ℕ) → IsPermission p → (policies : PolicyMap) (path : List ChannelId) (who : Asker) (place : ℕ) (asked : Bool) (policy : Option ChannelPolicy) (walk : Walk)
+set_of_policy : (p : ℕ) → IsPermission p → (policies : PolicyMap) (path : List ChannelId) (who : Actor) (place : ℕ) (asked : Bool) (policy : Option ChannelPolicy) (walk : Walk)
     → All (λ entry. entry.deny.0 < 2 ^ 32) (entries_of policy)
     → holds (after_channel policies path who place asked policy walk).set.0 p
     ≡ held_after p (begun p policy walk) (filter (applies asked) (filter (matches policies path who place) (entries_of policy)))
@@ -145,7 +145,7 @@ fit_at policies channel fit = elim (policies channel) as (λ policy. policies ch
   | Some policy ↦ λ e. fit channel policy e
 ] refl
 
-pub set_passed : (p : ℕ) → IsPermission p → (policies : PolicyMap) (path : List ChannelId) (who : Asker) (place : ℕ) (asked : Bool) (channel : ChannelId) (walk : Walk)
+pub set_passed : (p : ℕ) → IsPermission p → (policies : PolicyMap) (path : List ChannelId) (who : Actor) (place : ℕ) (asked : Bool) (channel : ChannelId) (walk : Walk)
     → AreDeniesIn32Bits policies
     → holds (after_channel policies path who place asked (policies channel) walk).set.0 p
     ≡ held_after p (begun p (policies channel) walk) (filter (applies asked) (matching_at policies path who place channel))

@@ -9,7 +9,7 @@ use Rattle.mum_base.specs.declared.number.ChannelId.{ChannelId}
 use Rattle.mum_base.specs.declared.perm.TheConstants.Perm.{ALL, ROOT_ONLY, START, WRITE}
 use Rattle.mum_policy.specs.declared.policy.AclEntry.{AclEntry}
 use Rattle.mum_policy.specs.declared.walk.Walk.{Walk}
-use Rattle.mum_policy.specs.Member.{Asker, PolicyMap}
+use Rattle.mum_policy.specs.Member.{Actor, PolicyMap}
 use Rattle.mum_policy.specs.Walk.{after_channel, after_entries, after_match, along, applies, entering, finished, full_set, goes_on, granted, holds, is_asked, matches, on_root, perm, walk_start}
 use Rattle.mum_policy.specs.Laws.{AreGrantsKnown, EntriesDecide, IsPermission, LastNamingEntryDecides, NoWayBelow, NoWayThrough, NobodyHasMore, NothingOfTheRootElsewhere, SuperUserMayAll, counting, entries_of, held_after, is_held, is_super_user, leaves_a_mark, matching, starts_over}
 use Rattle.mum_policy.proofs.Sets.{all_but_voice, finished_holds, known_and, known_finished, known_full, known_or, none_elsewhere}
@@ -53,7 +53,7 @@ filter_alike p q (entry ∷ entries) same =
     ap (λ (b : Bool). cond b (entry ∷ filter p entries) (filter p entries)) (All-head (λ (e : AclEntry). p e ≡ q e) entry entries same)
     ∙ ap (λ (kept : List AclEntry). cond (q entry) (entry ∷ kept) kept) (filter_alike p q entries (All-tail (λ (e : AclEntry). p e ≡ q e) entry entries same))
 
-matching_alike : (policies : PolicyMap) (path longer : List ChannelId) (who : Asker) (place : ℕ) (channels : List ChannelId)
+matching_alike : (policies : PolicyMap) (path longer : List ChannelId) (who : Actor) (place : ℕ) (channels : List ChannelId)
     → ((i : ℕ) (channel : ChannelId) (at : ℕ) → slice_get channels i ≡ Some channel → at ≡ place + i
     → All (λ entry. matches policies longer who at entry ≡ matches policies path who at entry) (entries_of (policies channel)))
     → matching policies longer who place channels ≡ matching policies path who place channels
@@ -100,7 +100,7 @@ known_entering : (inherit : Bool) (walk : Walk) → Holds ALL.0 walk.set.0 → H
 known_entering true walk h = h
 known_entering false walk h = refl
 
-known_channel : (policies : PolicyMap) (path : List ChannelId) (who : Asker) (place : ℕ) (asked : Bool) (channel : ChannelId) (walk : Walk) → AreGrantsKnown policies
+known_channel : (policies : PolicyMap) (path : List ChannelId) (who : Actor) (place : ℕ) (asked : Bool) (channel : ChannelId) (walk : Walk) → AreGrantsKnown policies
     → Holds ALL.0 walk.set.0 → Holds ALL.0 (after_channel policies path who place asked (policies channel) walk).set.0
 unfolding after_channel
 known_channel policies path who place asked channel walk known h =
@@ -109,7 +109,7 @@ known_channel policies path who place asked channel walk known h =
       | Some policy ↦ λ e. known_entries (matches policies path who place) asked policy.acls (known channel policy e) (entering policy.inherit_acls walk) (known_entering policy.inherit_acls walk h)
     ] refl
 
-known_along : (policies : PolicyMap) (path : List ChannelId) (who : Asker) (place : ℕ) (channels : List ChannelId) (walk end : Walk) → AreGrantsKnown policies
+known_along : (policies : PolicyMap) (path : List ChannelId) (who : Actor) (place : ℕ) (channels : List ChannelId) (walk end : Walk) → AreGrantsKnown policies
     → Holds ALL.0 walk.set.0 → along policies path who place channels walk ≡ Some end → Holds ALL.0 end.set.0
 unfolding along
 known_along policies path who place [] walk end known h e = subst (λ (w : Walk). Holds ALL.0 w.set.0) (same_Some walk end e) h
@@ -119,7 +119,7 @@ known_along policies path who place (channel ∷ below) walk end known h e =
     known_along policies path who (place + 1) below after end known (known_channel policies path who place (is_asked below) channel walk known h) on.1
 
 -- what holds of the full set and of each set at the end of a walk, of none too, holds of the answer
-answered : (P : ℕ → Type 0) (policies : PolicyMap) (path : List ChannelId) (who : Asker)
+answered : (P : ℕ → Type 0) (policies : PolicyMap) (path : List ChannelId) (who : Actor)
     → P (full_set (on_root path)) → P 0 → ((end : Walk) → along policies path who 0 path walk_start ≡ Some end → P (finished (on_root path) end.set.0)) → P (perm policies path who)
 answered P policies path who full none some = elim (is_super_user who) as (λ super. is_super_user who ≡ super → P (perm policies path who)) [
   | true ↦ λ is. subst P (perm_super policies path who true (on_root path) (sym is) refl refl) full

@@ -3,7 +3,7 @@ use Rattle.std.proofs.Common.{◌≡◌, ℕ, suc, ◌-◌, add-one, ◌<◌, �
 use Rattle.std.proofs.Math.Seq.{take-suc}
 use Rattle.std.proofs.lemmas.List.{reverse-append, take_all}
 use Rattle.mum_base.specs.declared.number.ChannelId.{ChannelId}
-use Rattle.mum_policy.specs.Member.{Asker, is_in, upwards}
+use Rattle.mum_policy.specs.Member.{Actor, is_in, upwards}
 use Rattle.mum_policy.specs.Walk.{is_root}
 
 upwards_from : (path : List ChannelId) (d : ChannelId) → 0 < length path → reverse path ≡ get_or path (length path - 1) d ∷ reverse (take (length path - 1) path)
@@ -12,7 +12,7 @@ upwards_from path d some =
     let lt : length path - 1 < length path = omega arith in
     ap reverse (sym whole ∙ take-suc path (length path - 1) d lt) ∙ reverse-append (take (length path - 1) path) (get_or path (length path - 1) d ∷ [])
 
-pub is_in-at : (who : Asker) (path : List ChannelId) (place : ℕ) (d : ChannelId) → place < length path → ((get_or path place d).0 == who.channel.0) ≡ is_in who (upwards path place)
+pub is_in-at : (who : Actor) (path : List ChannelId) (place : ℕ) (d : ChannelId) → place < length path → ((get_or path place d).0 == who.channel.0) ≡ is_in who (upwards path place)
 unfolding is_in
 is_in-at who path place d within =
     let cut : upwards path place ≡ get_or path place d ∷ reverse (take place path) = rw (add-one place, take-suc path place d within, reverse-append (take place path) (get_or path place d ∷ [])) refl in

@@ -8,7 +8,7 @@ use Rattle.mum_policy.specs.declared.policy.ChannelPolicy.{ChannelPolicy}
 use Rattle.mum_policy.specs.declared.policy.Group.{Group}
 use Rattle.mum_policy.specs.declared.policy.Whom.{Whom}
 use Rattle.mum_policy.specs.Limits.{is_large_policy}
-use Rattle.mum_policy.specs.Member.{Asker, PolicyMap, definition, definitions_from, has_token, is_in, is_listed, meets, member, members}
+use Rattle.mum_policy.specs.Member.{Actor, PolicyMap, definition, definitions_from, has_token, is_in, is_listed, meets, member, members}
 use Rattle.mum_policy.specs.Name.{asked_by, is_built_in_without_members, meaning, understood_after}
 use Rattle.mum_policy.specs.Subtree.{is_below, offset_of, span_of}
 use Rattle.mum_policy.specs.Walk.{after_channel, after_entries, after_match, along, is_root, matches, perm}
@@ -39,22 +39,22 @@ policies root a b id =
 
 -- ---- sessions: in the root, without an account or with this one
 
-abbrev pub guest : Asker
+abbrev pub guest : Actor
 guest = record { account = None; channel = channel 0; home = at_root; tokens = [] }
 
-abbrev pub holder : ℕ → Asker
+abbrev pub holder : ℕ → Actor
 holder number = record guest { account = Some (account number) }
 
-abbrev pub placed_in : ℕ → Asker → Asker
+abbrev pub placed_in : ℕ → Actor → Actor
 placed_in number who = record who { channel = channel number; home = path_to number }
 
-abbrev pub with_tokens : List (List ℕ) → Asker → Asker
+abbrev pub with_tokens : List (List ℕ) → Actor → Actor
 with_tokens tokens who = record who { tokens = tokens }
 
 -- ---- what they may do
 
 -- in the root, in A and in B
-pub rights : ChannelPolicy → ChannelPolicy → ChannelPolicy → Asker → ℕ × ℕ × ℕ
+pub rights : ChannelPolicy → ChannelPolicy → ChannelPolicy → Actor → ℕ × ℕ × ℕ
 unfolding perm is_root along after_channel after_entries after_match matches member meets is_in has_token is_listed members definition definitions_from understood_after asked_by meaning is_built_in_without_members
 rights root a b who = let at = policies root a b in (perm at at_root who, perm at at_a who, perm at at_b who)
 
@@ -210,16 +210,16 @@ abbrev pub words : List ℕ → List (List ℕ)
 words text = slice_split (λ letter. letter == 32) text
 
 -- those of the names whose groups the session is in
-pub groups_of : Asker → List (List ℕ) → List (List ℕ)
+pub groups_of : Actor → List (List ℕ) → List (List ℕ)
 unfolding member meets is_in has_token is_listed members definition definitions_from understood_after asked_by meaning is_built_in_without_members is_below span_of offset_of
 groups_of who names =
     let in_b = policy (group (codes "admin") (5 ∷ []) [] ∷ group (codes "subs") (5 ∷ []) [] ∷ group (codes "none") (5 ∷ []) [] ∷ []) [] in
     filter (λ name. member (policies plain plain in_b) at_b 1 name who) names
 
-abbrev pub ann : Asker
+abbrev pub ann : Actor
 ann = with_tokens (codes "secret" ∷ []) (placed_in 2 (holder 5))
 
-abbrev pub bob : Asker
+abbrev pub bob : Actor
 bob = with_tokens (codes "secret" ∷ []) (placed_in 2 guest)
 
 -- ë and Ë, and a token with one of them

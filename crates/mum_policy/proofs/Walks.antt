@@ -7,7 +7,7 @@ use Rattle.mum_base.specs.declared.number.ChannelId.{ChannelId}
 use Rattle.mum_policy.specs.declared.policy.AclEntry.{AclEntry}
 use Rattle.mum_policy.specs.declared.policy.ChannelPolicy.{ChannelPolicy}
 use Rattle.mum_policy.specs.declared.walk.Walk.{Walk}
-use Rattle.mum_policy.specs.Member.{Asker, PolicyMap}
+use Rattle.mum_policy.specs.Member.{Actor, PolicyMap}
 use Rattle.mum_policy.specs.Walk.{goes_on, after_match, after_entries, after_policy, after_channel, entry_count, is_asked, along, visits_along, is_account, full_set, on_root, set_of, perm, visits, walk_start}
 
 -- ---- entries
@@ -59,13 +59,13 @@ asked_at path place d lt =
     ]
 
 -- what is known of a channel that was passed
-pub record Passed (policies : PolicyMap) (path : List ChannelId) (who : Asker) (place : ℕ) (policy : ChannelPolicy) (walk after : Walk) : Type 0 where
+pub record Passed (policies : PolicyMap) (path : List ChannelId) (who : Actor) (place : ℕ) (policy : ChannelPolicy) (walk after : Walk) : Type 0 where
   pub within : place < length path
   pub default : ChannelId
   pub there : Some policy ≡ policies (get_or path place default)
   pub after_is : after ≡ after_policy policies path who place (place + 1 == length path) policy walk
 
-reached : {policies : PolicyMap} {path : List ChannelId} {who : Asker} {place : ℕ} {policy : ChannelPolicy} {walk after : Walk}
+reached : {policies : PolicyMap} {path : List ChannelId} {who : Actor} {place : ℕ} {policy : ChannelPolicy} {walk after : Walk}
     → (p : Passed policies path who place policy walk after)
     → after_channel policies path who place (is_asked (drop (place + 1) path)) (policies (get_or path place p.default)) walk ≡ after
 unfolding after_channel
@@ -74,7 +74,7 @@ reached {policies} {path} {who} {place} {policy} {walk} {after} p =
     ∙ ap (λ (b : Bool). after_policy policies path who place b policy walk) (asked_at path place p.default p.within)
     ∙ sym p.after_is
 
-along_next : {policies : PolicyMap} {path : List ChannelId} {who : Asker} {place : ℕ} {policy : ChannelPolicy} {walk after : Walk} (on : Bool)
+along_next : {policies : PolicyMap} {path : List ChannelId} {who : Actor} {place : ℕ} {policy : ChannelPolicy} {walk after : Walk} (on : Bool)
     → Passed policies path who place policy walk after → on ≡ goes_on after
     → along policies path who place (drop place path) walk ≡ (if on then along policies path who (place + 1) (drop (place + 1) path) after else None)
 unfolding along
@@ -83,7 +83,7 @@ along_next {policies} {path} {who} {place} {policy} {walk} {after} on p e =
     ∙ ap (λ (w : Walk). if goes_on w then along policies path who (place + 1) (drop (place + 1) path) w else None) (reached p)
     ∙ ap (λ (b : Bool). if b then along policies path who (place + 1) (drop (place + 1) path) after else None) (sym e)
 
-visits_next : {policies : PolicyMap} {path : List ChannelId} {who : Asker} {place : ℕ} {policy : ChannelPolicy} {walk after : Walk} (on : Bool)
+visits_next : {policies : PolicyMap} {path : List ChannelId} {who : Actor} {place : ℕ} {policy : ChannelPolicy} {walk after : Walk} (on : Bool)
     → Passed policies path who place policy walk after → on ≡ goes_on after
     → visits_along policies path who place (drop place path) walk
     ≡ length policy.acls + (if on then visits_along policies path who (place + 1) (drop (place + 1) path) after else 0)
@@ -94,12 +94,12 @@ visits_next {policies} {path} {who} {place} {policy} {walk} {after} on p e =
     ∙ ap (λ (q : Option ChannelPolicy). entry_count q + (if goes_on after then visits_along policies path who (place + 1) (drop (place + 1) path) after else 0)) (sym p.there)
     ∙ ap (λ (b : Bool). length policy.acls + (if b then visits_along policies path who (place + 1) (drop (place + 1) path) after else 0)) (sym e)
 
-pub along_last : (policies : PolicyMap) (path : List ChannelId) (who : Asker) (place : ℕ) (walk : Walk) → length path ≤ place
+pub along_last : (policies : PolicyMap) (path : List ChannelId) (who : Actor) (place : ℕ) (walk : Walk) → length path ≤ place
     → along policies path who place (drop place path) walk ≡ Some walk
 unfolding along
 along_last policies path who place walk past = rw (drop_of_length-le path past) refl
 
-pub visits_last : (policies : PolicyMap) (path : List ChannelId) (who : Asker) (place : ℕ) (walk : Walk) → length path ≤ place
+pub visits_last : (policies : PolicyMap) (path : List ChannelId) (who : Actor) (place : ℕ) (walk : Walk) → length path ≤ place
     → visits_along policies path who place (drop place path) walk ≡ 0
 unfolding visits_along
 visits_last policies path who place walk past = rw (drop_of_length-le path past) refl
@@ -107,11 +107,11 @@ visits_last policies path who place walk past = rw (drop_of_length-le path past)
 -- ---- the whole walk
 
 -- what holds before each channel: the rest of the walk gives the answer, and its entries are to be read
-pub record SoFar (policies : PolicyMap) (path : List ChannelId) (who : Asker) (place : ℕ) (walk : Walk) (before now : ℕ) : Type 0 where
+pub record SoFar (policies : PolicyMap) (path : List ChannelId) (who : Actor) (place : ℕ) (walk : Walk) (before now : ℕ) : Type 0 where
   pub answer : along policies path who place (drop place path) walk ≡ along policies path who 0 path walk_start
   pub read : now + visits_along policies path who place (drop place path) walk ≡ before + visits_along policies path who 0 path walk_start
 
-pub so_far_next : {policies : PolicyMap} {path : List ChannelId} {who : Asker} {place : ℕ} {policy : ChannelPolicy} {walk after : Walk} {before now : ℕ}
+pub so_far_next : {policies : PolicyMap} {path : List ChannelId} {who : Actor} {place : ℕ} {policy : ChannelPolicy} {walk after : Walk} {before now : ℕ}
     (on : Bool) (later : ℕ) → Passed policies path who place policy walk after → on ≡ goes_on after → on ≡ true → later ≡ now + length policy.acls
     → SoFar policies path who place walk before now → SoFar policies path who (place + 1) after before later
 so_far_next on later p e is_true later_is s =
@@ -121,49 +121,49 @@ so_far_next on later p e is_true later_is s =
     }
 
 -- where the last channel was passed
-pub whole : {policies : PolicyMap} {path : List ChannelId} {who : Asker} {place : ℕ} {walk : Walk} {before now : ℕ}
+pub whole : {policies : PolicyMap} {path : List ChannelId} {who : Actor} {place : ℕ} {walk : Walk} {before now : ℕ}
     → length path ≤ place → SoFar policies path who place walk before now → along policies path who 0 path walk_start ≡ Some walk
 whole past s = sym s.answer ∙ along_last _ _ _ _ _ past
 
-pub whole_visits : {policies : PolicyMap} {path : List ChannelId} {who : Asker} {place : ℕ} {walk : Walk} {before now : ℕ}
+pub whole_visits : {policies : PolicyMap} {path : List ChannelId} {who : Actor} {place : ℕ} {walk : Walk} {before now : ℕ}
     → length path ≤ place → SoFar policies path who place walk before now → now ≡ before + visits_along policies path who 0 path walk_start
 whole_visits {policies} {path} {who} {place} {walk} past s = omega (arith, visits_last policies path who place walk past, s.read)
 
 -- where the walk ends on the way
-pub ended : {policies : PolicyMap} {path : List ChannelId} {who : Asker} {place : ℕ} {policy : ChannelPolicy} {walk after : Walk} {before now : ℕ}
+pub ended : {policies : PolicyMap} {path : List ChannelId} {who : Actor} {place : ℕ} {policy : ChannelPolicy} {walk after : Walk} {before now : ℕ}
     (on : Bool) → Passed policies path who place policy walk after → on ≡ goes_on after → on ≡ false → SoFar policies path who place walk before now
     → along policies path who 0 path walk_start ≡ None
 ended on p e is_false s = sym s.answer ∙ along_next false p (sym is_false ∙ e)
 
-pub ended_visits : {policies : PolicyMap} {path : List ChannelId} {who : Asker} {place : ℕ} {policy : ChannelPolicy} {walk after : Walk} {before now : ℕ}
+pub ended_visits : {policies : PolicyMap} {path : List ChannelId} {who : Actor} {place : ℕ} {policy : ChannelPolicy} {walk after : Walk} {before now : ℕ}
     (on : Bool) (later : ℕ) → Passed policies path who place policy walk after → on ≡ goes_on after → on ≡ false → later ≡ now + length policy.acls
     → SoFar policies path who place walk before now → later ≡ before + visits_along policies path who 0 path walk_start
 ended_visits on later p e is_false later_is s = omega (arith, visits_next false p (sym is_false ∙ e), s.read, later_is)
 
 -- ---- the answer
 
-pub perm_super : (policies : PolicyMap) (path : List ChannelId) (who : Asker) (super root : Bool) → super ≡ is_account who.account SUPER_USER → super ≡ true
+pub perm_super : (policies : PolicyMap) (path : List ChannelId) (who : Actor) (super root : Bool) → super ≡ is_account who.account SUPER_USER → super ≡ true
     → root ≡ on_root path → full_set root ≡ perm policies path who
 unfolding perm
 perm_super policies path who super root e is_true at_root =
     ap full_set at_root
     ∙ ap (λ (b : Bool). if b then full_set (on_root path) else set_of (on_root path) (along policies path who 0 path walk_start)) (sym is_true ∙ e)
 
-pub perm_walked : (policies : PolicyMap) (path : List ChannelId) (who : Asker) (super root : Bool) (end : Option Walk) → super ≡ is_account who.account SUPER_USER → super ≡ false
+pub perm_walked : (policies : PolicyMap) (path : List ChannelId) (who : Actor) (super root : Bool) (end : Option Walk) → super ≡ is_account who.account SUPER_USER → super ≡ false
     → root ≡ on_root path → along policies path who 0 path walk_start ≡ end → set_of root end ≡ perm policies path who
 unfolding perm
 perm_walked policies path who super root end e is_false at_root ends =
     ap (λ (b : Bool). set_of b end) at_root ∙ ap (set_of (on_root path)) (sym ends)
     ∙ ap (λ (b : Bool). if b then full_set (on_root path) else set_of (on_root path) (along policies path who 0 path walk_start)) (sym is_false ∙ e)
 
-pub visits_super : (policies : PolicyMap) (path : List ChannelId) (who : Asker) (super : Bool) (before : ℕ) → super ≡ is_account who.account SUPER_USER → super ≡ true
+pub visits_super : (policies : PolicyMap) (path : List ChannelId) (who : Actor) (super : Bool) (before : ℕ) → super ≡ is_account who.account SUPER_USER → super ≡ true
     → before ≡ before + visits policies path who
 unfolding visits
 visits_super policies path who super before e is_true =
     sym (add-zero before)
     ∙ ap (λ (b : Bool). before + (if b then 0 else visits_along policies path who 0 path walk_start)) (sym is_true ∙ e)
 
-pub visits_walked : (policies : PolicyMap) (path : List ChannelId) (who : Asker) (super : Bool) (before now : ℕ) → super ≡ is_account who.account SUPER_USER → super ≡ false
+pub visits_walked : (policies : PolicyMap) (path : List ChannelId) (who : Actor) (super : Bool) (before now : ℕ) → super ≡ is_account who.account SUPER_USER → super ≡ false
     → now ≡ before + visits_along policies path who 0 path walk_start → now ≡ before + visits policies path who
 unfolding visits
 visits_walked policies path who super before now e is_false read =

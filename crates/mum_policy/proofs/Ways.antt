@@ -6,7 +6,7 @@ use Rattle.mum_base.specs.declared.number.ChannelId.{ChannelId}
 use Rattle.mum_base.specs.declared.perm.TheConstants.Perm.{START, TRAVERSE, WRITE}
 use Rattle.mum_policy.specs.declared.policy.AclEntry.{AclEntry}
 use Rattle.mum_policy.specs.declared.walk.Walk.{Walk}
-use Rattle.mum_policy.specs.Member.{Asker, PolicyMap}
+use Rattle.mum_policy.specs.Member.{Actor, PolicyMap}
 use Rattle.mum_policy.specs.Walk.{after_channel, along, applies, goes_on, holds, is_asked}
 use Rattle.mum_policy.specs.Laws.{AreDeniesIn32Bits, IsPermission, counting, held_after, matching, matching_at, starts_over}
 use Rattle.mum_policy.proofs.Decisions.{held_after-append, set_passed, traverse_passed, write_passed}
@@ -17,14 +17,14 @@ use Rattle.mum_policy.proofs.Decisions.{held_after-append, set_passed, traverse_
 abbrev pub leaves : Walk → List AclEntry → Bool
 leaves walk entries = held_after TRAVERSE.0 walk.traverse entries || held_after WRITE.0 walk.write entries
 
-goes_on_after : (policies : PolicyMap) (path : List ChannelId) (who : Asker) (place : ℕ) (asked : Bool) (channel : ChannelId) (walk : Walk)
+goes_on_after : (policies : PolicyMap) (path : List ChannelId) (who : Actor) (place : ℕ) (asked : Bool) (channel : ChannelId) (walk : Walk)
     → goes_on (after_channel policies path who place asked (policies channel) walk) ≡ leaves walk (matching_at policies path who place channel)
 goes_on_after policies path who place asked channel walk =
     ap (λ (b : Bool). b || (after_channel policies path who place asked (policies channel) walk).write) (traverse_passed policies path who place asked channel walk)
     ∙ ap (λ (b : Bool). held_after TRAVERSE.0 walk.traverse (matching_at policies path who place channel) || b) (write_passed policies path who place asked channel walk)
 
 -- the entries of a channel, and then those of the channels below
-leaves_further : (policies : PolicyMap) (path : List ChannelId) (who : Asker) (place : ℕ) (asked : Bool) (channel : ChannelId) (walk : Walk) (later : List AclEntry)
+leaves_further : (policies : PolicyMap) (path : List ChannelId) (who : Actor) (place : ℕ) (asked : Bool) (channel : ChannelId) (walk : Walk) (later : List AclEntry)
     → leaves (after_channel policies path who place asked (policies channel) walk) later ≡ leaves walk (matching_at policies path who place channel ++ later)
 leaves_further policies path who place asked channel walk later =
     let own : List AclEntry = matching_at policies path who place channel in
@@ -35,7 +35,7 @@ leaves_further policies path who place asked channel walk later =
     ∙ ap (λ (b : Bool). held_after TRAVERSE.0 walk.traverse (own ++ later) || b) (sym (held_after-append WRITE.0 walk.write own later))
 
 -- where the last of these channels leaves no mark
-pub ends : (policies : PolicyMap) (path : List ChannelId) (who : Asker) (place : ℕ) (above below : List ChannelId) (channel : ChannelId) (walk : Walk)
+pub ends : (policies : PolicyMap) (path : List ChannelId) (who : Actor) (place : ℕ) (above below : List ChannelId) (channel : ChannelId) (walk : Walk)
     → leaves walk (matching policies path who place (above ++ channel ∷ [])) ≡ false
     → along policies path who place (above ++ channel ∷ below) walk ≡ None
 unfolding along matching
@@ -54,7 +54,7 @@ ends policies path who place (first ∷ above) below channel walk closed =
     ]
 
 -- where each of these channels leaves a mark
-pub reaches : (policies : PolicyMap) (path : List ChannelId) (who : Asker) (place : ℕ) (channels : List ChannelId) (walk : Walk)
+pub reaches : (policies : PolicyMap) (path : List ChannelId) (who : Actor) (place : ℕ) (channels : List ChannelId) (walk : Walk)
     → ((above below : List ChannelId) (channel : ChannelId) → channels ≡ above ++ channel ∷ below → leaves walk (matching policies path who place (above ++ channel ∷ [])) ≡ true)
     → (end : Walk) × (along policies path who place channels walk ≡ Some end)
 unfolding along matching
@@ -90,7 +90,7 @@ begins p true false walk after own e = refl
 begins p false true walk after own e = e
 begins p false false walk after own e = e
 
-pub set_at_end : (p : ℕ) → IsPermission p → (policies : PolicyMap) (path : List ChannelId) (who : Asker) (place : ℕ) (channels : List ChannelId) (walk end : Walk)
+pub set_at_end : (p : ℕ) → IsPermission p → (policies : PolicyMap) (path : List ChannelId) (who : Actor) (place : ℕ) (channels : List ChannelId) (walk end : Walk)
     → AreDeniesIn32Bits policies → along policies path who place channels walk ≡ Some end
     → holds end.set.0 p ≡ held_after p (begun_on p (list_any (λ lower. starts_over (policies lower)) channels) walk) (counting policies path who place channels)
 unfolding along counting

@@ -8,7 +8,7 @@ use Rattle.mum_base.specs.declared.perm.TheConstants.Perm.{ALL, BY_WRITE, ROOT_O
 use Rattle.mum_policy.specs.declared.policy.AclEntry.{AclEntry}
 use Rattle.mum_policy.specs.declared.policy.ChannelPolicy.{ChannelPolicy}
 use Rattle.mum_policy.specs.declared.walk.Walk.{Walk}
-use Rattle.mum_policy.specs.Member.{Asker, PolicyMap}
+use Rattle.mum_policy.specs.Member.{Actor, PolicyMap}
 use Rattle.mum_policy.specs.Walk.{along, applies, finished, full_set, holds, is_account, is_asked, matches, on_root, perm, walk_start}
 
 -- ---- one permission
@@ -47,19 +47,19 @@ starts_over None = false
 starts_over (Some policy) = not policy.inherit_acls
 
 -- the entries that match, of the channel at this place of the path
-abbrev pub matching_at : PolicyMap → List ChannelId → Asker → ℕ → ChannelId → List AclEntry
+abbrev pub matching_at : PolicyMap → List ChannelId → Actor → ℕ → ChannelId → List AclEntry
 matching_at policies path who place channel =
     filter (matches policies path who place) (entries_of (policies channel))
 
 -- the entries that match, of the channels from this place of the path down
-unfoldable pub matching : PolicyMap → List ChannelId → Asker → ℕ → List ChannelId → List AclEntry
+unfoldable pub matching : PolicyMap → List ChannelId → Actor → ℕ → List ChannelId → List AclEntry
 matching policies path who place [] = []
 matching policies path who place (channel ∷ below) =
     matching_at policies path who place channel ++ matching policies path who (place + 1) below
 
 -- The entries that count: those that match and apply, of each channel below which none starts over. So they
 -- are of the channels from the last that starts over, or from the root, down to the asked one.
-unfoldable pub counting : PolicyMap → List ChannelId → Asker → ℕ → List ChannelId → List AclEntry
+unfoldable pub counting : PolicyMap → List ChannelId → Actor → ℕ → List ChannelId → List AclEntry
 counting policies path who place [] = []
 counting policies path who place (channel ∷ below) =
     (if list_any (λ lower. starts_over (policies lower)) below then []
@@ -67,7 +67,7 @@ counting policies path who place (channel ∷ below) =
     ++ counting policies path who (place + 1) below
 
 -- whether a permission is held after the entries that count, of which the start set is the beginning
-abbrev pub is_held : PolicyMap → List ChannelId → Asker → ℕ → Bool
+abbrev pub is_held : PolicyMap → List ChannelId → Actor → ℕ → Bool
 is_held policies path who permission =
     held_after permission (holds START.0 permission) (counting policies path who 0 path)
 
@@ -78,17 +78,17 @@ abbrev pub leaves_a_mark : List AclEntry → Bool
 leaves_a_mark entries = held_after TRAVERSE.0 true entries || held_after WRITE.0 false entries
 
 -- the session passes the last of these channels, which begin the path
-abbrev pub passes : PolicyMap → List ChannelId → Asker → List ChannelId → Bool
+abbrev pub passes : PolicyMap → List ChannelId → Actor → List ChannelId → Bool
 passes policies path who channels = leaves_a_mark (matching policies path who 0 channels)
 
 -- it passes each channel of the path
-abbrev pub IsWayOpen : PolicyMap → List ChannelId → Asker → Type 0
+abbrev pub IsWayOpen : PolicyMap → List ChannelId → Actor → Type 0
 IsWayOpen policies path who =
     (above below : List ChannelId) (channel : ChannelId) → path ≡ above ++ channel ∷ below
     → passes policies path who (above ++ channel ∷ []) ≡ true
 
 -- the session is of account 0
-abbrev pub is_super_user : Asker → Bool
+abbrev pub is_super_user : Actor → Bool
 is_super_user who = is_account who.account SUPER_USER
 
 -- ---- hypotheses on policies
@@ -112,7 +112,7 @@ AreGrantsKnown policies = EachEntry policies (λ entry. Holds ALL.0 entry.grant.
 -- does not deny it, and, where none names it, exactly where the start set has it.
 abbrev pub LastNamingEntryDecides : Type 0
 LastNamingEntryDecides =
-    (policies : PolicyMap) (path : List ChannelId) (who : Asker) (permission : ℕ) (end : Walk)
+    (policies : PolicyMap) (path : List ChannelId) (who : Actor) (permission : ℕ) (end : Walk)
     → AreDeniesIn32Bits policies → IsPermission permission → along policies path who 0 path walk_start ≡ Some end
     → holds end.set.0 permission ≡ is_held policies path who permission
 
@@ -120,7 +120,7 @@ LastNamingEntryDecides =
 -- off the root, nothing that means something on the root alone.
 abbrev pub EntriesDecide : Type 0
 EntriesDecide =
-    (policies : PolicyMap) (path : List ChannelId) (who : Asker) (permission : ℕ)
+    (policies : PolicyMap) (path : List ChannelId) (who : Actor) (permission : ℕ)
     → AreDeniesIn32Bits policies → IsPermission permission → is_super_user who ≡ false → IsWayOpen policies path who
     → let held = is_held policies path who in
     holds (perm policies path who) permission
@@ -144,25 +144,25 @@ NothingElseIsTaken =
 -- nobody has a permission that does not exist
 abbrev pub NobodyHasMore : Type 0
 NobodyHasMore =
-    (policies : PolicyMap) (path : List ChannelId) (who : Asker) → AreGrantsKnown policies
+    (policies : PolicyMap) (path : List ChannelId) (who : Actor) → AreGrantsKnown policies
     → Holds ALL.0 (perm policies path who)
 
 -- nobody has one of the permissions of the root anywhere else
 abbrev pub NothingOfTheRootElsewhere : Type 0
 NothingOfTheRootElsewhere =
-    (policies : PolicyMap) (path : List ChannelId) (who : Asker) → on_root path ≡ false
+    (policies : PolicyMap) (path : List ChannelId) (who : Actor) → on_root path ≡ false
     → bit_and (perm policies path who) ROOT_ONLY.0 ≡ 0
 
 -- Where a channel of the path leaves neither mark, nothing is held at the end of the path, be it that channel or
 -- one below. The entries are those that match for the end of the path.
 abbrev pub NoWayThrough : Type 0
 NoWayThrough =
-    (policies : PolicyMap) (path : List ChannelId) (who : Asker) (above below : List ChannelId) (channel : ChannelId)
+    (policies : PolicyMap) (path : List ChannelId) (who : Actor) (above below : List ChannelId) (channel : ChannelId)
     → is_super_user who ≡ false → path ≡ above ++ channel ∷ below
     → passes policies path who (above ++ channel ∷ []) ≡ false → perm policies path who ≡ 0
 
 -- each entry of these channels, which begin both paths, matches for the end of the one as for the end of the other
-abbrev pub MatchAlike : PolicyMap → Asker → List ChannelId → List ChannelId → List ChannelId → Type 0
+abbrev pub MatchAlike : PolicyMap → Actor → List ChannelId → List ChannelId → List ChannelId → Type 0
 MatchAlike policies who channels path longer =
     (place : ℕ) (channel : ChannelId) → slice_get channels place ≡ Some channel
     → All (λ entry. matches policies longer who place entry ≡ matches policies path who place entry)
@@ -171,7 +171,7 @@ MatchAlike policies who channels path longer =
 -- So nothing is held below the end of the path either, if the entries down to that channel match alike there.
 abbrev pub NoWayBelow : Type 0
 NoWayBelow =
-    (policies : PolicyMap) (path : List ChannelId) (who : Asker) (above below lower : List ChannelId)
+    (policies : PolicyMap) (path : List ChannelId) (who : Actor) (above below lower : List ChannelId)
     (channel : ChannelId) → is_super_user who ≡ false → path ≡ above ++ channel ∷ below
     → passes policies path who (above ++ channel ∷ []) ≡ false
     → MatchAlike policies who (above ++ channel ∷ []) path (path ++ lower) → perm policies (path ++ lower) who ≡ 0
@@ -180,6 +180,6 @@ NoWayBelow =
 -- something on the root alone.
 abbrev pub SuperUserMayAll : Type 0
 SuperUserMayAll =
-    (policies : PolicyMap) (path : List ChannelId) (who : Asker) → is_super_user who ≡ true
+    (policies : PolicyMap) (path : List ChannelId) (who : Actor) → is_super_user who ≡ true
     → perm policies path who
     ≡ without_bits (if on_root path then ALL.0 else without_bits ALL.0 ROOT_ONLY.0) (bit_or SPEAK.0 WHISPER.0)

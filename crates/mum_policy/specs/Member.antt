@@ -68,15 +68,15 @@ IsFound policies path found =
 -- ---- the session
 
 -- A session, as entries and groups see it; `home` is the path from the root to its channel.
-pub record Asker : Type 0 where
+pub record Actor : Type 0 where
   pub account : Option AccountId
   pub channel : ChannelId
   pub home : List ChannelId
   pub tokens : List (List ℕ)
 
 -- what the code's session says
-abbrev pub asker_of : Who → Asker
-asker_of who = record { account = who.account; channel = who.channel; home = who.home.now; tokens = who.tokens.now }
+abbrev pub actor_of : Who → Actor
+actor_of who = record { account = who.account; channel = who.channel; home = who.home.now; tokens = who.tokens.now }
 
 -- one of the tokens is the word, ASCII case ignored
 unfoldable pub has_token : List (List ℕ) → List ℕ → Bool
@@ -87,7 +87,7 @@ abbrev pub upwards : List ChannelId → ℕ → List ChannelId
 upwards path place = reverse (take (place + 1) path)
 
 -- the session is in the chosen channel
-unfoldable pub is_in : Asker → List ChannelId → Bool
+unfoldable pub is_in : Actor → List ChannelId → Bool
 is_in who [] = false
 is_in who (chosen ∷ above) = chosen.0 == who.channel.0
 
@@ -103,7 +103,7 @@ abbrev pub chosen : Question → Bool → List ChannelId
 chosen question at_acl = upwards question.path (if at_acl then question.acl_at else length question.path - 1)
 
 -- the session meets what is asked; `~`, which chooses the channel of the ACL, has no effect on `sub`
-unfoldable pub meets : PolicyMap → Question → Bool → Asker → Asks → Bool
+unfoldable pub meets : PolicyMap → Question → Bool → Actor → Asks → Bool
 meets policies question at_acl who Asks.nobody = false
 meets policies question at_acl who Asks.everybody = true
 meets policies question at_acl who Asks.registered = is_some who.account
@@ -115,12 +115,12 @@ meets policies question at_acl who (Asks.defined name) =
     is_listed (definitions name (map policies (chosen question at_acl))) who.account
 
 -- the answer, which is negated last
-abbrev pub member_by : PolicyMap → Question → Asker → Understood → Bool
+abbrev pub member_by : PolicyMap → Question → Actor → Understood → Bool
 member_by policies question who name =
     let met : Bool = meets policies question name.at_acl who name.asks in
     if name.negated then not met else met
 
 -- the session is in the group of this name, evaluated for the last channel of the path and an ACL at a place of it
-unfoldable pub member : PolicyMap → List ChannelId → ℕ → List ℕ → Asker → Bool
+unfoldable pub member : PolicyMap → List ChannelId → ℕ → List ℕ → Actor → Bool
 member policies path acl_at name who =
     member_by policies (record { path = path; acl_at = acl_at }) who (understood name)

@@ -1,6 +1,7 @@
 -- What a group name asks of a session: the prefixes and the names of the Murmur manual's "Groups".
 use Rattle.std.specs.Prelude.{ℕ, ◌==◌, ◌||◌, Bool, true, false, List, [], ◌∷◌, codes, drop, nat_eq, Option, Some, None, if◌then◌else◌}
 use Rattle.std.specs.List.{starts_with}
+use Rattle.std.specs.Option.{option_copied}
 use Rattle.std.specs.Str.{bytes_eq}
 use Rattle.mum_policy.specs.declared.name.Asked.{Asked}
 use Rattle.mum_policy.specs.declared.name.Asked.TheVariants.{Nobody, Everybody, Registered, Inside, Outside, Token, Subtree, Defined}
@@ -75,7 +76,7 @@ asks_of Registered = Asks.registered
 asks_of Inside = Asks.inside
 asks_of Outside = Asks.outside
 asks_of (Token word) = Asks.token word.now
-asks_of (Subtree span) = Asks.subtree span
+asks_of (Subtree list) = subtree_or_nobody (span_of (list_of (option_copied list)))
 asks_of (Defined word) = Asks.defined word.now
 
 -- what the code read

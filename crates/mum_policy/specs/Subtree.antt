@@ -76,3 +76,8 @@ is_below path acl_at span home =
     let top : ℕ = place_from acl_at span.from in
     let depth : ℕ = length home - 1 in
     is_on home (slice_get path top) && is_at_least depth top span.least && is_at_most depth top span.most
+
+-- the same for a span that may be missing; nobody is in none
+abbrev pub is_in_span : List ChannelId → ℕ → Option Span → List ChannelId → Bool
+is_in_span path acl_at None home = false
+is_in_span path acl_at (Some span) home = is_below path acl_at span home

@@ -12,7 +12,7 @@ use Rattle.mum_policy.specs.declared.policy.ChannelPolicy.{ChannelPolicy}
 use Rattle.mum_policy.specs.declared.policy.Whom.{Whom}
 use Rattle.mum_policy.specs.declared.policy.Whom.TheVariants.{Account, Group}
 use Rattle.mum_policy.specs.declared.walk.Walk.{Walk}
-use Rattle.mum_policy.specs.Member.{Asker, PolicyMap, member}
+use Rattle.mum_policy.specs.Member.{Actor, PolicyMap, member}
 
 -- ---- permissions
 
@@ -65,12 +65,12 @@ is_account (Some own) account = own.0 == account.0
 
 -- the session is whom the entry names: an account by its number, a group by its name, evaluated for the last channel
 -- of the path
-abbrev pub names : PolicyMap → List ChannelId → Asker → ℕ → Whom → Bool
+abbrev pub names : PolicyMap → List ChannelId → Actor → ℕ → Whom → Bool
 names policies path who place (Account account) = is_account who.account account
 names policies path who place (Group name) = member policies path place name who
 
 -- an entry of the channel at this place matches
-unfoldable pub matches : PolicyMap → List ChannelId → Asker → ℕ → AclEntry → Bool
+unfoldable pub matches : PolicyMap → List ChannelId → Actor → ℕ → AclEntry → Bool
 matches policies path who place entry = names policies path who place entry.whom
 
 -- a walk after these entries, in list order, where `matching` says which of them match
@@ -84,12 +84,12 @@ abbrev pub entering : Bool → Walk → Walk
 entering inherit walk = record { set = (if inherit then walk.set else START); traverse = walk.traverse; write = walk.write }
 
 -- a walk after the channel at this place, which has this policy
-abbrev pub after_policy : PolicyMap → List ChannelId → Asker → ℕ → Bool → ChannelPolicy → Walk → Walk
+abbrev pub after_policy : PolicyMap → List ChannelId → Actor → ℕ → Bool → ChannelPolicy → Walk → Walk
 after_policy policies path who place asked policy walk =
     after_entries (matches policies path who place) asked policy.acls (entering policy.inherit_acls walk)
 
 -- a channel without a policy is skipped
-unfoldable pub after_channel : PolicyMap → List ChannelId → Asker → ℕ → Bool → Option ChannelPolicy → Walk → Walk
+unfoldable pub after_channel : PolicyMap → List ChannelId → Actor → ℕ → Bool → Option ChannelPolicy → Walk → Walk
 after_channel policies path who place asked None walk = walk
 after_channel policies path who place asked (Some policy) walk = after_policy policies path who place asked policy walk
 
@@ -107,14 +107,14 @@ is_asked (channel ∷ below) = false
 
 -- the walk from the channel at a place of the path down to the asked one; none where neither mark is set after a
 -- channel, since the walk ends there
-unfoldable pub along : PolicyMap → List ChannelId → Asker → ℕ → List ChannelId → Walk → Option Walk
+unfoldable pub along : PolicyMap → List ChannelId → Actor → ℕ → List ChannelId → Walk → Option Walk
 along policies path who place [] walk = Some walk
 along policies path who place (channel ∷ below) walk =
     let after : Walk = after_channel policies path who place (is_asked below) (policies channel) walk in
     if goes_on after then along policies path who (place + 1) below after else None
 
 -- how many entries these channels have, up to the one at which the walk ends
-unfoldable pub visits_along : PolicyMap → List ChannelId → Asker → ℕ → List ChannelId → Walk → ℕ
+unfoldable pub visits_along : PolicyMap → List ChannelId → Actor → ℕ → List ChannelId → Walk → ℕ
 visits_along policies path who place [] walk = 0
 visits_along policies path who place (channel ∷ below) walk =
     let after : Walk = after_channel policies path who place (is_asked below) (policies channel) walk in
@@ -143,13 +143,13 @@ set_of root None = 0
 set_of root (Some walk) = finished root walk.set.0
 
 -- what the session may do in the last channel of the path
-unfoldable pub perm : PolicyMap → List ChannelId → Asker → ℕ
+unfoldable pub perm : PolicyMap → List ChannelId → Actor → ℕ
 perm policies path who =
     if is_account who.account SUPER_USER then full_set (on_root path)
     else set_of (on_root path) (along policies path who 0 path walk_start)
 
 -- how many entries are read for that
-unfoldable pub visits : PolicyMap → List ChannelId → Asker → ℕ
+unfoldable pub visits : PolicyMap → List ChannelId → Actor → ℕ
 visits policies path who =
     if is_account who.account SUPER_USER then 0
     else visits_along policies path who 0 path walk_start

@@ -4,12 +4,12 @@ ghost use Rattle.std.specs.Prelude.{◌≡◌, ◌<◌, None, length, map, rever
 ghost use Rattle.std.specs.Option.{option_copied};
 ghost use Rattle.std.specs.Str.{str_eq_ignore_ascii_case};
 ghost use Rattle.mum_policy.specs.Name.{asks_of};
-ghost use Rattle.mum_policy.specs.Member.{IsFound, asker_of, definition, definitions, has_token, is_in, is_listed, lists, meets, member, upwards};
+ghost use Rattle.mum_policy.specs.Member.{IsFound, actor_of, definition, definitions, has_token, is_in, is_listed, lists, meets, member, upwards};
 
 use crate::found::policy_at;
 use crate::name::{Asked, understand};
 use crate::policy::{ChannelPolicy, Group, Policies, Who};
-use crate::subtree::is_below;
+use crate::subtree::is_in_subtree;
 use mum_base::{AccountId, ChannelId, Text};
 
 fn is_token(token: &Text, word: &[u8]) -> bool
@@ -116,7 +116,7 @@ pub fn is_member<P: Policies>(
     who: &Who,
 ) -> bool
     requires { acl_at < length path.now }
-    ensures { result ≡ member (P.policy_of policies.now) path.now acl_at name.now (asker_of who.now) }
+    ensures { result ≡ member (P.policy_of policies.now) path.now acl_at name.now (actor_of who.now) }
 {
     member_of(policies, &[], path, acl_at, name, who)
 }
@@ -133,7 +133,7 @@ pub(crate) fn member_of<'a, P: Policies>(
 ) -> bool
     requires within { acl_at < length path.now }
     requires found { IsFound (P.policy_of policies.now) path.now (map option_copied found.now) }
-    ensures { result ≡ member (P.policy_of policies.now) path.now acl_at name.now (asker_of who.now) }
+    ensures { result ≡ member (P.policy_of policies.now) path.now acl_at name.now (actor_of who.now) }
 {
     let name = understand(name.as_bytes());
     name.negated != meets_asked(policies, found, path, acl_at, name.at_acl, who, name.asked)
@@ -142,7 +142,7 @@ pub(crate) fn member_of<'a, P: Policies>(
 // Whether the session is in the channel at a place of the path.
 fn is_in(path: &[ChannelId], place: usize, who: &Who) -> bool
     requires { place < length path.now }
-    ensures { result ≡ is_in (asker_of who.now) (upwards path.now place) }
+    ensures { result ≡ is_in (actor_of who.now) (upwards path.now place) }
 {
     let chosen = path[place];
     chosen == who.channel
@@ -162,7 +162,7 @@ fn meets_asked<'a, P: Policies>(
     requires within { acl_at < length path.now }
     requires found { IsFound (P.policy_of policies.now) path.now (map option_copied found.now) }
     ensures { result ≡ meets (P.policy_of policies.now)
-        (record { path = path.now; acl_at = acl_at }) at_acl (asker_of who.now) (asks_of asked.entry) }
+        (record { path = path.now; acl_at = acl_at }) at_acl (actor_of who.now) (asks_of asked.entry) }
 {
     let chosen = if at_acl { acl_at } else { path.len() - 1 };
     match asked {
@@ -172,7 +172,7 @@ fn meets_asked<'a, P: Policies>(
         Asked::Inside => is_in(path, chosen, who),
         Asked::Outside => !is_in(path, chosen, who),
         Asked::Token(word) => one_is(who.tokens, word),
-        Asked::Subtree(span) => is_below(path, acl_at, span, who.home),
+        Asked::Subtree(list) => is_in_subtree(path, acl_at, list, who.home),
         Asked::Defined(name) => match who.account {
             Some(account) => is_in_defined(policies, found, &path[..=chosen], name, account),
             None => false,

@@ -1,9 +1,7 @@
 //! How a group name is understood.
 
 ghost use Rattle.std.specs.Prelude.{◌≡◌};
-ghost use Rattle.mum_policy.specs.Name.{asked_by, asks_of, subtree_or_nobody, is_built_in_without_members, meaning, reading_of, understood};
-
-use crate::subtree::{Span, parse_span};
+ghost use Rattle.mum_policy.specs.Name.{asked_by, asks_of, is_built_in_without_members, meaning, reading_of, understood};
 
 /// What a group name asks of a session, behind its prefixes.
 #[derive(Clone, Copy)]
@@ -18,8 +16,8 @@ pub(crate) enum Asked<'a> {
     Outside,
     /// The session has this token.
     Token(&'a [u8]),
-    /// The session is in a subtree, within a span of depths.
-    Subtree(Span),
+    /// The session is in a subtree, within the span that this list of arguments describes.
+    Subtree(Option<&'a [u8]>),
     /// The account of the session is in the group that channels define by this name.
     Defined(&'a [u8]),
 }
@@ -40,15 +38,6 @@ fn has_no_members(word: &[u8]) -> bool
     word == b"none".as_slice() || word == b"strong".as_slice()
 }
 
-fn asked_subtree(span: Option<Span>) -> Asked<'static>
-    ensures { asks_of result ≡ subtree_or_nobody span }
-{
-    match span {
-        Some(span) => Asked::Subtree(span),
-        None => Asked::Nobody,
-    }
-}
-
 #[tactic(auto, unfolding(crate::specs::Name::meaning))]
 fn meaning_of(word: &[u8]) -> Asked<'_>
     ensures { asks_of result ≡ meaning word.now }
@@ -64,9 +53,9 @@ fn meaning_of(word: &[u8]) -> Asked<'_>
     } else if has_no_members(word) {
         Asked::Nobody
     } else if word == b"sub".as_slice() {
-        asked_subtree(parse_span(None))
+        Asked::Subtree(None)
     } else if word.starts_with(b"sub,") {
-        asked_subtree(parse_span(Some(&word[4..])))
+        Asked::Subtree(Some(&word[4..]))
     } else {
         Asked::Defined(word)
     }

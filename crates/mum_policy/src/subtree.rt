@@ -5,7 +5,7 @@ ghost use Rattle.std.specs.Char.{digit_value, is_ascii_digit};
 ghost use Rattle.std.specs.List.{list_all};
 ghost use Rattle.std.specs.Option.{option_copied};
 ghost use Rattle.std.specs.Str.Parse.{digits_value};
-ghost use Rattle.mum_policy.specs.Subtree.{is_at_least, is_at_most, is_below, is_comma, is_number, list_of, offset_of, separated, signed, span_by, span_of};
+ghost use Rattle.mum_policy.specs.Subtree.{is_at_least, is_at_most, is_below, is_comma, is_in_span, is_number, list_of, offset_of, separated, signed, span_by, span_of};
 
 use mum_base::ChannelId;
 
@@ -139,9 +139,9 @@ fn span_by(from: Option<Offset>, least: Option<Offset>, most: Option<Offset>) ->
     })
 }
 
-/// The span that a list of arguments, separated by commas, describes; None where one is not an
-/// optional `-` and one to four digits, or there are more than three. Without a list all are missing.
-pub(crate) fn parse_span(list: Option<&[u8]>) -> Option<Span>
+// The span that a list of arguments, separated by commas, describes; None where one is not an
+// optional `-` and one to four digits, or there are more than three. Without a list all are missing.
+fn parse_span(list: Option<&[u8]>) -> Option<Span>
     ensures { result ≡ span_of (list_of (option_copied list.entry)) }
 {
     let (from, list) = next_argument(list);
@@ -201,10 +201,10 @@ impl Offset {
     }
 }
 
-/// Whether a session whose channel ends the path `home` is in this span below the channel at `acl_at` of
-/// the path.
+// Whether a session whose channel ends the path `home` is in this span below the channel at `acl_at` of
+// the path.
 #[tactic(auto, unfolding(crate::specs::Subtree::is_below))]
-pub(crate) fn is_below(path: &[ChannelId], acl_at: usize, span: Span, home: &[ChannelId]) -> bool
+fn is_below(path: &[ChannelId], acl_at: usize, span: Span, home: &[ChannelId]) -> bool
     requires { acl_at < length path.now }
     ensures { result ≡ is_below path.now acl_at span home.now }
 {
@@ -221,6 +221,23 @@ pub(crate) fn is_below(path: &[ChannelId], acl_at: usize, span: Span, home: &[Ch
                 && span.least.allows_from(top, depth)
                 && span.most.allows_to(top, depth)
         }
+        None => false,
+    }
+}
+
+/// Whether a session whose channel ends the path `home` is in the span that a list of arguments
+/// describes, below the channel at `acl_at` of the path; nobody is where the list describes none.
+pub(crate) fn is_in_subtree(
+    path: &[ChannelId],
+    acl_at: usize,
+    list: Option<&[u8]>,
+    home: &[ChannelId],
+) -> bool
+    requires { acl_at < length path.now }
+    ensures { result ≡ is_in_span path.now acl_at (span_of (list_of (option_copied list.entry))) home.now }
+{
+    match parse_span(list) {
+        Some(span) => is_below(path, acl_at, span, home),
         None => false,
     }
 }

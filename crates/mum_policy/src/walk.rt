@@ -2,7 +2,7 @@
 
 ghost use Rattle.std.specs.Prelude.{◌≡◌, ◌+◌, ◌<◌, ◌==◌, All, IsSome, length, map};
 ghost use Rattle.std.specs.Option.{option_copied};
-ghost use Rattle.mum_policy.specs.Member.{IsFound, asker_of};
+ghost use Rattle.mum_policy.specs.Member.{IsFound, actor_of};
 ghost use Rattle.mum_policy.specs.Walk.{BeginsAtRoot, after_match, after_policy, entering, finished, full_set, goes_on, holds, is_account, marked, matches, on_root, perm, visits, walk_start};
 
 use crate::found::{found_on, policy_at};
@@ -105,7 +105,7 @@ fn speaks_of<'a, P: Policies>(
 ) -> bool
     requires within { place < length path.now }
     requires found { IsFound (P.policy_of policies.now) path.now (map option_copied found.now) }
-    ensures { result ≡ matches (P.policy_of policies.now) path.now (asker_of who.now) place entry.now }
+    ensures { result ≡ matches (P.policy_of policies.now) path.now (actor_of who.now) place entry.now }
 {
     match &entry.whom {
         Whom::Account(account) => is_of(who, *account),
@@ -126,7 +126,7 @@ fn pass_channel<'a, P: Policies, L: Ledger>(
 ) -> Walk
     requires within { place < length path.now }
     requires found { IsFound (P.policy_of policies.now) path.now (map option_copied found.now) }
-    ensures walk { result ≡ after_policy (P.policy_of policies.now) path.now (asker_of who.now) place (place + 1 == length path.now) policy.now walk }
+    ensures walk { result ≡ after_policy (P.policy_of policies.now) path.now (actor_of who.now) place (place + 1 == length path.now) policy.now walk }
     ensures steps { steps.new ≡ steps.old + length policy.now.acls }
 {
     let asked = place + 1 == path.len();
@@ -186,8 +186,8 @@ pub fn permissions<P: Policies, L: Ledger>(
 ) -> Perm
     requires root { BeginsAtRoot path.now }
     requires there { All (λ channel. IsSome (P.policy_of policies.now channel)) path.now }
-    ensures value { result.0 ≡ perm (P.policy_of policies.now) path.now (asker_of who.now) }
-    ensures steps { steps.new ≡ steps.old + visits (P.policy_of policies.now) path.now (asker_of who.now) }
+    ensures value { result.0 ≡ perm (P.policy_of policies.now) path.now (actor_of who.now) }
+    ensures steps { steps.new ≡ steps.old + visits (P.policy_of policies.now) path.now (actor_of who.now) }
 {
     let on_root = ends_at_root(path);
     if is_of(who, AccountId::SUPER_USER) {
@@ -217,7 +217,7 @@ fn counted<P: Policies, L: Ledger>(
     requires name { blank.name ≡ L.name }
     requires parts { blank.parts ≡ L.parts }
     requires some { 0 < blank.parts }
-    ensures { result.0 ≡ perm (P.policy_of policies.now) path.now (asker_of who.now) }
+    ensures { result.0 ≡ perm (P.policy_of policies.now) path.now (actor_of who.now) }
 {
     let mut steps = Steps::<L>::new(blank);
     permissions(policies, path, who, &mut steps)
@@ -227,7 +227,7 @@ fn counted<P: Policies, L: Ledger>(
 pub fn permitted<P: Policies>(policies: &P, path: &[ChannelId], who: &Who) -> Perm
     requires root { BeginsAtRoot path.now }
     requires there { All (λ channel. IsSome (P.policy_of policies.now channel)) path.now }
-    ensures { result.0 ≡ perm (P.policy_of policies.now) path.now (asker_of who.now) }
+    ensures { result.0 ≡ perm (P.policy_of policies.now) path.now (actor_of who.now) }
 {
     counted::<P, Brand>(Blank::new(1), policies, path, who)
 }

@@ -1,7 +1,7 @@
 use Rattle.std.proofs.Common.{◌∙◌}
-use Rattle.mum_policy.specs.Member.{asker_of}
+use Rattle.mum_policy.specs.Member.{actor_of}
 use Rattle.mum_policy.proofs.Paths.{is_in-at}
 use Rattle.mum_policy.proofs.group.is_in.Goals as goal
 
 pub returns : goal.returns
-returns c = c.eq.ensures ∙ is_in-at (asker_of c.args.who.now) c.args.path.now c.args.place _ c.requires
+returns c = c.eq.ensures ∙ is_in-at (actor_of c.args.who.now) c.args.path.now c.args.place _ c.requires

@@ -146,14 +146,14 @@ map_proper tree f keeps apart proper =
     }
 
 -- a change of one channel's name or info
-abbrev pub KeepsSeat : (Channel → Channel) → Type 0
-KeepsSeat change = (channel : Channel) → ((change channel).id ≡ channel.id) × ((change channel).parent ≡ channel.parent) × ((change channel).temporary ≡ channel.temporary)
+abbrev pub KeepsPlacement : (Channel → Channel) → Type 0
+KeepsPlacement change = (channel : Channel) → ((change channel).id ≡ channel.id) × ((change channel).parent ≡ channel.parent) × ((change channel).temporary ≡ channel.temporary)
 
-pub change_keeps : (id : ChannelId) (change : Channel → Channel) → KeepsSeat change → ((channel : Channel) → id.0 ≡ 0 → (change channel).name ≡ channel.name) → KeepsPlaces (change_row id change)
-change_keeps id change seat named = record {
-  numbers = λ row. cond_both (eqb (number row) id.0) (record row { channel = change row.channel }) row (λ r. number r ≡ number row) (λ e. ap (λ (x : ChannelId). x.0) (seat row.channel).0) (λ e. refl);
+pub change_keeps : (id : ChannelId) (change : Channel → Channel) → KeepsPlacement change → ((channel : Channel) → id.0 ≡ 0 → (change channel).name ≡ channel.name) → KeepsPlaces (change_row id change)
+change_keeps id change placement named = record {
+  numbers = λ row. cond_both (eqb (number row) id.0) (record row { channel = change row.channel }) row (λ r. number r ≡ number row) (λ e. ap (λ (x : ChannelId). x.0) (placement row.channel).0) (λ e. refl);
   places = λ row. cond_both (eqb (number row) id.0) (record row { channel = change row.channel }) row (λ r. r.place ≡ row.place) (λ e. refl) (λ e. refl);
-  parents = λ row. cond_both (eqb (number row) id.0) (record row { channel = change row.channel }) row (λ r. r.channel.parent ≡ row.channel.parent) (λ e. (seat row.channel).1) (λ e. refl);
-  kinds = λ row. cond_both (eqb (number row) id.0) (record row { channel = change row.channel }) row (λ r. r.channel.temporary ≡ row.channel.temporary) (λ e. (seat row.channel).2) (λ e. refl);
+  parents = λ row. cond_both (eqb (number row) id.0) (record row { channel = change row.channel }) row (λ r. r.channel.parent ≡ row.channel.parent) (λ e. (placement row.channel).1) (λ e. refl);
+  kinds = λ row. cond_both (eqb (number row) id.0) (record row { channel = change row.channel }) row (λ r. r.channel.temporary ≡ row.channel.temporary) (λ e. (placement row.channel).2) (λ e. refl);
   root_name = λ row root. cond_both (eqb (number row) id.0) (record row { channel = change row.channel }) row (λ r. r.channel.name ≡ row.channel.name) (λ e. named row.channel (sym (eqb-true (number row) id.0 e) ∙ root)) (λ e. refl);
 }

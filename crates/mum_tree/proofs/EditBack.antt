@@ -20,43 +20,43 @@ use Rattle.mum_tree.proofs.Edits.{named, renaming, some_row}
 use Rattle.mum_tree.proofs.Joined.{links_kept, relinked}
 use Rattle.mum_tree.proofs.Moved.{moving, placed, same_change, under_parent}
 use Rattle.mum_tree.proofs.Partners.{fits_back, links_after}
-use Rattle.mum_tree.proofs.SeatBack.{name_free, root_fixed, seat_allowed}
+use Rattle.mum_tree.proofs.PlacementBack.{name_free, root_fixed, placement_allowed}
 
 -- a name and a parent that stay are no other
-stays_seated : (tree : TreeState) (id : ChannelId) (change : Change) → name_after tree id change ≡ name_of tree id → parent_after tree id change ≡ parent_of tree id → renames_or_moves tree id change ≡ false
-stays_seated tree id change name parent =
+stays_placed : (tree : TreeState) (id : ChannelId) (change : Change) → name_after tree id change ≡ name_of tree id → parent_after tree id change ≡ parent_of tree id → renames_or_moves tree id change ≡ false
+stays_placed tree id change name parent =
     or_from (not (bytes_eq (name_after tree id change) (name_of tree id))) (not (eqb (parent_after tree id change).0 (parent_of tree id).0))
     (ap not ((bytes_eq-Decides (name_after tree id change) (name_of tree id)).1 name))
     (ap not (eq-eqb (parent_after tree id change).0 (parent_of tree id).0 (ap (λ (x : ChannelId). x.0) parent)))
 
 -- where neither the name and the parent nor the links are refused, nothing is
 allowed_by : (tree : TreeState) (id : ChannelId) (change : Change) → names_there tree id change ≡ true → cond (renames_or_moves tree id change) (fault_of_placement tree id (name_after tree id change) (parent_after tree id change)) None ≡ None → overlinks tree id change ≡ false → fault_of_edit tree id change ≡ None
-allowed_by tree id change there seat links =
+allowed_by tree id change there placement links =
     let places_apart = cond (renames_or_moves tree id change) (fault_of_placement tree id (name_after tree id change) (parent_after tree id change)) None in
     let over = cond (overlinks tree id change) (Some LinkCount) None in
     ap (λ (b : Bool). cond (not b) (Some NoChannel) (option_map_or (λ fault. Some fault) places_apart over)) there
-    ∙ ap (λ s. option_map_or (λ fault. Some fault) s over) seat
+    ∙ ap (λ s. option_map_or (λ fault. Some fault) s over) placement
     ∙ ap (λ (b : Bool). cond b (Some LinkCount) None) links
 
 -- nothing stands against the name and the parent that a change left
-seat_back : (tree : TreeState) (at : ℕ) (id : ChannelId) (row : Row) (change : Change) → IsProper tree → at < length tree.channels → row_of tree.channels id ≡ Some row → row ≡ get_or tree.channels at row → is_there tree.channels (parent_after tree id change) ≡ true → IsProper (with_channel tree id (with_given change)) → cond (renames_or_moves tree id change) (fault_of_placement tree id (name_after tree id change) (parent_after tree id change)) None ≡ None
-seat_back tree at id row change proper within found is above after =
+placement_back : (tree : TreeState) (at : ℕ) (id : ChannelId) (row : Row) (change : Change) → IsProper tree → at < length tree.channels → row_of tree.channels id ≡ Some row → row ≡ get_or tree.channels at row → is_there tree.channels (parent_after tree id change) ≡ true → IsProper (with_channel tree id (with_given change)) → cond (renames_or_moves tree id change) (fault_of_placement tree id (name_after tree id change) (parent_after tree id change)) None ≡ None
+placement_back tree at id row change proper within found is above after =
     let rows = tree.channels in
-    let seat = with_given change row.channel in
+    let placement = with_given change row.channel in
     let name : name_of tree id ≡ row.channel.name = ap (λ (o : Option Row). option_map_or (λ r. r.channel.name) o []) found in
     let parent : parent_of tree id ≡ row.channel.parent = ap (λ (o : Option Row). option_map_or (λ r. r.channel.parent) o id) found in
-    let name-2 : name_after tree id change ≡ seat.name = ap (given_or change.name) name in
-    let parent-2 : parent_after tree id change ≡ seat.parent = ap (given_or change.parent) parent in
+    let name-2 : name_after tree id change ≡ placement.name = ap (given_or change.name) name in
+    let parent-2 : parent_after tree id change ≡ placement.parent = ap (given_or change.parent) parent in
     let fault = fault_of_placement tree id (name_after tree id change) (parent_after tree id change) in
-    let moved : IsProper (with_channel tree id (placed seat)) = subst (λ (rs : List Row). IsProper (record tree { channels = rs })) (same_change rows at id row (with_given change) (placed seat) proper.rise within found is refl) after in
+    let moved : IsProper (with_channel tree id (placed placement)) = subst (λ (rs : List Row). IsProper (record tree { channels = rs })) (same_change rows at id row (with_given change) (placed placement) proper.rise within found is refl) after in
     ⊎_elim
     (λ (root : eqb id.0 0 ≡ true).
-    let (one, two) = root_fixed tree id seat row proper found moved (eqb-true id.0 0 root) in
-    ap (λ (b : Bool). cond b fault None) (stays_seated tree id change (name-2 ∙ one ∙ sym name) (parent-2 ∙ two ∙ sym parent)))
+    let (one, two) = root_fixed tree id placement row proper found moved (eqb-true id.0 0 root) in
+    ap (λ (b : Bool). cond b fault None) (stays_placed tree id change (name-2 ∙ one ∙ sym name) (parent-2 ∙ two ∙ sym parent)))
     (λ (lower : eqb id.0 0 ≡ false).
-    let stands : is_there rows seat.parent ≡ true = ap (is_there rows) (sym parent-2) ∙ above in
-    let none : fault_of_placement tree id seat.name seat.parent ≡ None = seat_allowed tree id seat row proper found stands (λ (e : id.0 ≡ 0). both_ways (eqb id.0 0) lower (eq-eqb id.0 0 e)) moved in
-    let free : fault ≡ None = ap (λ n. fault_of_placement tree id n (parent_after tree id change)) name-2 ∙ ap (fault_of_placement tree id seat.name) parent-2 ∙ none in
+    let stands : is_there rows placement.parent ≡ true = ap (is_there rows) (sym parent-2) ∙ above in
+    let none : fault_of_placement tree id placement.name placement.parent ≡ None = placement_allowed tree id placement row proper found stands (λ (e : id.0 ≡ 0). both_ways (eqb id.0 0) lower (eq-eqb id.0 0 e)) moved in
+    let free : fault ≡ None = ap (λ n. fault_of_placement tree id n (parent_after tree id change)) name-2 ∙ ap (fault_of_placement tree id placement.name) parent-2 ∙ none in
     cond_both (renames_or_moves tree id change) fault None (λ f. f ≡ None) (λ e. free) (λ e. refl))
     (cases_Bool (eqb id.0 0))
 
@@ -82,7 +82,7 @@ edits_both_ways tree id change proper named =
           let links : AreLinks rows (links_after tree id change) = links_kept new rows (links_after tree id change) (was_given rows id change) after.joined in
           let plain : IsProper (with_channel tree id (with_given change)) = relinked (with_change tree id change) tree.links (links_kept rows new tree.links (still_given rows id change) proper.joined) after in
           allowed_by tree id change named
-          (seat_back tree at id row change proper within found is above plain)
+          (placement_back tree at id row change proper within found is above plain)
           (fits_back tree id change proper.rise proper.joined there adds links),
     )
 
@@ -92,14 +92,14 @@ renames_both_ways tree id name proper there under =
     let rows = tree.channels in
     let (row, found, (at, within, reads)) = row_there rows id there in
     let is : row ≡ get_or rows at row = sym (reads row) in
-    let seat = named name row.channel in
+    let placement = named name row.channel in
     let taken = is_taken rows (parent_of tree id) id name in
     let parent : parent_of tree id ≡ row.channel.parent = ap (λ (o : Option Row). option_map_or (λ r. r.channel.parent) o id) found in
     let lower : id.0 ≢ 0 = λ (e : id.0 ≡ 0). both_ways (eqb id.0 0) under (eq-eqb id.0 0 e) in (
       λ allowed. (renaming tree rows at id row name name proper refl (within, λ other. found ∙ ap (λ (r : Row). Some r) (sym (reads other))) is allowed refl).1,
       λ after.
-          let moved : IsProper (with_channel tree id (placed seat)) = subst (λ (rs : List Row). IsProper (record tree { channels = rs })) (same_change rows at id row (named name) (placed seat) proper.rise within found is refl) after in
-          let free : taken ≡ false = ap (λ p. is_taken rows p id name) parent ∙ name_free rows id seat row found lower moved.apart in
+          let moved : IsProper (with_channel tree id (placed placement)) = subst (λ (rs : List Row). IsProper (record tree { channels = rs })) (same_change rows at id row (named name) (placed placement) proper.rise within found is refl) after in
+          let free : taken ≡ false = ap (λ p. is_taken rows p id name) parent ∙ name_free rows id placement row found lower moved.apart in
           ap (λ (b : Bool). cond (not b) (Some NoChannel) (cond (eqb id.0 0) (Some RootFixed) (cond taken (Some SameName) None))) there
           ∙ ap (λ (b : Bool). cond b (Some RootFixed) (cond taken (Some SameName) None)) under
           ∙ ap (λ (b : Bool). cond b (Some SameName) None) free,
@@ -111,13 +111,13 @@ moves_both_ways tree id parent proper here there under =
     let rows = tree.channels in
     let (row, found, (at, within, reads)) = row_there rows id here in
     let is : row ≡ get_or rows at row = sym (reads row) in
-    let seat = under_parent parent row.channel in
+    let placement = under_parent parent row.channel in
     let name : name_of tree id ≡ row.channel.name = ap (λ (o : Option Row). option_map_or (λ r. r.channel.name) o []) found in
     let lower : id.0 ≢ 0 = λ (e : id.0 ≡ 0). both_ways (eqb id.0 0) under (eq-eqb id.0 0 e) in (
       λ allowed. (moving tree rows at id parent row proper refl (within, λ other. found ∙ ap (λ (r : Row). Some r) (sym (reads other))) is allowed).1,
       λ after.
-          let moved : IsProper (with_channel tree id (placed seat)) = subst (λ (rs : List Row). IsProper (record tree { channels = rs })) (same_change rows at id row (under_parent parent) (placed seat) proper.rise within found is refl) after in
+          let moved : IsProper (with_channel tree id (placed placement)) = subst (λ (rs : List Row). IsProper (record tree { channels = rs })) (same_change rows at id row (under_parent parent) (placed placement) proper.rise within found is refl) after in
           ap (λ (b : Bool). cond (not b) (Some NoChannel) (fault_of_placement tree id (name_of tree id) parent)) (and_from (is_there rows id) (is_there rows parent) here there)
           ∙ ap (λ n. fault_of_placement tree id n parent) name
-          ∙ seat_allowed tree id seat row proper found there lower moved,
+          ∙ placement_allowed tree id placement row proper found there lower moved,
     )

@@ -18,7 +18,7 @@ use Rattle.mum_tree.specs.State.{Pair, TreeState, changed}
 use Rattle.mum_tree.proofs.Changed.{change_row, row_of-map, some_from, some_to}
 use Rattle.mum_tree.proofs.Edits.{informed, informed_proper, none_stands, row_read, set_row, some_is_none}
 use Rattle.mum_tree.proofs.Joined.{links_kept, relinked}
-use Rattle.mum_tree.proofs.Moved.{placed, reseated_proper, same_change}
+use Rattle.mum_tree.proofs.Moved.{placed, placed_proper, same_change}
 use Rattle.mum_tree.proofs.Partners.{links_after, links_fit}
 
 -- where the first of two causes that stands is none, neither stands
@@ -31,7 +31,7 @@ record Allows (tree : TreeState) (id : ChannelId) (change : Change) : Type 0 whe
   there : is_there tree.channels id ≡ true
   above : is_there tree.channels (parent_after tree id change) ≡ true
   adds : list_all (is_there tree.channels) change.links_add ≡ true
-  seat : cond (renames_or_moves tree id change) (fault_of_placement tree id (name_after tree id change) (parent_after tree id change)) None ≡ None
+  placement : cond (renames_or_moves tree id change) (fault_of_placement tree id (name_after tree id change) (parent_after tree id change)) None ≡ None
   links : overlinks tree id change ≡ false
 
 allows : (tree : TreeState) (id : ChannelId) (change : Change) → fault_of_edit tree id change ≡ None → Allows tree id change
@@ -42,13 +42,13 @@ allows tree id change allowed =
     let c = list_all (is_there rows) change.links_add in
     let d = list_all (is_there rows) change.links_remove in
     let (named, rest) = none_stands (not (names_there tree id change)) NoChannel _ allowed in
-    let (seat, over) = neither (cond (renames_or_moves tree id change) (fault_of_placement tree id (name_after tree id change) (parent_after tree id change)) None) (cond (overlinks tree id change) (Some LinkCount) None) rest in
+    let (placement, over) = neither (cond (renames_or_moves tree id change) (fault_of_placement tree id (name_after tree id change) (parent_after tree id change)) None) (cond (overlinks tree id change) (Some LinkCount) None) rest in
     let (links, end) = none_stands (overlinks tree id change) LinkCount None over in
     let all : (((a && b) && c) && d) ≡ true = not-false (names_there tree id change) named in
     let (abc, removes) = and_parts ((a && b) && c) d all in
     let (ab, adds) = and_parts (a && b) c abc in
     let (there, above) = and_parts a b ab in
-    record { there = there; above = above; adds = adds; seat = seat; links = links }
+    record { there = there; above = above; adds = adds; placement = placement; links = links }
 
 -- what an allowed change names is there, and it leaves the channel no more partners than it may have
 pub record MayRelink (tree : TreeState) (id : ChannelId) (change : Change) : Type 0 where
@@ -70,26 +70,26 @@ may_relink tree id change allowed =
 edited_rows : (tree : TreeState) (at : ℕ) (id : ChannelId) (row : Row) (change : Change) → IsProper tree → at < length tree.channels → row_of tree.channels id ≡ Some row → row ≡ get_or tree.channels at row → Allows tree id change → IsProper (record { channels = changed id (with_given change) tree.channels; links = tree.links; greatest = tree.greatest; limit = tree.limit })
 edited_rows tree at id row change proper within found is allowed =
     let rows = tree.channels in
-    let seat = with_given change row.channel in
+    let placement = with_given change row.channel in
     let name : name_of tree id ≡ row.channel.name = ap (λ (o : Option Row). option_map_or (λ r. r.channel.name) o []) found in
     let parent : parent_of tree id ≡ row.channel.parent = ap (λ (o : Option Row). option_map_or (λ r. r.channel.parent) o id) found in
-    let name-2 : name_after tree id change ≡ seat.name = ap (given_or change.name) name in
-    let parent-2 : parent_after tree id change ≡ seat.parent = ap (given_or change.parent) parent in
+    let name-2 : name_after tree id change ≡ placement.name = ap (given_or change.name) name in
+    let parent-2 : parent_after tree id change ≡ placement.parent = ap (given_or change.parent) parent in
     let P : List Row → Type 0 = λ rs. IsProper (record { channels = rs; links = tree.links; greatest = tree.greatest; limit = tree.limit }) in
     ⊎_elim
     (λ (on : renames_or_moves tree id change ≡ true).
     let fault : fault_of_placement tree id (name_after tree id change) (parent_after tree id change) ≡ None =
-    sym (ap (λ (b : Bool). cond b (fault_of_placement tree id (name_after tree id change) (parent_after tree id change)) None) on) ∙ allowed.seat in
-    let none : fault_of_placement tree id seat.name seat.parent ≡ None = sym (ap (λ n. fault_of_placement tree id n (parent_after tree id change)) name-2 ∙ ap (fault_of_placement tree id seat.name) parent-2) ∙ fault in
-    let stands : is_there rows seat.parent ≡ true = sym (ap (is_there rows) parent-2) ∙ allowed.above in
-    subst P (same_change rows at id row (placed seat) (with_given change) proper.rise within found is refl) (reseated_proper tree id seat row proper found stands none))
+    sym (ap (λ (b : Bool). cond b (fault_of_placement tree id (name_after tree id change) (parent_after tree id change)) None) on) ∙ allowed.placement in
+    let none : fault_of_placement tree id placement.name placement.parent ≡ None = sym (ap (λ n. fault_of_placement tree id n (parent_after tree id change)) name-2 ∙ ap (fault_of_placement tree id placement.name) parent-2) ∙ fault in
+    let stands : is_there rows placement.parent ≡ true = sym (ap (is_there rows) parent-2) ∙ allowed.above in
+    subst P (same_change rows at id row (placed placement) (with_given change) proper.rise within found is refl) (placed_proper tree id placement row proper found stands none))
     (λ (off : renames_or_moves tree id change ≡ false).
     let (same, same-2) = or_parts (not (bytes_eq (name_after tree id change) (name_of tree id))) (not (eqb (parent_after tree id change).0 (parent_of tree id).0)) off in
-    let one : seat.name ≡ row.channel.name = sym name-2 ∙ (bytes_eq-Decides (name_after tree id change) (name_of tree id)).0 (not-false _ same) ∙ name in
-    let two : seat.parent ≡ row.channel.parent = sym parent-2 ∙ ap (λ n. record { 0 = n }) (eqb-true (parent_after tree id change).0 (parent_of tree id).0 (not-false _ same-2)) ∙ parent in
-    let whole : informed seat.info row.channel ≡ with_given change row.channel =
-    ap (λ n. record row.channel { name = n; info = seat.info }) (sym one) ∙ ap (λ p. record row.channel { name = seat.name; parent = p; info = seat.info }) (sym two) in
-    subst P (same_change rows at id row (informed seat.info) (with_given change) proper.rise within found is whole) (informed_proper tree id seat.info proper))
+    let one : placement.name ≡ row.channel.name = sym name-2 ∙ (bytes_eq-Decides (name_after tree id change) (name_of tree id)).0 (not-false _ same) ∙ name in
+    let two : placement.parent ≡ row.channel.parent = sym parent-2 ∙ ap (λ n. record { 0 = n }) (eqb-true (parent_after tree id change).0 (parent_of tree id).0 (not-false _ same-2)) ∙ parent in
+    let whole : informed placement.info row.channel ≡ with_given change row.channel =
+    ap (λ n. record row.channel { name = n; info = placement.info }) (sym one) ∙ ap (λ p. record row.channel { name = placement.name; parent = p; info = placement.info }) (sym two) in
+    subst P (same_change rows at id row (informed placement.info) (with_given change) proper.rise within found is whole) (informed_proper tree id placement.info proper))
     (cases_Bool (renames_or_moves tree id change))
 
 -- what is given leaves each row its number

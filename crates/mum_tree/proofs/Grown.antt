@@ -94,7 +94,7 @@ there_still rows row id there =
     (option_cases (row_of rows id))
 
 pub grown_proper : (tree : TreeState) (row parent : Row) → IsProper tree → tree.greatest < number row → row_of tree.channels row.channel.parent ≡ Some parent → is_taken tree.channels row.channel.parent row.channel.id row.channel.name ≡ false → is_temporary tree.channels row.channel.parent ≡ false → Contains (upward tree.channels 32 row.channel.parent) the_root → length tree.channels < tree.limit → row.place < tree.limit → IsFree tree.channels row.place → IsProper (with_row tree row)
-grown_proper tree row parent proper above there free lasts room few places_fit seat =
+grown_proper tree row parent proper above there free lasts room few places_fit placement =
     let rows = tree.channels in
     let lower : number row ≢ 0 = λ (e : number row ≡ 0). absurd (omega arith) in
     let (root, found, is) = proper.root in
@@ -105,7 +105,7 @@ grown_proper tree row parent proper above there free lasts room few places_fit s
       apart = grown_apart rows row tree.greatest proper.known above proper.apart free;
       lasting = grown_lasting rows row parent proper.rise proper.lead proper.lasting there lasts;
       places_fit = All-push (λ one. one.place < tree.limit) rows row proper.places_fit places_fit;
-      places_apart = all_pairs_push (λ one other. one.place ≢ other.place) rows row proper.places_apart seat;
+      places_apart = all_pairs_push (λ one other. one.place ≢ other.place) rows row proper.places_apart placement;
       few = omega (arith, length-append rows (row ∷ []));
       known = All-push (λ one. number one ≤ number row) rows row (All-weaker (λ one. number one ≤ tree.greatest) (λ one. number one ≤ number row) (λ one known. omega arith) rows proper.known) (omega arith);
       joined = links_kept rows (rows ++ row ∷ []) tree.links (there_still rows row) proper.joined;

@@ -20,7 +20,7 @@ pub mod Partners
 pub mod Places
 pub mod Relinked
 pub mod Search
-pub mod SeatBack
+pub mod PlacementBack
 pub mod Shrunk
 pub mod Start
 pub mod Upward

@@ -6,7 +6,7 @@ use Rattle.mum_tree.specs.declared.channel.Row.{Row}
 use Rattle.mum_tree.specs.Proper.{IsProper}
 use Rattle.mum_tree.specs.State.{TreeState}
 
-pub seated_within : (tree : TreeState) (seen : List Row) → seen ≡ tree.channels → IsProper tree → All (λ row. row.place < 2048) seen
-seated_within tree seen same proper =
+pub placed_within : (tree : TreeState) (seen : List Row) → seen ≡ tree.channels → IsProper tree → All (λ row. row.place < 2048) seen
+placed_within tree seen same proper =
     subst (λ (rows : List Row). All (λ row. row.place < 2048) rows) (sym same)
     (All-weaker (λ (row : Row). row.place < tree.limit) (λ (row : Row). row.place < 2048) (λ row places_fit. omega (arith, proper.limited)) tree.channels proper.places_fit)

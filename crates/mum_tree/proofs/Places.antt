@@ -48,8 +48,8 @@ taken_more rows taken i row within read has place held free =
     (cases_eq place row.place)
 
 -- what is written at the places of rows, one row more
-pub seat_more : {B : Type 0} (P : ℕ → Row → B → Type 0) (none : B) (rows : List Row) (marks : List B) (i : ℕ) (row : Row) (value : B) → i < length rows → row ≡ get_or rows i row → row.place < length marks → AllPairs (λ one other. one.place ≢ other.place) rows → ((k : ℕ) (d : Row) → k < i → P k (get_or rows k d) (get_or marks (get_or rows k d).place none)) → P i row value → (k : ℕ) (d : Row) → k < i + 1 → P k (get_or rows k d) (get_or (set marks row.place value) (get_or rows k d).place none)
-seat_more {B} P none rows marks i row value within read places_fit places_apart done now k d inside =
+pub placement_more : {B : Type 0} (P : ℕ → Row → B → Type 0) (none : B) (rows : List Row) (marks : List B) (i : ℕ) (row : Row) (value : B) → i < length rows → row ≡ get_or rows i row → row.place < length marks → AllPairs (λ one other. one.place ≢ other.place) rows → ((k : ℕ) (d : Row) → k < i → P k (get_or rows k d) (get_or marks (get_or rows k d).place none)) → P i row value → (k : ℕ) (d : Row) → k < i + 1 → P k (get_or rows k d) (get_or (set marks row.place value) (get_or rows k d).place none)
+placement_more {B} P none rows marks i row value within read places_fit places_apart done now k d inside =
     ⊎_elim
     (λ (here : k ≡ i).
     let same : row ≡ get_or rows k d = read ∙ get_or_default rows i row d within ∙ ap (λ j. get_or rows j d) (sym here) in

@@ -95,8 +95,8 @@ abbrev pub to_parent : ℕ → Change
 to_parent parent = record unchanged { parent = Some (channel parent) }
 
 -- another name under another parent
-abbrev pub to_seat : List ℕ → ℕ → Change
-to_seat name parent = record unchanged { name = Some name; parent = Some (channel parent) }
+abbrev pub to_placement : List ℕ → ℕ → Change
+to_placement name parent = record unchanged { name = Some name; parent = Some (channel parent) }
 
 -- links that come, and links that go
 abbrev pub to_links : List ℕ → List ℕ → Change

@@ -11,7 +11,7 @@ use Rattle.mum_tree.specs.Refusals.{fault_of_add, fault_of_link, fault_of_move, 
 use Rattle.mum_tree.specs.Rows.{is_below, path, row_of, upward}
 use Rattle.mum_tree.specs.State.{below, next_number, partners, plain_info}
 use Rattle.mum_tree.specs.Walks.{is_reached, linked}
-use Rattle.mum_tree.proofs.Scenes.{Step, at_places, beside, channel, describe, edit, link, linked_to, make, make_temporary, move, nested, number, raise, remove, rename, to_links, to_name, to_parent, to_seat, tree, unchanged, unlink}
+use Rattle.mum_tree.proofs.Scenes.{Step, at_places, beside, channel, describe, edit, link, linked_to, make, make_temporary, move, nested, number, raise, remove, rename, to_links, to_name, to_parent, to_placement, tree, unchanged, unlink}
 
 abbrev a : List ℕ
 a = codes "A"
@@ -242,15 +242,15 @@ pub record ChangesOfParts : Type 0 where
   pub nothing_given : tree (four ++ link 1 3 ∷ edit 1 unchanged ∷ []) ≡ tree (four ++ link 1 3 ∷ [])
   pub name_and_parent_where_each_alone_is_refused :
       (editing two_called_c 3 (to_name b) ≡ Some SameName) × (editing two_called_c 3 (to_parent 0) ≡ Some SameName)
-      × (editing two_called_c 3 (to_seat d 0) ≡ None)
-  pub its_own_name_and_parent_change_nothing : editing (make 1 0 a ∷ []) 0 (to_seat (codes "Root") 0) ≡ None
+      × (editing two_called_c 3 (to_placement d 0) ≡ None)
+  pub its_own_name_and_parent_change_nothing : editing (make 1 0 a ∷ []) 0 (to_placement (codes "Root") 0) ≡ None
   pub the_root_renamed_or_moved :
       (editing (make 1 0 a ∷ []) 0 (to_name a) ≡ Some RootFixed) × (editing (make 1 0 a ∷ []) 0 (to_parent 1) ≡ Some RootFixed)
   pub who_is_not_there :
-      (editing [] 9 (to_name b) ≡ Some NoChannel) × (editing (make 1 0 a ∷ []) 1 (to_seat b 9) ≡ Some NoChannel)
+      (editing [] 9 (to_name b) ≡ Some NoChannel) × (editing (make 1 0 a ∷ []) 1 (to_placement b 9) ≡ Some NoChannel)
       × (editing (make 1 0 a ∷ []) 1 (to_links (9 ∷ []) []) ≡ Some NoChannel) × (editing (make 1 0 a ∷ []) 1 (to_links [] (9 ∷ [])) ≡ Some NoChannel)
   pub under_itself_comes_after_the_name :
-      (editing (make 1 0 a ∷ make 2 1 b ∷ []) 1 (to_seat b 1) ≡ Some SameName) × (editing (make 1 0 a ∷ make 2 1 b ∷ []) 1 (to_parent 2) ≡ Some UnderItself)
+      (editing (make 1 0 a ∷ make 2 1 b ∷ []) 1 (to_placement b 1) ≡ Some SameName) × (editing (make 1 0 a ∷ make 2 1 b ∷ []) 1 (to_parent 2) ≡ Some UnderItself)
   pub under_a_temporary_one_comes_after_that :
       (editing (make 1 0 a ∷ make_temporary 2 0 b ∷ []) 1 (to_parent 2) ≡ Some TemporaryParent)
       × (editing (make 1 0 a ∷ make_temporary 2 0 b ∷ []) 2 (to_parent 2) ≡ Some UnderItself)

@@ -50,7 +50,7 @@ pub(crate) fn find_row(rows: &[Row], id: ChannelId) -> Option<&Row>
 }
 
 /// Whether a channel is there.
-pub(crate) fn stands(rows: &[Row], id: ChannelId) -> bool
+pub(crate) fn is_there(rows: &[Row], id: ChannelId) -> bool
     requires { Rise rows.now }
     ensures { result ≡ is_there rows.now id }
 {
@@ -62,15 +62,15 @@ pub(crate) fn both_there(rows: &[Row], a: ChannelId, b: ChannelId) -> bool
     requires { Rise rows.now }
     ensures { result ≡ (is_there rows.now a && is_there rows.now b) }
 {
-    stands(rows, a) && stands(rows, b)
+    is_there(rows, a) && is_there(rows, b)
 }
 
 /// Whether all these channels are there.
-pub(crate) fn all_stand(rows: &[Row], ids: &[ChannelId]) -> bool
+pub(crate) fn all_there(rows: &[Row], ids: &[ChannelId]) -> bool
     requires { Rise rows.now }
     ensures { result ≡ list_all (is_there rows.now) ids.now }
 {
-    ids.iter().all(|id| stands(rows, *id))
+    ids.iter().all(|id| is_there(rows, *id))
 }
 
 /// Whether a channel is there and is temporary.
@@ -143,7 +143,7 @@ pub(crate) fn path_length(rows: &[Row], id: ChannelId) -> usize
 }
 
 /// Whether a channel is the top, or below it.
-pub(crate) fn stands_below(rows: &[Row], top: ChannelId, id: ChannelId) -> bool
+pub(crate) fn is_at_or_below(rows: &[Row], top: ChannelId, id: ChannelId) -> bool
     requires { Rise rows.now }
     ensures { result ≡ is_below rows.now top id }
 {

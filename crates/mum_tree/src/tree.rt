@@ -21,8 +21,8 @@ use crate::fault::TreeFault;
 use crate::levels::{mark_below, nests_too_deep, places_below};
 use crate::links::{LINK_LIMIT, has_link, is_crowded, keep_ends, nth_end, put_link, take_link};
 use crate::rows::{
-    all_stand, both_there, copy_rows, find_path, find_row, has_mark, has_name, is_temporary_there,
-    least_free_place, locate, path_length, place_in_rows, places_of, stands, stands_below,
+    all_there, both_there, copy_rows, find_path, find_row, has_mark, has_name, is_at_or_below,
+    is_temporary_there, is_there, least_free_place, locate, path_length, place_in_rows, places_of,
     taken_places,
 };
 use crate::scratch::Scratch;
@@ -357,7 +357,7 @@ impl Tree {
         if has_name(rows, parent, id, name) {
             return Some(TreeFault::SameName);
         }
-        if stands_below(rows, id, parent) {
+        if is_at_or_below(rows, id, parent) {
             return Some(TreeFault::UnderItself);
         }
         if is_temporary_there(rows, parent) {
@@ -377,7 +377,7 @@ impl Tree {
         let Some(moved) = find_row(rows, id) else {
             return Some(TreeFault::NoChannel);
         };
-        if !stands(rows, parent) {
+        if !is_there(rows, parent) {
             return Some(TreeFault::NoChannel);
         }
         self.cause_against_placement(id, moved.channel.name.as_str(), parent)
@@ -445,9 +445,9 @@ impl Tree {
         let before = row.channel.name.as_str();
         let name = change.name.unwrap_or(before);
         let parent = change.parent.unwrap_or(row.channel.parent);
-        if !stands(rows, parent)
-            || !all_stand(rows, change.links_add)
-            || !all_stand(rows, change.links_remove)
+        if !is_there(rows, parent)
+            || !all_there(rows, change.links_add)
+            || !all_there(rows, change.links_remove)
         {
             return Some(TreeFault::NoChannel);
         }
@@ -505,7 +505,7 @@ impl Tree {
     pub fn cause_against_removing(&self, id: ChannelId) -> Option<TreeFault>
         ensures { result ≡ fault_of_remove self.now id }
     {
-        if !stands(&self.rows, id) {
+        if !is_there(&self.rows, id) {
             return Some(TreeFault::NoChannel);
         }
         if id.0 == ChannelId::ROOT.0 {
@@ -562,14 +562,14 @@ impl Tree {
     pub fn is_there(&self, id: ChannelId) -> bool
         ensures { result ≡ is_there self.now.channels id }
     {
-        stands(&self.rows, id)
+        is_there(&self.rows, id)
     }
 
     /// Whether a channel is the top, or below it. It takes no memory.
     pub fn is_below(&self, top: ChannelId, id: ChannelId) -> bool
         ensures { result ≡ is_below self.now.channels top id }
     {
-        stands_below(&self.rows, top, id)
+        is_at_or_below(&self.rows, top, id)
     }
 
     /// Marks a channel and all below it. It takes no memory.

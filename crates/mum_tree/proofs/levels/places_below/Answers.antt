@@ -4,7 +4,7 @@ use Rattle.mum_tree.specs.declared.channel.Row.{Row}
 use Rattle.mum_tree.specs.Rows.{is_below, level}
 use Rattle.mum_tree.proofs.Climb.{some_level}
 use Rattle.mum_tree.proofs.Depths.{levels_none}
-use Rattle.mum_tree.proofs.Places.{seat_more}
+use Rattle.mum_tree.proofs.Places.{placement_more}
 use Rattle.mum_tree.proofs.levels.places_below.Goals as goal
 
 pub loop-at-init : goal.loop-at-init
@@ -29,5 +29,5 @@ loop-at-preserved c =
       room = omega (arith, c.find_level-level.auto.known, c.loop-at.invariant.room);
       right = c.find_level-level.ensures.kept;
       whole = length-set c.loop-at.below row.place c.is_some.result ∙ c.loop-at.invariant.whole;
-      done = seat_more (λ k r b. b ≡ is_below rows c.args.top r.channel.id) false rows c.loop-at.below at row c.is_some.result c.loop-at-test.true c.index-rows-at.is inside c.requires.places_apart c.loop-at.invariant.done here;
+      done = placement_more (λ k r b. b ≡ is_below rows c.args.top r.channel.id) false rows c.loop-at.below at row c.is_some.result c.loop-at-test.true c.index-rows-at.is inside c.requires.places_apart c.loop-at.invariant.done here;
     }

@@ -3,7 +3,7 @@ use Rattle.std.specs.List.{All}
 use Rattle.mum_tree.specs.declared.channel.Row.{Row}
 use Rattle.mum_tree.specs.Places.{has_place, IsFree}
 use Rattle.mum_tree.specs.State.{TreeState}
-use Rattle.mum_tree.proofs.Limited.{seated_within}
+use Rattle.mum_tree.proofs.Limited.{placed_within}
 use Rattle.mum_tree.proofs.Places.{marks_had}
 use Rattle.mum_tree.proofs.tree.Tree.taken_places.Goals as goal
 
@@ -11,7 +11,7 @@ pub returns-clause-taken : goal.returns-clause-taken
 returns-clause-taken c = λ place.
     let rows : List Row = c.self.inside.rows.items in
     let same : c.deref.result.now ≡ rows = c.deref.ensures.value in
-    let places_fit : All (λ (row : Row). row.place < 2048) rows = seated_within _ _ refl c.self.invariant.proper in
+    let places_fit : All (λ (row : Row). row.place < 2048) rows = placed_within _ _ refl c.self.invariant.proper in
     marks_had rows c.taken_places.new.taken
     (subst (λ (n : ℕ). All (λ (row : Row). row.place < n) rows) (sym c.taken_places.ensures.length) places_fit)
     (λ place within free. subst (λ (rs : List Row). IsFree rs place) same (c.taken_places.ensures.free place (subst (λ (n : ℕ). place < n) c.taken_places.ensures.length within) free))

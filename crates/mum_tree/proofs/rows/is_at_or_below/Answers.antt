@@ -1,7 +1,7 @@
 use Rattle.std.proofs.Common.{ap, ◌∙◌}
 use Rattle.std.specs.Option.{is_some}
 use Rattle.mum_tree.proofs.Climb.{some_level}
-use Rattle.mum_tree.proofs.rows.stands_below.Goals as goal
+use Rattle.mum_tree.proofs.rows.is_at_or_below.Goals as goal
 
 pub returns : goal.returns
 returns c = c.is_some.ensures ∙ ap is_some c.steps_under.ensures.value ∙ some_level c.args.rows.now c.args.top c.args.id

@@ -6,7 +6,7 @@ use Rattle.mum_policy.specs.declared.policy.AclEntry.{AclEntry}
 use Rattle.mum_policy.specs.declared.policy.ChannelPolicy.{ChannelPolicy}
 use Rattle.mum_policy.specs.declared.policy.Whom.{Whom}
 use Rattle.mum_policy.specs.declared.policy.Whom.TheVariants.{Account, Group}
-use Rattle.mum_policy.specs.Member.{Asker, PolicyMap, definitions, is_listed, meets, member, upwards}
+use Rattle.mum_policy.specs.Member.{Actor, PolicyMap, definitions, is_listed, meets, member, upwards}
 use Rattle.mum_policy.specs.Name.{Asks, understood}
 use Rattle.mum_policy.specs.Walk.{after_channel, after_entries, along, entering, full_set, goes_on, is_account, is_asked, matches, names, on_root, perm, set_of, walk_start}
 use Rattle.mum_tree.proofs.Upward.{reverse-cons}
@@ -37,7 +37,7 @@ module _ (policies others : PolicyMap) where
   map_alike [] all = refl
   map_alike (channel ∷ channels) all = λ i. all.0 i ∷ map_alike channels all.1 i
 
-  module _ (path : List ChannelId) (who : Asker) (all : Each Agrees path) where
+  module _ (path : List ChannelId) (who : Actor) (all : Each Agrees path) where
     upwards_alike : (place : ℕ) → map policies (upwards path place) ≡ map others (upwards path place)
     upwards_alike place = map_alike (upwards path place) (each_reverse Agrees (take (place + 1) path) (each_take Agrees (place + 1) path all))
 
@@ -80,7 +80,7 @@ module _ (policies others : PolicyMap) where
         (after_alike place (is_asked below) (policies channel) walk ∙ ap (λ (policy : Option ChannelPolicy). after_channel others path who place (is_asked below) policy walk) agree.0)
         ∙ ap (λ (end : Option Walk). if goes_on after then end else None) (along_alike (place + 1) below after agree.1)
 
-  pub perm_by_path : (path : List ChannelId) (who : Asker) → Each Agrees path → perm policies path who ≡ perm others path who
+  pub perm_by_path : (path : List ChannelId) (who : Actor) → Each Agrees path → perm policies path who ≡ perm others path who
   unfolding perm
   perm_by_path path who all =
       ap (λ (end : Option Walk). if is_account who.account SUPER_USER then full_set (on_root path) else set_of (on_root path) end)

@@ -98,6 +98,10 @@ pub map_stays : {X : Type 0} (f : X → X) (xs : List X) → Each (λ x. f x ≡
 map_stays f [] all = refl
 map_stays {X} f (x ∷ xs) all = ap (λ (y : X). y ∷ map f xs) all.0 ∙ ap (λ (ys : List X). x ∷ ys) (map_stays f xs all.1)
 
+pub map_each : {X Y : Type 0} (f g : X → Y) (xs : List X) → Each (λ x. f x ≡ g x) xs → map f xs ≡ map g xs
+map_each f g [] all = refl
+map_each {X} {Y} f g (x ∷ xs) all = ap (λ (y : Y). y ∷ map f xs) all.0 ∙ ap (λ (ys : List Y). g x ∷ ys) (map_each f g xs all.1)
+
 -- a look through a map that it does not see
 pub map_unseen : {X Y : Type 0} (g : X → Y) (f : X → X) → ((x : X) → g (f x) ≡ g x) → (xs : List X) → map g (map f xs) ≡ map g xs
 map_unseen g f same [] = refl
@@ -131,13 +135,39 @@ found_passes {X} p xs x found = (each_find (λ (y : X). ⊤) p xs x (each xs) fo
     each [] = tt
     each (y ∷ ys) = (tt, each ys)
 
-pub found_counts : {X : Type 0} (p : X → Bool) (xs : List X) (x : X) → find p xs ≡ Some x → 0 < count_by p xs
-found_counts p [] x found = absurd (none-some x found)
-found_counts p (y ∷ ys) x found = step (p y) refl (found_counts p ys x)
+-- one that is found and passes another test counts there
+passing_counts : {X : Type 0} (p q : X → Bool) (xs : List X) (x : X) → q x ≡ true → find p xs ≡ Some x → 0 < count_by q xs
+passing_counts p q [] x passes found = absurd (none-some x found)
+passing_counts p q (y ∷ ys) x passes found = step (p y) refl (passing_counts p q ys x passes)
   where
-    step : (b : Bool) → p y ≡ b → (find p ys ≡ Some x → 0 < count_by p ys) → 0 < count_by p (y ∷ ys)
-    step true is later = omega (arith, count_by-cons p y ys, ap (λ (b : Bool). cond {A = ℕ} b 1 0) is)
-    step false is later = omega (arith, count_by-cons p y ys, later (sym (ap (λ (b : Bool). cond b (Some y) (find p ys)) is) ∙ found))
+    step : (b : Bool) → p y ≡ b → (find p ys ≡ Some x → 0 < count_by q ys) → 0 < count_by q (y ∷ ys)
+    step true is later =
+        let same : y ≡ x = same_Some y x (sym (ap (λ (b : Bool). cond b (Some y) (find p ys)) is) ∙ found) in
+        omega (arith, count_by-cons q y ys, ap (λ (b : Bool). cond {A = ℕ} b 1 0) (ap q same ∙ passes))
+    step false is later = omega (arith, count_by-cons q y ys, later (sym (ap (λ (b : Bool). cond b (Some y) (find p ys)) is) ∙ found))
+
+-- and is among those that do
+pub passing_any : {X : Type 0} (p q : X → Bool) (xs : List X) (x : X) → q x ≡ true → find p xs ≡ Some x → list_any q xs ≡ true
+passing_any p q [] x passes found = absurd (none-some x found)
+passing_any p q (y ∷ ys) x passes found = step (p y) refl (passing_any p q ys x passes)
+  where
+    step : (b : Bool) → p y ≡ b → (find p ys ≡ Some x → list_any q ys ≡ true) → list_any q (y ∷ ys) ≡ true
+    step true is later =
+        let same : y ≡ x = same_Some y x (sym (ap (λ (b : Bool). cond b (Some y) (find p ys)) is) ∙ found) in
+        or_left (q y) (list_any q ys) (ap q same ∙ passes)
+    step false is later = or_right (q y) (list_any q ys) (later (sym (ap (λ (b : Bool). cond b (Some y) (find p ys)) is) ∙ found))
+
+pub found_counts : {X : Type 0} (p : X → Bool) (xs : List X) (x : X) → find p xs ≡ Some x → 0 < count_by p xs
+found_counts p xs x found = passing_counts p p xs x (found_passes p xs x found) found
+
+-- where nothing is found, nothing passes
+pub none_found : {X : Type 0} (p : X → Bool) (xs : List X) → find p xs ≡ None → Each (λ x. p x ≡ false) xs
+none_found p [] none = tt
+none_found {X} p (x ∷ xs) none = step (p x) refl (none_found p xs)
+  where
+    step : (b : Bool) → p x ≡ b → (find p xs ≡ None → Each (λ y. p y ≡ false) xs) → Each (λ y. p y ≡ false) (x ∷ xs)
+    step true is later = absurd (none-some x (sym none ∙ ap (λ (b : Bool). cond b (Some x) (find p xs)) is))
+    step false is later = (is, later (sym (ap (λ (b : Bool). cond b (Some x) (find p xs)) is) ∙ none))
 
 none_counts : {X : Type 0} (p : X → Bool) (P : X → Type 0) (xs : List X) → count_by p xs ≡ 0 → Each (λ x. p x ≡ true → P x) xs
 none_counts p P [] none = tt
@@ -147,20 +177,26 @@ none_counts p P (x ∷ xs) none = step (p x) refl (none_counts p P xs)
     step true is later = absurd (omega (arith, count_by-cons p x xs, ap (λ (b : Bool). cond {A = ℕ} b 1 0) is))
     step false is later = ((λ passes. absurd (false≢true (sym is ∙ passes))), later (omega (arith, count_by-cons p x xs)))
 
--- where one element passes at most, each that passes is the one that is found
-pub only_found : {X : Type 0} (p : X → Bool) (xs : List X) (x : X) → count_by p xs ≤ 1 → find p xs ≡ Some x → Each (λ y. p y ≡ true → y ≡ x) xs
-only_found p [] x few found = tt
-only_found {X} p (y ∷ ys) x few found = step (p y) refl (only_found p ys x)
+-- where one element at most passes, and one that is found passes, each that passes is that one
+pub only_one : {X : Type 0} (p q : X → Bool) (xs : List X) (x : X) → count_by q xs ≤ 1 → q x ≡ true → find p xs ≡ Some x → Each (λ y. q y ≡ true → y ≡ x) xs
+only_one p q [] x few passes found = tt
+only_one {X} p q (y ∷ ys) x few passes found = step (p y) refl (only_one p q ys x)
   where
-    step : (b : Bool) → p y ≡ b → (count_by p ys ≤ 1 → find p ys ≡ Some x → Each (λ z. p z ≡ true → z ≡ x) ys) → Each (λ z. p z ≡ true → z ≡ x) (y ∷ ys)
+    step : (b : Bool) → p y ≡ b → (count_by q ys ≤ 1 → q x ≡ true → find p ys ≡ Some x → Each (λ z. q z ≡ true → z ≡ x) ys) → Each (λ z. q z ≡ true → z ≡ x) (y ∷ ys)
     step true is later =
         let same : y ≡ x = same_Some y x (sym (ap (λ (b : Bool). cond b (Some y) (find p ys)) is) ∙ found) in
-        let one : count_by p ys ≡ 0 = omega (arith, few, count_by-cons p y ys, ap (λ (b : Bool). cond {A = ℕ} b 1 0) is) in
-        ((λ passes. same), none_counts p (λ z. z ≡ x) ys one)
-    step false is later = (
-      (λ passes. absurd (false≢true (sym is ∙ passes))),
-      later (omega (arith, few, count_by-cons p y ys)) (sym (ap (λ (b : Bool). cond b (Some y) (find p ys)) is) ∙ found),
-    )
+        let one : count_by q ys ≡ 0 = omega (arith, few, count_by-cons q y ys, ap (λ (b : Bool). cond {A = ℕ} b 1 0) (ap q same ∙ passes)) in
+        ((λ _. same), none_counts q (λ z. z ≡ x) ys one)
+    step false is later =
+        let found : find p ys ≡ Some x = sym (ap (λ (b : Bool). cond b (Some y) (find p ys)) is) ∙ found in
+        let some : 0 < count_by q ys = passing_counts p q ys x passes found in (
+          (λ also. absurd (omega (arith, few, some, count_by-cons q y ys, ap (λ (b : Bool). cond {A = ℕ} b 1 0) also))),
+          later (omega (arith, few, count_by-cons q y ys)) passes found,
+        )
+
+-- where one element passes at most, each that passes is the one that is found
+pub only_found : {X : Type 0} (p : X → Bool) (xs : List X) (x : X) → count_by p xs ≤ 1 → find p xs ≡ Some x → Each (λ y. p y ≡ true → y ≡ x) xs
+only_found p xs x few found = only_one p p xs x few (found_passes p xs x found) found
 
 -- the value that a look at an option showed
 pub shown : {X Y : Type 0} (f : X → Y) (o : Option X) (y : Y) → option_map f o ≡ Some y → (x : X) × (o ≡ Some x) × (f x ≡ y)

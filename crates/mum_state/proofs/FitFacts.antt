@@ -3,7 +3,7 @@ use Rattle.std.proofs.Common.{◌≡◌, ℕ, zero, suc, ◌-◌, ◌^◌, Bool,
 use Rattle.mum_base.specs.declared.perm.TheConstants.Perm.{ALL, SPEAK}
 use Rattle.mum_policy.proofs.Scenes.{defines, denies, entry, everybody, grants, group, one, plain, policy, the_account}
 use Rattle.mum_tree.specs.State.{TreeState, plain_info}
-use Rattle.mum_tree.proofs.Scenes.{beside, linked_to, nested, to_links, to_name, to_parent, to_seat, tree, two_letters, unchanged as same_channel}
+use Rattle.mum_tree.proofs.Scenes.{beside, linked_to, nested, to_links, to_name, to_parent, to_placement, tree, two_letters, unchanged as same_channel}
 use Rattle.mum_users.proofs.Scenes.{account, all_listen, channel, item_channel, item_sessions, joins, listens_to, numbers_from, roster, session, to_listen, unchanged, with_group}
 use Rattle.mum_state.specs.declared.account.Account.{Account}
 use Rattle.mum_state.specs.declared.edit.Edit.{Edit}
@@ -93,7 +93,7 @@ numbers_are_right = search
 
 pub record NamesFit : Type 0 where
   pub the_name_of_a_sibling :
-      fit_after (make 1 0 a ∷ make 2 0 b ∷ []) (make 3 0 a ∷ make 3 1 a ∷ edit 2 (to_name a) ∷ edit 2 (to_seat a 1) ∷ edit 1 (to_name a) ∷ [])
+      fit_after (make 1 0 a ∷ make 2 0 b ∷ []) (make 3 0 a ∷ make 3 1 a ∷ edit 2 (to_name a) ∷ edit 2 (to_placement a 1) ∷ edit 1 (to_name a) ∷ [])
       ≡ false ∷ true ∷ false ∷ true ∷ true ∷ []
   pub the_name_of_a_channel :
       map (λ name. fits_after [] (make 1 0 name)) (letters 128 ∷ letters 129 ∷ [] ∷ codes " x" ∷ codes "x " ∷ (120 ∷ 31 ∷ 120 ∷ []) ∷ [])
@@ -101,7 +101,7 @@ pub record NamesFit : Type 0 where
   pub a_new_name_of_a_channel :
       map (λ name. fits_after (make 1 0 a ∷ []) (edit 1 (to_name name))) (letters 128 ∷ letters 129 ∷ [] ∷ codes " x" ∷ []) ≡ true ∷ false ∷ false ∷ false ∷ []
   pub the_root_keeps_its_name_and_its_parent :
-      map (λ change. fits_after (make 1 0 a ∷ []) (edit 0 change)) (to_name a ∷ to_parent 1 ∷ to_seat (codes "Root") 0 ∷ to_links (1 ∷ []) [] ∷ [])
+      map (λ change. fits_after (make 1 0 a ∷ []) (edit 0 change)) (to_name a ∷ to_parent 1 ∷ to_placement (codes "Root") 0 ∷ to_links (1 ∷ []) [] ∷ [])
       ≡ false ∷ false ∷ true ∷ true ∷ []
   pub the_name_of_a_session : fit_after (join 1 0 ann ∷ []) (join 2 1 ann ∷ join 2 1 (letters 128) ∷ join 2 1 (letters 129) ∷ []) ≡ false ∷ true ∷ false ∷ []
   pub the_name_and_the_number_of_an_account :

@@ -7,7 +7,7 @@ use Rattle.mum_base.specs.declared.number.TheConstants.{SLOTS}
 use Rattle.mum_base.specs.declared.number.ChannelId.{ChannelId}
 use Rattle.mum_base.specs.declared.number.SessionId.{SessionId}
 use Rattle.mum_base.specs.declared.number.Slot.{Slot}
-use Rattle.mum_policy.specs.Member.{Asker}
+use Rattle.mum_policy.specs.Member.{Actor}
 use Rattle.mum_policy.specs.Walk.{perm}
 use Rattle.mum_tree.specs.Rows.{is_there, path}
 use Rattle.mum_tree.specs.State.{Pair, TreeState}
@@ -24,7 +24,7 @@ use Rattle.mum_state.specs.Counts.{raised_where, renews, slot_count}
 use Rattle.mum_state.specs.Emptied.{empties}
 use Rattle.mum_state.specs.Kinds.{changes_paths, sets_tokens_of}
 use Rattle.mum_state.specs.Laws.{PermissionsStand}
-use Rattle.mum_state.specs.Permissions.{asker, perm_of}
+use Rattle.mum_state.specs.Permissions.{actor_from, perm_of}
 use Rattle.mum_state.specs.Proper.{IsProper}
 use Rattle.mum_state.specs.Set.{set_by}
 use Rattle.mum_state.specs.State.{PolicyRow, StateValue}
@@ -155,20 +155,20 @@ module _ (first : User) (edges : List Pair) (policies : List PolicyRow) (count :
 
 -- ---- what it may do
 
-granted_by : List PolicyRow → List ChannelId → Bool → Option Asker → Option ℕ
+granted_by : List PolicyRow → List ChannelId → Bool → Option Actor → Option ℕ
 granted_by policies way there who =
     option_map (λ one. perm (λ id. option_map (λ row. row.policy) (find (λ row. row.channel.0 == id.0) policies)) way one) (if there then who else None)
 
 -- the channels above its own are the same where the ways are
-asker_as : (tree later : TreeState) (first user : User) → map edge tree.channels ≡ map edge later.channels → IsAs first user → asker tree first ≡ asker later user
-asker_as tree later first user ways same_as =
+actor_as : (tree later : TreeState) (first user : User) → map edge tree.channels ≡ map edge later.channels → IsAs first user → actor_from tree first ≡ actor_from later user
+actor_as tree later first user ways same_as =
     let homes : path later.channels user.channel ≡ path tree.channels first.channel =
     ap (path later.channels) same_as.channel ∙ sym (path_alike tree.channels later.channels first.channel ways) in
     sym (λ i. record { account = same_as.account i; channel = same_as.channel i; tokens = same_as.tokens i; home = homes i })
 
 perm_alike : (state later : StateValue) (session : SessionId) (channel : ChannelId) → state.policies ≡ later.policies
     → path state.tree.channels channel ≡ path later.tree.channels channel → is_there state.tree.channels channel ≡ is_there later.tree.channels channel
-    → option_map (asker state.tree) (session_of state.roster session) ≡ option_map (asker later.tree) (session_of later.roster session)
+    → option_map (actor_from state.tree) (session_of state.roster session) ≡ option_map (actor_from later.tree) (session_of later.roster session)
     → perm_of state session channel ≡ perm_of later session channel
 unfolding granted_by
 perm_alike state later session channel policies way there who = λ i. granted_by (policies i) (way i) (there i) (who i)
@@ -208,6 +208,6 @@ permissions_stand_lem state edits session slot channel proper fit here there pol
     perm_alike state (led_to state edits) session channel (sym stands.ways.rules)
     (path_alike state.tree.channels (led_to state edits).tree.channels channel ways)
     (there_alike state.tree.channels (led_to state edits).tree.channels channel ways)
-    (ap (option_map (asker state.tree)) found
-    ∙ ap (λ (one : Asker). Some one) (asker_as state.tree (led_to state edits).tree first now ways (same_as (eqb-true _ _ passes ∙ sym number)))
-    ∙ sym (ap (option_map (asker (led_to state edits).tree)) again))
+    (ap (option_map (actor_from state.tree)) found
+    ∙ ap (λ (one : Actor). Some one) (actor_as state.tree (led_to state edits).tree first now ways (same_as (eqb-true _ _ passes ∙ sym number)))
+    ∙ sym (ap (option_map (actor_from (led_to state edits).tree)) again))

@@ -46,6 +46,7 @@ pub mod Ways
 pub mod Governed
 pub mod Judged
 pub mod Marking
+pub mod Speaking
 pub mod Asked
 pub mod Scenes
 pub mod StandardFacts

@@ -1,7 +1,7 @@
 -- Marks and counts of slots, one after the other; and sessions that are heard again.
-use Rattle.std.proofs.Common.{◌≡◌, ℕ, zero, suc, ◌+◌, ◌<◌, ◌≤◌, ◌==◌, ◌&&◌, ◌||◌, ◌++◌, not, Bool, true, false, cond, List, [], ◌∷◌, length, length-set, get_or, set, take, drop, map, replicate, refl, sym, ap, ◌∙◌, arith, add-one, Option, Some, None, is_none, ℤ, ◌⊎◌, inl, inr}
-use Rattle.std.specs.List.{All, list_all, list_any}
-use Rattle.std.proofs.lemmas.Bool.{and_parts, cases_eq, eq-eqb, false≢true, ltb-true, ne_eqb, not-true}
+use Rattle.std.proofs.Common.{◌≡◌, ℕ, zero, suc, ◌+◌, ◌<◌, ◌≤◌, ◌==◌, ◌&&◌, ◌||◌, ◌++◌, not, Bool, true, false, cond, List, [], ◌∷◌, length, length-set, get_or, set, take, drop, map, replicate, refl, sym, ap, subst, ◌∙◌, arith, add-one, zero-add, Option, Some, None, is_none, ℤ, ◌⊎◌, inl, inr}
+use Rattle.std.specs.List.{All, count_by, list_all, list_any}
+use Rattle.std.proofs.lemmas.Bool.{and_parts, cases_eq, eq-eqb, eqb-true, false≢true, ltb-true, ne_eqb, not-true}
 use Rattle.std.proofs.lemmas.List.{get_or-set_other, get_or-set_same}
 use Rattle.std.proofs.lemmas.List.Folds.{list_any_more}
 use Rattle.std.specs.Prelude.{nat_lt}
@@ -9,44 +9,69 @@ use Rattle.mum_base.specs.declared.number.TheConstants.{SLOTS}
 use Rattle.mum_base.specs.declared.number.AccountId.{AccountId}
 use Rattle.mum_base.specs.declared.number.ChannelId.{ChannelId}
 use Rattle.mum_base.specs.declared.number.SessionId.{SessionId}
+use Rattle.mum_base.specs.declared.number.Slot.{Slot}
 use Rattle.mum_tree.specs.declared.channel.ChannelInfo.{ChannelInfo}
 use Rattle.mum_tree.specs.Change.{Change, fault_of_edit}
 use Rattle.mum_tree.specs.Refusals.{fault_of_add, fault_of_remove}
 use Rattle.mum_tree.specs.Rows.{is_there}
-use Rattle.mum_users.specs.declared.placing.Placement.{Placement}
 use Rattle.mum_users.specs.declared.user.User.{User}
 use Rattle.mum_users.specs.Edit.{UserEdit, edit_fault}
-use Rattle.mum_users.specs.Proper.{SlotsRise}
-use Rattle.mum_users.specs.Placed.{with_placement, with_placements}
+use Rattle.mum_users.specs.Proper.{IsProper, SlotsRise}
 use Rattle.mum_state.specs.declared.account.TheConstants.{ACCOUNT_LIMIT}
 use Rattle.mum_state.specs.declared.edit.Edit.TheVariants.{AddAccount, EditChannel, MakeChannel, RemoveChannel, SetUser}
-use Rattle.mum_state.specs.declared.renewed.Renewed.{Renewed}
-use Rattle.mum_state.specs.declared.renewed.Renewed.TheVariants.{Nobody, One, Those}
+use Rattle.mum_state.specs.declared.renewed.Renewed.TheVariants.{Nobody, One}
 use Rattle.mum_state.specs.Channels.{channels_of, speaks_where_in}
 use Rattle.mum_state.specs.Counts.{raised_slots, raised_where}
 use Rattle.mum_state.specs.Fits.{fits, holds_of_given}
 use Rattle.mum_state.specs.Parts.{channel_parts, user_parts}
 use Rattle.mum_state.specs.Permissions.{may_speak}
 use Rattle.mum_state.specs.Proper.{is_name, is_short, is_text}
-use Rattle.mum_users.specs.State.{is_context}
-use Rattle.mum_state.specs.Renewed.{heard_again, is_nobody, is_renewed_slot}
+use Rattle.mum_users.specs.Sessions.{absent_fault, session_at, suppressed}
+use Rattle.mum_users.specs.declared.fault.UserFault.TheVariants.{NoSession}
+use Rattle.mum_users.specs.State.{has_number, has_slot, is_context}
+use Rattle.mum_users.proofs.Counts.{count_by-cons}
+use Rattle.mum_state.specs.Renewed.{heard_again, is_renewed_slot}
 use Rattle.mum_state.specs.State.{StateValue, has_account, is_named, is_numbered}
 use Rattle.mum_state.specs.Suppression.{heard_anew}
+use Rattle.mum_state.proofs.Each.{each_both, each_find, each_passes, each_so, found_passes, map_each, map_stays, none_found, only_found, only_one, passing_any}
 use Rattle.mum_state.proofs.Fitting.{fit_parts}
 use Rattle.mum_state.proofs.Givens.{none_is}
-use Rattle.mum_state.proofs.Listed.{all_at}
-use Rattle.mum_state.proofs.Members.{map_agree, or_false}
+use Rattle.mum_state.proofs.Members.{or_false}
 
 -- ---- counts
 
-nothing_raised : (slot : ℕ) (counts : List ℕ) → raised_slots (λ at. false) slot counts ≡ counts
-nothing_raised slot [] = refl
-nothing_raised slot (count ∷ counts) = ap (λ (later : List ℕ). count ∷ later) (nothing_raised (slot + 1) counts)
+-- where it holds of no slot of these, nothing is raised
+none_raised : (t : ℕ → Bool) (start : ℕ) (counts : List ℕ) → ((i : ℕ) → i < length counts → t (start + i) ≡ false) → raised_slots t start counts ≡ counts
+none_raised t start [] none = refl
+none_raised t start (count ∷ counts) none =
+    let here : start + 0 ≡ start = omega arith in
+    let next : (i : ℕ) → start + 1 + i ≡ start + suc i = λ i. omega arith in
+    ap (λ (b : Bool). raised_where b count ∷ raised_slots t (start + 1) counts) (ap t (sym here) ∙ none 0 (omega arith))
+    ∙ ap (λ (later : List ℕ). count ∷ later) (none_raised t (start + 1) counts (λ i within. ap t (next i) ∙ none (suc i) (omega arith)))
 
-pub nobody_raised : (renewed : Renewed) → is_nobody renewed ≡ true → (counts : List ℕ) → counts ≡ raised_slots (is_renewed_slot renewed) 0 counts
-nobody_raised Nobody is counts = sym (nothing_raised 0 counts)
-nobody_raised (One slot) is counts = absurd (false≢true is)
-nobody_raised (Those marks) is counts = absurd (false≢true is)
+pub nobody_raised : (counts : List ℕ) → counts ≡ raised_slots (is_renewed_slot Nobody) 0 counts
+nobody_raised counts = sym (none_raised (λ at. false) 0 counts (λ i within. refl))
+
+-- one count alone is raised
+raised_at : (start : ℕ) (counts : List ℕ) (i n : ℕ) → i < length counts → n ≡ get_or counts i n → set counts i (n + 1) ≡ raised_slots (λ at. start + i == at) start counts
+raised_at start [] i n within is = absurd (omega arith)
+raised_at start (count ∷ counts) zero n within is =
+    let here : start + 0 ≡ start = omega arith in
+    ap (λ (m : ℕ). (m + 1) ∷ counts) is
+    ∙ sym (ap (λ (b : Bool). raised_where b count ∷ raised_slots (λ at. start + 0 == at) (start + 1) counts) (eq-eqb (start + 0) start here)
+    ∙ ap (λ (later : List ℕ). (count + 1) ∷ later) (none_raised (λ at. start + 0 == at) (start + 1) counts (λ j below. ne_eqb (start + 0) (start + 1 + j) (λ same. omega (arith, same)))))
+raised_at start (count ∷ counts) (suc i) n within is =
+    let next : start + 1 + i ≡ start + suc i = omega arith in
+    ap (λ (later : List ℕ). count ∷ later) (raised_at (start + 1) counts i n (omega arith) is
+    ∙ ap (λ (k : ℕ). raised_slots (λ at. k == at) (start + 1) counts) next)
+    ∙ sym (ap (λ (b : Bool). raised_where b count ∷ raised_slots (λ at. start + suc i == at) (start + 1) counts) (ne_eqb (start + suc i) start (λ same. omega (arith, same))))
+
+pub one_raised : (slot : Slot) (counts : List ℕ) (n : ℕ) → slot.0 < length counts → n ≡ get_or counts slot.0 n → set counts slot.0 (n + 1) ≡ raised_slots (is_renewed_slot (One slot)) 0 counts
+one_raised slot counts n within is = raised_at 0 counts slot.0 n within is ∙ ap (λ (k : ℕ). raised_slots (λ at. k == at) 0 counts) (zero-add slot.0)
+
+pub one_beyond : (slot : Slot) (counts : List ℕ) → length counts ≤ slot.0 → counts ≡ raised_slots (is_renewed_slot (One slot)) 0 counts
+one_beyond slot counts beyond =
+    sym (none_raised (λ at. slot.0 == at) 0 counts (λ i within. ne_eqb slot.0 (0 + i) (λ same. omega (arith, same))))
 
 -- one more count is raised
 pub set-raised : (t : ℕ → Bool) (start : ℕ) (xs : List ℕ) (i n : ℕ) → i < length xs → n ≡ get_or (raised_slots t start (take i xs) ++ drop i xs) i n
@@ -117,32 +142,99 @@ heard_as_were : (users : List User) (state : StateValue) → users ≡ map (λ u
 heard_as_were [] state = refl
 heard_as_were (user ∷ users) state = ap (λ (later : List User). user ∷ later) (heard_as_were users state)
 
-pub heard_nobody : (renewed : Renewed) (all : Bool) (state : StateValue) → (is_nobody renewed && not all) ≡ true → state ≡ heard_again renewed all state
-heard_nobody Nobody false state is = ap (λ (users : List User). record state { roster = record state.roster { sessions = users } }) (heard_as_were state.roster.sessions state)
-heard_nobody Nobody true state is = absurd (false≢true is)
-heard_nobody (One slot) all state is = absurd (false≢true is)
-heard_nobody (Those marks) all state is = absurd (false≢true is)
+pub heard_nobody : (state : StateValue) → state ≡ heard_again Nobody false state
+heard_nobody state = ap (λ (users : List User). record state { roster = record state.roster { sessions = users } }) (heard_as_were state.roster.sessions state)
 
--- where each session is told to sit that is heard again, or not
-abbrev pub hearing_seat : Renewed → Bool → StateValue → User → Placement
-hearing_seat renewed all state user = record {
-  channel = user.channel;
-  suppress = (cond (is_renewed_slot renewed user.slot.0 || all) (not (speaks_where_in (channels_of state) user)) user.suppress);
-}
+-- ---- one session that is heard again
 
-pub heard_seats : (renewed : Renewed) (all : Bool) (state : StateValue) → list_all (λ user. is_there state.tree.channels user.channel) state.roster.sessions ≡ true
-    → with_placements (hearing_seat renewed all state) state.roster ≡ (heard_again renewed all state).roster
-heard_seats renewed all state inside =
-    ap (λ (users : List User). record state.roster { sessions = users })
-    (map_agree (with_placement (hearing_seat renewed all state)) (λ user. cond (is_renewed_slot renewed user.slot.0 || all) (heard_anew state user) user) state.roster.sessions
-    (λ k d within.
-    let user : User = get_or state.roster.sessions k d in
-    by user (is_renewed_slot renewed user.slot.0 || all) (all_at (λ one. is_there state.tree.channels one.channel) state.roster.sessions inside k d within)))
+slot_below : (limit low slot : ℕ) (users : List User) → SlotsRise limit low users → slot < low → count_by (λ user. user.slot.0 == slot) users ≡ 0
+slot_below limit low slot [] rise below = refl
+slot_below limit low slot (user ∷ users) rise below =
+    let from : low ≤ user.slot.0 = rise.0 in
+    let apart : (user.slot.0 == slot) ≡ false = ne_eqb user.slot.0 slot (λ same. omega (arith, same)) in
+    omega (
+      arith,
+      count_by-cons (λ (one : User). one.slot.0 == slot) user users,
+      ap (λ (b : Bool). cond {A = ℕ} b 1 0) apart,
+      slot_below limit (user.slot.0 + 1) slot users rise.1 (omega arith),
+    )
+
+-- no two sessions are in one slot
+slot_once : (limit low slot : ℕ) (users : List User) → SlotsRise limit low users → count_by (λ user. user.slot.0 == slot) users ≤ 1
+slot_once limit low slot [] rise = omega arith
+slot_once limit low slot (user ∷ users) rise = step (user.slot.0 == slot) refl (slot_once limit (user.slot.0 + 1) slot users rise.1)
   where
-    by : (user : User) (b : Bool) → is_there state.tree.channels user.channel ≡ true
-        → record user { channel = user.channel; suppress = (cond b (not (speaks_where_in (channels_of state) user)) user.suppress) } ≡ cond b (heard_anew state user) user
-    by user true there = ap (λ (b : Bool). record user { suppress = not (cond b (may_speak state user) false) }) there
-    by user false there = refl
+    step : (b : Bool) → (user.slot.0 == slot) ≡ b → count_by (λ (one : User). one.slot.0 == slot) users ≤ 1 → count_by (λ one. one.slot.0 == slot) (user ∷ users) ≤ 1
+    step true is later =
+        omega (
+          arith,
+          count_by-cons (λ (one : User). one.slot.0 == slot) user users,
+          ap (λ (b : Bool). cond {A = ℕ} b 1 0) is,
+          slot_below limit (user.slot.0 + 1) slot users rise.1 (let same = eqb-true _ _ is in omega arith),
+        )
+    step false is later =
+        omega (arith, count_by-cons (λ (one : User). one.slot.0 == slot) user users, ap (λ (b : Bool). cond {A = ℕ} b 1 0) is, later)
+
+module _ (slot : Slot) (state : StateValue) where
+  pub heard_absent : session_at state.roster slot ≡ None → state ≡ heard_again (One slot) false state
+  heard_absent none =
+      ap (λ (users : List User). record state { roster = record state.roster { sessions = users } })
+      (sym (map_stays (λ user. cond ((slot.0 == user.slot.0) || false) (heard_anew state user) user) state.roster.sessions
+      (each_so (λ (user : User). has_slot slot user ≡ false) (λ user. cond ((slot.0 == user.slot.0) || false) (heard_anew state user) user ≡ user)
+      (λ user apart. ap (λ (b : Bool). cond (b || false) (heard_anew state user) user) (turned slot.0 user.slot.0 apart)) state.roster.sessions
+      (none_found (has_slot slot) state.roster.sessions none))))
+    where
+      turned : (a b : ℕ) → (b == a) ≡ false → (a == b) ≡ false
+      turned a b apart = ne_eqb a b (λ same. false≢true (sym apart ∙ eq-eqb b a (sym same)))
+
+  module _ (user : User) (speaks : Bool) (proper : IsProper state.roster) (inside : list_all (λ one. is_there state.tree.channels one.channel) state.roster.sessions ≡ true)
+      (found : session_at state.roster slot ≡ Some user) (speaks_is : speaks ≡ speaks_where_in (channels_of state) user) where
+    abbrev as_told : User → User
+    as_told one = cond (has_number user.session one) (record one { suppress = not speaks }) one
+
+    abbrev as_heard : User → User
+    as_heard one = cond ((slot.0 == one.slot.0) || false) (heard_anew state one) one
+
+    in_slot : user.slot.0 ≡ slot.0
+    in_slot = eqb-true _ _ (found_passes (has_slot slot) state.roster.sessions user found)
+
+    there : is_there state.tree.channels user.channel ≡ true
+    there =
+        (each_find (λ (one : User). is_there state.tree.channels one.channel ≡ true) (has_slot slot) state.roster.sessions user
+        (each_passes (λ (one : User). is_there state.tree.channels one.channel) state.roster.sessions inside) found).0
+
+    own : as_told user ≡ as_heard user
+    own =
+        ap (λ (b : Bool). cond b (record user { suppress = not speaks }) user) (eq-eqb user.session.0 user.session.0 refl)
+        ∙ ap (λ (b : Bool). record user { suppress = not b }) (speaks_is ∙ ap (λ (b : Bool). cond b (may_speak state user) false) there)
+        ∙ sym (ap (λ (b : Bool). cond (b || false) (heard_anew state user) user) (eq-eqb slot.0 user.slot.0 (sym in_slot)))
+
+    each_own : (one : User) → (has_number user.session one ≡ true → one ≡ user) → (has_slot slot one ≡ true → one ≡ user) → as_told one ≡ as_heard one
+    each_own one numbered seated = by (has_number user.session one) (slot.0 == one.slot.0) refl refl
+      where
+        by : (a b : Bool) → has_number user.session one ≡ a → (slot.0 == one.slot.0) ≡ b → as_told one ≡ as_heard one
+        by true b is at = subst (λ (x : User). as_told x ≡ as_heard x) (sym (numbered is)) own
+        by false true is at =
+            let same : one ≡ user = seated (eq-eqb one.slot.0 slot.0 (sym (eqb-true _ _ at))) in
+            absurd (false≢true (sym is ∙ eq-eqb one.session.0 user.session.0 (ap (λ (x : User). x.session.0) same)))
+        by false false is at =
+            ap (λ (b : Bool). cond b (record one { suppress = not speaks }) one) is
+            ∙ sym (ap (λ (b : Bool). cond (b || false) (heard_anew state one) one) at)
+
+    -- it is here
+    pub heard_here : absent_fault state.roster user.session ≡ None
+    heard_here =
+        ap (λ (b : Bool). cond b None (Some NoSession))
+        (passing_any (has_slot slot) (has_number user.session) state.roster.sessions user (eq-eqb user.session.0 user.session.0 refl) found)
+
+    pub heard_one : record state { roster = suppressed state.roster user.session (not speaks) } ≡ heard_again (One slot) false state
+    heard_one =
+        ap (λ (users : List User). record state { roster = record state.roster { sessions = users } })
+        (map_each as_told as_heard state.roster.sessions
+        (each_both (λ one. has_number user.session one ≡ true → one ≡ user) (λ one. has_slot slot one ≡ true → one ≡ user) (λ one. as_told one ≡ as_heard one) each_own
+        state.roster.sessions
+        (only_one (has_slot slot) (has_number user.session) state.roster.sessions user (proper.numbers user.session) (eq-eqb user.session.0 user.session.0 refl) found)
+        (only_found (has_slot slot) state.roster.sessions user (slot_once state.roster.limit 0 slot.0 state.roster.sessions proper.slots) found)))
 
 -- ---- changes that fit
 

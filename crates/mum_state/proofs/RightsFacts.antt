@@ -3,7 +3,7 @@ use Rattle.std.proofs.Common.{◌≡◌, ℕ, zero, suc, ◌+◌, ◌-◌, List,
 use Rattle.std.specs.Option.{option_map}
 use Rattle.mum_base.specs.declared.perm.TheConstants.Perm.{ALL, ENTER, MAKE_CHANNEL, MOVE, SPEAK, START, TRAVERSE, WHISPER}
 use Rattle.mum_policy.specs.declared.policy.ChannelPolicy.{ChannelPolicy}
-use Rattle.mum_policy.specs.Member.{Asker}
+use Rattle.mum_policy.specs.Member.{Actor}
 use Rattle.mum_policy.proofs.Scenes.{afresh, defines, denies, everybody, grants, group, one, plain, the_account, those_in, two}
 use Rattle.mum_tree.specs.Rows.{path, row_of}
 use Rattle.mum_tree.proofs.Scenes.{two_letters}
@@ -102,31 +102,31 @@ sessions_may = record {
   below_a_channel_under_which_its_own_is_moved = (refl, refl);
 }
 
--- ---- the same of any asker: with these tokens, by this account or none, from this channel
+-- ---- the same of any actor: with these tokens, by this account or none, from this channel
 
-abbrev asker : Option ℕ → ℕ → List (List ℕ) → Asker
-asker owner where_from tokens =
+abbrev actor_from : Option ℕ → ℕ → List (List ℕ) → Actor
+actor_from owner where_from tokens =
     record { account = option_map account owner; channel = channel where_from; tokens = tokens; home = path (state (make 1 0 a ∷ [])).tree.channels (channel where_from) }
 
-abbrev guest : Asker
-guest = asker None 0 []
+abbrev guest : Actor
+guest = actor_from None 0 []
 
 -- in channel 1 below the root, which has this policy
-abbrev granted_by : ChannelPolicy → Asker → Option ℕ
+abbrev granted_by : ChannelPolicy → Actor → Option ℕ
 granted_by policy who = granted_where_there (state (make 1 0 a ∷ set_policy 1 policy ∷ [])) who (channel 1)
 
-pub record AskersMay : Type 0 where
+pub record ActorsMay : Type 0 where
   pub by_an_account_or_none :
       let policy = two (grants (those_in (codes "auth")) MOVE) (denies (those_in (codes "!auth")) ENTER) in
-      (granted_by policy guest ≡ Some (start - ENTER.0)) × (granted_by policy (asker (Some 5) 0 []) ≡ Some (start + MOVE.0))
+      (granted_by policy guest ≡ Some (start - ENTER.0)) × (granted_by policy (actor_from (Some 5) 0 []) ≡ Some (start + MOVE.0))
   pub by_tokens :
       let policy = one (grants (those_in (codes "#key")) MOVE) in
-      (granted_by policy guest ≡ Some start) × (granted_by policy (asker None 0 (codes "other" ∷ codes "KEY" ∷ [])) ≡ Some (start + MOVE.0))
+      (granted_by policy guest ≡ Some start) × (granted_by policy (actor_from None 0 (codes "other" ∷ codes "KEY" ∷ [])) ≡ Some (start + MOVE.0))
   pub by_where_they_are :
       let policy = one (grants (those_in (codes "in")) MOVE) in
-      (granted_by policy guest ≡ Some start) × (granted_by policy (asker None 1 []) ≡ Some (start + MOVE.0))
+      (granted_by policy guest ≡ Some start) × (granted_by policy (actor_from None 1 []) ≡ Some (start + MOVE.0))
   pub in_no_channel_that_is_not_there : granted_where_there (state []) guest (channel 9) ≡ None
 
-pub askers_may : AskersMay
+pub actors_may : ActorsMay
 unfolding state
-askers_may = search
+actors_may = search

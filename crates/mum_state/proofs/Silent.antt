@@ -19,7 +19,7 @@ use Rattle.mum_state.specs.Applied.{applied}
 use Rattle.mum_state.specs.Emptied.{without_emptied}
 use Rattle.mum_state.specs.Kinds.{sets_policy, sets_tokens_of}
 use Rattle.mum_state.specs.Laws.{SuppressedWhereSilent}
-use Rattle.mum_state.specs.Permissions.{asker, asker_at, may_speak}
+use Rattle.mum_state.specs.Permissions.{actor_from, actor_at, may_speak}
 use Rattle.mum_state.specs.Proper.{IsProper}
 use Rattle.mum_state.specs.Set.{set_by, with_tree}
 use Rattle.mum_state.specs.State.{PolicyRow, StateValue, policy_of}
@@ -73,8 +73,8 @@ module _ (state : StateValue) (stays : ChannelId → Bool) where
       each_so (λ channel. is_there kept channel ≡ true) (Agrees (policy_of left) (policy_of state)) (λ channel here. policy_stays channel here) (path kept user.channel)
       (each_from_all (λ channel. is_there kept channel ≡ true) (path kept user.channel) (path_leads kept user.channel (after.lead user.channel there)).there) in
       ap (λ (set : ℕ). holds set SPEAK.0)
-      (perm_by_path (policy_of left) (policy_of state) (path kept user.channel) (asker left.tree user) agree
-      ∙ ap (λ (home : List ChannelId). perm (policy_of state) home (asker_at home user user.tokens)) way)
+      (perm_by_path (policy_of left) (policy_of state) (path kept user.channel) (actor_from left.tree user) agree
+      ∙ ap (λ (home : List ChannelId). perm (policy_of state) home (actor_at home user user.tokens)) way)
 
 emptied_speaks : (before state : StateValue) (user : User) → IsProper state
     → is_there (rows_of (is_kept before.roster.sessions state.roster.sessions state.tree.channels) state.tree.channels) user.channel ≡ true

@@ -11,6 +11,7 @@ use Rattle.mum_tree.specs.State.{TreeState}
 use Rattle.mum_users.specs.declared.user.User.{User}
 use Rattle.mum_base.specs.declared.number.TheConstants.{SLOTS}
 use Rattle.mum_users.specs.Edit.{UserEdit, changed_user}
+use Rattle.mum_users.specs.Proper.{IsProper as IsProperRoster}
 use Rattle.mum_users.specs.State.{has_number}
 use Rattle.mum_state.specs.declared.edit.Edit.{Edit}
 use Rattle.mum_state.specs.declared.edit.Edit.TheVariants.{SetUser}
@@ -132,6 +133,9 @@ have_room state proper =
 module _ (state : StateValue) (edit : Edit) (proper : IsProper state) (fit : fits state edit ≡ true) (renewed : Renewed) (first : StateValue) (set_is : first ≡ set_by state edit) where
   pub hear_at : IsTrue (list_all (λ user. is_there first.tree.channels user.channel) first.roster.sessions)
   hear_at = subst (λ (s : StateValue). IsTrue (list_all (λ user. is_there s.tree.channels user.channel) s.roster.sessions)) (sym set_is) (hear_ready state edit proper fit)
+
+  pub hear_roster : IsProperRoster first.roster
+  hear_roster = subst (λ (s : StateValue). IsProperRoster s.roster) (sym set_is) ((fit_proper state edit proper fit).0.roster)
 
   module _ (second : StateValue) (heard_is : second ≡ heard_again renewed (sets_policy edit) first) where
     heard_from : second ≡ heard_again renewed (sets_policy edit) (set_by state edit)

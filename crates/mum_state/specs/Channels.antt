@@ -4,13 +4,13 @@ use Rattle.std.specs.Option.{option_map}
 use Rattle.mum_base.specs.declared.number.ChannelId.{ChannelId}
 use Rattle.mum_base.specs.declared.number.TheConstants.ChannelId.{ROOT}
 use Rattle.mum_base.specs.declared.perm.TheConstants.Perm.{SPEAK}
-use Rattle.mum_policy.specs.Member.{Asker, PolicyMap}
+use Rattle.mum_policy.specs.Member.{Actor, PolicyMap}
 use Rattle.mum_policy.specs.Walk.{holds, perm, visits}
 use Rattle.mum_tree.specs.declared.channel.ChannelInfo.{ChannelInfo}
 use Rattle.mum_tree.specs.Rows.{is_there, path}
 use Rattle.mum_tree.specs.State.{TreeState, root_alone, with_info, with_new, without_subtree}
 use Rattle.mum_users.specs.declared.user.User.{User}
-use Rattle.mum_state.specs.Permissions.{asker}
+use Rattle.mum_state.specs.Permissions.{actor_from}
 use Rattle.mum_state.specs.State.{PolicyRow, StateValue, policy_row}
 
 pub record ChannelsState : Type 0 where
@@ -30,23 +30,23 @@ root_channel = record { tree = root_alone; policies = policy_row ROOT ∷ [] }
 abbrev pub policy_map : ChannelsState → PolicyMap
 policy_map channels id = option_map (λ row. row.policy) (find (λ row. row.channel.0 == id.0) channels.policies)
 
--- what the asker may do in a channel
-abbrev pub granted_in : ChannelsState → Asker → ChannelId → ℕ
+-- what the actor may do in a channel
+abbrev pub granted_in : ChannelsState → Actor → ChannelId → ℕ
 granted_in channels who channel = perm (policy_map channels) (path channels.tree.channels channel) who
 
 -- the same of a channel that is there
-abbrev pub granted_where_in : ChannelsState → Asker → ChannelId → Option ℕ
+abbrev pub granted_where_in : ChannelsState → Actor → ChannelId → Option ℕ
 granted_where_in channels who channel =
     if is_there channels.tree.channels channel then Some (granted_in channels who channel) else None
 
 -- how many entries are read for that
-abbrev pub visits_in : ChannelsState → Asker → ChannelId → ℕ
+abbrev pub visits_in : ChannelsState → Actor → ChannelId → ℕ
 visits_in channels who channel =
     if is_there channels.tree.channels channel then visits (policy_map channels) (path channels.tree.channels channel) who else 0
 
 -- the session may speak where it is
 abbrev pub speaks_in : ChannelsState → User → Bool
-speaks_in channels user = holds (granted_in channels (asker channels.tree user) user.channel) SPEAK.0
+speaks_in channels user = holds (granted_in channels (actor_from channels.tree user) user.channel) SPEAK.0
 
 -- the same, where that channel is there
 abbrev pub speaks_where_in : ChannelsState → User → Bool

@@ -2,6 +2,7 @@ pub mod State
 pub mod Permissions
 pub mod Channels
 pub mod Renewed
+pub mod Speakers
 pub mod Followed
 pub mod Parts
 pub mod Named

@@ -4,7 +4,7 @@ use Rattle.std.specs.Option.{option_map}
 use Rattle.mum_base.specs.declared.number.ChannelId.{ChannelId}
 use Rattle.mum_base.specs.declared.number.SessionId.{SessionId}
 use Rattle.mum_base.specs.declared.perm.TheConstants.Perm.{SPEAK}
-use Rattle.mum_policy.specs.Member.{Asker}
+use Rattle.mum_policy.specs.Member.{Actor}
 use Rattle.mum_policy.specs.Walk.{holds, perm, visits}
 use Rattle.mum_tree.specs.Rows.{is_there, path}
 use Rattle.mum_tree.specs.State.{TreeState}
@@ -17,41 +17,41 @@ abbrev pub home : TreeState → User → List ChannelId
 home tree user = path tree.channels user.channel
 
 -- a session as entries and groups see it, where it has these tokens and these channels lead to its own
-abbrev pub asker_at : List ChannelId → User → List (List ℕ) → Asker
-asker_at home user tokens = record { account = user.account; channel = user.channel; tokens = tokens; home = home }
+abbrev pub actor_at : List ChannelId → User → List (List ℕ) → Actor
+actor_at home user tokens = record { account = user.account; channel = user.channel; tokens = tokens; home = home }
 
 -- a session in a tree, with these tokens in place of its own
-abbrev pub asker_with : TreeState → User → List (List ℕ) → Asker
-asker_with tree user tokens = asker_at (home tree user) user tokens
+abbrev pub actor_with : TreeState → User → List (List ℕ) → Actor
+actor_with tree user tokens = actor_at (home tree user) user tokens
 
 -- a session in a tree
-abbrev pub asker : TreeState → User → Asker
-asker tree user = asker_with tree user user.tokens
+abbrev pub actor_from : TreeState → User → Actor
+actor_from tree user = actor_with tree user user.tokens
 
--- what the asker may do in a channel
-abbrev pub granted_to : StateValue → Asker → ChannelId → ℕ
+-- what the actor may do in a channel
+abbrev pub granted_to : StateValue → Actor → ChannelId → ℕ
 granted_to state who channel = perm (policy_of state) (path state.tree.channels channel) who
 
 -- the session may speak where it is
 abbrev pub may_speak : StateValue → User → Bool
-may_speak state user = holds (granted_to state (asker state.tree user) user.channel) SPEAK.0
+may_speak state user = holds (granted_to state (actor_from state.tree user) user.channel) SPEAK.0
 
--- what the asker may do in a channel that is there
-abbrev pub granted_where_there : StateValue → Asker → ChannelId → Option ℕ
+-- what the actor may do in a channel that is there
+abbrev pub granted_where_there : StateValue → Actor → ChannelId → Option ℕ
 granted_where_there state who channel =
     if is_there state.tree.channels channel then Some (granted_to state who channel) else None
 
 -- the session, where it and the channel are there
-abbrev pub asker_in : StateValue → SessionId → ChannelId → Option Asker
-asker_in state session channel =
-    if is_there state.tree.channels channel then option_map (asker state.tree) (session_of state.roster session) else None
+abbrev pub actor_in : StateValue → SessionId → ChannelId → Option Actor
+actor_in state session channel =
+    if is_there state.tree.channels channel then option_map (actor_from state.tree) (session_of state.roster session) else None
 
 -- what a session may do in a channel; nothing is said where one of the two is not there
 abbrev pub perm_of : StateValue → SessionId → ChannelId → Option ℕ
 perm_of state session channel =
-    option_map (λ who. granted_to state who channel) (asker_in state session channel)
+    option_map (λ who. granted_to state who channel) (actor_in state session channel)
 
 -- how many entries are read for that
 abbrev pub visits_of : StateValue → SessionId → ChannelId → ℕ
 visits_of state session channel =
-    unwrap_or (option_map (λ who. visits (policy_of state) (path state.tree.channels channel) who) (asker_in state session channel)) 0
+    unwrap_or (option_map (λ who. visits (policy_of state) (path state.tree.channels channel) who) (actor_in state session channel)) 0

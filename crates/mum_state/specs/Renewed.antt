@@ -1,5 +1,5 @@
 -- The slots of those for whom an edit makes what was computed of a session out of date.
-use Rattle.std.specs.Prelude.{ℕ, ◌==◌, ◌||◌, Bool, true, false, map, slice_index_or, if◌then◌else◌}
+use Rattle.std.specs.Prelude.{ℕ, ◌==◌, ◌||◌, Bool, false, map, slice_index_or, if◌then◌else◌}
 use Rattle.mum_state.specs.declared.renewed.Renewed.{Renewed}
 use Rattle.mum_state.specs.declared.renewed.Renewed.TheVariants.{Nobody, One, Those}
 use Rattle.mum_state.specs.State.{StateValue}
@@ -10,10 +10,6 @@ abbrev pub is_renewed_slot : Renewed → ℕ → Bool
 is_renewed_slot Nobody slot = false
 is_renewed_slot (One one) slot = one.0 == slot
 is_renewed_slot (Those marks) slot = slice_index_or marks slot false
-
-abbrev pub is_nobody : Renewed → Bool
-is_nobody Nobody = true
-is_nobody renewed = false
 
 -- whether those in these slots, or all, may speak where they are is set again
 abbrev pub heard_again : Renewed → Bool → StateValue → StateValue

@@ -3,7 +3,7 @@
 ghost use Rattle.std.specs.Prelude.{◌≡◌, ◌+◌, ◌<◌, ◌≤◌, ◌&&◌, ℕ, None, IfOk, IsTrue, OnErr, OnOk, false, true, length, not, slice_index_or, slice_set, if◌then◌else◌};
 ghost use Rattle.std.specs.List.{All};
 ghost use Rattle.std.specs.Option.{option_map};
-ghost use Rattle.mum_policy.specs.Member.{asker_of};
+ghost use Rattle.mum_policy.specs.Member.{actor_of};
 ghost use Rattle.mum_tree.specs.Change.{change_of, fault_of_edit, with_change};
 ghost use Rattle.mum_tree.specs.Places.{has_place};
 ghost use Rattle.mum_tree.specs.Proper.{IsProper};
@@ -16,7 +16,7 @@ ghost use Rattle.mum_state.specs.Set.{with_policy};
 ghost use Rattle.mum_state.specs.State.{open_policy};
 ghost use Rattle.mum_state.specs.Stored.{is_left};
 
-use crate::who::{home_of, who_is};
+use crate::who::who_is;
 use mum_base::{ChannelId, Items, OutOfMemory, PLACES, Perm, Steps};
 use mum_policy::{ChannelPolicy, Policies, Who, permissions, permitted};
 use mum_tree::{CHANNEL_LIMIT, ChannelChange, ChannelInfo, Tree};
@@ -233,10 +233,10 @@ impl Channels {
         &self.tree
     }
 
-    /// What the asker may do in a channel; `None` where there is no such channel.
+    /// What the actor may do in a channel; `None` where there is no such channel.
     pub(crate) fn granted_to(&self, who: &Who<'_>, channel: ChannelId) -> Option<Perm>
         ensures { option_map (λ perm. perm.0) result
-            ≡ granted_where_in self.now (asker_of who.now) channel }
+            ≡ granted_where_in self.now (actor_of who.now) channel }
     {
         match self.tree.path(channel) {
             Some(path) => Some(permitted(self, path.as_slice(), who)),
@@ -252,9 +252,9 @@ impl Channels {
         steps: &mut Steps<L>,
     ) -> Option<Perm>
         ensures value { option_map (λ perm. perm.0) result
-            ≡ granted_where_in self.now (asker_of who.now) channel }
+            ≡ granted_where_in self.now (actor_of who.now) channel }
         ensures steps { steps.new
-            ≡ steps.old + visits_in self.now (asker_of who.now) channel }
+            ≡ steps.old + visits_in self.now (actor_of who.now) channel }
     {
         match self.tree.path(channel) {
             Some(path) => Some(permissions(self, path.as_slice(), who, steps)),
@@ -266,9 +266,11 @@ impl Channels {
     pub(crate) fn may_speak(&self, user: &User) -> bool
         ensures { result ≡ speaks_where_in self.now user.now }
     {
-        let home = home_of(&self.tree, user);
-        match self.granted_to(&who_is(user, home.as_slice()), user.channel) {
-            Some(perm) => perm.has(Perm::SPEAK),
+        match self.tree.path(user.channel) {
+            Some(home) => {
+                let who = who_is(user, home.as_slice());
+                permitted(self, home.as_slice(), &who).has(Perm::SPEAK)
+            }
             None => false,
         }
     }

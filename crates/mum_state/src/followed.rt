@@ -30,8 +30,8 @@ fn enters(channel: Option<ChannelId>, user: &User) -> bool
     }
 }
 
-// Marks the slot, if it is to be marked.
-fn mark_where(marks: &mut [bool], slot: usize, is_marked: bool)
+/// Marks the slot, if it is to be marked.
+pub(crate) fn mark_where(marks: &mut [bool], slot: usize, is_marked: bool)
     requires { slot < length marks.old }
     ensures { marks.new ≡ slice_set marks.old slot (slice_index_or marks.old slot false || is_marked) }
 {

@@ -13,6 +13,7 @@ pub mod count;
 pub mod edit;
 mod fit;
 mod followed;
+mod hearing;
 mod kind;
 pub mod laws;
 pub mod limits;

@@ -1,10 +1,8 @@
-//! Channels that are gone, sessions that are moved up from them, and sessions whose suppression is set again.
+//! Channels that are gone, and sessions that are moved up from them.
 
 ghost use Rattle.std.specs.Prelude.{◌≡◌};
 ghost use Rattle.mum_tree.specs.Refusals.{parent_of};
 
-use crate::channels::Channels;
-use crate::renewed::Renewed;
 use mum_base::ChannelId;
 use mum_tree::Tree;
 use mum_users::{ChannelSet, Placement, Placements, User};
@@ -63,37 +61,5 @@ pub(crate) fn parent_of(tree: &Tree, id: ChannelId) -> ChannelId
     match tree.channel(id) {
         Some(channel) => channel.parent,
         None => id,
-    }
-}
-
-/// Those in renewed slots, or all, may speak where they are by what they may do there now.
-#[derive(Drop)]
-pub(crate) struct Hearing<'a> {
-    pub(crate) channels: &'a Channels,
-    pub(crate) renewed: &'a Renewed,
-    pub(crate) all: bool,
-}
-
-impl<'a> Placements for Hearing<'a> {
-    ghost use Rattle.std.specs.Prelude.{◌||◌, not, if◌then◌else◌};
-    ghost use Rattle.mum_state.specs.Channels.{speaks_where_in};
-    ghost use Rattle.mum_state.specs.Renewed.{is_renewed_slot};
-
-    ghost placement_of = { λ hearing user. record {
-      channel = user.channel;
-      suppress = (if is_renewed_slot hearing.renewed.now user.slot.0 || hearing.all
-          then not (speaks_where_in hearing.channels.now user) else user.suppress);
-    } };
-
-    fn placement(&self, user: &User) -> Placement {
-        let suppress = if self.renewed.has(user.slot) || self.all {
-            !self.channels.may_speak(user)
-        } else {
-            user.suppress
-        };
-        Placement {
-            channel: user.channel,
-            suppress,
-        }
     }
 }

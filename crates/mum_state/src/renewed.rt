@@ -1,7 +1,7 @@
 //! For whom an edit makes what was computed of a session out of date.
 
-ghost use Rattle.std.specs.Prelude.{◌≡◌, ◌&&◌, not};
-ghost use Rattle.mum_state.specs.Renewed.{is_nobody, is_renewed_slot};
+ghost use Rattle.std.specs.Prelude.{◌≡◌};
+ghost use Rattle.mum_state.specs.Renewed.{is_renewed_slot};
 
 use mum_base::{SLOTS, Slot};
 
@@ -15,22 +15,6 @@ pub(crate) enum Renewed {
 }
 
 impl Renewed {
-    /// Whether nobody is to be heard again, where all are or these.
-    pub(crate) fn hears_nobody(&self, all: bool) -> bool
-        ensures { result ≡ (is_nobody self.now && not all) }
-    {
-        self.is_nobody() && !all
-    }
-
-    pub(crate) fn is_nobody(&self) -> bool
-        ensures { result ≡ is_nobody self.now }
-    {
-        match self {
-            Renewed::Nobody => true,
-            _ => false,
-        }
-    }
-
     pub(crate) fn has(&self, slot: Slot) -> bool
         ensures { result ≡ is_renewed_slot self.now slot.0 }
     {

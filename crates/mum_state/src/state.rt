@@ -3,7 +3,7 @@
 ghost use Rattle.std.specs.Prelude.{◌≡◌, ◌+◌, ◌<◌, IfOk, IsOk, IsTrue, OnErr, OnOk, Some, slice_get};
 ghost use Rattle.std.specs.Option.{option_copied, option_map};
 ghost use Rattle.mum_base.specs.declared.number.TheConstants.{SLOTS};
-ghost use Rattle.mum_policy.specs.Member.{asker_of};
+ghost use Rattle.mum_policy.specs.Member.{actor_of};
 ghost use Rattle.mum_tree.specs.Rows.{row_of};
 ghost use Rattle.mum_state.specs.Applied.{applied};
 ghost use Rattle.mum_state.specs.Fits.{fits};
@@ -116,11 +116,11 @@ impl State {
         self.parts.slot_counts[slot.0 as usize]
     }
 
-    /// What the asker may do in a channel, also with tokens for this once; `None` where there is no
+    /// What the actor may do in a channel, also with tokens for this once; `None` where there is no
     /// such channel. It takes no memory.
     pub fn granted_to(&self, who: &Who<'_>, channel: ChannelId) -> Option<Perm>
         ensures { option_map (λ perm. perm.0) result
-            ≡ granted_where_there self.now (asker_of who.now) channel }
+            ≡ granted_where_there self.now (actor_of who.now) channel }
     {
         self.parts.channels.granted_to(who, channel)
     }

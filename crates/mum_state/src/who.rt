@@ -1,8 +1,8 @@
 //! A session as entries of access lists and groups see it.
 
 ghost use Rattle.std.specs.Prelude.{◌≡◌};
-ghost use Rattle.mum_policy.specs.Member.{asker_of};
-ghost use Rattle.mum_state.specs.Permissions.{asker_at, home};
+ghost use Rattle.mum_policy.specs.Member.{actor_of};
+ghost use Rattle.mum_state.specs.Permissions.{actor_at, home};
 
 use arrayvec::ArrayVec;
 use mum_base::{ChannelId, Text};
@@ -23,7 +23,7 @@ pub fn home_of(tree: &Tree, user: &User) -> ArrayVec<ChannelId, PATH_LIMIT>
 
 /// A session with these tokens in place of its own, where these channels lead to that of the session.
 pub fn who_with<'a>(user: &User, tokens: &'a [Text], home: &'a [ChannelId]) -> Who<'a>
-    ensures asker { asker_of result ≡ asker_at home.now user.now tokens.now }
+    ensures actor { actor_of result ≡ actor_at home.now user.now tokens.now }
     ensures session { result.session ≡ user.now.session }
 {
     Who {
@@ -37,7 +37,7 @@ pub fn who_with<'a>(user: &User, tokens: &'a [Text], home: &'a [ChannelId]) -> W
 
 /// A session with its own tokens, where these channels lead to that of the session.
 pub fn who_is<'a>(user: &'a User, home: &'a [ChannelId]) -> Who<'a>
-    ensures asker { asker_of result ≡ asker_at home.now user.now user.now.tokens }
+    ensures actor { actor_of result ≡ actor_at home.now user.now user.now.tokens }
     ensures session { result.session ≡ user.now.session }
 {
     who_with(user, user.tokens.as_slice(), home)

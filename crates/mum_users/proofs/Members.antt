@@ -5,7 +5,7 @@ use Rattle.std.specs.Int.{bit_at, trailing_zeros}
 use Rattle.std.specs.Int.RustNames.{bit_or}
 use Rattle.std.specs.List.{All, count_by, filter, find, insert, list_any}
 use mir.Syntax.{w128}
-use Rattle.std.proofs.lemmas.Bool.{eqb-true}
+use Rattle.std.proofs.lemmas.Bool.{eqb-true, or_parts}
 use Rattle.std.proofs.lemmas.Bool.Decides.{nat_tests}
 use Rattle.std.proofs.lemmas.List.Folds.{list_any_at, list_any_none}
 use Rattle.std.proofs.lemmas.Map.Views.{any-filter_same}
@@ -14,8 +14,10 @@ use Rattle.mum_base.specs.declared.number.ChannelId.{ChannelId}
 use Rattle.mum_base.specs.declared.number.SessionId.{SessionId}
 use Rattle.mum_users.specs.declared.masks.MaskRow.{MaskRow}
 use Rattle.mum_users.specs.declared.listening.ListenerPair.{ListenerPair}
+use Rattle.mum_users.specs.declared.placing.Placement.{Placement}
 use Rattle.mum_users.specs.declared.user.User.{User}
 use Rattle.mum_users.specs.Order.{IsBelowAll, Rises}
+use Rattle.mum_users.specs.Placed.{is_moved, with_placement}
 use Rattle.mum_users.specs.SlotMasks.{AreMasks, is_mask, is_mask_of, is_row_of, mask_at, mask_below, masks_of, with_pairs, with_slot, without_pairs, without_slot}
 use Rattle.mum_users.specs.Proper.{SlotsRise}
 use Rattle.mum_users.specs.State.{has_number, is_in, is_of_channel}
@@ -404,6 +406,18 @@ pub among-mapped : (q : ChannelId → User → Bool) (f : User → User) → ((u
 among-mapped q f slots same users c s =
     any-map_same (λ user. eqb user.slot.0 s && q c user) f
     (λ user. ap (λ (k : ℕ). eqb k s && q c (f user)) (slots user) ∙ ap (λ (b : Bool). eqb user.slot.0 s && b) (same c user)) users
+
+-- placements in the channels in which sessions are leave who is where
+pub among-stayed : (placement_of : User → Placement) (users : List User) → list_any (is_moved placement_of) users ≡ false → (c : ChannelId) (s : ℕ) → among is_in (map (with_placement placement_of) users) c s ≡ among is_in users c s
+among-stayed placement_of [] stayed c s = refl
+among-stayed placement_of (user ∷ users) stayed c s =
+    let parts = or_parts (is_moved placement_of user) (list_any (is_moved placement_of) users) stayed in
+    ap (λ (k : ℕ). eqb user.slot.0 s && eqb k c.0 || among is_in (map (with_placement placement_of) users) c s) (eqb-true _ _ (same (eqb (placement_of user).channel.0 user.channel.0) parts.0))
+    ∙ ap (λ (b : Bool). eqb user.slot.0 s && is_in c user || b) (among-stayed placement_of users parts.1 c s)
+  where
+    same : (b : Bool) → not b ≡ false → b ≡ true
+    same true e = refl
+    same false e = sym e
 
 pub AreMasks-joined : (users : List User) (place : ℕ) (new : User) (rows : List MaskRow) → AreMasks (among is_in users) rows → AreMasks (among is_in (insert users place new)) (with_slot new.channel new.slot.0 rows)
 AreMasks-joined users place new rows masks =

@@ -23,7 +23,7 @@ use Rattle.mum_users.specs.declared.masks.MaskRow.{MaskRow}
 use Rattle.mum_users.specs.State.{RosterState, has_name, has_number, is_in, is_of, is_of_channel, is_of_session, is_pair, is_target, joining}
 use Rattle.mum_users.specs.declared.fault.UserFault.TheVariants.{Full, ListenerLimit, NameInUse, NoSession, SessionsUsedUp, UserListenerLimit}
 use Rattle.mum_users.specs.declared.placing.Placement.{Placement}
-use Rattle.mum_users.specs.Placed.{with_placement, with_placements}
+use Rattle.mum_users.specs.Placed.{is_moved, with_placement, with_placements}
 use Rattle.mum_users.specs.Sessions.{absent_fault, changed, free_slot, join_fault, joined, left, next_number, next_slot}
 use Rattle.mum_users.specs.Listeners.{listen_fault, listening, listens, pair_below, with_pair}
 use Rattle.mum_users.specs.declared.target.TheConstants.{LAST_TARGET}
@@ -32,7 +32,7 @@ use Rattle.mum_users.specs.Numbers.{IsKept, IsNumbered, session_slot}
 use Rattle.mum_users.specs.Proper.{IsProper, SlotsRise, deaf_is_mute, is_sound, row_below}
 use Rattle.mum_users.proofs.Counts.{count_by-cons, count_by-insert, count_by-filter-le, count_by-filter_others, count_by-filter_none, count_by-map, none_from, some_from}
 use Rattle.mum_users.proofs.ListenerMasks.{AreMasks-join_listeners, listens_in}
-use Rattle.mum_users.proofs.Members.{AreMasks-joined, AreMasks-masks_of, AreMasks-moved, AreMasks-out, AreMasks-same, among, among-mapped, few_member_rows, room_out}
+use Rattle.mum_users.proofs.Members.{AreMasks-joined, AreMasks-masks_of, AreMasks-moved, AreMasks-out, AreMasks-same, among, among-mapped, among-stayed, few_member_rows, room_out}
 use Rattle.mum_users.proofs.Numbers.{IsNumbered-map}
 use Rattle.mum_users.proofs.Places.{absent_from, find-found, present_from, set-position}
 use Rattle.mum_users.proofs.Slots.{SlotsRise-filter, SlotsRise-higher, SlotsRise-within, SlotsRise-map, SlotsRise-with_placement, free_slot_from-le}
@@ -131,16 +131,29 @@ pub IsProper-with_placement : (state : RosterState) (placement_of : User → Pla
 IsProper-with_placement state placement_of proper = IsProper-mapped state (with_placement placement_of) (record { session = λ _. refl; slot = λ _. refl; name = λ _. refl; silence = λ _ e. e }) proper
 
 pub IsKept-with_placement : (state : RosterState) (slots : List SessionSlot) (members after : List MaskRow) (room now : ℕ) (listening : List MaskRow) (placement_of : User → Placement) → IsKept state slots members room listening
-    → after ≡ masks_of (map (with_placement placement_of) state.sessions) → room ≤ now → IsKept (with_placements placement_of state) slots after now listening
-IsKept-with_placement state slots members after room now listening placement_of kept after_is more = record {
+    → AreMasks (among is_in (map (with_placement placement_of) state.sessions)) after → room ≤ now → IsKept (with_placements placement_of state) slots after now listening
+IsKept-with_placement state slots members after room now listening placement_of kept masks more = record {
   proper = IsProper-with_placement state placement_of kept.proper;
   rise = SlotsRise-map SLOTS (with_placement placement_of) (λ _. refl) 0 state.sessions kept.rise;
   numbered = IsNumbered-map (with_placement placement_of) (λ _. refl) state.sessions slots kept.numbered;
-  member_masks = rw after_is (AreMasks-masks_of (map (with_placement placement_of) state.sessions));
+  member_masks = masks;
   enough = omega (arith, kept.enough, more);
   listener_masks = AreMasks-same (among (listens_in state.listeners) state.sessions) _ listening kept.listener_masks
       (among-mapped (listens_in state.listeners) (with_placement placement_of) (λ _. refl) (λ _ _. refl) state.sessions);
 }
+
+-- the masks are made again
+pub IsKept-made : (state : RosterState) (slots : List SessionSlot) (members after : List MaskRow) (room now : ℕ) (listening : List MaskRow) (placement_of : User → Placement) → IsKept state slots members room listening
+    → after ≡ masks_of (map (with_placement placement_of) state.sessions) → room ≤ now → IsKept (with_placements placement_of state) slots after now listening
+IsKept-made state slots members after room now listening placement_of kept after_is more =
+    IsKept-with_placement state slots members after room now listening placement_of kept (rw after_is (AreMasks-masks_of (map (with_placement placement_of) state.sessions))) more
+
+-- where all stay in their channels, so do the masks
+pub IsKept-stayed : (state : RosterState) (slots : List SessionSlot) (members : List MaskRow) (room : ℕ) (listening : List MaskRow) (placement_of : User → Placement) → IsKept state slots members room listening
+    → list_any (is_moved placement_of) state.sessions ≡ false → IsKept (with_placements placement_of state) slots members room listening
+IsKept-stayed state slots members room listening placement_of kept stayed =
+    IsKept-with_placement state slots members members room room listening placement_of kept
+    (AreMasks-same (among is_in state.sessions) _ members kept.member_masks (among-stayed placement_of state.sessions stayed)) (omega arith)
 
 -- there is room for a row of each session
 pub room_for_all : (state : RosterState) → IsProper state → length state.sessions ≤ SLOTS

@@ -564,13 +564,14 @@ impl Roster {
     }
 
     /// Places every session: the channel in which it is, and whether it may speak there. It takes
-    /// no memory.
+    /// no memory. The masks of members are made again only where a session is in another channel.
     pub fn place_all<S: Placements>(&mut self, placements: &S)
         ensures outcome { self.new ≡ with_placements (S.placement_of placements.now) self.old }
         ensures proper { IsProper self.new }
     {
-        place_each(&mut self.users, placements);
-        put_members(&mut self.member_rows, self.users.as_slice());
+        if place_each(&mut self.users, placements) {
+            put_members(&mut self.member_rows, self.users.as_slice());
+        }
     }
 
     /// An equal roster, with its slots and the last session number that was given.

@@ -1,7 +1,10 @@
 use Rattle.std.proofs.Common.{◌≡◌, ◌++◌, drop, map, take}
-use Rattle.mum_users.specs.Placed.{with_placement}
+use Rattle.std.specs.List.{list_any}
+use Rattle.mum_users.specs.Placed.{is_moved, with_placement}
 use Rattle.mum_users.proofs.placing.place_each.Given as goal
 
 abbrev pub invariant-loop-user : goal.invariant-loop-user
-invariant-loop-user g l =
-    l.user-items ≡ map (with_placement (g.S.Placements.placement_of l.placements)) (take l.user-index l.initial.user-items) ++ drop l.user-index l.initial.user-items
+invariant-loop-user g l = record {
+  users : l.user-items ≡ map (with_placement (g.S.Placements.placement_of l.placements)) (take l.user-index l.initial.user-items) ++ drop l.user-index l.initial.user-items;
+  moved : l.moved ≡ list_any (is_moved (g.S.Placements.placement_of l.placements)) (take l.user-index l.initial.user-items);
+}

@@ -1,8 +1,11 @@
-use Rattle.mum_state.proofs.Staged.{clear_at, close_at, count_at, hear_at, stages_are}
+use Rattle.mum_state.proofs.Staged.{clear_at, close_at, count_at, hear_at, hear_roster, stages_are}
 use Rattle.mum_state.proofs.parts.Parts.apply.Goals as goal
 
 pub hear-requires : goal.hear-requires
-hear-requires c = hear_at c.args.self.now c.args.edit.now c.requires.proper c.requires.fits c.renewed_by-renewed.result c.set.new.self c.in_ok-set.ensures.ok
+hear-requires c = record {
+  proper = hear_roster c.args.self.now c.args.edit.now c.requires.proper c.requires.fits c.renewed_by-renewed.result c.set.new.self c.in_ok-set.ensures.ok;
+  inside = hear_at c.args.self.now c.args.edit.now c.requires.proper c.requires.fits c.renewed_by-renewed.result c.set.new.self c.in_ok-set.ensures.ok;
+}
 
 pub clear_by-requires : goal.clear_by-requires
 clear_by-requires c =

@@ -1,9 +1,9 @@
 use Rattle.std.proofs.Common.{◌∙◌, List, ap, sym}
 use Rattle.mum_base.specs.declared.number.ChannelId.{ChannelId}
-use Rattle.mum_policy.specs.Member.{Asker}
+use Rattle.mum_policy.specs.Member.{Actor}
 use Rattle.mum_tree.specs.State.{TreeState}
 use Rattle.mum_state.specs.Channels.{channels_of, granted_where_in}
-use Rattle.mum_state.specs.Permissions.{asker_at, home, perm_of}
+use Rattle.mum_state.specs.Permissions.{actor_at, home, perm_of}
 use Rattle.mum_state.specs.State.{StateValue}
 use Rattle.mum_state.proofs.Asked.{asked_of}
 use Rattle.mum_state.proofs.parts.Parts.permissions_of.Goals as goal
@@ -20,9 +20,9 @@ returns-in-Some-clause-value g c =
       counts = record { revision = parts.revision; policy = parts.stamps.policy; routing = parts.stamps.routing; slots = parts.slot_counts.items };
     } in
     c.counted_to.ensures.value
-    ∙ ap (λ (who : Asker). granted_where_in (channels_of before) who c.args.channel)
-    (c.who_is.ensures.asker
-    ∙ ap (λ (way : List ChannelId). asker_at way c.in-Some.user.now c.in-Some.user.now.tokens)
+    ∙ ap (λ (who : Actor). granted_where_in (channels_of before) who c.args.channel)
+    (c.who_is.ensures.actor
+    ∙ ap (λ (way : List ChannelId). actor_at way c.in-Some.user.now c.in-Some.user.now.tokens)
     (c.as_slice.ensures.value ∙ c.home_of-home.ensures ∙ ap (λ (tree : TreeState). home tree c.in-Some.user.now) c.tree.ensures.tree))
     ∙ asked_of before c.args.session c.args.channel c.in-Some.user.now (sym c.in-Some.ensures.row)
     ∙ ap (λ (s : StateValue). perm_of s c.args.session c.args.channel) c.self.view_is

@@ -1,7 +1,7 @@
 use Rattle.std.proofs.Common.{◌≡◌, ◌++◌, drop, take}
 use Rattle.mum_state.specs.Counts.{raised_slots}
 use Rattle.mum_state.specs.Renewed.{is_renewed_slot}
-use Rattle.mum_state.proofs.apply.raise_slots.Given as goal
+use Rattle.mum_state.proofs.apply.raise_each.Given as goal
 
 abbrev pub invariant-loop-slot : goal.invariant-loop-slot
 invariant-loop-slot l =

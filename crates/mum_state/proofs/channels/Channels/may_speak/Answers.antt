@@ -1,0 +1,8 @@
+use Rattle.std.proofs.Common.{ap}
+use Rattle.mum_state.specs.Channels.{ChannelsState}
+use Rattle.mum_state.proofs.ByPlace.{policy_there}
+use Rattle.mum_state.proofs.channels.Channels.may_speak.Goals as goal
+
+pub permitted-requires-clause-there : goal.permitted-requires-clause-there
+permitted-requires-clause-there c = rw c.as_slice-in-Some.ensures.value
+    (λ k d within. policy_there c.args.self.now _ _ _ (ap (λ (s : ChannelsState). s.policies) c.self.view_is) (c.in-Some.ensures.way.there k d within))

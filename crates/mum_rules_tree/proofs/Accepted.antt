@@ -16,7 +16,7 @@ use Rattle.mum_msg_state.specs.declared.channel_state.ChannelState.{ChannelState
 use Rattle.mum_policy.specs.declared.policy.ChannelPolicy.{ChannelPolicy}
 use Rattle.mum_policy.specs.declared.policy.Group.{Group}
 use Rattle.mum_policy.specs.Limits.{is_large_policy}
-use Rattle.mum_policy.specs.Member.{Asker}
+use Rattle.mum_policy.specs.Member.{Actor}
 use Rattle.mum_policy.specs.Walk.{holds}
 use Rattle.mum_tree.specs.declared.channel.TheConstants.{PATH_LIMIT}
 use Rattle.mum_tree.specs.declared.fault.TreeFault.{TreeFault}
@@ -47,7 +47,7 @@ use Rattle.mum_rules_tree.specs.Needs.{needs}
 use Rattle.mum_rules_tree.specs.Outcome.{answer_frame, edit_to_change, edit_to_make, outcome}
 use Rattle.mum_rules_tree.specs.Policy.{entry_asked, is_inherited, policy_asked}
 use Rattle.mum_rules_tree.specs.Reasons.{is_gone, reasons, takes_no_edits}
-use Rattle.mum_rules_tree.specs.Verdict.{command_verdict, tree_verdict, asker_named}
+use Rattle.mum_rules_tree.specs.Verdict.{command_verdict, tree_verdict, actor_named}
 use Rattle.mum_rules_tree.proofs.Cleared.{all_off, fits_unless}
 use Rattle.mum_rules_tree.proofs.Named.{AreThere, are_there, change_there, given_there, some_found}
 use Rattle.mum_rules_tree.proofs.Parted.{parted}
@@ -264,7 +264,7 @@ policy_fits state actor id message heard there free =
 -- ---- every command
 
 -- a verdict on a command fits, where its outcome does once no limit stands
-command_fits : (state : StateValue) (who : Asker) (actor : SessionId) (command : Command) → (first_standing (limits state command) ≡ None → FitsWhereAccepted state (outcome state actor command)) → FitsWhereAccepted state (command_verdict state who actor command)
+command_fits : (state : StateValue) (who : Actor) (actor : SessionId) (command : Command) → (first_standing (limits state command) ≡ None → FitsWhereAccepted state (outcome state actor command)) → FitsWhereAccepted state (command_verdict state who actor command)
 command_fits state who actor command fitting =
     fits_unless state _ (first_lack state (needs state.tree who command)) _ (λ lack. tt) (λ none.
     fits_unless state _ (first_standing (limits state command)) _ (λ kind. tt) fitting)
@@ -278,7 +278,7 @@ answer_fits state id None = tt
 answer_fits state id (Some policy) = tt
 
 -- a ChannelState, with the number of its channel if it has one
-state_fits : (state : StateValue) (who : Asker) (actor : SessionId) (message : ChannelState) (asked : Option ℕ) → message.channel_id ≡ asked → IsProper state → IsHeard state actor → names_there_in state.tree (State message) ≡ true → FitsWhereAccepted state (command_verdict state who actor (option_map_or (λ number. Command.edit (channel number) message) asked (Command.make message)))
+state_fits : (state : StateValue) (who : Actor) (actor : SessionId) (message : ChannelState) (asked : Option ℕ) → message.channel_id ≡ asked → IsProper state → IsHeard state actor → names_there_in state.tree (State message) ≡ true → FitsWhereAccepted state (command_verdict state who actor (option_map_or (λ number. Command.edit (channel number) message) asked (Command.make message)))
 state_fits state who actor message (Some number) is proper heard named =
     command_fits state who actor (Command.edit (channel number) message) (edit_fits state actor (channel number) message proper heard (are_there state.tree number message is named))
 state_fits state who actor message None is proper heard named =
@@ -292,13 +292,13 @@ state_fits state who actor message None is proper heard named =
     let above = subst (λ (o : Option ℕ). is_named_there tree (option_or o message.parent) ≡ true) is here in
     command_fits state who actor (Command.make message) (new_fits state actor message heard (named_number tree message.parent above))
 
-acl_fits : (state : StateValue) (who : Asker) (actor : SessionId) (id : ChannelId) (message : AclMessage) (query : Bool) → IsHeard state actor → is_there state.tree.channels id ≡ true → FitsWhereAccepted state (command_verdict state who actor (cond query (Command.query id) (Command.set id message)))
+acl_fits : (state : StateValue) (who : Actor) (actor : SessionId) (id : ChannelId) (message : AclMessage) (query : Bool) → IsHeard state actor → is_there state.tree.channels id ≡ true → FitsWhereAccepted state (command_verdict state who actor (cond query (Command.query id) (Command.set id message)))
 acl_fits state who actor id message true heard there =
     command_fits state who actor (Command.query id) (λ free. answer_fits state id (policy_of state id))
 acl_fits state who actor id message false heard there =
     command_fits state who actor (Command.set id message) (policy_fits state actor id message heard there)
 
-message_fits : (state : StateValue) (who : Asker) (actor : SessionId) (message : TreeMessage) → IsProper state → IsHeard state actor → names_there_in state.tree message ≡ true → FitsWhereAccepted state (command_verdict state who actor (command_of message))
+message_fits : (state : StateValue) (who : Actor) (actor : SessionId) (message : TreeMessage) → IsProper state → IsHeard state actor → names_there_in state.tree message ≡ true → FitsWhereAccepted state (command_verdict state who actor (command_of message))
 message_fits state who actor (State message) proper heard named = state_fits state who actor message message.channel_id refl proper heard named
 message_fits state who actor (Remove message) proper heard named =
     let id = channel_or_root message.channel_id in
@@ -311,4 +311,4 @@ pub accepted_fits : (state : StateValue) (actor : SessionId) (message : TreeMess
 accepted_fits state actor message proper =
     fits_unless state _ (first_standing (reasons state actor message)) _ (λ reason. tt) (λ none.
     let off = all_off (reasons state actor message) none in
-    message_fits state (asker_named state actor) actor message proper (heard state actor off.0) (not-false (names_there_in state.tree message) off.1.1.0))
+    message_fits state (actor_named state actor) actor message proper (heard state actor off.0) (not-false (names_there_in state.tree message) off.1.1.0))

@@ -13,7 +13,7 @@ use Rattle.mum_base.specs.declared.perm.TheConstants.Perm.{WRITE}
 use Rattle.mum_base.specs.Codes.{deny_code, reason_code}
 use Rattle.mum_msg_rule.specs.declared.acl.Acl.{Acl as AclMessage}
 use Rattle.mum_msg_state.specs.declared.channel_state.ChannelState.{ChannelState}
-use Rattle.mum_policy.specs.Member.{Asker}
+use Rattle.mum_policy.specs.Member.{Actor}
 use Rattle.mum_policy.specs.declared.policy.ChannelPolicy.{ChannelPolicy}
 use Rattle.mum_tree.specs.declared.channel.Row.{Row}
 use Rattle.mum_tree.specs.Refusals.{parent_of}
@@ -34,7 +34,7 @@ use Rattle.mum_rules_tree.specs.Limits.{limits}
 use Rattle.mum_rules_tree.specs.Needs.{need_to_rule, needs}
 use Rattle.mum_rules_tree.specs.Outcome.{answer_frame, answer_to_query, outcome}
 use Rattle.mum_rules_tree.specs.Reasons.{reasons}
-use Rattle.mum_rules_tree.specs.Verdict.{asker_named, tree_verdict}
+use Rattle.mum_rules_tree.specs.Verdict.{actor_named, tree_verdict}
 use Rattle.mum_rules_tree.proofs.Cleared.{all_off}
 use Rattle.mum_rules_tree.proofs.Firsts.{IsFound, all_met_where, first_found, none_stands, something_mapped, told}
 
@@ -191,7 +191,7 @@ query_sets_nothing : (id : ChannelId) (policy : Option ChannelPolicy) (edit : Ed
 query_sets_nothing id None edit is = cc
 query_sets_nothing id (Some policy) edit is = cc
 
-set_by_writer : (state : StateValue) (who : Asker) (actor : SessionId) (command : Command) (id : ChannelId) (by : Option SessionId) (policy : ChannelPolicy) → AllMet state (needs state.tree who command) → outcome state actor command ≡ Accepted (SetAcl id by policy) → (by ≡ Some actor) × ((is_open state (way who WRITE id) || is_open state (way who WRITE (parent_of state.tree id))) ≡ true)
+set_by_writer : (state : StateValue) (who : Actor) (actor : SessionId) (command : Command) (id : ChannelId) (by : Option SessionId) (policy : ChannelPolicy) → AllMet state (needs state.tree who command) → outcome state actor command ≡ Accepted (SetAcl id by policy) → (by ≡ Some actor) × ((is_open state (way who WRITE id) || is_open state (way who WRITE (parent_of state.tree id))) ≡ true)
 set_by_writer state who actor (Command.make message) id by policy met is = cc
 set_by_writer state who actor (Command.edit channel message) id by policy met is = cc
 set_by_writer state who actor (Command.remove channel) id by policy met is = cc
@@ -210,4 +210,4 @@ pub writers_set_policies_lem : WritersSetPolicies
 writers_set_policies_lem state actor message id by policy is =
     let command = command_of message in
     let (met, rest) = outcome_at (first_standing (reasons state actor message)) (first_lack state (needs_of state actor message)) (first_standing (limits state command)) (outcome state actor command) (SetAcl id by policy) is in
-    set_by_writer state (asker_named state actor) actor command id by policy (all_met_where state (needs_of state actor message) met) rest
+    set_by_writer state (actor_named state actor) actor command id by policy (all_met_where state (needs_of state actor message) met) rest

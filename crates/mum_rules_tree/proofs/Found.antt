@@ -8,13 +8,13 @@ use Rattle.std.proofs.lemmas.List.{get_or-set_other}
 use Rattle.std.proofs.lemmas.Option.{none-some}
 use Rattle.mum_base.specs.declared.number.ChannelId.{ChannelId}
 use Rattle.mum_base.specs.declared.perm.Perm.{Perm}
-use Rattle.mum_policy.specs.Member.{Asker}
+use Rattle.mum_policy.specs.Member.{Actor}
 use Rattle.mum_tree.specs.declared.channel.Row.{Row}
 use Rattle.mum_tree.specs.Rows.{row_of}
 use Rattle.mum_tree.specs.State.{TreeState}
 use Rattle.mum_tree.proofs.Changed.{number_found}
 use Rattle.mum_tree.proofs.Closure.{row_stands}
-use Rattle.mum_tree.proofs.Limited.{seated_within}
+use Rattle.mum_tree.proofs.Limited.{placed_within}
 use Rattle.mum_tree.proofs.Start.{root_row}
 use Rattle.mum_state.specs.Proper.{IsProper}
 use Rattle.mum_state.specs.State.{StateValue}
@@ -27,10 +27,10 @@ abbrev answer : Need → Bool → Result ⊤ Lack
 answer wanted met = option_map_or (λ lack. Err lack) (option_map lack_of (cond (not (met || false)) (Some wanted) None)) (Ok tt)
 
 -- a need that is met, and what is met
-pub open_met : (state : StateValue) (who : Asker) (perm : Perm) (id : ChannelId) → is_open state (way who perm id) ≡ true → all_met state (need who perm id ∷ []) ≡ Ok tt
+pub open_met : (state : StateValue) (who : Actor) (perm : Perm) (id : ChannelId) → is_open state (way who perm id) ≡ true → all_met state (need who perm id ∷ []) ≡ Ok tt
 open_met state who perm id open_there = ap (answer (need who perm id)) open_there
 
-pub met_open : (state : StateValue) (who : Asker) (perm : Perm) (id : ChannelId) → all_met state (need who perm id ∷ []) ≡ Ok tt → is_open state (way who perm id) ≡ true
+pub met_open : (state : StateValue) (who : Actor) (perm : Perm) (id : ChannelId) → all_met state (need who perm id ∷ []) ≡ Ok tt → is_open state (way who perm id) ≡ true
 met_open state who perm id ok = step (is_open state (way who perm id)) ok
   where
     step : (met : Bool) → answer (need who perm id) met ≡ Ok tt → met ≡ true
@@ -70,12 +70,12 @@ placed_in state tree id told place same is found = ap (λ (t : TreeState). optio
 pub place_within : (state : StateValue) (id : ChannelId) (place : ℕ) → IsProper state → option_map (λ row. row.place) (row_of state.tree.channels id) ≡ Some place → place < 2048
 place_within state id place proper told =
     let (at, row) = row_at state.tree.channels id place told in
-    subst (λ (n : ℕ). n < 2048) (row.placed root_row) (seated_within state.tree state.tree.channels refl proper.tree at root_row row.within)
+    subst (λ (n : ℕ). n < 2048) (row.placed root_row) (placed_within state.tree state.tree.channels refl proper.tree at root_row row.within)
 
 -- ---- marks
 
 -- what is marked is met
-pub met_at : (state : StateValue) (who : Asker) (perm : Perm) (marks : List Bool) (id : ChannelId) (place : ℕ) → option_map (λ row. row.place) (row_of state.tree.channels id) ≡ Some place
+pub met_at : (state : StateValue) (who : Actor) (perm : Perm) (marks : List Bool) (id : ChannelId) (place : ℕ) → option_map (λ row. row.place) (row_of state.tree.channels id) ≡ Some place
     → AreMet state who perm marks → get_or marks place false ≡ true → is_open state (way who perm id) ≡ true
 met_at state who perm marks id place told met marked =
     let rows = state.tree.channels in
@@ -95,7 +95,7 @@ one_row rows i j d seats first second same =
     (cases_lt i j)
 
 -- one mark more
-pub met_more : (state : StateValue) (who : Asker) (perm : Perm) (marks : List Bool) (id : ChannelId) (place : ℕ) → IsProper state → option_map (λ row. row.place) (row_of state.tree.channels id) ≡ Some place
+pub met_more : (state : StateValue) (who : Actor) (perm : Perm) (marks : List Bool) (id : ChannelId) (place : ℕ) → IsProper state → option_map (λ row. row.place) (row_of state.tree.channels id) ≡ Some place
     → is_open state (way who perm id) ≡ true → AreMet state who perm marks → AreMet state who perm (set marks place true)
 met_more state who perm marks id place proper told open_there met k d within marked =
     let rows = state.tree.channels in

@@ -5,13 +5,13 @@ use Rattle.std.specs.Option.{is_none, option_map_or}
 use Rattle.std.specs.Result.{IfOk}
 use Rattle.std.proofs.lemmas.Bool.{cases_Bool, eqb-true, not_from_true, or_from}
 use Rattle.mum_base.specs.declared.number.SessionId.{SessionId}
-use Rattle.mum_policy.specs.Member.{Asker}
+use Rattle.mum_policy.specs.Member.{Actor}
 use Rattle.mum_users.specs.declared.user.User.{User}
 use Rattle.mum_users.specs.Sessions.{session_of}
 use Rattle.mum_users.specs.State.{has_number}
 use Rattle.mum_state.specs.declared.verdict.Verdict.{Verdict}
 use Rattle.mum_state.specs.declared.verdict.Verdict.TheVariants.{Ignored}
-use Rattle.mum_state.specs.Permissions.{asker}
+use Rattle.mum_state.specs.Permissions.{actor_from}
 use Rattle.mum_state.specs.Proper.{IsProper}
 use Rattle.mum_state.specs.State.{StateValue}
 use Rattle.mum_rules_tree.specs.declared.message.TreeMessage.{TreeMessage}
@@ -22,7 +22,7 @@ use Rattle.mum_rules_tree.specs.Asked.{command_of, names_there, payload_of}
 use Rattle.mum_base.specs.Codes.{reason_code}
 use Rattle.mum_rules_tree.specs.Decision.{FitsWhereAccepted, case_of, first_standing}
 use Rattle.mum_rules_tree.specs.Reasons.{is_gone, reasons, takes_no_edits}
-use Rattle.mum_rules_tree.specs.Verdict.{asker_named, command_verdict, nobody, tree_verdict}
+use Rattle.mum_rules_tree.specs.Verdict.{actor_named, command_verdict, nobody, tree_verdict}
 use Rattle.mum_rules_tree.proofs.Accepted.{accepted_fits}
 
 pub found_passes : {X : Type 0} (p : X → Bool) (xs : List X) (x : X) → find p xs ≡ Some x → p x ≡ true
@@ -40,19 +40,19 @@ none_of a b d no_a no_b no_d =
     ∙ ap (λ (x : Bool). first_standing (case_of Gone false ∷ case_of TooLong false ∷ case_of NotThere x ∷ [])) no_d
 
 -- the verdict on the command, asked by the session as it is
-pub heard_verdict : (state : StateValue) (actor by : SessionId) (message : TreeMessage) (user : User) (who : Asker) → session_of state.roster actor ≡ Some user → takes_no_edits state ≡ false → ltb COMMAND_LIMIT (length (payload_of message)) ≡ false → names_there state.tree message ≡ true → who ≡ asker state.tree user → by ≡ user.session → command_verdict state who by (command_of message) ≡ tree_verdict state actor message
+pub heard_verdict : (state : StateValue) (actor by : SessionId) (message : TreeMessage) (user : User) (who : Actor) → session_of state.roster actor ≡ Some user → takes_no_edits state ≡ false → ltb COMMAND_LIMIT (length (payload_of message)) ≡ false → names_there state.tree message ≡ true → who ≡ actor_from state.tree user → by ≡ user.session → command_verdict state who by (command_of message) ≡ tree_verdict state actor message
 heard_verdict state actor by message user who found room short named asks from =
     let command = command_of message in
     let number : user.session.0 ≡ actor.0 = eqb-true user.session.0 actor.0 (found_passes (has_number actor) state.roster.sessions user found) in
     let same : by ≡ actor = from ∙ ap (λ (n : ℕ). let s : SessionId = record { 0 = n } in s) number in
-    let asked : who ≡ asker_named state actor = asks ∙ sym (ap (λ (o : Option User). option_map_or (asker state.tree) o nobody) found) in
+    let asked : who ≡ actor_named state actor = asks ∙ sym (ap (λ (o : Option User). option_map_or (actor_from state.tree) o nobody) found) in
     let here : is_gone state actor ≡ false = ap is_none found in
     let none : first_standing (reasons state actor message) ≡ None =
     none_of (is_gone state actor || takes_no_edits state) (ltb COMMAND_LIMIT (length (payload_of message))) (not (names_there state.tree message))
     (or_from (is_gone state actor) (takes_no_edits state) here room) short (not_from_true (names_there state.tree message) named) in
-    ap (λ (w : Asker). command_verdict state w by command) asked
-    ∙ ap (λ (s : SessionId). command_verdict state (asker_named state actor) s command) same
-    ∙ sym (ap (λ (o : Option Reason). option_map_or (λ reason. Ignored (reason_code reason)) o (command_verdict state (asker_named state actor) actor command)) none)
+    ap (λ (w : Actor). command_verdict state w by command) asked
+    ∙ ap (λ (s : SessionId). command_verdict state (actor_named state actor) s command) same
+    ∙ sym (ap (λ (o : Option Reason). option_map_or (λ reason. Ignored (reason_code reason)) o (command_verdict state (actor_named state actor) actor command)) none)
 
 pub decided : {E : Type 0} (given : Result Verdict E) (one other : Verdict) → one ≡ other → IfOk given (λ v. v ≡ one) → IfOk given (λ v. v ≡ other)
 decided (Ok v) one other same is = is ∙ same

@@ -5,7 +5,7 @@ use Rattle.std.proofs.lemmas.Bool.{cond-false, cond-true, ne_eqb}
 use Rattle.std.proofs.lemmas.List.{map-append}
 use Rattle.mum_base.specs.declared.number.ChannelId.{ChannelId}
 use Rattle.mum_base.specs.declared.perm.TheConstants.Perm.{LINK_CHANNEL}
-use Rattle.mum_policy.specs.Member.{Asker}
+use Rattle.mum_policy.specs.Member.{Actor}
 use Rattle.mum_state.specs.Kinds.{is_empty}
 use Rattle.mum_rules_tree.specs.Asked.{channel, is_other, others}
 use Rattle.mum_rules_tree.specs.Decision.{Need, need}
@@ -39,10 +39,10 @@ none_linked id (number ∷ adds) removes =
     ∙ ap not (or_assoc (is_other id number) (list_any (is_other id) adds) (list_any (is_other id) removes))
 
 -- the needs of links: on the channel, on those that are linked, on those that are parted
-pub linking : (who : Asker) (id : ChannelId) (adds removes : List ℕ) → (list_any (is_other id) adds || list_any (is_other id) removes) ≡ true → needs_to_link who id (others id adds ++ others id removes) ≡ need who LINK_CHANNEL id ∷ (map (need who LINK_CHANNEL) (others id adds) ++ map (need who LINK_CHANNEL) (others id removes))
+pub linking : (who : Actor) (id : ChannelId) (adds removes : List ℕ) → (list_any (is_other id) adds || list_any (is_other id) removes) ≡ true → needs_to_link who id (others id adds ++ others id removes) ≡ need who LINK_CHANNEL id ∷ (map (need who LINK_CHANNEL) (others id adds) ++ map (need who LINK_CHANNEL) (others id removes))
 linking who id adds removes some =
     cond-false (is_empty (others id adds ++ others id removes)) [] (map (need who LINK_CHANNEL) (id ∷ (others id adds ++ others id removes))) (none_linked id adds removes ∙ ap not some)
     ∙ ap (λ (ns : List Need). need who LINK_CHANNEL id ∷ ns) (map-append (need who LINK_CHANNEL) (others id adds) (others id removes))
 
-pub not_linking : (who : Asker) (id : ChannelId) (adds removes : List ℕ) → (list_any (is_other id) adds || list_any (is_other id) removes) ≡ false → needs_to_link who id (others id adds ++ others id removes) ≡ []
+pub not_linking : (who : Actor) (id : ChannelId) (adds removes : List ℕ) → (list_any (is_other id) adds || list_any (is_other id) removes) ≡ false → needs_to_link who id (others id adds ++ others id removes) ≡ []
 not_linking who id adds removes none = cond-true (is_empty (others id adds ++ others id removes)) [] (map (need who LINK_CHANNEL) (id ∷ (others id adds ++ others id removes))) (none_linked id adds removes ∙ ap not none)

@@ -5,7 +5,7 @@ use Rattle.std.specs.List.{All, list_any}
 use Rattle.std.specs.Option.{option_map, option_map_or}
 use Rattle.mum_base.specs.declared.number.ChannelId.{ChannelId}
 use Rattle.mum_base.specs.declared.perm.Perm.{Perm}
-use Rattle.mum_policy.specs.Member.{Asker}
+use Rattle.mum_policy.specs.Member.{Actor}
 use Rattle.mum_policy.specs.Walk.{holds}
 use Rattle.mum_state.specs.declared.verdict.Verdict.{Verdict}
 use Rattle.mum_state.specs.declared.verdict.Verdict.TheVariants.{Accepted, Lacks, Refused, Ignored}
@@ -35,7 +35,7 @@ first_standing cases = option_map (λ one. one.code) (find (λ one. one.stands) 
 
 -- a way to meet a need: whoever asks has the permission in the channel
 pub record Way : Type 0 where
-  pub who : Asker
+  pub who : Actor
   pub perm : Perm
   pub channel : ChannelId
 
@@ -44,11 +44,11 @@ pub record Need : Type 0 where
   pub first : Way
   pub others : List Way
 
-abbrev pub way : Asker → Perm → ChannelId → Way
+abbrev pub way : Actor → Perm → ChannelId → Way
 way who perm channel = record { who = who; perm = perm; channel = channel }
 
 -- a need with one way
-abbrev pub need : Asker → Perm → ChannelId → Need
+abbrev pub need : Actor → Perm → ChannelId → Need
 need who perm channel = record { first = way who perm channel; others = [] }
 
 -- the permission is held there
@@ -70,7 +70,7 @@ abbrev pub all_met : StateValue → List Need → Result ⊤ Lack
 all_met state needs = option_map_or (λ lack. Err lack) (first_lack state needs) (Ok tt)
 
 -- where the place of a channel is marked, whoever asks has the permission there
-abbrev pub AreMet : StateValue → Asker → Perm → List Bool → Type 0
+abbrev pub AreMet : StateValue → Actor → Perm → List Bool → Type 0
 AreMet state who perm marks = All (λ row. IsTrue (slice_index_or marks row.place false) → IsTrue (is_open state (way who perm row.channel.id))) state.tree.channels
 
 -- ---- the first that stands decides

@@ -50,7 +50,7 @@ denied_frame message = record { kind = PERMISSION_DENIED; payload = spelled perm
 unfoldable pub rejected_frame : Reject → Frame
 rejected_frame message = record { kind = REJECT; payload = spelled reject message }
 
--- what the asker is told of a verdict that denies
+-- what the actor is told of a verdict that denies
 abbrev pub denial : Option SessionId → Verdict → Option Frame
 denial actor (Lacks perm channel) = Some (denied_frame (denial_of_lack actor perm channel))
 denial actor (Refused kind) = Some (denied_frame (denial_of_limit actor kind))

@@ -22,11 +22,11 @@ use Rattle.mum_rules_tree.specs.Decision.{Case, Need, case_of, is_met, is_open, 
 use Rattle.mum_rules_tree.specs.Limits.{limits}
 use Rattle.mum_rules_tree.specs.Needs.{needs}
 use Rattle.mum_rules_tree.specs.Reasons.{reasons}
-use Rattle.mum_rules_tree.specs.Verdict.{asker_named, tree_verdict}
+use Rattle.mum_rules_tree.specs.Verdict.{actor_named, tree_verdict}
 
 -- what this message needs, and its limits, for whoever asks
 abbrev pub needs_of : StateValue → SessionId → TreeMessage → List Need
-needs_of state actor message = needs state.tree (asker_named state actor) (command_of message)
+needs_of state actor message = needs state.tree (actor_named state actor) (command_of message)
 
 -- none of these stands
 abbrev pub NoneStands : {Code : Type 0} → List (Case Code) → Type 0
@@ -102,4 +102,4 @@ WritersSetPolicies =
     (state : StateValue) (actor : SessionId) (message : TreeMessage) (channel : ChannelId) (by : Option SessionId) (policy : ChannelPolicy)
     → tree_verdict state actor message ≡ Accepted (SetAcl channel by policy)
     → (by ≡ Some actor)
-    × IsTrue (is_open state (way (asker_named state actor) WRITE channel) || is_open state (way (asker_named state actor) WRITE (parent_of state.tree channel)))
+    × IsTrue (is_open state (way (actor_named state actor) WRITE channel) || is_open state (way (actor_named state actor) WRITE (parent_of state.tree channel)))

@@ -5,7 +5,7 @@ use Rattle.mum_base.specs.declared.number.ChannelId.{ChannelId}
 use Rattle.mum_base.specs.declared.perm.Perm.{Perm}
 use Rattle.mum_base.specs.declared.perm.TheConstants.Perm.{LINK_CHANNEL, MAKE_CHANNEL, MAKE_TEMP_CHANNEL, WRITE}
 use Rattle.mum_msg_state.specs.declared.channel_state.ChannelState.{ChannelState}
-use Rattle.mum_policy.specs.Member.{Asker}
+use Rattle.mum_policy.specs.Member.{Actor}
 use Rattle.mum_tree.specs.Refusals.{parent_of}
 use Rattle.mum_tree.specs.State.{TreeState}
 use Rattle.mum_state.specs.Kinds.{is_empty}
@@ -16,22 +16,22 @@ abbrev pub making : ChannelState → Perm
 making message = if is_to_be_temporary message then MAKE_TEMP_CHANNEL else MAKE_CHANNEL
 
 -- Write on it, for its name and what describes it
-abbrev pub needs_to_describe : Asker → ChannelId → ChannelState → List Need
+abbrev pub needs_to_describe : Actor → ChannelId → ChannelState → List Need
 needs_to_describe who id message = if describes message then need who WRITE id ∷ [] else []
 
 -- for another parent Write on it, and MakeChannel there
-abbrev pub needs_to_move : Asker → ChannelId → Option ChannelId → List Need
+abbrev pub needs_to_move : Actor → ChannelId → Option ChannelId → List Need
 needs_to_move who id parent = option_map_or (λ there. need who WRITE id ∷ need who MAKE_CHANNEL there ∷ []) parent []
 
 -- for links LinkChannel on it, then on each other channel
-abbrev pub needs_to_link : Asker → ChannelId → List ChannelId → List Need
+abbrev pub needs_to_link : Actor → ChannelId → List ChannelId → List Need
 needs_to_link who id linked = if is_empty linked then [] else map (need who LINK_CHANNEL) (id ∷ linked)
 
 -- Write on the channel or on its parent
-abbrev pub need_to_rule : TreeState → Asker → ChannelId → Need
+abbrev pub need_to_rule : TreeState → Actor → ChannelId → Need
 need_to_rule tree who id = record { first = way who WRITE id; others = way who WRITE (parent_of tree id) ∷ [] }
 
-abbrev pub needs : TreeState → Asker → Command → List Need
+abbrev pub needs : TreeState → Actor → Command → List Need
 needs tree who (Command.make message) = need who (making message) (parent_of_new message) ∷ []
 needs tree who (Command.edit id message) =
     needs_to_describe who id message ++ needs_to_move who id (new_parent tree id message) ++ needs_to_link who id (linked_others id message)

@@ -1,7 +1,7 @@
 //! Groups and access control lists: queries for them, and others in their place.
 
 ghost use Rattle.std.specs.Prelude.{◌≡◌, ◌∷◌, IfOk, []};
-ghost use Rattle.mum_policy.specs.Member.{asker_of};
+ghost use Rattle.mum_policy.specs.Member.{actor_of};
 ghost use Rattle.mum_rules_tree.specs.Asked.{Command};
 ghost use Rattle.mum_rules_tree.specs.Decision.{all_met};
 ghost use Rattle.mum_rules_tree.specs.Needs.{need_to_rule};
@@ -21,7 +21,7 @@ use std::alloc::Global;
 /// Write on the channel or on its parent. A denial names the channel.
 fn need_to_rule(state: &State, who: &Who<'_>, id: ChannelId) -> Result<(), Lack>
     ensures { result
-        ≡ all_met state.now (need_to_rule state.now.tree (asker_of who.now) id ∷ []) }
+        ≡ all_met state.now (need_to_rule state.now.tree (actor_of who.now) id ∷ []) }
 {
     if may(state, who, Perm::WRITE, id)
         || may(state, who, Perm::WRITE, parent_of(state.tree(), id))
@@ -52,7 +52,7 @@ pub(crate) fn decide_query(
     id: ChannelId,
 ) -> Result<Verdict, OutOfMemory>
     ensures { IfOk result (λ verdict. verdict
-        ≡ command_verdict state.now (asker_of who.now) who.now.session (Command.query id)) }
+        ≡ command_verdict state.now (actor_of who.now) who.now.session (Command.query id)) }
 {
     if let Err(lack) = need_to_rule(state, who, id) {
         return Ok(lack.verdict());
@@ -69,7 +69,7 @@ pub(crate) fn decide_policy(
     message: &Acl,
 ) -> Result<Verdict, OutOfMemory>
     ensures { IfOk result (λ verdict. verdict
-        ≡ command_verdict state.now (asker_of who.now) who.now.session (Command.set id message.now)) }
+        ≡ command_verdict state.now (actor_of who.now) who.now.session (Command.set id message.now)) }
 {
     if let Err(lack) = need_to_rule(state, who, id) {
         return Ok(lack.verdict());

@@ -1,7 +1,7 @@
 //! What is decided of a message on channels.
 
 ghost use Rattle.std.specs.Prelude.{◌≡◌, IfOk, IsTrue, length, nat_lt};
-ghost use Rattle.mum_policy.specs.Member.{asker_of};
+ghost use Rattle.mum_policy.specs.Member.{actor_of};
 ghost use Rattle.mum_rules_tree.specs.Asked.{command_of, is_named_there, is_query, names_there, payload_of};
 ghost use Rattle.mum_rules_tree.specs.Decision.{FitsWhereAccepted};
 ghost use Rattle.mum_rules_tree.specs.Verdict.{command_verdict, tree_verdict};
@@ -72,7 +72,7 @@ fn decide_state(
     message: &ChannelState,
 ) -> Result<Verdict, OutOfMemory>
     requires { IsTrue (names_there state.now.tree (TreeMessage.State message.now)) }
-    ensures { IfOk result (λ verdict. verdict ≡ command_verdict state.now (asker_of who.now)
+    ensures { IfOk result (λ verdict. verdict ≡ command_verdict state.now (actor_of who.now)
         who.now.session (command_of (TreeMessage.State message.now))) }
 {
     match message.channel_id {
@@ -87,7 +87,7 @@ fn decide_acl(
     who: &Who<'_>,
     message: &Acl,
 ) -> Result<Verdict, OutOfMemory>
-    ensures { IfOk result (λ verdict. verdict ≡ command_verdict state.now (asker_of who.now)
+    ensures { IfOk result (λ verdict. verdict ≡ command_verdict state.now (actor_of who.now)
         who.now.session (command_of (TreeMessage.Acl message.now))) }
 {
     let id = channel_or_root(message.channel_id);
@@ -106,7 +106,7 @@ fn decide_command(
     message: &TreeMessage,
 ) -> Result<Verdict, OutOfMemory>
     requires { IsTrue (names_there state.now.tree message.now) }
-    ensures { IfOk result (λ verdict. verdict ≡ command_verdict state.now (asker_of who.now)
+    ensures { IfOk result (λ verdict. verdict ≡ command_verdict state.now (actor_of who.now)
         who.now.session (command_of message.now)) }
 {
     match message {

@@ -1,4 +1,4 @@
-//! The frames by which an asker is told that a command is denied.
+//! The frames by which an actor is told that a command is denied.
 
 ghost use Rattle.std.specs.Prelude.{◌≡◌, IfOk};
 ghost use Rattle.std.specs.Option.{option_map};
@@ -80,7 +80,7 @@ fn denial_of_limit(
     })
 }
 
-/// The frame that tells the asker of a verdict that denies: PermissionDenied with the permission and
+/// The frame that tells the actor of a verdict that denies: PermissionDenied with the permission and
 /// its channel, or with the type of the limit and, for type 0, the word `refused`; Reject with its type
 /// alone. No other verdict has one.
 pub fn denial(

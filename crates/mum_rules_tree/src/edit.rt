@@ -3,7 +3,7 @@
 ghost use Rattle.std.specs.Prelude.{◌≡◌, ◌∷◌, ◌++◌, ◌||◌, IfOk, Some, IsTrue, [], map};
 ghost use Rattle.std.specs.List.{list_any};
 ghost use Rattle.std.specs.Option.{option_copied};
-ghost use Rattle.mum_policy.specs.Member.{asker_of};
+ghost use Rattle.mum_policy.specs.Member.{actor_of};
 ghost use Rattle.mum_state.specs.Fits.{holds_of_given};
 ghost use Rattle.mum_state.specs.Proper.{is_name, is_text};
 ghost use Rattle.mum_tree.specs.Change.{change_of, names_there};
@@ -83,7 +83,7 @@ fn need_to_describe(
     message: &ChannelState,
 ) -> Result<(), Lack>
     ensures { result
-        ≡ all_met state.now (needs_to_describe (asker_of who.now) id message.now) }
+        ≡ all_met state.now (needs_to_describe (actor_of who.now) id message.now) }
 {
     if describes(message) {
         need(state, who, Perm::WRITE, id)
@@ -98,7 +98,7 @@ fn need_to_move(
     id: ChannelId,
     parent: Option<ChannelId>,
 ) -> Result<(), Lack>
-    ensures { result ≡ all_met state.now (needs_to_move (asker_of who.now) id parent) }
+    ensures { result ≡ all_met state.now (needs_to_move (actor_of who.now) id parent) }
 {
     let Some(parent) = parent else {
         return Ok(());
@@ -115,10 +115,10 @@ fn need_on_others(
     numbers: &[u32],
     met: &mut MetPlaces,
 ) -> Result<(), Lack>
-    requires { AreMet state.now (asker_of who.now) Perm.LINK_CHANNEL met.old.marks }
+    requires { AreMet state.now (actor_of who.now) Perm.LINK_CHANNEL met.old.marks }
     ensures value { result ≡ all_met state.now
-        (map (need (asker_of who.now) Perm.LINK_CHANNEL) (others id numbers.now)) }
-    ensures kept { AreMet state.now (asker_of who.now) Perm.LINK_CHANNEL met.new.marks }
+        (map (need (actor_of who.now) Perm.LINK_CHANNEL) (others id numbers.now)) }
+    ensures kept { AreMet state.now (actor_of who.now) Perm.LINK_CHANNEL met.new.marks }
 {
     for number in numbers {
         if *number != id.0 {
@@ -156,9 +156,9 @@ fn need_on_linked(
     id: ChannelId,
     message: &ChannelState,
 ) -> Result<(), Lack>
-    ensures { result ≡ all_met state.now (need (asker_of who.now) Perm.LINK_CHANNEL id ∷ []
-        ++ map (need (asker_of who.now) Perm.LINK_CHANNEL) (others id message.now.links_add)
-        ++ map (need (asker_of who.now) Perm.LINK_CHANNEL) (others id message.now.links_remove)) }
+    ensures { result ≡ all_met state.now (need (actor_of who.now) Perm.LINK_CHANNEL id ∷ []
+        ++ map (need (actor_of who.now) Perm.LINK_CHANNEL) (others id message.now.links_add)
+        ++ map (need (actor_of who.now) Perm.LINK_CHANNEL) (others id message.now.links_remove)) }
 {
     need(state, who, Perm::LINK_CHANNEL, id)?;
     let mut met = MetPlaces::none();
@@ -173,7 +173,7 @@ fn need_to_link(
     message: &ChannelState,
 ) -> Result<(), Lack>
     ensures { result ≡ all_met state.now
-        (needs_to_link (asker_of who.now) id (linked_others id message.now)) }
+        (needs_to_link (actor_of who.now) id (linked_others id message.now)) }
 {
     if links_other(id, message) {
         need_on_linked(state, who, id, message)
@@ -258,7 +258,7 @@ fn need_for_edit(
     message: &ChannelState,
 ) -> Result<(), Lack>
     ensures { result
-        ≡ all_met state.now (needs state.now.tree (asker_of who.now) (Command.edit id message.now)) }
+        ≡ all_met state.now (needs state.now.tree (actor_of who.now) (Command.edit id message.now)) }
 {
     need_to_describe(state, who, id, message)?;
     need_to_move(state, who, id, new_parent(state.tree(), id, message))?;
@@ -345,7 +345,7 @@ pub(crate) fn decide_edit(
     requires asked { message.now.channel_id ≡ Some id.0 }
     requires named { IsTrue (message_names_there state.now.tree (TreeMessage.State message.now)) }
     ensures { IfOk result (λ verdict. verdict
-        ≡ command_verdict state.now (asker_of who.now) who.now.session (Command.edit id message.now)) }
+        ≡ command_verdict state.now (actor_of who.now) who.now.session (Command.edit id message.now)) }
 {
     if let Err(lack) = need_for_edit(state, who, id, message) {
         return Ok(lack.verdict());

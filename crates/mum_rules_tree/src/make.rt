@@ -1,7 +1,7 @@
 //! New channels.
 
 ghost use Rattle.std.specs.Prelude.{◌≡◌, IfOk, IsTrue};
-ghost use Rattle.mum_policy.specs.Member.{asker_of};
+ghost use Rattle.mum_policy.specs.Member.{actor_of};
 ghost use Rattle.mum_tree.specs.Rows.{is_there};
 ghost use Rattle.mum_rules_tree.specs.Asked.{Command, is_to_be_temporary, parent_of_new};
 ghost use Rattle.mum_rules_tree.specs.Decision.{first_standing};
@@ -95,7 +95,7 @@ pub(crate) fn decide_new(
 ) -> Result<Verdict, OutOfMemory>
     requires { IsTrue (is_there state.now.tree.channels (parent_of_new message.now)) }
     ensures { IfOk result (λ verdict. verdict
-        ≡ command_verdict state.now (asker_of who.now) who.now.session (Command.make message.now)) }
+        ≡ command_verdict state.now (actor_of who.now) who.now.session (Command.make message.now)) }
 {
     let tree = state.tree();
     let parent = channel_or_root(message.parent);

@@ -1,7 +1,7 @@
 //! Permissions that were found already, while one message is decided.
 
 ghost use Rattle.std.specs.Prelude.{◌≡◌, ◌∷◌, ℕ, false, [], slice_index_or};
-ghost use Rattle.mum_policy.specs.Member.{asker_of};
+ghost use Rattle.mum_policy.specs.Member.{actor_of};
 ghost use Rattle.mum_rules_tree.specs.Decision.{all_met, need, AreMet};
 
 use crate::needs::{Lack, need};
@@ -35,9 +35,9 @@ pub fn need_once(
     channel: ChannelId,
     met: &mut MetPlaces,
 ) -> Result<(), Lack>
-    requires { AreMet state.now (asker_of who.now) perm met.old.marks }
-    ensures value { result ≡ all_met state.now (need (asker_of who.now) perm channel ∷ []) }
-    ensures kept { AreMet state.now (asker_of who.now) perm met.new.marks }
+    requires { AreMet state.now (actor_of who.now) perm met.old.marks }
+    ensures value { result ≡ all_met state.now (need (actor_of who.now) perm channel ∷ []) }
+    ensures kept { AreMet state.now (actor_of who.now) perm met.new.marks }
 {
     let Some(place) = state.tree().place(channel) else {
         return need(state, who, perm, channel);

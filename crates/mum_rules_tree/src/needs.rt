@@ -1,7 +1,7 @@
 //! What commands need.
 
 ghost use Rattle.std.specs.Prelude.{◌≡◌, ◌∷◌, [], map};
-ghost use Rattle.mum_policy.specs.Member.{asker_of};
+ghost use Rattle.mum_policy.specs.Member.{actor_of};
 ghost use Rattle.mum_rules_tree.specs.Decision.{all_met, is_open, need, way};
 
 use mum_base::{ChannelId, Perm};
@@ -29,7 +29,7 @@ impl Lack {
 
 /// Whether whoever asks has a permission in a channel. The list on the channel's path is read once.
 pub fn may(state: &State, who: &Who<'_>, perm: Perm, channel: ChannelId) -> bool
-    ensures { result ≡ is_open state.now (way (asker_of who.now) perm channel) }
+    ensures { result ≡ is_open state.now (way (actor_of who.now) perm channel) }
 {
     match state.granted_to(who, channel) {
         Some(held) => held.has(perm),
@@ -39,7 +39,7 @@ pub fn may(state: &State, who: &Who<'_>, perm: Perm, channel: ChannelId) -> bool
 
 /// A permission in a channel, or what is missing.
 pub fn need(state: &State, who: &Who<'_>, perm: Perm, channel: ChannelId) -> Result<(), Lack>
-    ensures { result ≡ all_met state.now (need (asker_of who.now) perm channel ∷ []) }
+    ensures { result ≡ all_met state.now (need (actor_of who.now) perm channel ∷ []) }
 {
     if may(state, who, perm, channel) {
         Ok(())

@@ -11,7 +11,7 @@ use Rattle.mum_msg_rule.specs.declared.voice_target.VoiceTarget.{VoiceTarget}
 use Rattle.mum_msg_state.specs.declared.authenticate.Authenticate.{Authenticate}
 use Rattle.mum_msg_state.specs.declared.user_remove.UserRemove.{UserRemove}
 use Rattle.mum_msg_state.specs.declared.user_state.UserState.{UserState}
-use Rattle.mum_policy.specs.Member.{Asker}
+use Rattle.mum_policy.specs.Member.{Actor}
 use Rattle.mum_tree.specs.Rows.{is_there}
 use Rattle.mum_users.specs.declared.target.TheConstants.{LAST_TARGET}
 use Rattle.mum_users.specs.Edit.{edit_fault}
@@ -42,7 +42,7 @@ use Rattle.mum_rules_user.specs.Login.{limits_of_login, tokens_kept}
 use Rattle.mum_rules_user.specs.Needs.{needs}
 use Rattle.mum_rules_user.specs.Outcome.{answer_frame, edit_to_change, edit_to_kick, edit_to_tell, outcome}
 use Rattle.mum_rules_user.specs.Reasons.{reasons}
-use Rattle.mum_rules_user.specs.Verdict.{asker_for, command_verdict, heard_verdict, user_verdict}
+use Rattle.mum_rules_user.specs.Verdict.{actor_for, command_verdict, heard_verdict, user_verdict}
 use Rattle.mum_rules_user.proofs.Listened.{listening_taken}
 use Rattle.mum_rules_user.proofs.LoggedIn.{kept_are_tokens, login_fits}
 
@@ -162,12 +162,12 @@ answer_fits state id (Some held) = tt
 
 -- ---- every message
 
-command_fits : (state : StateValue) (who : Asker) (actor : SessionId) (command : Command) → (first_standing (limits state actor command) ≡ None → FitsWhereAccepted state (outcome state who actor command)) → FitsWhereAccepted state (command_verdict state who actor command)
+command_fits : (state : StateValue) (who : Actor) (actor : SessionId) (command : Command) → (first_standing (limits state actor command) ≡ None → FitsWhereAccepted state (outcome state who actor command)) → FitsWhereAccepted state (command_verdict state who actor command)
 command_fits state who actor command fitting =
     fits_unless state _ (first_lack state (needs state who actor command)) _ (λ lack. tt) (λ none.
     fits_unless state _ (first_standing (limits state actor command)) _ (λ kind. tt) fitting)
 
-message_fits : (state : StateValue) (who : Asker) (actor : SessionId) (message : UserMessage) → IsProper state → IsHeard state actor → names_there state message ≡ true → FitsWhereAccepted state (command_verdict state who actor (command_of actor message))
+message_fits : (state : StateValue) (who : Actor) (actor : SessionId) (message : UserMessage) → IsProper state → IsHeard state actor → names_there state message ≡ true → FitsWhereAccepted state (command_verdict state who actor (command_of actor message))
 message_fits state who actor (Join message version) proper heard named =
     command_fits state who actor (Command.renew message) (λ free. renewal_fits state actor message heard)
 message_fits state who actor (User message) proper heard named =
@@ -200,7 +200,7 @@ pub accepted_fits : (state : StateValue) (actor : SessionId) (message : UserMess
 accepted_fits state actor message proper =
     fits_unless state _ (first_standing (reasons state (Some actor) message)) _ (λ reason. tt) (λ none.
     let off = all_off (reasons state (Some actor) message) none in
-    message_fits state (asker_for state actor message) actor message proper (heard state actor off.0) (not-false (names_there state message) off.1.1.1.0))
+    message_fits state (actor_for state actor message) actor message proper (heard state actor off.0) (not-false (names_there state message) off.1.1.1.0))
 
 -- and so does that of a connection without one
 pub login_accepted_fits : (state : StateValue) (message : UserMessage) → FitsWhereAccepted state (user_verdict state None message)

@@ -7,13 +7,13 @@ use Rattle.mum_base.specs.declared.number.ChannelId.{ChannelId}
 use Rattle.mum_base.specs.declared.number.SessionId.{SessionId}
 use Rattle.mum_base.specs.declared.perm.TheConstants.Perm.{ENTER, MOVE, MUTE_DEAFEN}
 use Rattle.mum_msg_state.specs.declared.user_state.UserState.{UserState}
-use Rattle.mum_policy.specs.Member.{Asker}
+use Rattle.mum_policy.specs.Member.{Actor}
 use Rattle.mum_state.specs.declared.edit.Edit.{Edit}
 use Rattle.mum_state.specs.declared.verdict.Verdict.TheVariants.{Accepted}
 use Rattle.mum_state.specs.State.{StateValue}
 use Rattle.mum_rules_tree.specs.Decision.{Need, is_met, is_open, need, way}
 use Rattle.mum_rules_tree.specs.Laws.{AllMet}
-use Rattle.mum_rules_tree.specs.Verdict.{asker_named}
+use Rattle.mum_rules_tree.specs.Verdict.{actor_named}
 use Rattle.mum_rules_tree.proofs.Cleared.{all_off}
 use Rattle.mum_rules_tree.proofs.Firsts.{all_met_where}
 use Rattle.mum_rules_user.specs.declared.message.UserMessage.TheVariants.{User}
@@ -21,7 +21,7 @@ use Rattle.mum_rules_user.specs.Asked.{channel_of, is_oneself, new_channel, rule
 use Rattle.mum_rules_user.specs.Laws.{EntersWherePermitted, LeavesOwnToOthers, MovesWherePermitted, RulesSpeechWherePermitted, needs_of}
 use Rattle.mum_rules_user.specs.Needs.{either_way, needs_to_bring, needs_to_enter, needs_to_listen, needs_to_move, needs_to_rule_speech}
 use Rattle.mum_rules_user.specs.Reasons.{reasons}
-use Rattle.mum_rules_user.specs.Verdict.{asker_for, user_verdict}
+use Rattle.mum_rules_user.specs.Verdict.{actor_for, user_verdict}
 use Rattle.mum_rules_user.proofs.Firsts.{clear}
 
 -- ---- of needs that are all met, the first are, and the others
@@ -49,24 +49,24 @@ or_end false false = refl
 all_needs : (state : StateValue) (actor : SessionId) (message : UserState) (edit : Edit) → user_verdict state (Some actor) (User message) ≡ Accepted edit → AllMet state (needs_of state actor (User message))
 all_needs state actor message edit is = all_met_where state (needs_of state actor (User message)) (clear state actor (User message) edit is).needs
 
-moving_met : (state : StateValue) (actor : SessionId) (message : UserState) (edit : Edit) → user_verdict state (Some actor) (User message) ≡ Accepted edit → AllMet state (needs_to_move state (asker_for state actor (User message)) actor (session_or actor message.session) message)
+moving_met : (state : StateValue) (actor : SessionId) (message : UserState) (edit : Edit) → user_verdict state (Some actor) (User message) ≡ Accepted edit → AllMet state (needs_to_move state (actor_for state actor (User message)) actor (session_or actor message.session) message)
 moving_met state actor message edit is =
-    let who = asker_for state actor (User message) in
+    let who = actor_for state actor (User message) in
     let session = session_or actor message.session in
     let moving = needs_to_move state who actor session message in
     let speech = needs_to_rule_speech state who session message in
     first_met state moving speech (first_met state (moving ++ speech) (needs_to_listen who message) (all_needs state actor message edit is))
 
 -- the needs of a move, where there is one
-moving_is : (state : StateValue) (who : Asker) (actor session : SessionId) (message : UserState) (there : ChannelId) (own : Bool) → new_channel state.roster session message ≡ Some there → is_oneself actor session ≡ own → needs_to_move state who actor session message ≡ cond own (needs_to_enter who there) (needs_to_bring who (asker_named state session) (channel_of state.roster session) there)
+moving_is : (state : StateValue) (who : Actor) (actor session : SessionId) (message : UserState) (there : ChannelId) (own : Bool) → new_channel state.roster session message ≡ Some there → is_oneself actor session ≡ own → needs_to_move state who actor session message ≡ cond own (needs_to_enter who there) (needs_to_bring who (actor_named state session) (channel_of state.roster session) there)
 moving_is state who actor session message there own new same =
-    let bring : (ChannelId → List Need) = λ at. needs_to_bring who (asker_named state session) (channel_of state.roster session) at in
+    let bring : (ChannelId → List Need) = λ at. needs_to_bring who (actor_named state session) (channel_of state.roster session) at in
     ap (λ (o : Option ChannelId). option_map_or (λ at. cond (is_oneself actor session) (needs_to_enter who at) (bring at)) o []) new
     ∙ ap (λ (b : Bool). cond b (needs_to_enter who there) (bring there)) same
 
 pub enters_where_permitted_lem : EntersWherePermitted
 enters_where_permitted_lem state actor message edit there is own new =
-    let who = asker_for state actor (User message) in
+    let who = actor_for state actor (User message) in
     let session = session_or actor message.session in
     let met = subst (AllMet state) (moving_is state who actor session message there true new own) (moving_met state actor message edit is) in
     sym (or_end (is_open state (way who ENTER there)) (is_open state (way who MOVE there)))
@@ -74,9 +74,9 @@ enters_where_permitted_lem state actor message edit there is own new =
 
 pub moves_where_permitted_lem : MovesWherePermitted
 moves_where_permitted_lem state actor message edit there is other new =
-    let who = asker_for state actor (User message) in
+    let who = actor_for state actor (User message) in
     let session = session_or actor message.session in
-    let moved = asker_named state session in
+    let moved = actor_named state session in
     let here = channel_of state.roster session in
     let met = subst (AllMet state) (moving_is state who actor session message there false new other) (moving_met state actor message edit is) in
     let last = either_way MOVE who ENTER moved there in (
@@ -91,7 +91,7 @@ moves_where_permitted_lem state actor message edit there is other new =
 
 pub rules_speech_where_permitted_lem : RulesSpeechWherePermitted
 rules_speech_where_permitted_lem state actor message edit is rules =
-    let who = asker_for state actor (User message) in
+    let who = actor_for state actor (User message) in
     let session = session_or actor message.session in
     let here = channel_of state.roster session in
     let moving = needs_to_move state who actor session message in

@@ -5,7 +5,7 @@ use Rattle.std.specs.Option.{is_none, option_map_or}
 use Rattle.std.specs.Result.{IfOk}
 use Rattle.std.proofs.lemmas.Bool.{eqb-true, not-false, or_from}
 use Rattle.mum_base.specs.declared.number.SessionId.{SessionId}
-use Rattle.mum_policy.specs.Member.{Asker}
+use Rattle.mum_policy.specs.Member.{Actor}
 use Rattle.mum_users.specs.declared.user.User.{User as UserRow}
 use Rattle.mum_users.specs.Sessions.{session_of}
 use Rattle.mum_users.specs.State.{has_number}
@@ -20,7 +20,7 @@ use Rattle.mum_base.specs.Codes.{reason_code}
 use Rattle.mum_rules_tree.specs.Decision.{Case, FitsWhereAccepted, case_of, first_standing}
 use Rattle.mum_rules_tree.specs.Reasons.{is_gone, takes_no_edits}
 use Rattle.mum_rules_tree.specs.Tokens.{tokens_for_once}
-use Rattle.mum_state.specs.Permissions.{asker_with}
+use Rattle.mum_state.specs.Permissions.{actor_with}
 use Rattle.mum_rules_tree.specs.Verdict.{nobody}
 use Rattle.mum_rules_tree.proofs.Cleared.{all_off}
 use Rattle.mum_rules_tree.proofs.Heard.{found_passes}
@@ -28,7 +28,7 @@ use Rattle.mum_rules_tree.proofs.Named.{some_found}
 use Rattle.mum_rules_user.specs.declared.message.UserMessage.{UserMessage}
 use Rattle.mum_rules_user.specs.Asked.{command_of, is_empty_text, names_there, payload_of, sets_own_of_another}
 use Rattle.mum_rules_user.specs.Reasons.{reasons}
-use Rattle.mum_rules_user.specs.Verdict.{asker_for, command_verdict, heard_verdict, tokens_brought, user_verdict}
+use Rattle.mum_rules_user.specs.Verdict.{actor_for, command_verdict, heard_verdict, tokens_brought, user_verdict}
 use Rattle.mum_rules_user.proofs.Accepted.{accepted_fits, login_accepted_fits}
 
 -- the reasons that are left where the session is here and edits are taken
@@ -62,13 +62,13 @@ pub named_there : (state : StateValue) (actor : SessionId) (message : UserMessag
 named_there state actor message none = not-false (names_there state message) (all_off (later_reasons state actor message) none).1.0
 
 -- the verdict on the command, asked by the session with what the message brings
-pub session_verdict : (state : StateValue) (actor : SessionId) (message : UserMessage) (user : UserRow) → session_of state.roster actor ≡ Some user → takes_no_edits state ≡ false → first_standing (later_reasons state actor message) ≡ None → command_verdict state (asker_with state.tree user (tokens_for_once user.tokens (tokens_brought message))) user.session (command_of user.session message) ≡ user_verdict state (Some actor) message
+pub session_verdict : (state : StateValue) (actor : SessionId) (message : UserMessage) (user : UserRow) → session_of state.roster actor ≡ Some user → takes_no_edits state ≡ false → first_standing (later_reasons state actor message) ≡ None → command_verdict state (actor_with state.tree user (tokens_for_once user.tokens (tokens_brought message))) user.session (command_of user.session message) ≡ user_verdict state (Some actor) message
 session_verdict state actor message user found room none =
-    let who = asker_with state.tree user (tokens_for_once user.tokens (tokens_brought message)) in
-    let asked : who ≡ asker_for state actor message =
-    sym (ap (λ (o : Option UserRow). option_map_or (λ (u : UserRow). asker_with state.tree u (tokens_for_once u.tokens (tokens_brought message))) o nobody) found) in
+    let who = actor_with state.tree user (tokens_for_once user.tokens (tokens_brought message)) in
+    let asked : who ≡ actor_for state actor message =
+    sym (ap (λ (o : Option UserRow). option_map_or (λ (u : UserRow). actor_with state.tree u (tokens_for_once u.tokens (tokens_brought message))) o nobody) found) in
     ap (λ (s : SessionId). command_verdict state who s (command_of s message)) (same_session state actor user found)
-    ∙ ap (λ (w : Asker). command_verdict state w actor (command_of actor message)) asked
+    ∙ ap (λ (w : Actor). command_verdict state w actor (command_of actor message)) asked
     ∙ sym (ap (λ (o : Option Reason). option_map_or (λ reason. Ignored (reason_code reason)) o (heard_verdict state (Some actor) message)) (reasons_left state actor message user found room ∙ none))
 
 pub fitting : {E : Type 0} (state : StateValue) (actor : SessionId) (message : UserMessage) (given : Result Verdict E) → IsProper state → IfOk given (λ v. v ≡ user_verdict state (Some actor) message) → IfOk given (FitsWhereAccepted state)

@@ -6,7 +6,7 @@ use Rattle.mum_base.specs.declared.number.ChannelId.{ChannelId}
 use Rattle.mum_base.specs.declared.number.SessionId.{SessionId}
 use Rattle.mum_base.specs.declared.perm.Perm.{Perm}
 use Rattle.mum_msg_state.specs.declared.authenticate.Authenticate.{Authenticate}
-use Rattle.mum_policy.specs.Member.{Asker}
+use Rattle.mum_policy.specs.Member.{Actor}
 use Rattle.mum_state.specs.declared.account.Account.{Account}
 use Rattle.mum_state.specs.declared.edit.Edit.{Edit}
 use Rattle.mum_state.specs.declared.verdict.Verdict.{Verdict}
@@ -32,7 +32,7 @@ use Rattle.mum_rules_user.specs.Limits.{is_super_user, limits}
 use Rattle.mum_rules_user.specs.Login.{edit_to_join, is_digest_of, is_not_the_owner, limits_of_login, name_given, password_given}
 use Rattle.mum_rules_user.specs.Outcome.{answer_frame, outcome}
 use Rattle.mum_rules_user.specs.Reasons.{reasons}
-use Rattle.mum_rules_user.specs.Verdict.{asker_for, user_verdict}
+use Rattle.mum_rules_user.specs.Verdict.{actor_for, user_verdict}
 
 -- ---- a session
 
@@ -63,7 +63,7 @@ answer_lacks_not : (id : ChannelId) (held : Option ℕ) (perm : Perm) (channel :
 answer_lacks_not id None perm channel is = cc
 answer_lacks_not id (Some held) perm channel is = cc
 
-outcome_lacks_not : (state : StateValue) (who : Asker) (actor : SessionId) (command : Command) (perm : Perm) (channel : ChannelId) → outcome state who actor command ≡ Lacks perm channel → ⊥
+outcome_lacks_not : (state : StateValue) (who : Actor) (actor : SessionId) (command : Command) (perm : Perm) (channel : ChannelId) → outcome state who actor command ≡ Lacks perm channel → ⊥
 outcome_lacks_not state who actor (Command.renew message) perm channel is = cc
 outcome_lacks_not state who actor (Command.change session message) perm channel is = cc
 outcome_lacks_not state who actor (Command.kick session message) perm channel is = cc
@@ -75,14 +75,14 @@ outcome_lacks_not state who actor Command.leave perm channel is = cc
 pub names_first_missing_lem : NamesFirstMissing
 names_first_missing_lem state actor message perm channel is =
     let command = command_of actor message in
-    let who = asker_for state actor message in
+    let who = actor_for state actor message in
     let (none, (lack, some, same_perm, same_channel)) = lacking_at (first_standing (reasons state (Some actor) message)) (first_lack state (needs_of state actor message)) (first_standing (limits state actor command)) (outcome state who actor command) perm channel (outcome_lacks_not state who actor command perm channel) is in
     (none_stands (reasons state (Some actor) message) none, first_missing state (needs_of state actor message) lack perm channel some same_perm same_channel)
 
 pub clear : (state : StateValue) (actor : SessionId) (message : UserMessage) (edit : Edit) → user_verdict state (Some actor) message ≡ Accepted edit → AreClear (first_standing (reasons state (Some actor) message)) (first_lack state (needs_of state actor message)) (first_standing (limits state actor (command_of actor message)))
 clear state actor message edit is =
     accepted_at (first_standing (reasons state (Some actor) message)) (first_lack state (needs_of state actor message)) (first_standing (limits state actor (command_of actor message)))
-    (outcome state (asker_for state actor message) actor (command_of actor message)) edit is
+    (outcome state (actor_for state actor message) actor (command_of actor message)) edit is
 
 pub accepts_where_nothing_stands_lem : AcceptsWhereNothingStands
 accepts_where_nothing_stands_lem state actor message edit is =
@@ -95,7 +95,7 @@ answer_refuses_not : (id : ChannelId) (held : Option ℕ) (kind : ℕ) → optio
 answer_refuses_not id None kind is = cc
 answer_refuses_not id (Some held) kind is = cc
 
-outcome_refuses_not : (state : StateValue) (who : Asker) (actor : SessionId) (command : Command) (kind : ℕ) → outcome state who actor command ≡ Refused kind → ⊥
+outcome_refuses_not : (state : StateValue) (who : Actor) (actor : SessionId) (command : Command) (kind : ℕ) → outcome state who actor command ≡ Refused kind → ⊥
 outcome_refuses_not state who actor (Command.renew message) kind is = cc
 outcome_refuses_not state who actor (Command.change session message) kind is = cc
 outcome_refuses_not state who actor (Command.kick session message) kind is = cc
@@ -107,7 +107,7 @@ outcome_refuses_not state who actor Command.leave kind is = cc
 pub refuses_for_first_limit_lem : RefusesForFirstLimit
 refuses_for_first_limit_lem state actor message kind is =
     let command = command_of actor message in
-    let who = asker_for state actor message in
+    let who = actor_for state actor message in
     let (none, met, (limit, some, code)) = refused_at (first_standing (reasons state (Some actor) message)) (first_lack state (needs_of state actor message)) (first_standing (limits state actor command)) (outcome state who actor command) kind (outcome_refuses_not state who actor command kind) is in
     (none_stands (reasons state (Some actor) message) none, all_met_where state (needs_of state actor message) met, (limit, code, first_of (limits state actor command) limit some))
 

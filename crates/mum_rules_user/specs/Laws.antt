@@ -16,19 +16,19 @@ use Rattle.mum_state.specs.declared.verdict.Verdict.TheVariants.{Accepted, Lacks
 use Rattle.mum_state.specs.State.{StateValue, account_named}
 use Rattle.mum_rules_tree.specs.Decision.{Need, is_open, way}
 use Rattle.mum_rules_tree.specs.Laws.{AllMet, IsFirstMissing, IsFirstStanding, NoneStands}
-use Rattle.mum_rules_tree.specs.Verdict.{asker_named}
+use Rattle.mum_rules_tree.specs.Verdict.{actor_named}
 use Rattle.mum_rules_user.specs.Asked.{channel_of, command_of, is_oneself, new_channel, rules_speech, session_or, sets_own}
 use Rattle.mum_rules_user.specs.Limits.{is_super_user, limits}
 use Rattle.mum_rules_user.specs.Login.{is_digest_of, limits_of_login, name_given, password_given}
 use Rattle.mum_rules_user.specs.Needs.{needs}
 use Rattle.mum_rules_user.specs.Reasons.{reasons}
-use Rattle.mum_rules_user.specs.Verdict.{asker_for, user_verdict}
+use Rattle.mum_rules_user.specs.Verdict.{actor_for, user_verdict}
 use Rattle.mum_rules_user.specs.declared.message.UserMessage.{UserMessage}
 use Rattle.mum_rules_user.specs.declared.message.UserMessage.TheVariants.{Join, Kick, User}
 
 -- what this message of a session needs
 abbrev pub needs_of : StateValue → SessionId → UserMessage → List Need
-needs_of state actor message = needs state (asker_for state actor message) actor (command_of actor message)
+needs_of state actor message = needs state (actor_for state actor message) actor (command_of actor message)
 
 -- a denial names the first permission that is missing, and comes only where there is no reason to ignore the message
 abbrev pub NamesFirstMissing : Type 0
@@ -99,7 +99,7 @@ EntersWherePermitted =
     → user_verdict state (Some actor) (User message) ≡ Accepted edit
     → is_oneself actor (session_or actor message.session) ≡ true
     → new_channel state.roster (session_or actor message.session) message ≡ Some there
-    → IsTrue (is_open state (way (asker_for state actor (User message)) ENTER there) || is_open state (way (asker_for state actor (User message)) MOVE there))
+    → IsTrue (is_open state (way (actor_for state actor (User message)) ENTER there) || is_open state (way (actor_for state actor (User message)) MOVE there))
 
 -- whoever moves another session has Move in its channel, and has Move in the new one, or the other has Enter there
 abbrev pub MovesWherePermitted : Type 0
@@ -108,8 +108,8 @@ MovesWherePermitted =
     → user_verdict state (Some actor) (User message) ≡ Accepted edit
     → is_oneself actor (session_or actor message.session) ≡ false
     → new_channel state.roster (session_or actor message.session) message ≡ Some there
-    → IsTrue (is_open state (way (asker_for state actor (User message)) MOVE (channel_of state.roster (session_or actor message.session))))
-    × IsTrue (is_open state (way (asker_for state actor (User message)) MOVE there) || is_open state (way (asker_named state (session_or actor message.session)) ENTER there))
+    → IsTrue (is_open state (way (actor_for state actor (User message)) MOVE (channel_of state.roster (session_or actor message.session))))
+    × IsTrue (is_open state (way (actor_for state actor (User message)) MOVE there) || is_open state (way (actor_named state (session_or actor message.session)) ENTER there))
 
 -- whoever mutes or deafens a session, lets it speak or gives it priority has MuteDeafen in its channel
 abbrev pub RulesSpeechWherePermitted : Type 0
@@ -117,7 +117,7 @@ RulesSpeechWherePermitted =
     (state : StateValue) (actor : SessionId) (message : UserState) (edit : Edit)
     → user_verdict state (Some actor) (User message) ≡ Accepted edit
     → rules_speech message ≡ true
-    → IsTrue (is_open state (way (asker_for state actor (User message)) MUTE_DEAFEN (channel_of state.roster (session_or actor message.session))))
+    → IsTrue (is_open state (way (actor_for state actor (User message)) MUTE_DEAFEN (channel_of state.roster (session_or actor message.session))))
 
 -- nobody sets for another session what each session sets for itself
 abbrev pub LeavesOwnToOthers : Type 0

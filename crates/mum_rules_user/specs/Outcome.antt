@@ -11,7 +11,7 @@ use Rattle.mum_msg_rule.specs.declared.text_message.TextMessage.{TextMessage}
 use Rattle.mum_msg_rule.specs.Messages.{permission_query}
 use Rattle.mum_msg_state.specs.declared.user_remove.UserRemove.{UserRemove}
 use Rattle.mum_msg_state.specs.declared.user_state.UserState.{UserState}
-use Rattle.mum_policy.specs.Member.{Asker}
+use Rattle.mum_policy.specs.Member.{Actor}
 use Rattle.mum_users.specs.State.{RosterState}
 use Rattle.mum_state.specs.declared.edit.Edit.{Edit}
 use Rattle.mum_state.specs.declared.edit.Edit.TheVariants.{Kick, Leave, SetTarget, SetTokens, SetUser, Text}
@@ -47,11 +47,11 @@ unfoldable pub answer_frame : ChannelId → ℕ → Frame
 answer_frame id held = record { kind = PERMISSION_QUERY; payload = spelled permission_query (permissions_told id held) }
 
 -- what whoever asks may do in the channel, which is there
-abbrev pub answer_to_query : StateValue → Asker → ChannelId → Verdict
+abbrev pub answer_to_query : StateValue → Actor → ChannelId → Verdict
 answer_to_query state who id =
     option_map_or (λ held. Answer (answer_frame id held)) (granted_where_there state who id) (Ignored (reason_code NotThere))
 
-abbrev pub outcome : StateValue → Asker → SessionId → Command → Verdict
+abbrev pub outcome : StateValue → Actor → SessionId → Command → Verdict
 outcome state who actor (Command.renew message) = Accepted (SetTokens actor (tokens_kept message.tokens))
 outcome state who actor (Command.change session message) = Accepted (edit_to_change state.roster actor session message)
 outcome state who actor (Command.kick session message) = Accepted (edit_to_kick actor session message)

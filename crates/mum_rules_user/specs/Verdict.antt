@@ -3,7 +3,7 @@ use Rattle.std.specs.Prelude.{ℕ, List, [], Option, Some, None}
 use Rattle.std.specs.Option.{option_map_or}
 use Rattle.mum_base.specs.declared.number.SessionId.{SessionId}
 use Rattle.mum_msg_state.specs.declared.authenticate.Authenticate.{Authenticate}
-use Rattle.mum_policy.specs.Member.{Asker}
+use Rattle.mum_policy.specs.Member.{Actor}
 use Rattle.mum_users.specs.Sessions.{session_of}
 use Rattle.mum_state.specs.declared.verdict.Verdict.{Verdict}
 use Rattle.mum_state.specs.declared.verdict.Verdict.TheVariants.{Accepted, Ignored, Rejected}
@@ -11,7 +11,7 @@ use Rattle.mum_state.specs.State.{StateValue}
 use Rattle.mum_base.specs.Codes.{reason_code}
 use Rattle.mum_rules_tree.specs.Decision.{Case, first_standing, unless_ignored, unless_lacking, unless_refused}
 use Rattle.mum_rules_tree.specs.Tokens.{tokens_for_once}
-use Rattle.mum_state.specs.Permissions.{asker_with}
+use Rattle.mum_state.specs.Permissions.{actor_with}
 use Rattle.mum_rules_tree.specs.Verdict.{nobody}
 use Rattle.mum_base.specs.declared.outcome.Reason.TheVariants.{NotLoggedIn}
 use Rattle.mum_rules_user.specs.Asked.{Command, command_of}
@@ -33,13 +33,13 @@ abbrev pub tokens_brought : UserMessage → List (List ℕ)
 tokens_brought (User message) = message.temporary_access_tokens
 tokens_brought message = []
 
--- who asks: the session, with these tokens too
-abbrev pub asker_for : StateValue → SessionId → UserMessage → Asker
-asker_for state actor message =
-    option_map_or (λ user. asker_with state.tree user (tokens_for_once user.tokens (tokens_brought message))) (session_of state.roster actor) nobody
+-- the actor: the session, with these tokens too
+abbrev pub actor_for : StateValue → SessionId → UserMessage → Actor
+actor_for state actor message =
+    option_map_or (λ user. actor_with state.tree user (tokens_for_once user.tokens (tokens_brought message))) (session_of state.roster actor) nobody
 
 -- what is decided of a command for which there is no reason to ignore it
-abbrev pub command_verdict : StateValue → Asker → SessionId → Command → Verdict
+abbrev pub command_verdict : StateValue → Actor → SessionId → Command → Verdict
 command_verdict state who actor command =
     unless_lacking state (needs state who actor command) (unless_refused (limits state actor command) (outcome state who actor command))
 
@@ -48,7 +48,7 @@ login_verdict state version message = unless_rejected (limits_of_login state ver
 
 -- whoever has no session asks for nothing but a login
 abbrev pub heard_verdict : StateValue → Option SessionId → UserMessage → Verdict
-heard_verdict state (Some actor) message = command_verdict state (asker_for state actor message) actor (command_of actor message)
+heard_verdict state (Some actor) message = command_verdict state (actor_for state actor message) actor (command_of actor message)
 heard_verdict state None (Join message version) = login_verdict state version message
 heard_verdict state None message = Ignored (reason_code NotLoggedIn)
 

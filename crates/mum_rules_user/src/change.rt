@@ -2,7 +2,7 @@
 
 ghost use Rattle.std.specs.Prelude.{◌≡◌, IfOk, IsTrue};
 ghost use Rattle.std.specs.List.{list_any};
-ghost use Rattle.mum_policy.specs.Member.{asker_of};
+ghost use Rattle.mum_policy.specs.Member.{actor_of};
 ghost use Rattle.mum_users.specs.Sessions.{session_of};
 ghost use Rattle.mum_users.specs.State.{has_number};
 ghost use Rattle.mum_state.specs.Fits.{holds_of_given};
@@ -35,7 +35,7 @@ fn need_for_change(
     message: &UserState,
 ) -> Result<(), Lack>
     ensures { result ≡ all_met state.now
-        (needs state.now (asker_of who.now) who.now.session (Command.change session message.now)) }
+        (needs state.now (actor_of who.now) who.now.session (Command.change session message.now)) }
 {
     need_to_move(state, who, session, message)?;
     need_to_rule_speech(state, who, session, message)?;
@@ -134,7 +134,7 @@ pub(crate) fn decide_change(
 ) -> Result<Verdict, OutOfMemory>
     requires { IsTrue (list_any (has_number (session_or who.now.session message.now.session))
         state.now.roster.sessions) }
-    ensures { IfOk result (λ verdict. verdict ≡ command_verdict state.now (asker_of who.now)
+    ensures { IfOk result (λ verdict. verdict ≡ command_verdict state.now (actor_of who.now)
         who.now.session
         (Command.change (session_or who.now.session message.now.session) message.now)) }
 {

@@ -2,12 +2,12 @@
 
 ghost use Rattle.std.specs.Prelude.{◌≡◌, IfOk, IsTrue, None, Some};
 ghost use Rattle.std.specs.List.{list_any};
-ghost use Rattle.mum_policy.specs.Member.{asker_of};
+ghost use Rattle.mum_policy.specs.Member.{actor_of};
 ghost use Rattle.mum_users.specs.Sessions.{session_of};
 ghost use Rattle.mum_users.specs.State.{has_number};
 ghost use Rattle.mum_rules_tree.specs.Decision.{FitsWhereAccepted};
 ghost use Rattle.mum_rules_tree.specs.Tokens.{tokens_for_once};
-ghost use Rattle.mum_state.specs.Permissions.{asker_with};
+ghost use Rattle.mum_state.specs.Permissions.{actor_with};
 ghost use Rattle.mum_rules_user.specs.Asked.{command_of, names_there};
 ghost use Rattle.mum_rules_user.specs.Verdict.{command_verdict, tokens_brought, user_verdict};
 
@@ -35,7 +35,7 @@ fn decide_command(
 ) -> Result<Verdict, OutOfMemory>
     requires actor { IsTrue (list_any (has_number who.now.session) state.now.roster.sessions) }
     requires named { IsTrue (names_there state.now message.now) }
-    ensures { IfOk result (λ verdict. verdict ≡ command_verdict state.now (asker_of who.now)
+    ensures { IfOk result (λ verdict. verdict ≡ command_verdict state.now (actor_of who.now)
         who.now.session (command_of who.now.session message.now)) }
 {
     match message {
@@ -62,7 +62,7 @@ fn decide_with_tokens(
     requires actor { session_of state.now.roster user.now.session ≡ Some user.now }
     requires named { IsTrue (names_there state.now message.now) }
     ensures { IfOk result (λ verdict. verdict ≡ command_verdict state.now
-        (asker_with state.now.tree user.now (tokens_for_once user.now.tokens tokens.now))
+        (actor_with state.now.tree user.now (tokens_for_once user.now.tokens tokens.now))
         user.now.session (command_of user.now.session message.now)) }
 {
     let home = home_of(state.tree(), user);

@@ -1,7 +1,7 @@
 //! Who is put out.
 
 ghost use Rattle.std.specs.Prelude.{◌≡◌, IfOk};
-ghost use Rattle.mum_policy.specs.Member.{asker_of};
+ghost use Rattle.mum_policy.specs.Member.{actor_of};
 ghost use Rattle.mum_rules_tree.specs.Decision.{all_met};
 ghost use Rattle.mum_rules_user.specs.Asked.{Command, session_or};
 ghost use Rattle.mum_rules_user.specs.Needs.{is_ban, needs_to_kick};
@@ -24,7 +24,7 @@ fn is_ban(message: &UserRemove) -> bool
 
 /// Kick or Ban on the root, of which a denial names Kick; and then, for a ban, Ban.
 fn need_to_kick(state: &State, who: &Who<'_>, message: &UserRemove) -> Result<(), Lack>
-    ensures { result ≡ all_met state.now (needs_to_kick (asker_of who.now) message.now) }
+    ensures { result ≡ all_met state.now (needs_to_kick (actor_of who.now) message.now) }
 {
     if !may_either(state, who, Perm::KICK, Perm::BAN, ChannelId::ROOT) {
         return Err(Lack {
@@ -46,7 +46,7 @@ pub(crate) fn decide_kick(
     who: &Who<'_>,
     message: &UserRemove,
 ) -> Result<Verdict, OutOfMemory>
-    ensures { IfOk result (λ verdict. verdict ≡ command_verdict state.now (asker_of who.now)
+    ensures { IfOk result (λ verdict. verdict ≡ command_verdict state.now (actor_of who.now)
         who.now.session
         (Command.kick (session_or who.now.session message.now.session) message.now)) }
 {

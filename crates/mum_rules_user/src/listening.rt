@@ -3,7 +3,7 @@
 ghost use Rattle.std.specs.Prelude.{◌≡◌, IsTrue, map};
 ghost use Rattle.std.specs.List.{list_any};
 ghost use Rattle.mum_base.specs.declared.perm.TheConstants.Perm.{LISTEN};
-ghost use Rattle.mum_policy.specs.Member.{asker_of};
+ghost use Rattle.mum_policy.specs.Member.{actor_of};
 ghost use Rattle.mum_users.specs.Edit.{user_edit_of};
 ghost use Rattle.mum_users.specs.State.{has_number};
 ghost use Rattle.mum_rules_tree.specs.Decision.{all_met, first_standing, need};
@@ -32,7 +32,7 @@ const NO_FLAGS: FlagChange = FlagChange {
 /// Listen in each of these channels.
 pub(crate) fn need_to_listen(state: &State, who: &Who<'_>, numbers: &[u32]) -> Result<(), Lack>
     ensures { result ≡ all_met state.now
-        (map (need (asker_of who.now) LISTEN) (channels numbers.now)) }
+        (map (need (actor_of who.now) LISTEN) (channels numbers.now)) }
 {
     let mut met = MetPlaces::none();
     for number in numbers {

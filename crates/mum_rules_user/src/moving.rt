@@ -3,10 +3,10 @@
 ghost use Rattle.std.specs.Prelude.{◌≡◌, ◌∷◌, [], count_by, false};
 ghost use Rattle.std.specs.Option.{option_map_or};
 ghost use Rattle.mum_base.specs.declared.number.TheConstants.{ChannelId.ROOT};
-ghost use Rattle.mum_policy.specs.Member.{asker_of};
+ghost use Rattle.mum_policy.specs.Member.{actor_of};
 ghost use Rattle.mum_users.specs.State.{is_in};
 ghost use Rattle.mum_rules_tree.specs.Decision.{all_met, is_met};
-ghost use Rattle.mum_rules_tree.specs.Verdict.{asker_named, nobody};
+ghost use Rattle.mum_rules_tree.specs.Verdict.{actor_named, nobody};
 ghost use Rattle.mum_rules_user.specs.Asked.{channel_of, new_channel};
 ghost use Rattle.mum_rules_user.specs.Limits.{room_of, takes_nobody};
 ghost use Rattle.mum_rules_user.specs.Needs.{either_way, needs_to_bring, needs_to_enter, needs_to_move};
@@ -44,7 +44,7 @@ pub(crate) fn may_either(
     channel: ChannelId,
 ) -> bool
     ensures { result
-        ≡ is_met state.now (either_way first (asker_of who.now) second (asker_of who.now) channel) }
+        ≡ is_met state.now (either_way first (actor_of who.now) second (actor_of who.now) channel) }
 {
     match state.granted_to(who, channel) {
         Some(held) => held.has(first) || held.has(second),
@@ -54,7 +54,7 @@ pub(crate) fn may_either(
 
 /// Enter or Move there. A denial names Enter.
 fn need_to_enter(state: &State, who: &Who<'_>, there: ChannelId) -> Result<(), Lack>
-    ensures { result ≡ all_met state.now (needs_to_enter (asker_of who.now) there) }
+    ensures { result ≡ all_met state.now (needs_to_enter (actor_of who.now) there) }
 {
     if may_either(state, who, Perm::ENTER, Perm::MOVE, there) {
         Ok(())
@@ -74,7 +74,7 @@ fn need_to_bring(
     there: ChannelId,
 ) -> Result<(), Lack>
     ensures { result ≡ all_met state.now
-        (needs_to_bring (asker_of who.now) (asker_of moved.now) moved.now.channel there) }
+        (needs_to_bring (actor_of who.now) (actor_of moved.now) moved.now.channel there) }
 {
     need(state, who, Perm::MOVE, moved.channel)?;
     if may(state, who, Perm::MOVE, there) || may(state, moved, Perm::ENTER, there) {
@@ -89,7 +89,7 @@ fn need_to_bring(
 
 /// Whoever is gone is in the root and has nothing.
 fn nobody<'a>(session: SessionId) -> Who<'a>
-    ensures asker { asker_of result ≡ nobody }
+    ensures actor { actor_of result ≡ nobody }
     ensures channel { result.channel ≡ ROOT }
 {
     Who {
@@ -108,7 +108,7 @@ fn need_to_bring_named(
     session: SessionId,
     there: ChannelId,
 ) -> Result<(), Lack>
-    ensures { result ≡ all_met state.now (needs_to_bring (asker_of who.now) (asker_named state.now session)
+    ensures { result ≡ all_met state.now (needs_to_bring (actor_of who.now) (actor_named state.now session)
         (channel_of state.now.roster session) there) }
 {
     match state.roster().session(session) {
@@ -128,7 +128,7 @@ pub(crate) fn need_to_move(
     message: &UserState,
 ) -> Result<(), Lack>
     ensures { result ≡ all_met state.now
-        (needs_to_move state.now (asker_of who.now) who.now.session session message.now) }
+        (needs_to_move state.now (actor_of who.now) who.now.session session message.now) }
 {
     let roster = state.roster();
     let Some(there) = new_channel(roster, session, message) else {

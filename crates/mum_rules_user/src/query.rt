@@ -1,7 +1,7 @@
 //! Queries for permissions.
 
 ghost use Rattle.std.specs.Prelude.{◌≡◌, IfOk};
-ghost use Rattle.mum_policy.specs.Member.{asker_of};
+ghost use Rattle.mum_policy.specs.Member.{actor_of};
 ghost use Rattle.mum_rules_tree.specs.Asked.{channel_or_root};
 ghost use Rattle.mum_rules_user.specs.Asked.{Command};
 ghost use Rattle.mum_rules_user.specs.Outcome.{answer_frame};
@@ -38,7 +38,7 @@ pub(crate) fn decide_query(
     who: &Who<'_>,
     message: &PermissionQuery,
 ) -> Result<Verdict, OutOfMemory>
-    ensures { IfOk result (λ verdict. verdict ≡ command_verdict state.now (asker_of who.now)
+    ensures { IfOk result (λ verdict. verdict ≡ command_verdict state.now (actor_of who.now)
         who.now.session (Command.query (channel_or_root message.now.channel_id))) }
 {
     let id = channel_or_root(message.channel_id);

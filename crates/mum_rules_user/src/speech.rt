@@ -1,7 +1,7 @@
 //! Who is heard: flags that others set.
 
 ghost use Rattle.std.specs.Prelude.{◌≡◌};
-ghost use Rattle.mum_policy.specs.Member.{asker_of};
+ghost use Rattle.mum_policy.specs.Member.{actor_of};
 ghost use Rattle.mum_rules_tree.specs.Decision.{all_met};
 ghost use Rattle.mum_rules_user.specs.Asked.{clears_suppression, rules_speech};
 ghost use Rattle.mum_rules_user.specs.Needs.{needs_to_rule_speech};
@@ -38,7 +38,7 @@ pub(crate) fn need_to_rule_speech(
     message: &UserState,
 ) -> Result<(), Lack>
     ensures { result ≡ all_met state.now
-        (needs_to_rule_speech state.now (asker_of who.now) session message.now) }
+        (needs_to_rule_speech state.now (actor_of who.now) session message.now) }
 {
     if rules_speech(message) {
         let here = channel_of(state.roster(), session);

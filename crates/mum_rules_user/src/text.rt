@@ -2,7 +2,7 @@
 
 ghost use Rattle.std.specs.Prelude.{◌≡◌, IfOk, map};
 ghost use Rattle.mum_base.specs.declared.perm.TheConstants.Perm.{TEXT_MESSAGE};
-ghost use Rattle.mum_policy.specs.Member.{asker_of};
+ghost use Rattle.mum_policy.specs.Member.{actor_of};
 ghost use Rattle.mum_rules_tree.specs.Decision.{all_met, need, AreMet};
 ghost use Rattle.mum_rules_user.specs.Asked.{Command, channels_of, channels_there, channels_told, session_numbered};
 ghost use Rattle.mum_rules_user.specs.Outcome.{edit_to_tell};
@@ -23,10 +23,10 @@ fn need_at_sessions(
     numbers: &[u32],
     met: &mut MetPlaces,
 ) -> Result<(), Lack>
-    requires { AreMet state.now (asker_of who.now) TEXT_MESSAGE met.old.marks }
+    requires { AreMet state.now (actor_of who.now) TEXT_MESSAGE met.old.marks }
     ensures value { result ≡ all_met state.now
-        (map (need (asker_of who.now) TEXT_MESSAGE) (channels_of state.now.roster numbers.now)) }
-    ensures kept { AreMet state.now (asker_of who.now) TEXT_MESSAGE met.new.marks }
+        (map (need (actor_of who.now) TEXT_MESSAGE) (channels_of state.now.roster numbers.now)) }
+    ensures kept { AreMet state.now (actor_of who.now) TEXT_MESSAGE met.new.marks }
 {
     let roster = state.roster();
     for number in numbers {
@@ -44,10 +44,10 @@ fn need_in_channels(
     numbers: &[u32],
     met: &mut MetPlaces,
 ) -> Result<(), Lack>
-    requires { AreMet state.now (asker_of who.now) TEXT_MESSAGE met.old.marks }
+    requires { AreMet state.now (actor_of who.now) TEXT_MESSAGE met.old.marks }
     ensures value { result ≡ all_met state.now
-        (map (need (asker_of who.now) TEXT_MESSAGE) (channels_there state.now numbers.now)) }
-    ensures kept { AreMet state.now (asker_of who.now) TEXT_MESSAGE met.new.marks }
+        (map (need (actor_of who.now) TEXT_MESSAGE) (channels_there state.now numbers.now)) }
+    ensures kept { AreMet state.now (actor_of who.now) TEXT_MESSAGE met.new.marks }
 {
     let tree = state.tree();
     for number in numbers {
@@ -67,7 +67,7 @@ fn need_in_channels(
 /// For sessions first, then for channels, then for trees.
 fn need_to_tell(state: &State, who: &Who<'_>, message: &TextMessage) -> Result<(), Lack>
     ensures { result ≡ all_met state.now
-        (map (need (asker_of who.now) TEXT_MESSAGE) (channels_told state.now message.now)) }
+        (map (need (actor_of who.now) TEXT_MESSAGE) (channels_told state.now message.now)) }
 {
     let mut met = MetPlaces::none();
     need_at_sessions(state, who, message.session.as_slice(), &mut met)?;
@@ -105,7 +105,7 @@ pub(crate) fn decide_text(
     who: &Who<'_>,
     message: &TextMessage,
 ) -> Result<Verdict, OutOfMemory>
-    ensures { IfOk result (λ verdict. verdict ≡ command_verdict state.now (asker_of who.now)
+    ensures { IfOk result (λ verdict. verdict ≡ command_verdict state.now (actor_of who.now)
         who.now.session (Command.text message.now)) }
 {
     if let Err(lack) = need_to_tell(state, who, message) {

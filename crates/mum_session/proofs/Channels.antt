@@ -18,7 +18,7 @@ use Rattle.mum_rules_tree.specs.Limits.{limits as limits_of_tree}
 use Rattle.mum_rules_tree.specs.Needs.{needs as needs_of_tree}
 use Rattle.mum_rules_tree.specs.Outcome.{answer_frame as answer_of_tree, outcome as outcome_of_tree}
 use Rattle.mum_rules_tree.specs.Reasons.{reasons as reasons_of_tree}
-use Rattle.mum_rules_tree.specs.Verdict.{asker_named, tree_verdict}
+use Rattle.mum_rules_tree.specs.Verdict.{actor_named, tree_verdict}
 
 pub record Holds (P : Verdict → Type 0) : Type 0 where
   pub ignored : (why : ℕ) → P (Ignored why)
@@ -46,6 +46,6 @@ outcome_holds P h state actor (TreeCommand.set id message) = h.ruled _ _ _
 pub tree_holds : (P : Verdict → Type 0) → Holds P → (state : StateValue) (actor : SessionId) (message : TreeMessage) → P (tree_verdict state actor message)
 tree_holds P h state actor message =
     unless P _ (first_standing (reasons_of_tree state actor message)) _ (λ reason. h.ignored _)
-    (unless P _ (first_lack state (needs_of_tree state.tree (asker_named state actor) (tree_command_of message))) _ (λ lack. h.lacks _ _)
+    (unless P _ (first_lack state (needs_of_tree state.tree (actor_named state actor) (tree_command_of message))) _ (λ lack. h.lacks _ _)
     (unless P _ (first_standing (limits_of_tree state (tree_command_of message))) _ (λ kind. h.refused _)
     (outcome_holds P h state actor (tree_command_of message))))

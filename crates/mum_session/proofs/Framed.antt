@@ -12,7 +12,7 @@ use Rattle.mum_msg_rule.specs.Messages.{text_message}
 use Rattle.mum_msg_rule.specs.declared.text_message.TextMessage.{TextMessage}
 use Rattle.mum_msg_state.specs.Messages.{user_remove}
 use Rattle.mum_msg_state.specs.declared.user_remove.UserRemove.{UserRemove}
-use Rattle.mum_policy.specs.Member.{Asker}
+use Rattle.mum_policy.specs.Member.{Actor}
 use Rattle.mum_state.specs.declared.verdict.Verdict.{Verdict}
 use Rattle.mum_state.specs.declared.verdict.Verdict.TheVariants.{Answer}
 use Rattle.mum_state.specs.Permissions.{granted_where_there}
@@ -31,7 +31,7 @@ use Rattle.mum_rules_user.specs.Login.{limits_of_login}
 use Rattle.mum_rules_user.specs.Needs.{is_ban, needs}
 use Rattle.mum_rules_user.specs.Outcome.{answer_frame, answer_to_query, edit_to_kick, edit_to_tell, outcome}
 use Rattle.mum_rules_user.specs.Reasons.{reasons}
-use Rattle.mum_rules_user.specs.Verdict.{asker_for, heard_verdict, user_verdict}
+use Rattle.mum_rules_user.specs.Verdict.{actor_for, heard_verdict, user_verdict}
 use Rattle.mum_notify.specs.Channels.{numbers, said_unless}
 use Rattle.mum_notify.specs.Gone.{user_kicked}
 use Rattle.mum_notify.specs.Notices.{FitsFrame}
@@ -126,10 +126,10 @@ kick_fits actor session sent short =
 abbrev IsTold : Verdict → Type 0
 IsTold decided = AllByRecursion FitsFrame (edits_of decided)
 
-answer_told : (state : StateValue) (who : Asker) (id : ChannelId) → IsTold (answer_to_query state who id)
+answer_told : (state : StateValue) (who : Actor) (id : ChannelId) → IsTold (answer_to_query state who id)
 answer_told state who id = unless IsTold (λ held. Answer (answer_frame id held)) (granted_where_there state who id) _ (λ held. tt) tt
 
-outcome_told : (state : StateValue) (who : Asker) (actor : SessionId) (message : UserMessage) → length (payload_of message) ≤ COMMAND_LIMIT → IsTold (outcome state who actor (command_of actor message))
+outcome_told : (state : StateValue) (who : Actor) (actor : SessionId) (message : UserMessage) → length (payload_of message) ≤ COMMAND_LIMIT → IsTold (outcome state who actor (command_of actor message))
 unfolding payload_of
 outcome_told state who actor (Join message version) short = (tt, tt)
 outcome_told state who actor (User message) short = (tt, tt)
@@ -141,9 +141,9 @@ outcome_told state who actor Leave short = (tt, tt)
 
 heard_told : (state : StateValue) (session : Option SessionId) (message : UserMessage) → length (payload_of message) ≤ COMMAND_LIMIT → IsTold (heard_verdict state session message)
 heard_told state (Some actor) message short =
-    unless IsTold _ (first_lack state (needs state (asker_for state actor message) actor (command_of actor message))) _ (λ lack. tt)
+    unless IsTold _ (first_lack state (needs state (actor_for state actor message) actor (command_of actor message))) _ (λ lack. tt)
     (unless IsTold _ (first_standing (limits state actor (command_of actor message))) _ (λ kind. tt)
-    (outcome_told state (asker_for state actor message) actor message short))
+    (outcome_told state (actor_for state actor message) actor message short))
 heard_told state None (Join message version) short =
     unless IsTold _ (first_standing (limits_of_login state version message)) _ (λ kind. tt) (tt, tt)
 heard_told state None (User message) short = tt

@@ -1,4 +1,4 @@
--- What the asker and its worker are answered by a verdict.
+-- What the actor and its worker are answered by a verdict.
 use Rattle.std.specs.Prelude.{◌≡◌, ℕ, nat_le, List, [], length, Option, Some, if◌then◌else◌}
 use Rattle.std.specs.Option.{option_map_or}
 use Rattle.mum_base.specs.declared.number.{AccountId.AccountId, SessionId.SessionId, Slot.Slot}
@@ -43,6 +43,6 @@ frame_of session others = denial session others
 abbrev pub sendable : Frame → List ℕ
 sendable frame = if nat_le (length frame.payload) PAYLOAD_LIMIT then frame_spelling frame else []
 
--- the bytes that the asker is sent; none where there is no frame
+-- the bytes that the actor is sent; none where there is no frame
 abbrev pub wire : Option SessionId → Verdict → List ℕ
 wire session verdict = option_map_or sendable (frame_of session verdict) []

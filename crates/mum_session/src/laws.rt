@@ -39,7 +39,7 @@ pub fn replies_end()
         → (reply_end verdict ≡ ends.Rejected) ↔ ((kind : ℕ) × (verdict ≡ Rejected kind)) }
 {}
 
-/// For an accepted and for an ignored command the asker is sent nothing.
+/// For an accepted and for an ignored command the actor is sent nothing.
 pub fn silent_verdicts()
     ensures accepted { (session : Option SessionId) (edit : Edit) → wire session (Accepted edit) ≡ [] }
     ensures ignored { (session : Option SessionId) (why : ℕ) → wire session (Ignored why) ≡ [] }

@@ -1,6 +1,6 @@
 //! The machine of a connection: what each frame of it asks for, by what the connection sent before and
 //! by whether it is logged in. A frame is decoded in this crate alone. Here too is what is decided of a
-//! command, and what its asker is answered: the core and the control owner decide by the same functions.
+//! command, and what its actor_from is answered: the core and the control owner decide by the same functions.
 #![tactic(auto)]
 
 mod action;

@@ -1,4 +1,4 @@
-//! What a verdict is to the asker: the outcome, how its wait ends, and the bytes that it is sent.
+//! What a verdict is to the actor: the outcome, how its wait ends, and the bytes that it is sent.
 
 ghost use Rattle.std.specs.Prelude.{◌≡◌, [], IfOk};
 ghost use Rattle.std.specs.Option.{option_map_or};
@@ -68,7 +68,7 @@ fn denied(
     }
 }
 
-/// The bytes that the asker, who may have a session, is sent: the frame of a denial, of a rejection or of
+/// The bytes that the actor, who may have a session, is sent: the frame of a denial, of a rejection or of
 /// an answer. There are none for an accepted or an ignored command, nor where the payload of the frame
 /// is longer than the limit of frames.
 pub fn wire_of(

@@ -1,29 +1,29 @@
 use Rattle.std.proofs.Common.{◌≡◌, List, Some, ap, sym, ◌∙◌}
 use Rattle.mum_base.specs.declared.number.ChannelId.{ChannelId}
-use Rattle.mum_policy.specs.Member.{asker_of}
+use Rattle.mum_policy.specs.Member.{actor_of}
 use Rattle.mum_users.specs.Sessions.{session_of}
 use Rattle.mum_users.specs.State.{RosterState}
 use Rattle.mum_tree.specs.State.{TreeState}
 use Rattle.mum_rules_tree.specs.Asked.{command_of, names_there}
-use Rattle.mum_state.specs.Permissions.{asker_at, home}
+use Rattle.mum_state.specs.Permissions.{actor_at, home}
 use Rattle.mum_rules_tree.specs.Verdict.{command_verdict, tree_verdict}
 use Rattle.mum_rules_tree.proofs.Heard.{decided, fitting, heard_verdict}
 use Rattle.mum_rules_tree.proofs.decide.decide_tree.Goals as goal
 
-as_decided : (c : goal.After-decide_command) → command_verdict c.args.state.now (asker_of c.who_is-who.result) c.who_is-who.result.session (command_of c.args.message.now) ≡ tree_verdict c.args.state.now c.args.actor c.args.message.now
+as_decided : (c : goal.After-decide_command) → command_verdict c.args.state.now (actor_of c.who_is-who.result) c.who_is-who.result.session (command_of c.args.message.now) ≡ tree_verdict c.args.state.now c.args.actor c.args.message.now
 as_decided c =
     let state = c.args.state.now in
     let user = c.in-Some.user.now in
     let found : session_of state.roster c.args.actor ≡ Some user = sym (c.in-Some.ensures.row ∙ ap (λ (r : RosterState). session_of r c.args.actor) c.roster.ensures.roster) in
     let named = sym (c.if-not-names_there.ensures ∙ ap (λ (tree : TreeState). names_there tree c.args.message.now) c.tree.ensures.tree) in
-    heard_verdict state c.args.actor c.who_is-who.result.session c.args.message.now user (asker_of c.who_is-who.result)
+    heard_verdict state c.args.actor c.who_is-who.result.session c.args.message.now user (actor_of c.who_is-who.result)
     found
     (sym c.takes_no_edits.ensures ∙ c.if-takes_no_edits.false)
     (sym c.in_ok-is_too_long.ensures ∙ c.if-branch.false)
     named
-    (c.who_is-who.ensures.asker
-    ∙ ap (λ (channels : List ChannelId). asker_at channels user user.tokens) (c.as_slice.ensures.value ∙ c.home_of-home.ensures)
-    ∙ ap (λ (tree : TreeState). asker_at (home tree user) user user.tokens) c.tree-2.ensures.tree)
+    (c.who_is-who.ensures.actor
+    ∙ ap (λ (channels : List ChannelId). actor_at channels user user.tokens) (c.as_slice.ensures.value ∙ c.home_of-home.ensures)
+    ∙ ap (λ (tree : TreeState). actor_at (home tree user) user user.tokens) c.tree-2.ensures.tree)
     c.who_is-who.ensures.session
 
 pub returns-clause-decided : goal.returns-clause-decided

@@ -1,6 +1,6 @@
 use Rattle.std.proofs.Common.{◌≡◌, None, Ok, Some, ap, sym, ◌∙◌, subst}
 use Rattle.std.specs.Bool.{IsTrue}
-use Rattle.mum_policy.specs.Member.{asker_of}
+use Rattle.mum_policy.specs.Member.{actor_of}
 use Rattle.mum_tree.specs.Change.{names_there}
 use Rattle.mum_tree.specs.State.{TreeState}
 use Rattle.mum_state.specs.declared.edit.Edit.{Edit}
@@ -25,7 +25,7 @@ limit_of_edit-requires c =
 pub returns-in-Some : goal.returns-in-Some
 returns-in-Some c =
     let state = c.args.state.now in
-    let who = asker_of c.args.who.now in
+    let who = actor_of c.args.who.now in
     let id = c.args.id in
     let message = c.args.message.now in
     let command = Command.edit id message in
@@ -38,7 +38,7 @@ returns-in-Some c =
 pub returns : goal.returns
 returns c =
     let state = c.args.state.now in
-    let who = asker_of c.args.who.now in
+    let who = actor_of c.args.who.now in
     let actor = c.args.who.now.session in
     let id = c.args.id in
     let message = c.args.message.now in

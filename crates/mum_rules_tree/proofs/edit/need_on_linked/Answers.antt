@@ -1,7 +1,7 @@
 use Rattle.std.proofs.Common.{◌≡◌, ℕ, Err, List, map, arith, ap, ◌∙◌}
 use Rattle.std.proofs.lemmas.Grind.{common_steps}
 use Rattle.mum_base.specs.declared.perm.TheConstants.Perm.{LINK_CHANNEL}
-use Rattle.mum_policy.specs.Member.{asker_of}
+use Rattle.mum_policy.specs.Member.{actor_of}
 use Rattle.mum_rules_tree.specs.Asked.{others}
 use Rattle.mum_rules_tree.specs.Decision.{all_met, need}
 use Rattle.mum_rules_tree.proofs.OneByOne.{second_stops, third_decides}
@@ -10,7 +10,7 @@ use Rattle.mum_rules_tree.proofs.edit.need_on_linked.Goals as goal
 pub returns-in_err-need_on_others : goal.returns-in_err-need_on_others
 returns-in_err-need_on_others c =
     let state = c.args.state.now in
-    let wanted = need (asker_of c.args.who.now) LINK_CHANNEL in
+    let wanted = need (actor_of c.args.who.now) LINK_CHANNEL in
     let id = c.args.id in
     let message = c.args.message.now in
     let lack = c.in_err-need_on_others.field-0.0 in
@@ -21,7 +21,7 @@ returns-in_err-need_on_others c =
 pub returns : goal.returns
 returns c =
     let state = c.args.state.now in
-    let wanted = need (asker_of c.args.who.now) LINK_CHANNEL in
+    let wanted = need (actor_of c.args.who.now) LINK_CHANNEL in
     let id = c.args.id in
     let message = c.args.message.now in
     let first = c.in_ok-need_on_others.ensures.value ∙ ap (λ (ns : List ℕ). all_met state (map wanted (others id ns))) c.as_slice.ensures in

@@ -1,6 +1,6 @@
 use Rattle.std.proofs.Common.{◌≡◌, Ok, Some, None, ap, sym, ◌∙◌}
 use Rattle.mum_base.specs.declared.number.SessionId.{SessionId}
-use Rattle.mum_policy.specs.Member.{asker_of}
+use Rattle.mum_policy.specs.Member.{actor_of}
 use Rattle.mum_users.specs.State.{RosterState}
 use Rattle.mum_state.specs.declared.edit.Edit.{Edit}
 use Rattle.mum_state.specs.declared.verdict.Verdict.TheVariants.{Accepted}
@@ -15,7 +15,7 @@ use Rattle.mum_rules_user.proofs.change.decide_change.Goals as goal
 pub returns-in-Some : goal.returns-in-Some
 returns-in-Some c =
     let state = c.args.state.now in
-    let who = asker_of c.args.who.now in
+    let who = actor_of c.args.who.now in
     let actor = c.args.who.now.session in
     let message = c.args.message.now in
     let command = Command.change (session_or actor message.session) message in
@@ -30,7 +30,7 @@ returns-in-Some c =
 pub returns : goal.returns
 returns c =
     let state = c.args.state.now in
-    let who = asker_of c.args.who.now in
+    let who = actor_of c.args.who.now in
     let actor = c.args.who.now.session in
     let message = c.args.message.now in
     let command = Command.change (session_or actor message.session) message in

@@ -4,7 +4,7 @@ use Rattle.mum_users.specs.State.{RosterState}
 use Rattle.mum_rules_tree.specs.Decision.{first_standing}
 use Rattle.mum_rules_tree.specs.Reasons.{takes_no_edits}
 use Rattle.mum_rules_tree.specs.Tokens.{tokens_for_once}
-use Rattle.mum_state.specs.Permissions.{asker_with}
+use Rattle.mum_state.specs.Permissions.{actor_with}
 use Rattle.mum_rules_tree.proofs.Heard.{decided}
 use Rattle.mum_rules_user.specs.Asked.{command_of}
 use Rattle.mum_rules_user.specs.Verdict.{command_verdict, user_verdict}
@@ -17,7 +17,7 @@ found c = sym (c.in-Some.ensures.row ∙ ap (λ (r : RosterState). session_of r 
 pub decide_with_tokens-requires-clause-actor : goal.decide_with_tokens-requires-clause-actor
 decide_with_tokens-requires-clause-actor c = found_again c.args.state.now c.args.actor c.in-Some.user.now (found c)
 
-as_decided : (c : goal.After-decide_with_tokens) → command_verdict c.args.state.now (asker_with c.args.state.now.tree c.in-Some.user.now (tokens_for_once c.in-Some.user.now.tokens c.tokens_brought.result.now)) c.in-Some.user.now.session (command_of c.in-Some.user.now.session c.args.message.now) ≡ user_verdict c.args.state.now (Some c.args.actor) c.args.message.now
+as_decided : (c : goal.After-decide_with_tokens) → command_verdict c.args.state.now (actor_with c.args.state.now.tree c.in-Some.user.now (tokens_for_once c.in-Some.user.now.tokens c.tokens_brought.result.now)) c.in-Some.user.now.session (command_of c.in-Some.user.now.session c.args.message.now) ≡ user_verdict c.args.state.now (Some c.args.actor) c.args.message.now
 as_decided c =
     let state = c.args.state.now in
     let user = c.in-Some.user.now in
@@ -25,7 +25,7 @@ as_decided c =
     let here : session_of state.roster c.args.actor ≡ Some user = sym (c.in-Some.ensures.row ∙ ap (λ (r : RosterState). session_of r c.args.actor) c.roster.ensures.roster) in
     let room : takes_no_edits state ≡ false = sym c.takes_no_edits.ensures ∙ c.if-takes_no_edits.false in
     let none : first_standing (later_reasons state c.args.actor message) ≡ None = sym c.in_ok-reason.ensures ∙ c.in_default-2.is in
-    ap (λ (tokens : List (List ℕ)). command_verdict state (asker_with state.tree user (tokens_for_once user.tokens tokens)) user.session (command_of user.session message)) c.tokens_brought.ensures
+    ap (λ (tokens : List (List ℕ)). command_verdict state (actor_with state.tree user (tokens_for_once user.tokens tokens)) user.session (command_of user.session message)) c.tokens_brought.ensures
     ∙ session_verdict state c.args.actor message user here room none
 
 pub returns-clause-decided : goal.returns-clause-decided

@@ -1,13 +1,13 @@
 use Rattle.std.proofs.Common.{◌≡◌, drop, map}
 use Rattle.mum_base.specs.declared.perm.TheConstants.Perm.{TEXT_MESSAGE}
-use Rattle.mum_policy.specs.Member.{asker_of}
+use Rattle.mum_policy.specs.Member.{actor_of}
 use Rattle.mum_rules_tree.specs.Decision.{all_met, need, AreMet}
 use Rattle.mum_rules_user.specs.Asked.{channels_of}
 use Rattle.mum_rules_user.proofs.text.need_at_sessions.Given as goal
 
 abbrev pub invariant-loop-number : goal.invariant-loop-number
 invariant-loop-number l = record {
-  met : AreMet l.state (asker_of l.who) TEXT_MESSAGE l.met.marks;
-  rest : all_met l.state (map (need (asker_of l.who) TEXT_MESSAGE) (channels_of l.state.roster l.numbers))
-      ≡ all_met l.state (map (need (asker_of l.who) TEXT_MESSAGE) (channels_of l.state.roster (drop l.number-index l.numbers)));
+  met : AreMet l.state (actor_of l.who) TEXT_MESSAGE l.met.marks;
+  rest : all_met l.state (map (need (actor_of l.who) TEXT_MESSAGE) (channels_of l.state.roster l.numbers))
+      ≡ all_met l.state (map (need (actor_of l.who) TEXT_MESSAGE) (channels_of l.state.roster (drop l.number-index l.numbers)));
 }

@@ -1,13 +1,13 @@
 use Rattle.std.proofs.Common.{◌≡◌, drop, map}
 use Rattle.mum_base.specs.declared.perm.TheConstants.Perm.{TEXT_MESSAGE}
-use Rattle.mum_policy.specs.Member.{asker_of}
+use Rattle.mum_policy.specs.Member.{actor_of}
 use Rattle.mum_rules_tree.specs.Decision.{all_met, need, AreMet}
 use Rattle.mum_rules_user.specs.Asked.{channels_there}
 use Rattle.mum_rules_user.proofs.text.need_in_channels.Given as goal
 
 abbrev pub invariant-loop-number : goal.invariant-loop-number
 invariant-loop-number l = record {
-  met : AreMet l.state (asker_of l.who) TEXT_MESSAGE l.met.marks;
-  rest : all_met l.state (map (need (asker_of l.who) TEXT_MESSAGE) (channels_there l.state l.numbers))
-      ≡ all_met l.state (map (need (asker_of l.who) TEXT_MESSAGE) (channels_there l.state (drop l.number-index l.numbers)));
+  met : AreMet l.state (actor_of l.who) TEXT_MESSAGE l.met.marks;
+  rest : all_met l.state (map (need (actor_of l.who) TEXT_MESSAGE) (channels_there l.state l.numbers))
+      ≡ all_met l.state (map (need (actor_of l.who) TEXT_MESSAGE) (channels_there l.state (drop l.number-index l.numbers)));
 }

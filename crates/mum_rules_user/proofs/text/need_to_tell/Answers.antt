@@ -1,7 +1,7 @@
 use Rattle.std.proofs.Common.{◌≡◌, ℕ, Err, List, map, arith, ap, sym, ◌∙◌}
 use Rattle.std.proofs.lemmas.Grind.{common_steps}
 use Rattle.mum_base.specs.declared.perm.TheConstants.Perm.{TEXT_MESSAGE}
-use Rattle.mum_policy.specs.Member.{asker_of}
+use Rattle.mum_policy.specs.Member.{actor_of}
 use Rattle.mum_rules_tree.specs.Decision.{all_met, need}
 use Rattle.mum_rules_user.specs.Asked.{channels_of, channels_there}
 use Rattle.mum_rules_user.proofs.InTurn.{first_fails, in_three, second_fails, third_decide}
@@ -11,7 +11,7 @@ pub returns-in_err-need_at_sessions : goal.returns-in_err-need_at_sessions
 returns-in_err-need_at_sessions c =
     let state = c.args.state.now in
     let message = c.args.message.now in
-    let wanted = need (asker_of c.args.who.now) TEXT_MESSAGE in
+    let wanted = need (actor_of c.args.who.now) TEXT_MESSAGE in
     let sessions = channels_of state.roster message.session in
     let channels = channels_there state message.channel_id in
     let trees = channels_there state message.tree_id in
@@ -26,7 +26,7 @@ pub returns-in_err-need_in_channels : goal.returns-in_err-need_in_channels
 returns-in_err-need_in_channels c =
     let state = c.args.state.now in
     let message = c.args.message.now in
-    let wanted = need (asker_of c.args.who.now) TEXT_MESSAGE in
+    let wanted = need (actor_of c.args.who.now) TEXT_MESSAGE in
     let sessions = channels_of state.roster message.session in
     let channels = channels_there state message.channel_id in
     let trees = channels_there state message.tree_id in
@@ -42,7 +42,7 @@ pub returns : goal.returns
 returns c =
     let state = c.args.state.now in
     let message = c.args.message.now in
-    let wanted = need (asker_of c.args.who.now) TEXT_MESSAGE in
+    let wanted = need (actor_of c.args.who.now) TEXT_MESSAGE in
     let sessions = channels_of state.roster message.session in
     let channels = channels_there state message.channel_id in
     let trees = channels_there state message.tree_id in

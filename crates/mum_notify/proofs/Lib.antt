@@ -6,7 +6,7 @@ pub mod OneFrame
 pub mod Pieces
 pub mod Placed
 pub mod Reached
-pub mod Seated
+pub mod ByParent
 pub mod Sent
 pub mod Slots
 pub mod Standing

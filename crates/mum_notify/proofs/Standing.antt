@@ -39,7 +39,7 @@ use Rattle.mum_state.proofs.Leftover.{closed_by, left_alone}
 use Rattle.mum_state.proofs.Renewing.{there_known}
 use Rattle.mum_notify.specs.Channels.{channel_of, edited_channels, with_channel}
 use Rattle.mum_notify.proofs.Families.{same_channel}
-use Rattle.mum_notify.proofs.Seated.{filter_alike}
+use Rattle.mum_notify.proofs.ByParent.{filter_alike}
 
 -- ---- tests
 

@@ -134,7 +134,7 @@ is_child tree parent id = not (is_root id) && ((parent_of tree id).0 == parent.0
 abbrev pub children : TreeState → ChannelId → List ChannelId
 children tree parent = filter (is_child tree parent) (channel_ids tree)
 
--- a channel, and then each of its children with all that is below it, so many levels deep
+-- a channel, and then each of its children with all that is below it, n levels deep
 unfoldable pub family : (ChannelId → List ChannelId) → ℕ → ChannelId → List ChannelId
 family kids zero id = []
 family kids (suc levels) id = id ∷ flat_map (family kids levels) (kids id)

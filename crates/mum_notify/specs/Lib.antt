@@ -1,6 +1,6 @@
 pub mod Parcels
 pub mod Channels
-pub mod Seats
+pub mod Child
 pub mod Sorted
 pub mod Users
 pub mod Gone

@@ -14,7 +14,7 @@ use Rattle.mum_users.specs.Sessions.{session_of}
 use Rattle.mum_users.specs.declared.user.User.{User}
 use Rattle.mum_state.specs.Kinds.{is_empty}
 use Rattle.mum_state.specs.Named.{given}
-use Rattle.mum_state.specs.Permissions.{asker, granted_to}
+use Rattle.mum_state.specs.Permissions.{actor_from, granted_to}
 use Rattle.mum_state.specs.State.{StateValue}
 use Rattle.mum_notify.specs.Channels.{channel_ids, channel_of, channel_told, children, family, has_links, if_it_tells, links_told, said_unless}
 use Rattle.mum_notify.specs.Parcels.{channel_frame, codecs_frame, parcel, sync_frame, user_frame, version_frame}
@@ -45,7 +45,7 @@ welcome_told state user = record {
   session = Some user.session.0;
   max_bandwidth = Some state.server.bandwidth;
   welcome_text = said_unless (is_empty state.server.welcome) state.server.welcome;
-  permissions = Some (granted_to state (asker state.tree user) ROOT);
+  permissions = Some (granted_to state (actor_from state.tree user) ROOT);
 }
 
 abbrev pub sync_frames : StateValue → User → List (List ℕ)

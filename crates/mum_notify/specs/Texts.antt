@@ -13,7 +13,7 @@ use Rattle.mum_tree.specs.Rows.{is_below, path}
 use Rattle.mum_users.specs.declared.user.User.{User}
 use Rattle.mum_state.specs.declared.edit.Edit.{Edit}
 use Rattle.mum_state.specs.declared.edit.Edit.TheVariants.{SetAcl, Text}
-use Rattle.mum_state.specs.Permissions.{asker, granted_to, perm_of}
+use Rattle.mum_state.specs.Permissions.{actor_from, granted_to, perm_of}
 use Rattle.mum_state.specs.State.{StateValue}
 use Rattle.mum_notify.specs.Channels.{numbers}
 use Rattle.mum_notify.specs.Parcels.{parcel, permissions_frame, text_frame, to_each}
@@ -78,7 +78,7 @@ text_parcels after edit = []
 abbrev pub permissions_told : StateValue → User → PermissionQuery
 permissions_told state user = record {
   channel_id = Some user.channel.0;
-  permissions = Some (granted_to state (asker state.tree user) user.channel);
+  permissions = Some (granted_to state (actor_from state.tree user) user.channel);
   flush = Some true;
 }
 

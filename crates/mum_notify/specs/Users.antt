@@ -53,12 +53,12 @@ user_told roster user = record {
 -- ---- what of a session is another
 
 -- the session by which an edit is made, where it has one. The maker of a channel is none, nor is whoever sets tokens
-abbrev pub actor_of : Edit → Option SessionId
-actor_of (Kick session actor reason ban) = Some actor
-actor_of (RemoveChannel id actor) = Some actor
-actor_of (SetUser session actor channel mute deaf clear_suppress priority self_mute self_deaf recording comment context listen unlisten) = Some actor
-actor_of (SetAcl channel actor policy) = actor
-actor_of edit = None
+abbrev pub edited_by : Edit → Option SessionId
+edited_by (Kick session actor reason ban) = Some actor
+edited_by (RemoveChannel id actor) = Some actor
+edited_by (SetUser session actor channel mute deaf clear_suppress priority self_mute self_deaf recording comment context listen unlisten) = Some actor
+edited_by (SetAcl channel actor policy) = actor
+edited_by edit = None
 
 -- a comment is given
 abbrev pub gives_comment : Edit → Bool
@@ -79,7 +79,7 @@ listened_only_in roster other session =
 abbrev pub user_change_told : RosterState → Edit → RosterState → User → User → UserState
 user_change_told before edit after was now = record {
   session = Some now.session.0;
-  actor = option_map (λ actor. actor.0) (actor_of edit);
+  actor = option_map (λ actor. actor.0) (edited_by edit);
   name = None;
   user_id = None;
   channel_id = said_unless (was.channel.0 == now.channel.0) now.channel.0;

@@ -274,7 +274,7 @@ fn add_difference(
     push_difference(alloc, frames, &told)
 }
 
-// How many of these are lower, from the first on. They are in order of number, so it is found by halving.
+// How many of these are lower, from the first on. They are in order of number, so it is found by binary search.
 fn place_for(ids: &[ChannelId], id: ChannelId) -> usize
     requires { Rises is_lower ids.now }
     ensures place { result ≡ place_for id ids.now }

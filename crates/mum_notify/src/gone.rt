@@ -9,10 +9,10 @@ ghost use Rattle.mum_notify.specs.Notices.{FitsFrame};
 ghost use Rattle.mum_notify.specs.Parcels.{channel_gone_frame, to_each, user_gone_frame};
 
 use crate::channels::text_unless_empty;
+use crate::children::channel_ids;
 use crate::frames::{channel_gone_frame, user_gone_frame};
 use crate::notice::Notice;
 use crate::parcels::tell_each;
-use crate::seats::channel_ids;
 use crate::users::said_if_set;
 use mum_base::{ChannelId, Octets, OutOfMemory, SessionId, Text};
 use mum_msg_state::{ChannelRemove, UserRemove};

@@ -4,13 +4,13 @@
 #![tactic(auto)]
 
 mod channels;
+mod children;
 mod fitting;
 mod frames;
 mod gone;
 pub mod laws;
 mod notice;
 mod parcels;
-mod seats;
 mod sorted;
 mod sync;
 mod telling;

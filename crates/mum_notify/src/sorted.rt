@@ -8,7 +8,7 @@ ghost use Rattle.mum_notify.specs.Sorted.{ListAlike, lists};
 use mum_base::OutOfMemory;
 use std::alloc::Global;
 
-/// Numbers in rising order, so that each is found by halving.
+/// Numbers in rising order, so that each is found by binary search.
 #[derive(Drop)]
 pub(crate) struct Sorted {
     numbers: Vec<u32>,

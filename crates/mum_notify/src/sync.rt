@@ -12,10 +12,10 @@ ghost use Rattle.mum_notify.specs.Sync.{all_links_told, server_codecs, server_ve
 ghost use Rattle.mum_notify.specs.Users.{user_told};
 
 use crate::channels::{frame_of_channel, numbers, partners, text_unless_empty};
+use crate::children::{channel_ids, tree_order};
 use crate::frames::{channel_frame, codecs_frame, sync_frame, version_frame};
 use crate::notice::{Notice, Notices};
 use crate::parcels::tell_one;
-use crate::seats::{channel_ids, tree_order};
 use crate::texts::held_in;
 use crate::users::frame_of_user;
 use mum_base::{ChannelId, Items, Octets, OutOfMemory, SessionId, Text};

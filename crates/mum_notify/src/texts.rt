@@ -2,7 +2,7 @@
 
 ghost use Rattle.std.specs.Prelude.{◌≡◌, [], ◌∷◌, ◌++◌, IfOk, IsTrue, OnOk, filter, map};
 ghost use Rattle.std.specs.List.{list_all, list_any};
-ghost use Rattle.mum_state.specs.Permissions.{asker, granted_to};
+ghost use Rattle.mum_state.specs.Permissions.{actor_from, granted_to};
 ghost use Rattle.mum_tree.specs.Rows.{is_there, path};
 ghost use Rattle.mum_notify.specs.Notices.{FitsFrame};
 ghost use Rattle.mum_notify.specs.Parcels.{IsWithinFrame, text_frame, text_payload, to_each};
@@ -212,7 +212,7 @@ pub(crate) fn tell_of_text(
 // What a session may do in a channel that is there.
 pub(crate) fn held_in(state: &State, user: &User, channel: ChannelId) -> Perm
     requires { IsTrue (is_there state.now.tree.channels channel) }
-    ensures { result.0 ≡ granted_to state.now (asker state.now.tree user.now) channel }
+    ensures { result.0 ≡ granted_to state.now (actor_from state.now.tree user.now) channel }
 {
     let home = home_of(state.tree(), user);
     match state.granted_to(&who_is(user, home.as_slice()), channel) {

@@ -9,7 +9,7 @@ ghost use Rattle.mum_users.specs.Listeners.{listens};
 ghost use Rattle.mum_notify.specs.Channels.{if_it_tells, said_unless};
 ghost use Rattle.mum_notify.specs.Parcels.{IsWithinFrame, user_frame, user_payload};
 ghost use Rattle.mum_notify.specs.declared.watch.Watch.TheVariants.{One};
-ghost use Rattle.mum_notify.specs.Users.{actor_of, flag_told, gives_comment, listened_only_in, said_if_set, tells_of_user, user_change_told, user_changes_told, user_difference, user_told, watched};
+ghost use Rattle.mum_notify.specs.Users.{edited_by, flag_told, gives_comment, listened_only_in, said_if_set, tells_of_user, user_change_told, user_changes_told, user_difference, user_told, watched};
 
 use crate::channels::{number_unless, text_unless_empty, text_unless_same};
 use crate::frames::user_frame;
@@ -96,8 +96,8 @@ fn number_of(session: Option<SessionId>) -> Option<u32>
 }
 
 // The session by which the edit is made, where it has one.
-fn actor_of(edit: &Edit) -> Option<SessionId>
-    ensures { result ≡ actor_of edit.now }
+fn edited_by(edit: &Edit) -> Option<SessionId>
+    ensures { result ≡ edited_by edit.now }
 {
     match *edit {
         Edit::Kick { actor, .. }
@@ -187,7 +187,7 @@ fn user_change_told(
         listening_channel_add: listened_only_in(alloc, after, before, now.session)?,
         listening_channel_remove: listened_only_in(alloc, before, after, now.session)?,
         session: Some(now.session.0),
-        actor: number_of(actor_of(edit)),
+        actor: number_of(edited_by(edit)),
         name: None,
         user_id: None,
         channel_id: number_unless(was.channel.0, now.channel.0),

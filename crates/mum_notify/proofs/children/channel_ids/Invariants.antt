@@ -1,6 +1,6 @@
 use Rattle.std.proofs.Common.{◌≡◌, ◌-◌, ◌≤◌, length, take}
 use Rattle.mum_notify.specs.Channels.{channel_ids}
-use Rattle.mum_notify.proofs.seats.channel_ids.Given as goal
+use Rattle.mum_notify.proofs.children.channel_ids.Given as goal
 
 abbrev pub invariant-loop-id : goal.invariant-loop-id
 invariant-loop-id l = record {

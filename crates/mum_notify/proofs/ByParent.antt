@@ -1,4 +1,4 @@
--- Seats, sorted by their parents, are the children of each channel.
+-- Channels, sorted by their parents, are the children of each.
 use Rattle.std.proofs.Common.{◌≡◌, ℕ, zero, suc, ◌-◌, ◌<◌, ◌≤◌, ◌==◌, ◌&&◌, Bool, true, false, not, cond, nat_le, nat_lt, List, [], ◌∷◌, ◌++◌, length, map, filter, get_or, refl, sym, ap, ◌∙◌, append_assoc, arith}
 use Rattle.std.proofs.lemmas.List.{append-nil}
 use Rattle.std.proofs.lemmas.List.Folds.{flat_map-map}
@@ -13,21 +13,21 @@ use Rattle.mum_tree.specs.Rows.{is_root}
 use Rattle.mum_tree.specs.State.{TreeState}
 use Rattle.mum_users.specs.Order.{IsBelowAll, Rises}
 use Rattle.mum_notify.specs.Channels.{channel_ids, children, family, is_child}
-use Rattle.mum_notify.specs.Seats.{is_not_after, is_under, kids_of, seats_of}
-use Rattle.mum_notify.specs.declared.seats.Seat.{Seat}
+use Rattle.mum_notify.specs.Child.{is_not_after, is_under, children_in, children_of}
+use Rattle.mum_notify.specs.declared.children.Child.{Child}
 
 no_lower : (a b : ℕ) → a ≤ b → IsTrue (nat_le a b)
 no_lower a b less = grind (arith, nat_tests)
 
-below_all : (seat : Seat) (seats : List Seat) → ((j : ℕ) (d : Seat) → j < length seats → seat.parent.0 ≤ (get_or seats j d).parent.0) → IsBelowAll is_not_after seat seats
-below_all seat [] less = tt
-below_all seat (other ∷ seats) less =
-    (no_lower seat.parent.0 other.parent.0 (less 0 other (omega arith)), below_all seat seats (λ j d within. less (suc j) d (omega arith)))
+below_all : (child : Child) (listed : List Child) → ((j : ℕ) (d : Child) → j < length listed → child.parent.0 ≤ (get_or listed j d).parent.0) → IsBelowAll is_not_after child listed
+below_all child [] less = tt
+below_all child (other ∷ listed) less =
+    (no_lower child.parent.0 other.parent.0 (less 0 other (omega arith)), below_all child listed (λ j d within. less (suc j) d (omega arith)))
 
-pub rises_from : (seats : List Seat) → IsNonDecreasingBy (λ (seat : Seat). seat.parent.0) seats → Rises is_not_after seats
+pub rises_from : (listed : List Child) → IsNonDecreasingBy (λ (child : Child). child.parent.0) listed → Rises is_not_after listed
 rises_from [] sorted = tt
-rises_from (seat ∷ seats) sorted =
-    (below_all seat seats (λ j d within. sorted 0 (suc j) d (omega arith) (omega arith)), rises_from seats (λ i j d less within. sorted (suc i) (suc j) d (omega arith) (omega arith)))
+rises_from (child ∷ listed) sorted =
+    (below_all child listed (λ j d within. sorted 0 (suc j) d (omega arith) (omega arith)), rises_from listed (λ i j d less within. sorted (suc i) (suc j) d (omega arith) (omega arith)))
 
 -- two tests that answer alike pass the same
 pub filter_alike : {X : Type 0} (p q : X → Bool) → ((x : X) → p x ≡ q x) → (xs : List X) → filter p xs ≡ filter q xs
@@ -35,7 +35,7 @@ filter_alike p q same [] = refl
 filter_alike p q same (x ∷ xs) = rw (same x) (ap (λ ys. cond (q x) (x ∷ ys) ys) (filter_alike p q same xs))
 
 abbrev SameKids : TreeState → ChannelId → List ChannelId → Type 0
-SameKids tree parent ids = kids_of (seats_of tree ids) parent ≡ filter (is_child tree parent) ids
+SameKids tree parent ids = children_in (children_of tree ids) parent ≡ filter (is_child tree parent) ids
 
 by_parent : (tree : TreeState) (parent id : ChannelId) (ids : List ChannelId) (b : Bool) → ((parent_of tree id).0 == parent.0) ≡ b → is_root id ≡ false → SameKids tree parent ids → SameKids tree parent (id ∷ ids)
 by_parent tree parent id ids true e root rest = rw (root, e) (ap (λ (xs : List ChannelId). id ∷ xs) rest)
@@ -45,8 +45,8 @@ by_root : (tree : TreeState) (parent id : ChannelId) (ids : List ChannelId) (b :
 by_root tree parent id ids true root rest = rw root rest
 by_root tree parent id ids false root rest = by_parent tree parent id ids ((parent_of tree id).0 == parent.0) refl root rest
 
--- before the sort the seats under a channel are its children
-pub kids_from : (tree : TreeState) (parent : ChannelId) (ids : List ChannelId) → kids_of (seats_of tree ids) parent ≡ filter (is_child tree parent) ids
+-- before the sort the listed under a channel are its children
+pub kids_from : (tree : TreeState) (parent : ChannelId) (ids : List ChannelId) → children_in (children_of tree ids) parent ≡ filter (is_child tree parent) ids
 kids_from tree parent [] = refl
 kids_from tree parent (id ∷ ids) = by_root tree parent id ids (is_root id) refl (kids_from tree parent ids)
 
@@ -61,18 +61,18 @@ tied_by a b true y z false below other same back = rw (below, back) refl
 tied_by a b false true true false below other same back = absurd (grind (arith, nat_tests))
 tied_by a b false true false false below other same back = rw (below, other, same, back) refl
 
-under_ties : (parent : ChannelId) (seat : Seat) → is_under parent seat ≡ ties (λ (x y : Seat). is_lt (nat_cmp x.parent.0 y.parent.0)) (record { parent = parent; id = parent }) seat
-under_ties parent seat =
-    tied_by parent.0 seat.parent.0 (nat_lt parent.0 seat.parent.0) (nat_lt seat.parent.0 parent.0) (parent.0 == seat.parent.0) (seat.parent.0 == parent.0) refl refl refl refl
+under_ties : (parent : ChannelId) (child : Child) → is_under parent child ≡ ties (λ (x y : Child). is_lt (nat_cmp x.parent.0 y.parent.0)) (record { parent = parent; id = parent }) child
+under_ties parent child =
+    tied_by parent.0 child.parent.0 (nat_lt parent.0 child.parent.0) (nat_lt child.parent.0 parent.0) (parent.0 == child.parent.0) (child.parent.0 == parent.0) refl refl refl refl
 
--- a stable sort by the parents leaves the seats under each as they were
-pub kids_sorted : (tree : TreeState) (parent : ChannelId) (seats sorted : List Seat) → seats ≡ seats_of tree (channel_ids tree) → IsStableByKey (λ (seat : Seat). seat.parent.0) nat_cmp seats sorted → kids_of sorted parent ≡ children tree parent
-kids_sorted tree parent seats sorted all stable =
-    let one : Seat = record { parent = parent; id = parent } in
-    let tied = ties (λ (x y : Seat). is_lt (nat_cmp x.parent.0 y.parent.0)) one in
-    ap (λ xs. map (λ (seat : Seat). seat.id) xs)
-    (filter_alike (is_under parent) tied (under_ties parent) sorted ∙ stable one ∙ filter_alike tied (is_under parent) (λ seat. sym (under_ties parent seat)) seats)
-    ∙ ap (λ xs. kids_of xs parent) all ∙ kids_from tree parent (channel_ids tree)
+-- a stable sort by the parents leaves the listed under each as they were
+pub children_are_sorted : (tree : TreeState) (parent : ChannelId) (listed sorted : List Child) → listed ≡ children_of tree (channel_ids tree) → IsStableByKey (λ (child : Child). child.parent.0) nat_cmp listed sorted → children_in sorted parent ≡ children tree parent
+children_are_sorted tree parent listed sorted all stable =
+    let one : Child = record { parent = parent; id = parent } in
+    let tied = ties (λ (x y : Child). is_lt (nat_cmp x.parent.0 y.parent.0)) one in
+    ap (λ xs. map (λ (child : Child). child.id) xs)
+    (filter_alike (is_under parent) tied (under_ties parent) sorted ∙ stable one ∙ filter_alike tied (is_under parent) (λ child. sym (under_ties parent child)) listed)
+    ∙ ap (λ xs. children_in xs parent) all ∙ kids_from tree parent (channel_ids tree)
 
 -- ---- families
 
@@ -94,21 +94,21 @@ unfolding family
 family_of kids zero id some = absurd (omega arith)
 family_of kids (suc levels) id some = let less : suc levels - 1 ≡ levels = omega arith in ap (λ n. id ∷ flat_map (family kids n) (kids id)) (sym less)
 
--- where those of all seats under a channel are told behind it, its family is
-pub family_told : (seats : List Seat) (levels : ℕ) (id : ChannelId) (under : List Seat) (old now : List ChannelId) → 0 < levels → under ≡ filter (is_under id) seats → now ≡ (old ++ id ∷ []) ++ flat_map (λ (seat : Seat). family (kids_of seats) (levels - 1) seat.id) under → now ≡ old ++ family (kids_of seats) levels id
-family_told seats levels id under old now some is told =
-    let f : ChannelId → List ChannelId = family (kids_of seats) (levels - 1) in
-    told ∙ append_assoc old (id ∷ []) (flat_map (λ (seat : Seat). f seat.id) under)
-    ∙ ap (λ (ids : List ChannelId). old ++ (id ∷ ids)) (sym (flat_map-map f (λ (seat : Seat). seat.id) under) ∙ ap (λ (one : List Seat). flat_map f (map (λ (seat : Seat). seat.id) one)) is)
-    ∙ ap (λ (ids : List ChannelId). old ++ ids) (sym (family_of (kids_of seats) levels id some))
+-- where those of all listed under a channel are told behind it, its family is
+pub family_told : (listed : List Child) (levels : ℕ) (id : ChannelId) (under : List Child) (old now : List ChannelId) → 0 < levels → under ≡ filter (is_under id) listed → now ≡ (old ++ id ∷ []) ++ flat_map (λ (child : Child). family (children_in listed) (levels - 1) child.id) under → now ≡ old ++ family (children_in listed) levels id
+family_told listed levels id under old now some is told =
+    let f : ChannelId → List ChannelId = family (children_in listed) (levels - 1) in
+    told ∙ append_assoc old (id ∷ []) (flat_map (λ (child : Child). f child.id) under)
+    ∙ ap (λ (ids : List ChannelId). old ++ (id ∷ ids)) (sym (flat_map-map f (λ (child : Child). child.id) under) ∙ ap (λ (one : List Child). flat_map f (map (λ (child : Child). child.id) one)) is)
+    ∙ ap (λ (ids : List ChannelId). old ++ ids) (sym (family_of (children_in listed) levels id some))
 
 -- of no level there is none
 pub no_levels : (kids : ChannelId → List ChannelId) (levels : ℕ) (id : ChannelId) (old : List ChannelId) → levels ≡ 0 → old ≡ old ++ family kids levels id
 unfolding family
 no_levels kids levels id old none = sym (ap (λ n. old ++ family kids n id) none ∙ append-nil old)
 
--- the families of the seats that were sorted are those of the tree
-pub order_told : (tree : TreeState) (seen sorted : List Seat) (old now : List ChannelId) (levels : ℕ) (id : ChannelId) → old ≡ [] → seen ≡ sorted → ((parent : ChannelId) → kids_of sorted parent ≡ children tree parent) → now ≡ old ++ family (kids_of seen) levels id → now ≡ family (children tree) levels id
+-- the families of the listed that were sorted are those of the tree
+pub order_told : (tree : TreeState) (seen sorted : List Child) (old now : List ChannelId) (levels : ℕ) (id : ChannelId) → old ≡ [] → seen ≡ sorted → ((parent : ChannelId) → children_in sorted parent ≡ children tree parent) → now ≡ old ++ family (children_in seen) levels id → now ≡ family (children tree) levels id
 order_told tree seen sorted old now levels id none same kids told =
-    told ∙ ap (λ (ids : List ChannelId). ids ++ family (kids_of seen) levels id) none
-    ∙ family_alike (kids_of seen) (children tree) (λ parent. ap (λ (seats : List Seat). kids_of seats parent) same ∙ kids parent) levels id
+    told ∙ ap (λ (ids : List ChannelId). ids ++ family (children_in seen) levels id) none
+    ∙ family_alike (children_in seen) (children tree) (λ parent. ap (λ (listed : List Child). children_in listed parent) same ∙ kids parent) levels id

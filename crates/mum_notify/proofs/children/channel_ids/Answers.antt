@@ -4,7 +4,7 @@ use Rattle.std.proofs.lemmas.Option.{slice_get-map}
 use Rattle.mum_tree.specs.declared.channel.Row.{Row}
 use Rattle.mum_notify.specs.Channels.{channel_ids}
 use Rattle.mum_notify.proofs.Pieces.{next_front, whole_front}
-use Rattle.mum_notify.proofs.seats.channel_ids.Goals as goal
+use Rattle.mum_notify.proofs.children.channel_ids.Goals as goal
 
 pub loop-id-preserved : goal.loop-id-preserved
 loop-id-preserved c =

@@ -1,7 +1,0 @@
-use Rattle.std.proofs.Common.{not, arith}
-use Rattle.mum_users.proofs.Places.{unwrap_or-position}
-use Rattle.mum_notify.specs.Seats.{is_under}
-use Rattle.mum_notify.proofs.seats.count_under.Goals as goal
-
-pub returns-clause-count : goal.returns-clause-count
-returns-clause-count c = grind (arith, unwrap_or-position (λ seat. not (is_under c.args.parent seat)) c.args.seats.now)

@@ -1,6 +1,6 @@
 -- Those of the sessions that are reached, each with what its copy needs.
 use Rattle.std.proofs.Common.{◌≡◌, ◌∙◌, ℕ, zero, suc, ◌+◌, ◌<◌, ◌≤◌, Bool, true, false, cond, List, [], ◌∷◌, ◌++◌, length, get_or, take, Option, Some, None, refl, sym, ap, arith, add-one}
-use Rattle.std.specs.List.{cons_option, filter, filter_map}
+use Rattle.std.specs.List.{cons_option, filter, filter_map, zip}
 use Rattle.std.specs.Option.{option_map}
 use Rattle.mum_users.specs.declared.user.User.{User}
 use Rattle.mum_route.specs.declared.context.Context.{Context}
@@ -40,14 +40,18 @@ pub one_heard : (own user : User) (one : Option Context) → length (heard_of ow
 one_heard own user None = omega arith
 one_heard own user (Some context) = omega arith
 
+-- those that are reached, seen in one way
+abbrev pub each_as : {X : Type 0} → (User → Context → X) → List (User × Option Context) → List X
+each_as seen pairs = filter_map (λ one. option_map (seen one.0) one.1) pairs
+
 -- those that are reached, where what is kept of each is how it hears
-pub heard_each : (own : User) (heard : User → Option Context) (users : List User) (reached : List (Option Context)) → length users ≤ length reached
-    → AreHeard heard users reached → heard_of own users reached ≡ filter_map (λ user. option_map (hearer_by own user) (heard user)) users
-heard_each own heard [] reached room are = refl
-heard_each own heard (user ∷ users) [] room are = absurd (omega arith)
-heard_each own heard (user ∷ users) (one ∷ reached) room are =
-    ap (λ (o : Option Context). cons_option (option_map (hearer_by own user) o) (heard_of own users reached)) (are 0 user (omega arith))
-    ∙ ap (cons_option (option_map (hearer_by own user) (heard user))) (heard_each own heard users reached (omega arith) (λ k d within. are (suc k) d (omega arith)))
+pub heard_each : {X : Type 0} (seen : User → Context → X) (heard : User → Option Context) (users : List User) (reached : List (Option Context)) → length users ≤ length reached
+    → AreHeard heard users reached → each_as seen (zip users reached) ≡ filter_map (λ user. option_map (seen user) (heard user)) users
+heard_each seen heard [] reached room are = refl
+heard_each seen heard (user ∷ users) [] room are = absurd (omega arith)
+heard_each seen heard (user ∷ users) (one ∷ reached) room are =
+    ap (λ (o : Option Context). cons_option (option_map (seen user) o) (each_as seen (zip users reached))) (are 0 user (omega arith))
+    ∙ ap (cons_option (option_map (seen user) (heard user))) (heard_each seen heard users reached (omega arith) (λ k d within. are (suc k) d (omega arith)))
 
 -- what holds of none but those who pass a test, among those who pass
 pub passing_members : (can : User → Bool) (reach : User → Option Context) (users : List User)

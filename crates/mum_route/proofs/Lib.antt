@@ -1,5 +1,5 @@
 pub mod Among
-pub mod Rights
+pub mod Known
 pub mod Present
 pub mod Precedence
 pub mod Filled
@@ -8,5 +8,7 @@ pub mod Gathered
 pub mod Hearers
 pub mod Slots
 pub mod Told
+pub mod Inputs
+pub mod Spoken
 pub mod Relations
 pub mod StandardFacts

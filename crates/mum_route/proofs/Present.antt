@@ -2,12 +2,10 @@
 use Rattle.std.proofs.Common.{◌≡◌, ℕ, zero, suc, ◌+◌, ◌<◌, ◌≤◌, Bool, true, false, cond, eqb, List, [], ◌∷◌, length, map, get_or, Option, Some, None, refl, sym, ap, subst, ◌∙◌, arith}
 use Rattle.std.specs.Prelude.{◌==◌, ◌&&◌, IsSome, IsTrue, find}
 use Rattle.std.specs.List.{All, list_all, list_any}
-use Rattle.std.specs.Option.{is_some, option_map, option_map_or}
+use Rattle.std.specs.Option.{is_some, option_map}
 use Rattle.std.proofs.lemmas.Bool.{and_parts, eqb-true, false≢true}
 use Rattle.mum_base.specs.declared.number.ChannelId.{ChannelId}
-use Rattle.mum_base.specs.declared.perm.Perm.{Perm}
-use Rattle.mum_policy.specs.Member.{Asker}
-use Rattle.mum_policy.specs.Walk.{holds}
+use Rattle.mum_policy.specs.Member.{Actor}
 use Rattle.mum_base.specs.declared.number.SessionId.{SessionId}
 use Rattle.mum_tree.specs.Rows.{is_there, row_of, IsWay}
 use Rattle.mum_tree.specs.State.{TreeState}
@@ -19,9 +17,8 @@ use Rattle.mum_users.specs.Proper.{SlotsRise}
 use Rattle.mum_users.specs.Sessions.{session_of}
 use Rattle.mum_users.specs.State.{RosterState, has_number, is_of_session}
 use Rattle.mum_state.specs.Proper.{IsProper}
-use Rattle.mum_state.specs.Permissions.{asker, granted_to}
+use Rattle.mum_state.specs.Permissions.{actor_from, granted_to, granted_where_there, perm_of}
 use Rattle.mum_state.specs.State.{PolicyRow, StateValue, policy_of}
-use Rattle.mum_route.specs.Hearing.{may, may_as}
 use Rattle.mum_state.proofs.Listed.{all_filter}
 
 pub all_at : {X : Type 0} (p : X → Bool) (xs : List X) (i : ℕ) (d : X) → list_all p xs ≡ true → i < length xs → p (get_or xs i d) ≡ true
@@ -75,17 +72,17 @@ pub nobody_listens : {X : Type 0} (p : X → Bool) (told pairs : List X) → pai
 nobody_listens p told [] same none = ap (list_any p) same
 nobody_listens p told (x ∷ xs) same none = let zero_is : length (x ∷ xs) ≡ 0 = eqb-true (length (x ∷ xs)) 0 none in absurd (omega (arith, zero_is))
 
--- what a session may that is there is what one may who is seen like it
-pub may_seen : (state : StateValue) (user : User) (who : Asker) (perm : Perm) (channel : ChannelId) → session_of state.roster user.session ≡ Some user → who ≡ asker state.tree user
-    → may state user.session perm channel ≡ may_as state who perm channel
-may_seen state user who perm channel own same =
-    ap (λ (o : Option User). option_map_or (λ (held : ℕ). holds held perm.0) (option_map (λ (one : Asker). granted_to state one channel) (cond (is_there state.tree.channels channel) (option_map (asker state.tree) o) None)) false) own
+-- what a session may do that is there is what one may do who is seen like it
+pub perm_seen : (state : StateValue) (user : User) (who : Actor) (channel : ChannelId) → session_of state.roster user.session ≡ Some user → who ≡ actor_from state.tree user
+    → perm_of state user.session channel ≡ granted_where_there state who channel
+perm_seen state user who channel own same =
+    ap (λ (o : Option User). option_map (λ (one : Actor). granted_to state one channel) (cond (is_there state.tree.channels channel) (option_map (actor_from state.tree) o) None)) own
     ∙ by_there (is_there state.tree.channels channel)
-    ∙ ap (λ (one : Asker). may_as state one perm channel) (sym same)
+    ∙ ap (λ (one : Actor). granted_where_there state one channel) (sym same)
   where
     by_there : (b : Bool)
-        → option_map_or (λ (held : ℕ). holds held perm.0) (option_map (λ (one : Asker). granted_to state one channel) (cond b (Some (asker state.tree user)) None)) false
-        ≡ option_map_or (λ (held : ℕ). holds held perm.0) (cond b (Some (granted_to state (asker state.tree user) channel)) None) false
+        → option_map (λ (one : Actor). granted_to state one channel) (cond b (Some (actor_from state.tree user)) None)
+        ≡ cond b (Some (granted_to state (actor_from state.tree user) channel)) None
     by_there true = refl
     by_there false = refl
 

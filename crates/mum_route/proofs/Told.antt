@@ -55,7 +55,7 @@ as_hearers state own reach (user ∷ users) proper mine part =
         ∙ ap (λ (hs : List Hearer). hearer_by own user context ∷ hs) rest
 
 -- whom one hears who is not silent, other than by loopback
-heard_is : (state : StateValue) (own : User) (target : ℕ) → is_silent own ≡ false → target ≢ LOOPBACK
+pub heard_is : (state : StateValue) (own : User) (target : ℕ) → is_silent own ≡ false → target ≢ LOOPBACK
     → members (heard_as state own target) state.roster.sessions ≡ heard_from state own target
 heard_is state own target heard away =
     passing_members (can_hear own.session) (context_of state own target) state.roster.sessions
@@ -73,7 +73,7 @@ pub record IsGathered (state : StateValue) (own : User) (target : ℕ) (reached 
 pub gathered_members : (state : StateValue) (own : User) (target : ℕ) (reached : List (Option Context)) (audience : List Hearer)
     → IsGathered state own target reached audience → map member_of audience ≡ heard_from state own target
 gathered_members state own target reached audience is =
-    ap (map member_of) (is.told ∙ heard_each own (heard_as state own target) state.roster.sessions reached is.room is.are)
+    ap (map member_of) (is.told ∙ heard_each (hearer_by own) (heard_as state own target) state.roster.sessions reached is.room is.are)
     ∙ as_members own (heard_as state own target) state.roster.sessions
     ∙ heard_is state own target is.heard is.away
 
@@ -81,6 +81,6 @@ pub gathered_hearers : (state : StateValue) (own : User) (target : ℕ) (reached
     → IsProper state → session_of state.roster own.session ≡ Some own
     → IsGathered state own target reached audience → audience ≡ hearers_of state own.session (heard_from state own target)
 gathered_hearers state own target reached audience proper mine is =
-    is.told ∙ heard_each own (heard_as state own target) state.roster.sessions reached is.room is.are
+    is.told ∙ heard_each (hearer_by own) (heard_as state own target) state.roster.sessions reached is.room is.are
     ∙ sym (ap (hearers_of state own.session) (sym (heard_is state own target is.heard is.away))
     ∙ as_hearers state own (heard_as state own target) state.roster.sessions proper mine (λ user has. has))

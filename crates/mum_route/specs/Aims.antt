@@ -23,7 +23,7 @@ use Rattle.mum_route.specs.Context.{code}
 use Rattle.mum_route.specs.Cover.{spread}
 use Rattle.mum_route.specs.Hearers.{shares}
 use Rattle.mum_route.specs.Hearing.{can_hear, may}
-use Rattle.mum_route.specs.Route.{context_of, is_named, is_within, listens_within}
+use Rattle.mum_route.specs.Route.{Member, context_of, is_named, is_within, listens_within, member_by}
 
 -- an aim as plain data: whose it is, what permission it needs, from where it spreads, and whom it names
 pub record Aimed : Type 0 where
@@ -121,3 +121,7 @@ hearer_by own user context = record { session = user.session; slot = user.slot; 
 -- those of these sessions that are reached, each with its context
 abbrev pub heard_of : User → List User → List (Option Context) → List Hearer
 heard_of own users reached = filter_map (λ one. option_map (hearer_by own one.0) one.1) (zip users reached)
+
+-- the same, each with the number of its context
+abbrev pub members_by : List User → List (Option Context) → List Member
+members_by users reached = filter_map (λ one. option_map (member_by one.0) one.1) (zip users reached)

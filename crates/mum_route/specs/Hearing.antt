@@ -4,12 +4,12 @@ use Rattle.std.specs.Option.{option_map_or}
 use Rattle.mum_base.specs.declared.number.ChannelId.{ChannelId}
 use Rattle.mum_base.specs.declared.number.SessionId.{SessionId}
 use Rattle.mum_base.specs.declared.perm.Perm.{Perm}
-use Rattle.mum_policy.specs.Member.{Asker, member}
+use Rattle.mum_policy.specs.Member.{member}
 use Rattle.mum_policy.specs.Walk.{holds}
 use Rattle.mum_tree.specs.Rows.{path}
 use Rattle.mum_users.specs.declared.user.User.{User}
 use Rattle.mum_users.specs.State.{has_number}
-use Rattle.mum_state.specs.Permissions.{asker, granted_where_there, perm_of}
+use Rattle.mum_state.specs.Permissions.{actor_from, perm_of}
 use Rattle.mum_state.specs.State.{StateValue, policy_of}
 
 -- whom nobody hears: a session that is muted, that muted itself, or that may not speak where it is
@@ -28,12 +28,8 @@ can_hear speaker user = not (has_number speaker user) && not (is_deaf user)
 abbrev pub may : StateValue → SessionId → Perm → ChannelId → Bool
 may state session perm channel = option_map_or (λ held. holds held perm.0) (perm_of state session channel) false
 
--- so has one who is seen like this by entries and groups
-abbrev pub may_as : StateValue → Asker → Perm → ChannelId → Bool
-may_as state who perm channel = option_map_or (λ held. holds held perm.0) (granted_where_there state who channel) false
-
 -- the session is in the group, asked in the channel for an entry of that channel; everybody is in the empty one
 abbrev pub is_in_group : StateValue → List ℕ → ChannelId → User → Bool
 is_in_group state group channel user =
     (length group == 0) ||
-    (let way : List ChannelId = path state.tree.channels channel in member (policy_of state) way (length way - 1) group (asker state.tree user))
+    (let way : List ChannelId = path state.tree.channels channel in member (policy_of state) way (length way - 1) group (actor_from state.tree user))

@@ -9,6 +9,7 @@ use Rattle.mum_users.specs.declared.target.TargetItem.{TargetItem}
 use Rattle.mum_users.specs.declared.user.User.{User}
 use Rattle.mum_users.specs.Sessions.{session_of}
 use Rattle.mum_state.specs.Proper.{IsProper}
+use Rattle.mum_state.specs.Routed.{route_inputs}
 use Rattle.mum_state.specs.State.{StateValue}
 use Rattle.mum_route.specs.declared.routes.TheConstants.{LOOPBACK, TALK}
 use Rattle.mum_route.specs.Cover.{cover, talk}
@@ -130,3 +131,11 @@ NobodyLeftOut =
     → ((code : ℕ) → IsTalkContext state own user code → Contains (route state speaker TALK) (user.session, code))
     × ((target code : ℕ) → target ≢ TALK → target ≢ LOOPBACK
     → IsItemContext state own (items_of state speaker target) user code → Contains (route state speaker target) (user.session, code))
+
+-- ---- what it depends on
+
+-- where the parts that a route reads are the same, so is the route
+abbrev pub RouteIsOfItsInputs : Type 0
+RouteIsOfItsInputs =
+    (state later : StateValue) (speaker : SessionId) (target : ℕ) → route_inputs state ≡ route_inputs later
+    → route state speaker target ≡ route later speaker target

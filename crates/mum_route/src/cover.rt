@@ -11,6 +11,7 @@ ghost use Rattle.mum_route.specs.Hearing.{may};
 
 use crate::aim::{Aim, Ground};
 use crate::hearing::may;
+use crate::rights::Rights;
 use mum_base::{ChannelId, PLACES, Perm, SessionId, Steps};
 use mum_state::State;
 use mum_tree::{Scratch, Tree};
@@ -65,7 +66,8 @@ pub(crate) fn nothing_known() -> [Option<bool>; PLACES]
 
 /// Whether the speaker has a permission in a channel. What is found is kept, by place, and what is
 /// kept is not looked for again.
-pub(crate) fn has_right<L: Ledger>(
+pub(crate) fn has_right<T: Rights, L: Ledger>(
+    rights: &mut T,
     state: &State,
     speaker: SessionId,
     perm: Perm,
@@ -73,10 +75,12 @@ pub(crate) fn has_right<L: Ledger>(
     channel: ChannelId,
     steps: &mut Steps<L>,
 ) -> bool
+    requires sound { T.sound rights.old state.now }
     requires room { length known.old ≡ PLACES }
     requires right { AreKnown state.now speaker perm known.old }
     ensures value { result ≡ may state.now speaker perm channel }
     ensures kept { AreKnown state.now speaker perm known.new }
+    ensures sound { T.sound rights.new state.now }
 {
     let Some(place) = state.tree().place(channel) else {
         return false;
@@ -85,7 +89,7 @@ pub(crate) fn has_right<L: Ledger>(
     if let Some(answer) = known[place] {
         return answer;
     }
-    let answer = may(state, speaker, perm, channel, steps);
+    let answer = may(rights, state, speaker, perm, channel, steps);
     known[place] = Some(answer);
     answer
 }
@@ -98,7 +102,8 @@ pub(crate) struct Answer {
 }
 
 /// Whether an aim covers a channel.
-pub(crate) fn covers<L: Ledger>(
+pub(crate) fn covers<T: Rights, L: Ledger>(
+    rights: &mut T,
     state: &State,
     aim: &Aim<'_>,
     known: &mut [Option<bool>],
@@ -106,11 +111,13 @@ pub(crate) fn covers<L: Ledger>(
     scratch: &Scratch,
     steps: &mut Steps<L>,
 ) -> bool
+    requires sound { T.sound rights.old state.now }
     requires room { length known.old ≡ PLACES }
     requires right { AreKnown state.now aim.now.speaker aim.now.perm known.old }
     requires marked { AreMarked state.now.tree aim.now.ground scratch.now }
     ensures value { result ≡ is_among (covered state.now (aimed aim.now)) channel }
     ensures kept { AreKnown state.now aim.now.speaker aim.now.perm known.new }
+    ensures sound { T.sound rights.new state.now }
 {
     let Some(ground) = aim.ground else {
         return false;
@@ -118,11 +125,12 @@ pub(crate) fn covers<L: Ledger>(
     if !ground.reaches(state.tree(), scratch, channel) {
         return false;
     }
-    has_right(state, aim.speaker, aim.perm, known, channel, steps)
+    has_right(rights, state, aim.speaker, aim.perm, known, channel, steps)
 }
 
 /// The same, where what was answered last is kept, and is not looked for again.
-pub(crate) fn covers_again<L: Ledger>(
+pub(crate) fn covers_again<T: Rights, L: Ledger>(
+    rights: &mut T,
     state: &State,
     aim: &Aim<'_>,
     known: &mut [Option<bool>],
@@ -131,6 +139,7 @@ pub(crate) fn covers_again<L: Ledger>(
     scratch: &Scratch,
     steps: &mut Steps<L>,
 ) -> bool
+    requires sound { T.sound rights.old state.now }
     requires room { length known.old ≡ PLACES }
     requires right { AreKnown state.now aim.now.speaker aim.now.perm known.old }
     requires last { IsAnswered state.now (aimed aim.now) last.old }
@@ -138,13 +147,14 @@ pub(crate) fn covers_again<L: Ledger>(
     ensures value { result ≡ is_among (covered state.now (aimed aim.now)) channel }
     ensures kept { AreKnown state.now aim.now.speaker aim.now.perm known.new }
     ensures last { IsAnswered state.now (aimed aim.now) last.new }
+    ensures sound { T.sound rights.new state.now }
 {
     if let Some(answer) = *last {
         if answer.channel.0 == channel.0 {
             return answer.covered;
         }
     }
-    let covered = covers(state, aim, known, channel, scratch, steps);
+    let covered = covers(rights, state, aim, known, channel, scratch, steps);
     *last = Some(Answer { channel, covered });
     covered
 }

@@ -1,12 +1,15 @@
 //! Who is heard, who hears, and what a session may do.
 
-ghost use Rattle.std.specs.Prelude.{◌≡◌, ◌==◌, false, length, IsTrue};
-ghost use Rattle.mum_policy.specs.Member.{asker_of};
+ghost use Rattle.std.specs.Prelude.{◌≡◌, ◌==◌, false, length, IsTrue, Some};
+ghost use Rattle.mum_policy.specs.Member.{actor_of};
 ghost use Rattle.mum_tree.specs.Rows.{is_there};
-ghost use Rattle.mum_route.specs.Hearing.{can_hear, is_in_group, is_silent, may, may_as};
+ghost use Rattle.mum_users.specs.Sessions.{session_of};
+ghost use Rattle.mum_state.specs.Permissions.{actor_from};
+ghost use Rattle.mum_route.specs.Hearing.{can_hear, is_in_group, is_silent, may};
 
+use crate::rights::Rights;
 use mum_base::{ChannelId, Perm, SessionId, Steps};
-use mum_policy::{Who, is_member, permissions};
+use mum_policy::{Who, is_member};
 use mum_state::{State, home_of, who_is};
 use mum_users::User;
 use std::sync::ledger::Ledger;
@@ -26,33 +29,42 @@ pub(crate) fn can_hear(speaker: SessionId, user: &User) -> bool
 }
 
 /// Whether a session has a permission in a channel.
-pub(crate) fn may<L: Ledger>(
+pub(crate) fn may<T: Rights, L: Ledger>(
+    rights: &mut T,
     state: &State,
     session: SessionId,
     perm: Perm,
     channel: ChannelId,
     steps: &mut Steps<L>,
 ) -> bool
-    ensures { result ≡ may state.now session perm channel }
+    requires { T.sound rights.old state.now }
+    ensures value { result ≡ may state.now session perm channel }
+    ensures sound { T.sound rights.new state.now }
 {
-    match state.permissions_of(session, channel, steps) {
+    match rights.held(state, session, channel, steps) {
         Some(held) => held.has(perm),
         None => false,
     }
 }
 
-/// Whether a session, as entries see it, has a permission in a channel.
-pub(crate) fn may_as<L: Ledger>(
+/// Whether a session that is there, which entries and groups see like this, has a permission in a channel.
+pub(crate) fn may_as<T: Rights, L: Ledger>(
+    rights: &mut T,
     state: &State,
+    user: &User,
     who: &Who<'_>,
     perm: Perm,
     channel: ChannelId,
     steps: &mut Steps<L>,
 ) -> bool
-    ensures { result ≡ may_as state.now (asker_of who.now) perm channel }
+    requires sound { T.sound rights.old state.now }
+    requires own { session_of state.now.roster user.now.session ≡ Some user.now }
+    requires who { actor_of who.now ≡ actor_from state.now.tree user.now }
+    ensures value { result ≡ may state.now user.now.session perm channel }
+    ensures sound { T.sound rights.new state.now }
 {
-    match state.tree().path(channel) {
-        Some(path) => permissions(state, path.as_slice(), who, steps).has(perm),
+    match rights.held_as(state, user, who, channel, steps) {
+        Some(held) => held.has(perm),
         None => false,
     }
 }

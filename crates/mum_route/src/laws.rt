@@ -1,7 +1,7 @@
 //! What holds of every route, as theorems. The functions do nothing: their contracts are what they say.
 
 ghost use Rattle.std.specs.Prelude.{◌≡◌};
-ghost use Rattle.mum_route.specs.Laws.{ContextsByPrecedence, EachOnce, HeardOnlyWhereAllowed, LoopbackToSpeaker, NeverToSpeaker, NobodyDeaf, NobodyLeftOut, SilentAreUnheard, StandInSlotOrder};
+ghost use Rattle.mum_route.specs.Laws.{ContextsByPrecedence, EachOnce, HeardOnlyWhereAllowed, LoopbackToSpeaker, NeverToSpeaker, NobodyDeaf, NobodyLeftOut, RouteIsOfItsInputs, SilentAreUnheard, StandInSlotOrder};
 
 use crate::routes::{LOOPBACK, TALK};
 
@@ -43,4 +43,9 @@ pub fn heard_only_where_allowed()
 pub fn contexts_by_precedence()
     ensures first { ContextsByPrecedence }
     ensures all { NobodyLeftOut }
+{}
+
+/// Where all that a route reads is the same in two states, the routes are.
+pub fn route_is_of_its_inputs()
+    ensures { RouteIsOfItsInputs }
 {}

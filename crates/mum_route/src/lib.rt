@@ -11,9 +11,11 @@ mod hearer;
 mod hearing;
 pub mod laws;
 mod reach;
+pub mod rights;
 mod routes;
 
 pub use audience::Audience;
 pub use context::Context;
 pub use hearer::Hearer;
-pub use routes::{LOOPBACK, TALK, route, route_into};
+pub use rights::{Rights, Walk};
+pub use routes::{LOOPBACK, TALK, hear_reached, reached, route, route_into, route_with};

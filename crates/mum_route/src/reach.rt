@@ -3,11 +3,11 @@
 ghost use Rattle.std.specs.Prelude.{◌≡◌, ◌&&◌, ◌<◌, ◌≤◌, ℕ, None, Some, IsTrue, length, slice_index_or};
 ghost use Rattle.mum_base.specs.Channels.{is_among};
 ghost use Rattle.mum_tree.specs.Rows.{is_there};
-ghost use Rattle.mum_policy.specs.Member.{asker_of};
+ghost use Rattle.mum_policy.specs.Member.{actor_of};
 ghost use Rattle.mum_users.specs.declared.user.User.{User};
 ghost use Rattle.mum_users.specs.Listeners.{pairs_of};
 ghost use Rattle.mum_users.specs.Sessions.{session_of};
-ghost use Rattle.mum_state.specs.Permissions.{asker};
+ghost use Rattle.mum_state.specs.Permissions.{actor_from};
 ghost use Rattle.mum_route.specs.Aims.{aimed, covered, heard_by, AreKnown, AreMarked, IsAnswered};
 ghost use Rattle.mum_route.specs.Context.{code, first_of};
 ghost use Rattle.mum_route.specs.Hearing.{is_in_group, may};
@@ -17,6 +17,7 @@ use crate::aim::Aim;
 use crate::context::Context;
 use crate::cover::{Answer, covers, covers_again, has_right};
 use crate::hearing::{can_hear, is_in_group, may_as};
+use crate::rights::Rights;
 use mum_base::{ChannelId, PLACES, Perm, SLOTS, SessionId, Steps};
 use mum_policy::Who;
 use mum_state::{State, home_of, who_is};
@@ -25,7 +26,8 @@ use mum_users::{ListenerPair, User};
 use std::sync::ledger::Ledger;
 
 /// Whether a session is in a channel that an aim covers, and in its group there.
-fn is_within<L: Ledger>(
+fn is_within<T: Rights, L: Ledger>(
+    rights: &mut T,
     state: &State,
     aim: &Aim<'_>,
     known: &mut [Option<bool>],
@@ -34,6 +36,7 @@ fn is_within<L: Ledger>(
     scratch: &Scratch,
     steps: &mut Steps<L>,
 ) -> bool
+    requires sound { T.sound rights.old state.now }
     requires there { IsTrue (is_there state.now.tree.channels user.now.channel) }
     requires room { length known.old ≡ PLACES }
     requires right { AreKnown state.now aim.now.speaker aim.now.perm known.old }
@@ -43,9 +46,18 @@ fn is_within<L: Ledger>(
         ≡ is_within state.now (covered state.now (aimed aim.now)) aim.now.group.now user.now }
     ensures kept { AreKnown state.now aim.now.speaker aim.now.perm known.new }
     ensures last { IsAnswered state.now (aimed aim.now) last.new }
+    ensures sound { T.sound rights.new state.now }
 {
-    covers_again(state, aim, known, last, user.channel, scratch, steps)
-        && is_in_group(state, aim.group, user.channel, user)
+    covers_again(
+        rights,
+        state,
+        aim,
+        known,
+        last,
+        user.channel,
+        scratch,
+        steps,
+    ) && is_in_group(state, aim.group, user.channel, user)
 }
 
 /// Whether an aim names a session.
@@ -56,27 +68,39 @@ fn is_named(sessions: &[SessionId], user: &User) -> bool
 }
 
 /// Whether an aim names a session, and the speaker has the permission where that is.
-fn is_named_there<L: Ledger>(
+fn is_named_there<T: Rights, L: Ledger>(
+    rights: &mut T,
     state: &State,
     aim: &Aim<'_>,
     known: &mut [Option<bool>],
     user: &User,
     steps: &mut Steps<L>,
 ) -> bool
+    requires sound { T.sound rights.old state.now }
     requires room { length known.old ≡ PLACES }
     requires right { AreKnown state.now aim.now.speaker aim.now.perm known.old }
     ensures value { result ≡ (is_named aim.now.named.now user.now
         && may state.now aim.now.speaker aim.now.perm user.now.channel) }
     ensures kept { AreKnown state.now aim.now.speaker aim.now.perm known.new }
+    ensures sound { T.sound rights.new state.now }
 {
     if !is_named(aim.named, user) {
         return false;
     }
-    has_right(state, aim.speaker, aim.perm, known, user.channel, steps)
+    has_right(
+        rights,
+        state,
+        aim.speaker,
+        aim.perm,
+        known,
+        user.channel,
+        steps,
+    )
 }
 
 /// Whether a session hears an aim by listening to a channel.
-fn hears_in<L: Ledger>(
+fn hears_in<T: Rights, L: Ledger>(
+    rights: &mut T,
     state: &State,
     aim: &Aim<'_>,
     known: &mut [Option<bool>],
@@ -86,9 +110,10 @@ fn hears_in<L: Ledger>(
     scratch: &Scratch,
     steps: &mut Steps<L>,
 ) -> bool
+    requires sound { T.sound rights.old state.now }
     requires there { IsTrue (is_there state.now.tree.channels channel) }
     requires own { session_of state.now.roster user.now.session ≡ Some user.now }
-    requires who { asker_of who.now ≡ asker state.now.tree user.now }
+    requires who { actor_of who.now ≡ actor_from state.now.tree user.now }
     requires room { length known.old ≡ PLACES }
     requires right { AreKnown state.now aim.now.speaker aim.now.perm known.old }
     requires marked { AreMarked state.now.tree aim.now.ground scratch.now }
@@ -96,18 +121,20 @@ fn hears_in<L: Ledger>(
         && is_in_group state.now aim.now.group.now channel user.now
         && may state.now user.now.session Perm.LISTEN channel) }
     ensures kept { AreKnown state.now aim.now.speaker aim.now.perm known.new }
+    ensures sound { T.sound rights.new state.now }
 {
-    if !covers(state, aim, known, channel, scratch, steps) {
+    if !covers(rights, state, aim, known, channel, scratch, steps) {
         return false;
     }
     if !is_in_group(state, aim.group, channel, user) {
         return false;
     }
-    may_as(state, who, Perm::LISTEN, channel, steps)
+    may_as(rights, state, user, who, Perm::LISTEN, channel, steps)
 }
 
 /// Whether a session hears an aim by listening to one of these channels.
-fn hears_in_one<L: Ledger>(
+fn hears_in_one<T: Rights, L: Ledger>(
+    rights: &mut T,
     state: &State,
     aim: &Aim<'_>,
     known: &mut [Option<bool>],
@@ -116,6 +143,7 @@ fn hears_in_one<L: Ledger>(
     scratch: &Scratch,
     steps: &mut Steps<L>,
 ) -> bool
+    requires sound { T.sound rights.old state.now }
     requires pairs { pairs.now ≡ pairs_of state.now.roster user.now.session }
     requires own { session_of state.now.roster user.now.session ≡ Some user.now }
     requires room { length known.old ≡ PLACES }
@@ -124,11 +152,22 @@ fn hears_in_one<L: Ledger>(
     ensures value { result
         ≡ listens_within state.now (covered state.now (aimed aim.now)) aim.now.group.now user.now }
     ensures kept { AreKnown state.now aim.now.speaker aim.now.perm known.new }
+    ensures sound { T.sound rights.new state.now }
 {
     let home = home_of(state.tree(), user);
     let who = who_is(user, home.as_slice());
     for pair in pairs {
-        if hears_in(state, aim, known, user, &who, pair.channel, scratch, steps) {
+        if hears_in(
+            rights,
+            state,
+            aim,
+            known,
+            user,
+            &who,
+            pair.channel,
+            scratch,
+            steps,
+        ) {
             return true;
         }
     }
@@ -136,7 +175,8 @@ fn hears_in_one<L: Ledger>(
 }
 
 /// Whether a session listens to a channel that an aim covers, is in its group there, and may listen.
-fn listens_within<L: Ledger>(
+fn listens_within<T: Rights, L: Ledger>(
+    rights: &mut T,
     state: &State,
     aim: &Aim<'_>,
     known: &mut [Option<bool>],
@@ -144,6 +184,7 @@ fn listens_within<L: Ledger>(
     scratch: &Scratch,
     steps: &mut Steps<L>,
 ) -> bool
+    requires sound { T.sound rights.old state.now }
     requires own { session_of state.now.roster user.now.session ≡ Some user.now }
     requires room { length known.old ≡ PLACES }
     requires right { AreKnown state.now aim.now.speaker aim.now.perm known.old }
@@ -151,17 +192,19 @@ fn listens_within<L: Ledger>(
     ensures value { result
         ≡ listens_within state.now (covered state.now (aimed aim.now)) aim.now.group.now user.now }
     ensures kept { AreKnown state.now aim.now.speaker aim.now.perm known.new }
+    ensures sound { T.sound rights.new state.now }
 {
     let pairs = state.roster().pairs_of(user.session);
     if pairs.is_empty() {
         return false;
     }
-    hears_in_one(state, aim, known, user, pairs, scratch, steps)
+    hears_in_one(rights, state, aim, known, user, pairs, scratch, steps)
 }
 
 /// The first way in which a session is reached: by this aim, or as it was before. Only what would come
 /// before that is looked for.
-fn reached_with<L: Ledger>(
+fn reached_with<T: Rights, L: Ledger>(
+    rights: &mut T,
     state: &State,
     aim: &Aim<'_>,
     known: &mut [Option<bool>],
@@ -171,6 +214,7 @@ fn reached_with<L: Ledger>(
     scratch: &Scratch,
     steps: &mut Steps<L>,
 ) -> Option<Context>
+    requires sound { T.sound rights.old state.now }
     requires own { session_of state.now.roster user.now.session ≡ Some user.now }
     requires there { IsTrue (is_there state.now.tree.channels user.now.channel) }
     requires room { length known.old ≡ PLACES }
@@ -181,6 +225,7 @@ fn reached_with<L: Ledger>(
     ensures value { result ≡ first_of before (heard_by state.now (aimed aim.now) user.now) }
     ensures kept { AreKnown state.now aim.now.speaker aim.now.perm known.new }
     ensures last { IsAnswered state.now (aimed aim.now) last.new }
+    ensures sound { T.sound rights.new state.now }
 {
     if !can_hear(aim.speaker, user) {
         return before;
@@ -188,19 +233,19 @@ fn reached_with<L: Ledger>(
     if !aim.inside.comes_before(before) {
         return before;
     }
-    if is_within(state, aim, known, last, user, scratch, steps) {
+    if is_within(rights, state, aim, known, last, user, scratch, steps) {
         return Some(aim.inside);
     }
     if !Context::DirectWhisper.comes_before(before) {
         return before;
     }
-    if is_named_there(state, aim, known, user, steps) {
+    if is_named_there(rights, state, aim, known, user, steps) {
         return Some(Context::DirectWhisper);
     }
     if !Context::Listener.comes_before(before) {
         return before;
     }
-    if listens_within(state, aim, known, user, scratch, steps) {
+    if listens_within(rights, state, aim, known, user, scratch, steps) {
         return Some(Context::Listener);
     }
     before
@@ -215,7 +260,8 @@ pub(crate) fn nobody_reached() -> [Option<Context>; SLOTS]
 }
 
 /// Looks at each session for how an aim reaches it.
-pub(crate) fn pass_aim<L: Ledger>(
+pub(crate) fn pass_aim<T: Rights, L: Ledger>(
+    rights: &mut T,
     state: &State,
     aim: &Aim<'_>,
     known: &mut [Option<bool>],
@@ -223,6 +269,7 @@ pub(crate) fn pass_aim<L: Ledger>(
     scratch: &Scratch,
     steps: &mut Steps<L>,
 )
+    requires sound { T.sound rights.old state.now }
     requires room { length known.old ≡ PLACES }
     requires right { AreKnown state.now aim.now.speaker aim.now.perm known.old }
     requires marked { AreMarked state.now.tree aim.now.ground scratch.now }
@@ -232,10 +279,13 @@ pub(crate) fn pass_aim<L: Ledger>(
         slice_index_or reached.new k None ≡ first_of (slice_index_or reached.old k None)
         (heard_by state.now (aimed aim.now) (slice_index_or state.now.roster.sessions k d)) }
     ensures kept { AreKnown state.now aim.now.speaker aim.now.perm known.new }
+    ensures sound { T.sound rights.new state.now }
 {
     let mut last = None;
     for (i, user) in state.roster().users().iter().enumerate() {
         let one = &mut reached[i];
-        *one = reached_with(state, aim, known, &mut last, user, *one, scratch, steps);
+        *one = reached_with(
+            rights, state, aim, known, &mut last, user, *one, scratch, steps,
+        );
     }
 }

@@ -4,7 +4,8 @@ ghost use Rattle.std.specs.Prelude.{◌≡◌, ◌++◌, ◌∷◌, ◌<◌, ◌
 ghost use Rattle.std.specs.List.{All};
 ghost use Rattle.mum_tree.specs.Rows.{is_there};
 ghost use Rattle.mum_users.specs.Sessions.{session_of};
-ghost use Rattle.mum_route.specs.Aims.{heard_as, heard_of, AreHeard};
+ghost use Rattle.mum_state.specs.Proper.{IsProper};
+ghost use Rattle.mum_route.specs.Aims.{heard_as, heard_of, members_by, AreHeard};
 ghost use Rattle.mum_route.specs.Hearers.{hearers_at, hearers_of, member_of};
 ghost use Rattle.mum_route.specs.Hearing.{can_hear};
 ghost use Rattle.mum_route.specs.Route.{by_items, by_talk, heard_from, items_of, route};
@@ -16,6 +17,7 @@ use crate::cover::{mark_links, nothing_known};
 use crate::hearer::hearer_by;
 use crate::hearing::is_silent;
 use crate::reach::{nobody_reached, pass_aim};
+use crate::rights::{Rights, Walk};
 use mum_base::{SLOTS, SessionId, Steps};
 use mum_state::State;
 use mum_tree::Scratch;
@@ -29,43 +31,65 @@ pub const TALK: u8 = 0;
 pub const LOOPBACK: u8 = 31;
 
 /// How each session hears talk, by its place among the sessions.
-fn reached_by_talk<L: Ledger>(
+fn reached_by_talk<T: Rights, L: Ledger>(
+    rights: &mut T,
     state: &State,
     speaker: &User,
     scratch: &mut Scratch,
     steps: &mut Steps<L>,
 ) -> [Option<Context>; SLOTS]
-    requires { IsTrue (is_there state.now.tree.channels speaker.now.channel) }
-    ensures { AreHeard
+    requires sound { T.sound rights.old state.now }
+    requires there { IsTrue (is_there state.now.tree.channels speaker.now.channel) }
+    ensures value { AreHeard
         (λ user. if can_hear speaker.now.session user then by_talk state.now speaker.now user else None)
         state.now.roster.sessions result }
+    ensures sound { T.sound rights.new state.now }
 {
     let mut reached = nobody_reached();
     let mut known = nothing_known();
     let aim = Aim::talk(speaker);
     mark_links(state.tree(), aim.ground, scratch);
-    pass_aim(state, &aim, &mut known, &mut reached, scratch, steps);
+    pass_aim(
+        rights,
+        state,
+        &aim,
+        &mut known,
+        &mut reached,
+        scratch,
+        steps,
+    );
     reached
 }
 
 /// How each session hears what is said to these items of a voice target.
-fn reached_by_items<L: Ledger>(
+fn reached_by_items<T: Rights, L: Ledger>(
+    rights: &mut T,
     state: &State,
     speaker: &User,
     items: &[TargetItem],
     scratch: &mut Scratch,
     steps: &mut Steps<L>,
 ) -> [Option<Context>; SLOTS]
-    ensures { AreHeard
+    requires sound { T.sound rights.old state.now }
+    ensures value { AreHeard
         (λ user. if can_hear speaker.now.session user then by_items state.now speaker.now items.now user else None)
         state.now.roster.sessions result }
+    ensures sound { T.sound rights.new state.now }
 {
     let mut reached = nobody_reached();
     let mut known = nothing_known();
     for item in items {
         let aim = Aim::item(state, speaker.session, item);
         mark_links(state.tree(), aim.ground, scratch);
-        pass_aim(state, &aim, &mut known, &mut reached, scratch, steps);
+        pass_aim(
+            rights,
+            state,
+            &aim,
+            &mut known,
+            &mut reached,
+            scratch,
+            steps,
+        );
     }
     reached
 }
@@ -81,21 +105,24 @@ fn items_of(state: &State, session: SessionId, target: u8) -> &[TargetItem]
 }
 
 /// How each session hears what is said to a target.
-fn reached_by<L: Ledger>(
+fn reached_by<T: Rights, L: Ledger>(
+    rights: &mut T,
     state: &State,
     speaker: &User,
     target: u8,
     scratch: &mut Scratch,
     steps: &mut Steps<L>,
 ) -> [Option<Context>; SLOTS]
-    requires { IsTrue (is_there state.now.tree.channels speaker.now.channel) }
-    ensures { AreHeard (heard_as state.now speaker.now target) state.now.roster.sessions result }
+    requires sound { T.sound rights.old state.now }
+    requires there { IsTrue (is_there state.now.tree.channels speaker.now.channel) }
+    ensures value { AreHeard (heard_as state.now speaker.now target) state.now.roster.sessions result }
+    ensures sound { T.sound rights.new state.now }
 {
     if target == TALK {
-        return reached_by_talk(state, speaker, scratch, steps);
+        return reached_by_talk(rights, state, speaker, scratch, steps);
     }
     let items = items_of(state, speaker.session, target);
-    reached_by_items(state, speaker, items, scratch, steps)
+    reached_by_items(rights, state, speaker, items, scratch, steps)
 }
 
 /// Appends a session, if the speaker's packet reaches it.
@@ -127,7 +154,8 @@ fn gather(
 }
 
 /// Appends those who hear a session that is there to nobody.
-fn hear_from<L: Ledger>(
+fn hear_from<T: Rights, L: Ledger>(
+    rights: &mut T,
     state: &State,
     speaker: &User,
     target: u8,
@@ -135,12 +163,14 @@ fn hear_from<L: Ledger>(
     steps: &mut Steps<L>,
     audience: &mut Audience,
 )
+    requires sound { T.sound rights.old state.now }
     requires there { IsTrue (is_there state.now.tree.channels speaker.now.channel) }
     requires own { session_of state.now.roster speaker.now.session ≡ Some speaker.now }
     requires slot { speaker.now.slot.0 < SLOTS }
     requires nobody { audience.old ≡ [] }
     ensures members { map member_of audience.new ≡ heard_from state.now speaker.now target }
     ensures hearers { audience.new ≡ hearers_of state.now speaker.now.session (heard_from state.now speaker.now target) }
+    ensures sound { T.sound rights.new state.now }
 {
     if is_silent(speaker) {
         return;
@@ -149,8 +179,71 @@ fn hear_from<L: Ledger>(
         push_reached(audience, speaker, speaker, Some(Context::Talk));
         return;
     }
-    let reached = reached_by(state, speaker, target, scratch, steps);
+    let reached = reached_by(rights, state, speaker, target, scratch, steps);
     gather(audience, speaker, state.roster().users(), &reached);
+}
+
+/// How what a session that is there says to a target, other than loopback, reaches each session, by its place
+/// among the sessions. What sessions may do in channels is asked of `rights`.
+pub fn reached<T: Rights, L: Ledger>(
+    rights: &mut T,
+    state: &State,
+    speaker: &User,
+    target: u8,
+    scratch: &mut Scratch,
+    steps: &mut Steps<L>,
+) -> [Option<Context>; SLOTS]
+    requires target { target < LOOPBACK }
+    requires proper { IsProper state.now }
+    requires there { IsTrue (is_there state.now.tree.channels speaker.now.channel) }
+    requires sound { T.sound rights.old state.now }
+    ensures members { members_by state.now.roster.sessions result ≡ heard_from state.now speaker.now target }
+    ensures sound { T.sound rights.new state.now }
+{
+    if is_silent(speaker) {
+        return nobody_reached();
+    }
+    reached_by(rights, state, speaker, target, scratch, steps)
+}
+
+/// Those of the sessions who are reached, in place of who was in the audience, in slot order, each with what
+/// its copy needs beside this speaker. It takes no memory, and reads no entry.
+pub fn hear_reached(
+    state: &State,
+    speaker: &User,
+    reached: &[Option<Context>; SLOTS],
+    audience: &mut Audience,
+)
+    requires { session_of state.now.roster speaker.now.session ≡ Some speaker.now }
+    ensures members { map member_of audience.new ≡ members_by state.now.roster.sessions reached.now }
+    ensures hearers { audience.new
+        ≡ hearers_of state.now speaker.now.session (members_by state.now.roster.sessions reached.now) }
+{
+    audience.clear();
+    gather(audience, speaker, state.roster().users(), reached);
+}
+
+/// Who hears what a session says to a target, in place of who was in the audience, as `route_into` tells it.
+/// What sessions may do in channels is asked of `rights`.
+pub fn route_with<T: Rights, L: Ledger>(
+    rights: &mut T,
+    state: &State,
+    speaker: SessionId,
+    target: u8,
+    scratch: &mut Scratch,
+    steps: &mut Steps<L>,
+    audience: &mut Audience,
+)
+    requires target { target ≤ LOOPBACK }
+    requires sound { T.sound rights.old state.now }
+    ensures members { map member_of audience.new ≡ route state.now speaker target }
+    ensures hearers { audience.new ≡ hearers_at state.now speaker target }
+    ensures sound { T.sound rights.new state.now }
+{
+    audience.clear();
+    if let Some(user) = state.roster().session(speaker) {
+        hear_from(rights, state, user, target, scratch, steps, audience);
+    }
 }
 
 /// Who hears what a session says to a target, in place of who was in the audience: 0 is talk, 1 to 30 a
@@ -171,10 +264,7 @@ pub fn route_into<L: Ledger>(
     ensures members { map member_of audience.new ≡ route state.now speaker target }
     ensures hearers { audience.new ≡ hearers_at state.now speaker target }
 {
-    audience.clear();
-    if let Some(user) = state.roster().session(speaker) {
-        hear_from(state, user, target, scratch, steps, audience);
-    }
+    route_with(&mut Walk, state, speaker, target, scratch, steps, audience);
 }
 
 /// Who hears what a session says to a target, as `route_into` tells it.

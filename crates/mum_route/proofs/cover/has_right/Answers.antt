@@ -1,5 +1,5 @@
 use Rattle.std.proofs.Common.{◌<◌, length, arith}
-use Rattle.mum_route.proofs.Rights.{known_at, known_set, place_within, placed_in}
+use Rattle.mum_route.proofs.Known.{known_at, known_set, place_within, placed_in}
 use Rattle.mum_route.proofs.cover.has_right.Goals as goal
 
 pub bounds : goal.bounds
@@ -24,4 +24,4 @@ returns-clause-kept g c =
     let found = placed_in c.args.state.now c.tree.result.now c.args.channel c.place.result c.in-Some.place c.tree.ensures.tree c.place.ensures c.in-Some.is in
     let within = place_within c.args.state.now c.args.channel c.in-Some.place c.tree.ensures.proper found in
     let inside : c.in-Some.place < length c.args.known.now = omega (arith, c.requires.room) in
-    known_set c.args.state.now c.args.speaker c.args.perm c.args.known.now c.args.channel c.in-Some.place c.may-answer.result c.tree.ensures.proper found inside c.may-answer.ensures c.requires.right
+    known_set c.args.state.now c.args.speaker c.args.perm c.args.known.now c.args.channel c.in-Some.place c.may-answer.result c.tree.ensures.proper found inside c.may-answer.ensures.value c.requires.right

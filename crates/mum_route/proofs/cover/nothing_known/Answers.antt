@@ -1,4 +1,4 @@
-use Rattle.mum_route.proofs.Rights.{none_at}
+use Rattle.mum_route.proofs.Known.{none_at}
 use Rattle.mum_route.proofs.cover.nothing_known.Goals as goal
 
 pub returns-clause-nothing : goal.returns-clause-nothing

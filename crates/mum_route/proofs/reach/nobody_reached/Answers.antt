@@ -1,4 +1,4 @@
-use Rattle.mum_route.proofs.Rights.{none_at}
+use Rattle.mum_route.proofs.Known.{none_at}
 use Rattle.mum_route.proofs.reach.nobody_reached.Goals as goal
 
 pub returns-clause-nobody : goal.returns-clause-nobody

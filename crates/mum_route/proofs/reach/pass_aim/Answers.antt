@@ -14,6 +14,7 @@ bounds-reached-i g c =
 
 pub loop-i-init : goal.loop-i-init
 loop-i-init g c = record {
+  sound = c.requires.sound;
   right = c.requires.right;
   last = tt;
   filled = record { done = λ k d below. absurd (omega arith); rest = λ k above. refl };
@@ -27,6 +28,7 @@ loop-i-preserved g c =
     let within : c.loop-i.i < length c.args.state.now.roster.sessions = omega (arith, ap length all, c.loop-i-test.true) in
     let read : c.user-item.result ≡ get_or c.args.state.now.roster.sessions c.loop-i.i c.user-item.result = c.user-item.is ∙ ap (λ (us : List User). get_or us c.loop-i.i c.user-item.result) all in
     record {
+      sound = c.reached_with.ensures.sound;
       right = c.reached_with.ensures.kept;
       last = c.reached_with.ensures.last;
       filled = filled_more _ _ _ _ c.loop-i.i c.user-item.result c.reached_with.result here within read c.reached_with.ensures.value c.loop-i.invariant.filled;

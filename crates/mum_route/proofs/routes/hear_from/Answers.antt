@@ -27,7 +27,7 @@ returns-clause-members g c =
     gathered_members state c.args.speaker.now c.args.target c.reached_by-reached.result c.gather.new.audience
     (record {
       room = omega arith;
-      are = c.reached_by-reached.ensures;
+      are = c.reached_by-reached.ensures.value;
       told = c.gather.ensures ∙ ap (λ (us : List User). heard_of c.args.speaker.now us c.reached_by-reached.result) all;
       heard = sym c.is_silent.ensures ∙ c.if-is_silent.false;
       away = c.if-target-eq-LOOPBACK.false;
@@ -41,7 +41,7 @@ returns-clause-hearers g c =
     gathered_hearers state c.args.speaker.now c.args.target c.reached_by-reached.result c.gather.new.audience c.roster.ensures.proper c.requires.own
     (record {
       room = omega arith;
-      are = c.reached_by-reached.ensures;
+      are = c.reached_by-reached.ensures.value;
       told = c.gather.ensures ∙ ap (λ (us : List User). heard_of c.args.speaker.now us c.reached_by-reached.result) all;
       heard = sym c.is_silent.ensures ∙ c.if-is_silent.false;
       away = c.if-target-eq-LOOPBACK.false;

@@ -5,6 +5,7 @@ use Rattle.mum_route.proofs.routes.reached_by_items.Goals as goal
 
 pub loop-item-preserved : goal.loop-item-preserved
 loop-item-preserved g c = record {
+  sound = c.pass_aim.ensures.sound;
   room = omega (arith, c.pass_aim.auto.known, c.loop-item.invariant.room);
   whole = omega (arith, c.pass_aim.auto.reached, c.loop-item.invariant.whole);
   right = subst (λ (aim : Aimed). AreKnown c.args.state.now aim.speaker aim.perm c.pass_aim.new.known) c.item-aim.ensures c.pass_aim.ensures.kept;

@@ -7,6 +7,7 @@ use Rattle.mum_route.proofs.routes.reached_by_items.Given as goal
 
 abbrev pub invariant-loop-item : goal.invariant-loop-item
 invariant-loop-item g l = record {
+  sound : g.T.Rights.sound l.rights l.state;
   room : length l.known ≡ 2048;
   whole : length l.reached ≡ 512;
   right : AreKnown l.state l.speaker.session WHISPER l.known;

@@ -69,7 +69,7 @@ known_at state speaker perm known id place answer found right kept =
     ∙ ap (may state speaker perm) (is.same root_row)
 
 -- two rows with one place are one
-one_row : (rows : List Row) (i j : ℕ) (d : Row) → AllPairs (λ one later. one.place ≢ later.place) rows → i < length rows → j < length rows
+pub one_row : (rows : List Row) (i j : ℕ) (d : Row) → AllPairs (λ one later. one.place ≢ later.place) rows → i < length rows → j < length rows
     → (get_or rows i d).place ≡ (get_or rows j d).place → i ≡ j
 one_row rows i j d places_apart first second same =
     ⊎_elim

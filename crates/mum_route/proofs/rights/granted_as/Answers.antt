@@ -1,5 +1,5 @@
 use Rattle.mum_route.proofs.Present.{policies_there}
-use Rattle.mum_route.proofs.hearing.may_as.Goals as goal
+use Rattle.mum_route.proofs.rights.granted_as.Goals as goal
 
 pub permissions-requires-clause-there : goal.permissions-requires-clause-there
 permissions-requires-clause-there g c = rw c.as_slice.ensures.value

@@ -9,7 +9,7 @@ use Rattle.mum_route.specs.Route.{heard_from}
 use Rattle.mum_route.proofs.Hearers.{found_number}
 use Rattle.mum_route.proofs.Present.{channel_there}
 use Rattle.mum_route.proofs.Slots.{slot_below}
-use Rattle.mum_route.proofs.routes.route_into.Goals as goal
+use Rattle.mum_route.proofs.routes.route_with.Goals as goal
 
 pub hear_from-requires-clause-there : goal.hear_from-requires-clause-there
 hear_from-requires-clause-there g c =

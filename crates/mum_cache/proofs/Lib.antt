@@ -1,0 +1,5 @@
+pub mod Staying
+pub mod Others
+pub mod Answered
+pub mod Kept
+pub mod StandardFacts

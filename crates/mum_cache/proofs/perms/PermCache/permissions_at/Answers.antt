@@ -1,0 +1,17 @@
+use Rattle.std.proofs.Common.{◌≡◌, ◌∙◌, List, Option, None, ap, subst}
+use Rattle.std.specs.Prelude.{MatchOption}
+use Rattle.mum_state.specs.Permissions.{perm_of}
+use Rattle.mum_cache.specs.declared.perms.Key.{Key}
+use Rattle.mum_cache.specs.declared.perms.PermEntry.{PermEntry}
+use Rattle.mum_cache.specs.Keys.{IsKey}
+use Rattle.mum_cache.specs.Perms.{answers, kept_at}
+use Rattle.mum_cache.proofs.Answered.{answered_answers}
+use Rattle.mum_cache.proofs.perms.PermCache.permissions_at.Goals as goal
+
+pub returns-clause-stands : goal.returns-clause-stands
+returns-clause-stands g c =
+    let state = c.args.state.now in
+    let key : IsKey state c.args.session c.args.channel c.in-Some.key =
+    subst (λ (o : Option Key). MatchOption o (perm_of state c.args.session c.args.channel ≡ None) (IsKey state c.args.session c.args.channel)) c.in-Some.is c.key_of.ensures in
+    ap (λ (es : List PermEntry). answers state c.args.session c.args.channel (kept_at state c.args.session c.args.channel es)) c.answer.ensures.kept
+    ∙ answered_answers state c.args.session c.args.channel c.in-Some.key key c.self.inside.entries.items c.answer.result c.self.invariant

@@ -1,0 +1,46 @@
+use Rattle.std.proofs.Common.{◌≡◌, ◌∙◌, ℕ, true, List, Some, get_or, set, ap, arith, subst, sym}
+use Rattle.mum_cache.specs.declared.perms.PermEntry.{PermEntry}
+use Rattle.mum_cache.specs.Perms.{ArePermsSound, answers, index_of, kept_at, no_perm}
+use Rattle.mum_cache.proofs.Answered.{answered_sound, answers_is, entry_is, get_same, index_within, kept_is, set_itself}
+use Rattle.mum_cache.proofs.perms.answer.Goals as goal
+
+pub returns-then-answers-clause-value : goal.returns-then-answers-clause-value
+returns-then-answers-clause-value g c =
+    let state = c.args.state.now in
+    let entries : List PermEntry = c.args.entries.now.items in
+    let entry : PermEntry = c.index.result.now in
+    let key = c.requires.key in
+    let near = index_within state c.args.session c.args.channel c.args.key key in
+    let at : entry ≡ kept_at state c.args.session c.args.channel entries =
+    c.index.ensures ∙ ap (λ (i : ℕ). get_or entries i entry) key.index
+    ∙ get_same entries (index_of state c.args.session c.args.channel) entry no_perm (omega (arith, near, c.requires.room)) in
+    let so : answers state c.args.session c.args.channel entry ≡ true =
+    sym (answers_is state c.args.session c.args.channel c.args.key key entry) ∙ sym c.answers.ensures ∙ c.if-answers.true in
+    kept_is state c.args.session c.args.channel c.args.key key entries c.requires.sound
+    (ap (answers state c.args.session c.args.channel) (sym at) ∙ so)
+    ∙ ap (λ (one : PermEntry). Some one.value.0) (sym at)
+
+pub returns-then-answers-clause-kept : goal.returns-then-answers-clause-kept
+returns-then-answers-clause-kept g c =
+    let state = c.args.state.now in
+    let entries : List PermEntry = c.args.entries.now.items in
+    let entry : PermEntry = c.index.result.now in
+    let key = c.requires.key in
+    let near = index_within state c.args.session c.args.channel c.args.key key in
+    let at : entry ≡ kept_at state c.args.session c.args.channel entries =
+    c.index.ensures ∙ ap (λ (i : ℕ). get_or entries i entry) key.index
+    ∙ get_same entries (index_of state c.args.session c.args.channel) entry no_perm (omega (arith, near, c.requires.room)) in
+    let so : answers state c.args.session c.args.channel entry ≡ true =
+    sym (answers_is state c.args.session c.args.channel c.args.key key entry) ∙ sym c.answers.ensures ∙ c.if-answers.true in
+    sym (ap (λ (one : PermEntry). set entries (index_of state c.args.session c.args.channel) one)
+    (sym (entry_is state c.args.session c.args.channel c.args.key key entry so) ∙ at)
+    ∙ set_itself entries (index_of state c.args.session c.args.channel) no_perm (omega (arith, near, c.requires.room)))
+
+pub returns-clause-sound : goal.returns-clause-sound
+returns-clause-sound g c =
+    let state = c.args.state.now in
+    let entries : List PermEntry = c.args.entries.now.items in
+    let key = c.requires.key in
+    subst (ArePermsSound state)
+    (λ i. set entries (sym key.index i) (record { used = true; session = c.args.session; channel = c.args.channel; policy = sym key.policy i; count = sym key.count i; value = c.walked-value.result }))
+    (answered_sound state c.args.session c.args.channel c.args.key key entries c.walked-value.result c.requires.room c.walked-value.ensures.value c.requires.sound)

@@ -9,7 +9,7 @@ use Rattle.mum_outbox.specs.Facts.{PassFacts as BoxFacts}
 use Rattle.mum_published.specs.Facts.{Opening, PassFacts}
 use Rattle.mum_record.specs.declared.journal.Marked.{Marked}
 use Rattle.mum_voice.specs.Packet.{Parts}
-use Rattle.mum_router.specs.declared.caches.Caches.{Caches}
+use Rattle.mum_cache.specs.declared.caches.Caches.{Caches}
 use Rattle.mum_route.specs.declared.hearer.Hearer.{Hearer}
 use Rattle.mum_router.specs.declared.offering.Routed.{Routed}
 use Rattle.mum_router.specs.Facts.{RouterFacts}
@@ -59,6 +59,7 @@ routes opening old mid outs marks speaker packet routed looks each revision full
       record {
         may = picked.may;
         router = by_parts mid.pass _ mid.caches mid.caches mid.hearers _ outs marks _ (ap (λ (r : RouterFacts). r.pass) picked.router) refl heard each.3;
+        entry = picked.entry;
         each = each.1 ∙ heard;
         offers = subst (λ (os : List (BoxFacts VoiceParcel)). FoldsTo (Delivers speaker packet) os ds outs) (ap (λ (r : RouterFacts). r.outs) picked.router) each.2;
         revision = revision ∙ ap (λ (r : RouterFacts). length r.pass.known) picked.router;

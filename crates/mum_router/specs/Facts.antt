@@ -4,7 +4,7 @@ use Rattle.mum_outbox.specs.declared.parcel.VoiceParcel.{VoiceParcel}
 use Rattle.mum_outbox.specs.Facts.{PassFacts as BoxFacts}
 use Rattle.mum_published.specs.Facts.{PassFacts}
 use Rattle.mum_record.specs.declared.journal.Marked.{Marked}
-use Rattle.mum_router.specs.declared.caches.Caches.{Caches}
+use Rattle.mum_cache.specs.declared.caches.Caches.{Caches}
 use Rattle.mum_route.specs.declared.hearer.Hearer.{Hearer}
 
 -- the pass that looks, what is kept of its answers, who hears the packet of the last look, the pass of the voice box of

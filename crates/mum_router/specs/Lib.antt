@@ -1,4 +1,3 @@
-pub mod Caches
 pub mod Facts
 pub mod Picking
 pub mod Offering

@@ -7,13 +7,14 @@ use Rattle.mum_published.specs.Facts.{Opening}
 use Rattle.mum_state.specs.declared.edit.Edit.{Edit}
 use Rattle.mum_voice.specs.Packet.{Parts}
 use Rattle.mum_router.specs.declared.offering.Routed.{Routed}
+use Rattle.mum_cache.specs.Routes.{KeepsAsked}
 use Rattle.mum_router.specs.Facts.{RouterFacts}
 use Rattle.mum_route.specs.Hearers.{hearers_at}
 use Rattle.mum_router.specs.Offering.{Delivers, Delivery, mark_of, was_sent}
 use Rattle.mum_router.specs.Picking.{ask_of}
 
 -- a look that saw these edits, and one offer for each who hears the packet at their state, in the order of the route. The
--- answer counts them, and says how many edits the look saw
+-- entry of the speaker and the target is kept. The answer counts the copies, and says how many edits the look saw
 pub record RoutesAt
     (opening : Opening) (old : RouterFacts) (speaker : SessionId) (packet : Parts)
     (edits : List Edit) (deliveries : List Delivery) (new : RouterFacts) (routed : Routed) : Type 0 where
@@ -25,6 +26,7 @@ pub record RoutesAt
     outs = new.outs;
     marks = map mark_of deliveries;
   }
+  pub entry : KeepsAsked (state_of opening edits) speaker packet.target old.caches.routes new.caches.routes
   pub each : map (λ delivery. delivery.hearer) deliveries ≡ hearers_at (state_of opening edits) speaker packet.target
   pub offers : FoldsTo (Delivers speaker packet) old.outs deliveries new.outs
   pub revision : routed.revision ≡ length edits

@@ -3,7 +3,6 @@
 //! offer for each of them. Neither takes memory.
 #![tactic(auto)]
 
-mod caches;
 pub mod crossing;
 pub mod laws;
 mod marks;
@@ -12,7 +11,6 @@ mod outlet;
 mod picking;
 mod router;
 
-pub use caches::Caches;
 pub use mum_route::Hearer;
 pub use offering::Routed;
 pub use router::Router;

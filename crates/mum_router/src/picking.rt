@@ -3,20 +3,21 @@
 ghost use Rattle.std.specs.Prelude.{◌≡◌, ◌+◌, ◌≤◌, ◌++◌, List, length, map};
 ghost use Rattle.arrayvec.specs.ArrayVec.{array_vec_len};
 ghost use Rattle.mum_published.specs.Calls.{MayMeet, looked, state_of};
-ghost use Rattle.mum_route.specs.declared.routes.TheConstants.{LOOPBACK};
 ghost use Rattle.mum_route.specs.Route.{route};
 ghost use Rattle.mum_state.specs.declared.edit.Edit.{Edit};
+ghost use Rattle.mum_state.specs.Proper.{IsProper};
 ghost use Rattle.mum_voice.specs.declared.packet.TheConstants.{PACKET_LIMIT};
 ghost use Rattle.mum_voice.specs.Packet.{IsPacket, client_bytes, plain_parts};
-ghost use Rattle.mum_router.specs.Caches.{AreSound};
+ghost use Rattle.mum_cache.specs.Routes.{KeepsAsked, RouteAnswers};
+ghost use Rattle.mum_cache.specs.Caches.{AreSound};
 ghost use Rattle.mum_route.specs.Hearers.{hearers_at, member_of};
 ghost use Rattle.mum_router.specs.Picking.{ask_of};
 
-use crate::caches::Caches;
 use arrayvec::ArrayVec;
 use mum_base::{SessionId, Steps};
+use mum_cache::Caches;
 use mum_published::{Ask, Pass};
-use mum_route::{Audience, route_into};
+use mum_route::Audience;
 use mum_state::State;
 use mum_tree::Scratch;
 use mum_voice::{PACKET_LIMIT, Packet};
@@ -57,26 +58,6 @@ fn ask_of(speaker: SessionId, packet: &Packet) -> Ask
     }
 }
 
-// Who hears what a session says to a target at this state. They are kept, each with its slot.
-fn heard_at<L: Ledger>(
-    state: &State,
-    speaker: SessionId,
-    target: u8,
-    caches: &mut Caches,
-    scratch: &mut Scratch,
-    hearers: &mut Audience,
-    steps: &mut Steps<L>,
-)
-    requires target { target ≤ LOOPBACK }
-    requires sound { AreSound caches.old state.now }
-    ensures members { map member_of hearers.new ≡ route state.now speaker target }
-    ensures hearers { hearers.new ≡ hearers_at state.now speaker target }
-    ensures sound { AreSound caches.new state.now }
-{
-    let _kept = caches;
-    route_into(state, speaker, target, scratch, steps, hearers);
-}
-
 /// One look, for those who hear a packet. What is kept is sound where it was, and then where the look was.
 pub(crate) fn look_for<W: Wait, L: Ledger>(
     rt: &W,
@@ -89,18 +70,22 @@ pub(crate) fn look_for<W: Wait, L: Ledger>(
     steps: &mut Steps<L>,
 )
     requires packet { IsPacket (plain_parts packet.now) }
-    requires sound { AreSound caches.old (state_of pass.old.opening pass.old.seen) }
+    requires proper { IsProper pass.old.opening.state }
+    requires sound { AreSound (state_of pass.old.opening pass.old.seen) caches.old }
     ensures { (edits : List Edit) × MayMeet pass.old edits
         × (pass.new ≡ looked pass.old edits (ask_of speaker (plain_parts packet.now)))
-        × AreSound caches.new (state_of pass.old.opening edits)
+        × AreSound (state_of pass.old.opening edits) caches.new
         × (hearers.new ≡ hearers_at (state_of pass.old.opening edits) speaker packet.now.target)
-        × (map member_of hearers.new ≡ route (state_of pass.old.opening edits) speaker packet.now.target) }
+        × (map member_of hearers.new ≡ route (state_of pass.old.opening edits) speaker packet.now.target)
+        × KeepsAsked (state_of pass.old.opening edits) speaker packet.now.target caches.old.routes caches.new.routes
+        × (RouteAnswers (state_of pass.old.opening edits) speaker packet.now.target caches.old.routes
+        → steps.new ≡ steps.old) }
 {
     let target = packet.target;
     let ask = ask_of(speaker, packet);
     pass.look(
         rt,
         ask,
-        &mut |state: &State| { heard_at(state, speaker, target, caches, scratch, hearers, steps) },
+        &mut |state: &State| { caches.route_at(state, speaker, target, scratch, steps, hearers) },
     );
 }

@@ -5,15 +5,15 @@ ghost use Rattle.mum_state.specs.Proper.{IsProper};
 ghost use Rattle.mum_published.specs.Calls.{Learnt};
 ghost use Rattle.mum_voice.specs.Packet.{IsPacket, plain_parts};
 ghost use Rattle.mum_router.specs.Offering.{copies_of, full_of, new_pass};
-ghost use Rattle.mum_router.specs.Picking.{Looks, Picks, looks_of};
+ghost use Rattle.mum_router.specs.Picking.{EntryStood, Looks, Picks, looks_of};
 ghost use Rattle.mum_router.specs.Routing.{Routes};
 
-use crate::caches::Caches;
 use crate::marks::Marks;
 use crate::offering::{Routed, count_full, count_sent, deliver_each};
 use crate::outlet::Out;
 use crate::picking::look_for;
 use mum_base::{OutOfMemory, SLOTS, SessionId, Steps};
+use mum_cache::Caches;
 use mum_outbox::VoiceBox;
 use mum_published::{Naming, Note, Pass};
 use mum_record::Marked;
@@ -47,7 +47,7 @@ impl<N: Naming> Model for Router<N> {
     ghost use Rattle.mum_base.specs.declared.number.TheConstants.{SLOTS};
     ghost use Rattle.mum_state.specs.Proper.{IsProper};
     ghost use Rattle.mum_published.specs.Calls.{state_of};
-    ghost use Rattle.mum_router.specs.Caches.{AreSound};
+    ghost use Rattle.mum_cache.specs.Caches.{AreSound};
     ghost use Rattle.mum_router.specs.Facts.{RouterFacts};
     ghost use Rattle.mum_router.specs.Picking.{looks_of};
 
@@ -62,7 +62,7 @@ impl<N: Naming> Model for Router<N> {
     } };
 
     ghost invariant = { λ r. (r.pass.opening ≡ N.opening) × IsProper N.opening.state
-        × AreSound r.caches (state_of N.opening r.pass.seen)
+        × AreSound (state_of N.opening r.pass.seen) r.caches
         × (length r.outs.items ≡ SLOTS) × (r.looks ≡ looks_of r.pass) };
 }
 
@@ -93,9 +93,10 @@ impl<N: Naming> Router<N> {
         let outs = outs_of(alloc, voices)?;
         let scratch = Scratch::new(alloc)?;
         let marks = Marks::new(alloc)?;
+        let caches = Caches::new(alloc)?;
         Ok(Router {
             pass,
-            caches: Caches::new(),
+            caches,
             scratch,
             hearers: Audience::new(),
             outs,
@@ -123,7 +124,8 @@ impl<N: Naming> Router<N> {
         steps: &mut Steps<L>,
     )
         requires { IsPacket (plain_parts packet.now) }
-        ensures { Looks N.opening self.old speaker (plain_parts packet.now) self.new }
+        ensures looks { Looks N.opening self.old speaker (plain_parts packet.now) self.new }
+        ensures steps { EntryStood N.opening self.old speaker (plain_parts packet.now) self.new → steps.new ≡ steps.old }
     {
         look_for(
             rt,
@@ -140,7 +142,8 @@ impl<N: Naming> Router<N> {
 
     /// Who hears a packet of a session, in slot order, by one look. They are kept, each with its slot and
     /// whether the plugin contexts are equal, both at the state of that look. Nobody hears a session that is
-    /// not there. It takes no memory, and only the look may try again.
+    /// not there. The route is kept, but for loopback; where it was kept already and the state of the look has
+    /// the same count of routing, no step is counted. It takes no memory, and only the look may try again.
     pub fn pick<W: Wait, L: Ledger>(
         &mut self,
         rt: &W,
@@ -149,7 +152,8 @@ impl<N: Naming> Router<N> {
         steps: &mut Steps<L>,
     ) -> Audience
         requires { IsPacket (plain_parts packet.now) }
-        ensures { Picks N.opening self.old speaker (plain_parts packet.now) self.new result }
+        ensures picks { Picks N.opening self.old speaker (plain_parts packet.now) self.new result }
+        ensures steps { EntryStood N.opening self.old speaker (plain_parts packet.now) self.new → steps.new ≡ steps.old }
     {
         self.look(rt, speaker, packet, steps);
         self.hearers.copy()
@@ -166,7 +170,8 @@ impl<N: Naming> Router<N> {
         steps: &mut Steps<L>,
     ) -> Routed
         requires { IsPacket (plain_parts packet.now) }
-        ensures { Routes N.opening self.old speaker (plain_parts packet.now) self.new result }
+        ensures routes { Routes N.opening self.old speaker (plain_parts packet.now) self.new result }
+        ensures steps { EntryStood N.opening self.old speaker (plain_parts packet.now) self.new → steps.new ≡ steps.old }
     {
         self.look(rt, speaker, packet, steps);
         let hearers = self.hearers.as_slice();

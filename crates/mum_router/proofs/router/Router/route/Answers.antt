@@ -7,8 +7,8 @@ use Rattle.mum_router.specs.Picking.{Looks}
 use Rattle.mum_router.proofs.Completed.{routes}
 use Rattle.mum_router.proofs.router.Router.route.Goals as goal
 
-pub returns : goal.returns
-returns g c =
+pub returns-clause-routes : goal.returns-clause-routes
+returns-clause-routes g c =
     let opening = g.N.Naming.opening in
     let packet = plain_parts c.args.packet.now in
     let inside = c.self.inside in
@@ -16,7 +16,7 @@ returns g c =
     let done = c.deliver_each-sent in
     let same = c.as_slice-hearers.ensures.all in
     let looks : Looks opening c.args.self.now c.args.speaker packet mid =
-    subst (λ (r : RouterFacts). Looks opening c.args.self.now c.args.speaker packet r) (sym c.self.view_is) c.look.ensures in
+    subst (λ (r : RouterFacts). Looks opening c.args.self.now c.args.speaker packet r) (sym c.self.view_is) c.look.ensures.looks in
     let each = subst (λ (hs : List Hearer). DeliversEach c.args.speaker packet hs inside.outs.items done.new.outs.items done.new.marks done.result) same done.ensures.each in
     routes opening c.args.self.now mid done.new.outs.items done.new.marks c.args.speaker packet _ looks each
     c.revision.ensures (ap (λ (hs : List Hearer). length hs - done.result) same)

@@ -72,11 +72,11 @@ module _ {L : Type 0} (counts : L → Counts) (left written : L → Option (List
   settle-empty was_closed old closed new (inr now) cause some = (ap (λ (p : PortFacts L). p.framer.kept) now.closes.rest, ap (λ (p : PortFacts L). p.out) now.closes.rest)
 
   pub settle-machine : (was_closed : Bool) (old : PortFacts L) (closed : Option Cause) (new : PortFacts L) → Settles counts left written is_shut was_closed old closed new
-      → (new.machine ≡ old.machine) × (new.waiting ≡ old.waiting) × (new.seat ≡ old.seat)
+      → (new.machine ≡ old.machine) × (new.waiting ≡ old.waiting) × (new.passes ≡ old.passes)
   settle-machine was_closed old closed new (inl stays) =
-      (ap (λ (p : PortFacts L). p.machine) stays.same, ap (λ (p : PortFacts L). p.waiting) stays.same, ap (λ (p : PortFacts L). p.seat) stays.same)
+      (ap (λ (p : PortFacts L). p.machine) stays.same, ap (λ (p : PortFacts L). p.waiting) stays.same, ap (λ (p : PortFacts L). p.passes) stays.same)
   settle-machine was_closed old closed new (inr now) =
-      (ap (λ (p : PortFacts L). p.machine) now.closes.rest, ap (λ (p : PortFacts L). p.waiting) now.closes.rest, ap (λ (p : PortFacts L). p.seat) now.closes.rest)
+      (ap (λ (p : PortFacts L). p.machine) now.closes.rest, ap (λ (p : PortFacts L). p.waiting) now.closes.rest, ap (λ (p : PortFacts L). p.passes) now.closes.rest)
 
   pub settle-link : (was_closed : Bool) (old : PortFacts L) (closed : Option Cause) (new : PortFacts L) → Settles counts left written is_shut was_closed old closed new
       → (counts new.link ≡ counts old.link) × Keeps (left old.link) (left new.link) × Keeps (written old.link) (written new.link)

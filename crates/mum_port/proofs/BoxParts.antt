@@ -16,11 +16,11 @@ use Rattle.mum_port.specs.Did.{is_for, is_last, post_bytes, stray_posts, stray_v
 use Rattle.mum_port.specs.Facts.{PortFacts, taking_session}
 use Rattle.mum_port.specs.Stage.{is_live}
 use Rattle.mum_port.specs.Steps.{CollectsPost, DrainsVoice}
-use Rattle.mum_port.specs.Taking.{Collects, Drains, HearsParcel, HearsTaken, PostsParcel, PostsTaken, SeatCollects, SeatDrains, foreign_count, has_taken, stage_after_post}
+use Rattle.mum_port.specs.Taking.{Collects, Drains, HearsParcel, HearsTaken, PostsParcel, PostsTaken, PassesCollect, PassesDrain, foreign_count, has_taken, stage_after_post}
 use Rattle.mum_port.specs.Turn.{FindsNothing, TakesAtMostOne}
 use Rattle.mum_port.specs.declared.outbound.Taking.{Taking}
 use Rattle.mum_port.specs.declared.outbound.Taking.TheVariants.{NotDue, Nothing, Own, Foreign}
-use Rattle.mum_port.specs.declared.seat.Seat.{Seat}
+use Rattle.mum_port.specs.declared.passes.Passes.{Passes}
 use Rattle.mum_port.specs.declared.stage.Stage.{Stage}
 use Rattle.mum_port.specs.declared.stage.Stage.TheVariants.{Live}
 use Rattle.mum_port.proofs.Closing.{live-is}
@@ -108,73 +108,73 @@ untaken-counts session took out stage after not_due none same = record {
   worked = λ is. absurd (true≢false (sym is ∙ ap has_taken not_due));
 }
 
--- what becomes of the seat
-abbrev pub SeatAfterPost : List QueueFacts → Option Seat → Option PostParcel → Option Seat → Type 0
-SeatAfterPost posts None post None = post ≡ None
-SeatAfterPost posts None post (Some after) = ⊥
-SeatAfterPost posts (Some seat) post None = ⊥
-SeatAfterPost posts (Some seat) post (Some after) =
-    (after.slot ≡ seat.slot) × (after.voice ≡ seat.voice) × TakesAtMostOne POST_CAPACITY seat.post post after.post
-    × (post ≡ None → FindsNothing POST_CAPACITY posts seat.slot.0 seat.post after.post)
+-- what becomes of the passes
+abbrev pub PassesAfterPost : List QueueFacts → Option Passes → Option PostParcel → Option Passes → Type 0
+PassesAfterPost posts None post None = post ≡ None
+PassesAfterPost posts None post (Some after) = ⊥
+PassesAfterPost posts (Some passes) post None = ⊥
+PassesAfterPost posts (Some passes) post (Some after) =
+    (after.slot ≡ passes.slot) × (after.voice ≡ passes.voice) × TakesAtMostOne POST_CAPACITY passes.post post after.post
+    × (post ≡ None → FindsNothing POST_CAPACITY posts passes.slot.0 passes.post after.post)
 
-abbrev pub post_in_seat : (posts : List QueueFacts) (session : SessionId) (seat : Seat) (stage : Stage) (took : Taking) (seat_after : Seat) (out : List ℕ) (after : Stage)
-    → SeatCollects posts session seat stage took seat_after out after → Option PostParcel
-post_in_seat posts session seat stage took seat_after out after (inl none) = None
-post_in_seat posts session seat stage took seat_after out after (inr takes) = takes.parcel
+abbrev pub post_in_passes : (posts : List QueueFacts) (session : SessionId) (passes : Passes) (stage : Stage) (took : Taking) (passes_after : Passes) (out : List ℕ) (after : Stage)
+    → PassesCollect posts session passes stage took passes_after out after → Option PostParcel
+post_in_passes posts session passes stage took passes_after out after (inl none) = None
+post_in_passes posts session passes stage took passes_after out after (inr takes) = takes.parcel
 
-abbrev pub post_in : (posts : List QueueFacts) (session : SessionId) (seat : Option Seat) (stage : Stage) (took : Taking) (seat_after : Option Seat) (out : List ℕ) (after : Stage)
-    → Collects posts session seat stage took seat_after out after → Option PostParcel
+abbrev pub post_in : (posts : List QueueFacts) (session : SessionId) (passes : Option Passes) (stage : Stage) (took : Taking) (passes_after : Option Passes) (out : List ℕ) (after : Stage)
+    → Collects posts session passes stage took passes_after out after → Option PostParcel
 post_in posts session None stage took None out after collects = None
-post_in posts session None stage took (Some seat_after) out after collects = None
-post_in posts session (Some seat) stage took None out after collects = None
-post_in posts session (Some seat) stage took (Some seat_after) out after collects = post_in_seat posts session seat stage took seat_after out after collects
+post_in posts session None stage took (Some passes_after) out after collects = None
+post_in posts session (Some passes) stage took None out after collects = None
+post_in posts session (Some passes) stage took (Some passes_after) out after collects = post_in_passes posts session passes stage took passes_after out after collects
 
 no_box_there : {P : Type 0} (found : Option QueueFacts) (queue : QueueFacts) → found ≡ None → found ≡ Some queue → P
 no_box_there found queue none some = absurd (cc (sym none ∙ some))
 
-post_seat : (posts : List QueueFacts) (session : SessionId) (seat : Seat) (stage : Stage) (took : Taking) (seat_after : Seat) (out : List ℕ) (after : Stage)
-    (collects : SeatCollects posts session seat stage took seat_after out after)
-    → PostCounts session (post_in_seat posts session seat stage took seat_after out after collects) took out stage after
-    × SeatAfterPost posts (Some seat) (post_in_seat posts session seat stage took seat_after out after collects) (Some seat_after)
-post_seat posts session seat stage took seat_after out after (inl (none, same)) = (
+post_passes : (posts : List QueueFacts) (session : SessionId) (passes : Passes) (stage : Stage) (took : Taking) (passes_after : Passes) (out : List ℕ) (after : Stage)
+    (collects : PassesCollect posts session passes stage took passes_after out after)
+    → PostCounts session (post_in_passes posts session passes stage took passes_after out after collects) took out stage after
+    × PassesAfterPost posts (Some passes) (post_in_passes posts session passes stage took passes_after out after collects) (Some passes_after)
+post_passes posts session passes stage took passes_after out after (inl (none, same)) = (
   untaken-counts session took out stage after none.not_due none.out_same same,
   (
-    ap (λ (s : Seat). s.slot) none.seat_same,
-    ap (λ (s : Seat). s.voice) none.seat_same,
-    inl (refl, ap (λ (s : Seat). s.post) none.seat_same),
-    λ unused queue found. no_box_there (slice_get posts seat.slot.0) queue none.no_box found,
+    ap (λ (s : Passes). s.slot) none.passes_same,
+    ap (λ (s : Passes). s.voice) none.passes_same,
+    inl (refl, ap (λ (s : Passes). s.post) none.passes_same),
+    λ unused queue found. no_box_there (slice_get posts passes.slot.0) queue none.no_box found,
   ),
 )
-post_seat posts session seat stage took seat_after out after (inr takes) =
-    let given : Takes POST_CAPACITY seat.post takes.parcel seat_after.post = subst (λ (s : Seat). Takes POST_CAPACITY seat.post takes.parcel s.post) (sym takes.after) takes.takes in (
+post_passes posts session passes stage took passes_after out after (inr takes) =
+    let given : Takes POST_CAPACITY passes.post takes.parcel passes_after.post = subst (λ (s : Passes). Takes POST_CAPACITY passes.post takes.parcel s.post) (sym takes.after) takes.takes in (
       taken-counts session takes.parcel took out stage after takes.posted,
       (
-        ap (λ (s : Seat). s.slot) takes.after,
-        ap (λ (s : Seat). s.voice) takes.after,
+        ap (λ (s : Passes). s.slot) takes.after,
+        ap (λ (s : Passes). s.voice) takes.after,
         inr given,
-        λ none queue found. subst (λ (p : Option PostParcel). Takes POST_CAPACITY seat.post p seat_after.post) none given,
+        λ none queue found. subst (λ (p : Option PostParcel). Takes POST_CAPACITY passes.post p passes_after.post) none given,
       ),
     )
 
-post_option : (posts : List QueueFacts) (session : SessionId) (seat : Option Seat) (stage : Stage) (took : Taking) (seat_after : Option Seat) (out : List ℕ) (after : Stage)
-    (collects : Collects posts session seat stage took seat_after out after)
-    → PostCounts session (post_in posts session seat stage took seat_after out after collects) took out stage after
-    × SeatAfterPost posts seat (post_in posts session seat stage took seat_after out after collects) seat_after
+post_option : (posts : List QueueFacts) (session : SessionId) (passes : Option Passes) (stage : Stage) (took : Taking) (passes_after : Option Passes) (out : List ℕ) (after : Stage)
+    (collects : Collects posts session passes stage took passes_after out after)
+    → PostCounts session (post_in posts session passes stage took passes_after out after collects) took out stage after
+    × PassesAfterPost posts passes (post_in posts session passes stage took passes_after out after collects) passes_after
 post_option posts session None stage took None out after collects = (untaken-counts session took out stage after collects.0 collects.1 collects.2, refl)
-post_option posts session None stage took (Some seat_after) out after collects = absurd collects
-post_option posts session (Some seat) stage took None out after collects = absurd collects
-post_option posts session (Some seat) stage took (Some seat_after) out after collects = post_seat posts session seat stage took seat_after out after collects
+post_option posts session None stage took (Some passes_after) out after collects = absurd collects
+post_option posts session (Some passes) stage took None out after collects = absurd collects
+post_option posts session (Some passes) stage took (Some passes_after) out after collects = post_passes posts session passes stage took passes_after out after collects
 
 module _ {L : Type 0} (posts : List QueueFacts) where
   abbrev pub post_of : (old : PortFacts L) (took : Taking) (new : PortFacts L) → CollectsPost posts old took new → Option PostParcel
   post_of old took new (inl nothing) = None
-  post_of old took new (inr one) = post_in posts one.session old.seat old.stage took new.seat new.out new.stage one.taken
+  post_of old took new (inr one) = post_in posts one.session old.passes old.stage took new.passes new.out new.stage one.taken
 
   -- the box was not looked at, or the port might look at it
   abbrev pub LookedForPost : PortFacts L → Option PostParcel → PortFacts L → Type 0
   LookedForPost old post new =
       ((post ≡ None) × (new ≡ old) × (taking_session old ≡ None))
-      ⊎ ((session : SessionId) × (taking_session old ≡ Some session) × SeatAfterPost posts old.seat post new.seat)
+      ⊎ ((session : SessionId) × (taking_session old ≡ Some session) × PassesAfterPost posts old.passes post new.passes)
 
   pub record PostLeaves (old : PortFacts L) (took : Taking) (new : PortFacts L) (post : Option PostParcel) : Type 0 where
     pub out : new.out ≡ old.out ++ post_bytes (session_of old.machine.stage) post
@@ -203,7 +203,7 @@ module _ {L : Type 0} (posts : List QueueFacts) where
   }
   post-leaves old took new (inr one) =
       let may = taking-is old one.session one.allowed in
-      let both = post_option posts one.session old.seat old.stage took new.seat new.out new.stage one.taken in
+      let both = post_option posts one.session old.passes old.stage took new.passes new.out new.stage one.taken in
       let counts = both.0 in record {
         out = counts.bytes ∙ ap (λ (s : Option SessionId). post_bytes s (post_of old took new (inr one))) (sym may.2)
             ∙ ap (λ (l : List ℕ). l ++ post_bytes (session_of old.machine.stage) (post_of old took new (inr one))) (sym may.1);
@@ -261,68 +261,68 @@ unheard-counts session took out not_due none = record {
   worked = λ is. absurd (true≢false (sym is ∙ ap has_taken not_due));
 }
 
-abbrev pub SeatAfterVoice : List QueueFacts → Option Seat → Option VoiceParcel → Option Seat → Type 0
-SeatAfterVoice voices None voice None = voice ≡ None
-SeatAfterVoice voices None voice (Some after) = ⊥
-SeatAfterVoice voices (Some seat) voice None = ⊥
-SeatAfterVoice voices (Some seat) voice (Some after) =
-    (after.slot ≡ seat.slot) × (after.post ≡ seat.post) × TakesAtMostOne VOICE_CAPACITY seat.voice voice after.voice
-    × (voice ≡ None → FindsNothing VOICE_CAPACITY voices seat.slot.0 seat.voice after.voice)
+abbrev pub PassesAfterVoice : List QueueFacts → Option Passes → Option VoiceParcel → Option Passes → Type 0
+PassesAfterVoice voices None voice None = voice ≡ None
+PassesAfterVoice voices None voice (Some after) = ⊥
+PassesAfterVoice voices (Some passes) voice None = ⊥
+PassesAfterVoice voices (Some passes) voice (Some after) =
+    (after.slot ≡ passes.slot) × (after.post ≡ passes.post) × TakesAtMostOne VOICE_CAPACITY passes.voice voice after.voice
+    × (voice ≡ None → FindsNothing VOICE_CAPACITY voices passes.slot.0 passes.voice after.voice)
 
-abbrev pub voice_in_seat : (voices : List QueueFacts) (session : SessionId) (seat : Seat) (took : Taking) (seat_after : Seat) (out : List ℕ)
-    → SeatDrains voices session seat took seat_after out → Option VoiceParcel
-voice_in_seat voices session seat took seat_after out (inl none) = None
-voice_in_seat voices session seat took seat_after out (inr takes) = takes.parcel
+abbrev pub voice_in_passes : (voices : List QueueFacts) (session : SessionId) (passes : Passes) (took : Taking) (passes_after : Passes) (out : List ℕ)
+    → PassesDrain voices session passes took passes_after out → Option VoiceParcel
+voice_in_passes voices session passes took passes_after out (inl none) = None
+voice_in_passes voices session passes took passes_after out (inr takes) = takes.parcel
 
-abbrev pub voice_in : (voices : List QueueFacts) (session : SessionId) (seat : Option Seat) (took : Taking) (seat_after : Option Seat) (out : List ℕ)
-    → Drains voices session seat took seat_after out → Option VoiceParcel
+abbrev pub voice_in : (voices : List QueueFacts) (session : SessionId) (passes : Option Passes) (took : Taking) (passes_after : Option Passes) (out : List ℕ)
+    → Drains voices session passes took passes_after out → Option VoiceParcel
 voice_in voices session None took None out drains = None
-voice_in voices session None took (Some seat_after) out drains = None
-voice_in voices session (Some seat) took None out drains = None
-voice_in voices session (Some seat) took (Some seat_after) out drains = voice_in_seat voices session seat took seat_after out drains
+voice_in voices session None took (Some passes_after) out drains = None
+voice_in voices session (Some passes) took None out drains = None
+voice_in voices session (Some passes) took (Some passes_after) out drains = voice_in_passes voices session passes took passes_after out drains
 
-voice_seat : (voices : List QueueFacts) (session : SessionId) (seat : Seat) (took : Taking) (seat_after : Seat) (out : List ℕ)
-    (drains : SeatDrains voices session seat took seat_after out)
-    → VoiceCounts session (voice_in_seat voices session seat took seat_after out drains) took out
-    × SeatAfterVoice voices (Some seat) (voice_in_seat voices session seat took seat_after out drains) (Some seat_after)
-voice_seat voices session seat took seat_after out (inl none) = (
+voice_passes : (voices : List QueueFacts) (session : SessionId) (passes : Passes) (took : Taking) (passes_after : Passes) (out : List ℕ)
+    (drains : PassesDrain voices session passes took passes_after out)
+    → VoiceCounts session (voice_in_passes voices session passes took passes_after out drains) took out
+    × PassesAfterVoice voices (Some passes) (voice_in_passes voices session passes took passes_after out drains) (Some passes_after)
+voice_passes voices session passes took passes_after out (inl none) = (
   unheard-counts session took out none.not_due none.out_same,
   (
-    ap (λ (s : Seat). s.slot) none.seat_same,
-    ap (λ (s : Seat). s.post) none.seat_same,
-    inl (refl, ap (λ (s : Seat). s.voice) none.seat_same),
-    λ unused queue found. no_box_there (slice_get voices seat.slot.0) queue none.no_box found,
+    ap (λ (s : Passes). s.slot) none.passes_same,
+    ap (λ (s : Passes). s.post) none.passes_same,
+    inl (refl, ap (λ (s : Passes). s.voice) none.passes_same),
+    λ unused queue found. no_box_there (slice_get voices passes.slot.0) queue none.no_box found,
   ),
 )
-voice_seat voices session seat took seat_after out (inr takes) =
-    let given : Takes VOICE_CAPACITY seat.voice takes.parcel seat_after.voice = subst (λ (s : Seat). Takes VOICE_CAPACITY seat.voice takes.parcel s.voice) (sym takes.after) takes.takes in (
+voice_passes voices session passes took passes_after out (inr takes) =
+    let given : Takes VOICE_CAPACITY passes.voice takes.parcel passes_after.voice = subst (λ (s : Passes). Takes VOICE_CAPACITY passes.voice takes.parcel s.voice) (sym takes.after) takes.takes in (
       heard-counts session takes.parcel took out takes.heard,
       (
-        ap (λ (s : Seat). s.slot) takes.after,
-        ap (λ (s : Seat). s.post) takes.after,
+        ap (λ (s : Passes). s.slot) takes.after,
+        ap (λ (s : Passes). s.post) takes.after,
         inr given,
-        λ none queue found. subst (λ (p : Option VoiceParcel). Takes VOICE_CAPACITY seat.voice p seat_after.voice) none given,
+        λ none queue found. subst (λ (p : Option VoiceParcel). Takes VOICE_CAPACITY passes.voice p passes_after.voice) none given,
       ),
     )
 
-voice_option : (voices : List QueueFacts) (session : SessionId) (seat : Option Seat) (took : Taking) (seat_after : Option Seat) (out : List ℕ)
-    (drains : Drains voices session seat took seat_after out)
-    → VoiceCounts session (voice_in voices session seat took seat_after out drains) took out
-    × SeatAfterVoice voices seat (voice_in voices session seat took seat_after out drains) seat_after
+voice_option : (voices : List QueueFacts) (session : SessionId) (passes : Option Passes) (took : Taking) (passes_after : Option Passes) (out : List ℕ)
+    (drains : Drains voices session passes took passes_after out)
+    → VoiceCounts session (voice_in voices session passes took passes_after out drains) took out
+    × PassesAfterVoice voices passes (voice_in voices session passes took passes_after out drains) passes_after
 voice_option voices session None took None out drains = (unheard-counts session took out drains.0 drains.1, refl)
-voice_option voices session None took (Some seat_after) out drains = absurd drains
-voice_option voices session (Some seat) took None out drains = absurd drains
-voice_option voices session (Some seat) took (Some seat_after) out drains = voice_seat voices session seat took seat_after out drains
+voice_option voices session None took (Some passes_after) out drains = absurd drains
+voice_option voices session (Some passes) took None out drains = absurd drains
+voice_option voices session (Some passes) took (Some passes_after) out drains = voice_passes voices session passes took passes_after out drains
 
 module _ {L : Type 0} (voices : List QueueFacts) where
   abbrev pub voice_of : (old : PortFacts L) (took : Taking) (new : PortFacts L) → DrainsVoice voices old took new → Option VoiceParcel
   voice_of old took new (inl nothing) = None
-  voice_of old took new (inr one) = voice_in voices one.session old.seat took new.seat new.out one.taken
+  voice_of old took new (inr one) = voice_in voices one.session old.passes took new.passes new.out one.taken
 
   abbrev pub LookedForVoice : PortFacts L → Option VoiceParcel → PortFacts L → Type 0
   LookedForVoice old voice new =
       ((voice ≡ None) × (new ≡ old) × (taking_session old ≡ None))
-      ⊎ ((session : SessionId) × (taking_session old ≡ Some session) × SeatAfterVoice voices old.seat voice new.seat)
+      ⊎ ((session : SessionId) × (taking_session old ≡ Some session) × PassesAfterVoice voices old.passes voice new.passes)
 
   pub record VoiceLeaves (old : PortFacts L) (took : Taking) (new : PortFacts L) (voice : Option VoiceParcel) : Type 0 where
     pub out : new.out ≡ old.out ++ voice_bytes (session_of old.machine.stage) voice
@@ -351,7 +351,7 @@ module _ {L : Type 0} (voices : List QueueFacts) where
   }
   voice-leaves old took new (inr one) =
       let may = taking-is old one.session one.allowed in
-      let both = voice_option voices one.session old.seat took new.seat new.out one.taken in
+      let both = voice_option voices one.session old.passes took new.passes new.out one.taken in
       let counts = both.0 in record {
         out = counts.bytes ∙ ap (λ (s : Option SessionId). voice_bytes s (voice_of old took new (inr one))) (sym may.2)
             ∙ ap (λ (l : List ℕ). l ++ voice_bytes (session_of old.machine.stage) (voice_of old took new (inr one))) (sym may.1);

@@ -152,8 +152,8 @@ module _ {L V : Type 0} {counts : L → Counts} {left written : L → Option (Li
   pub out_read : c.after_read.out ≡ old.out
   out_read = (read_part).out ∙ ap (λ (p : PortFacts L). p.out) (port_put)
 
-  pub seat_handle : c.after_handle.seat ≡ old.seat
-  seat_handle = (handle_part).seat ∙ ((read_part).seat ∙ ap (λ (p : PortFacts L). p.seat) (port_put))
+  pub passes_handle : c.after_handle.passes ≡ old.passes
+  passes_handle = (handle_part).passes ∙ ((read_part).passes ∙ ap (λ (p : PortFacts L). p.passes) (port_put))
 
   pub machine_handle : c.after_handle.machine ≡ machine_after old.machine (frame)
   machine_handle = (handle_part).machine ∙ ap (λ (m : Machine). machine_after m (frame)) (machine_read)

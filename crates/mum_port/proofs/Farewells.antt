@@ -189,11 +189,11 @@ module _ {L V : Type 0} (counts : L → Counts) (left written : L → Option (Li
       let next = life_so mid events new _ _ (step_so old machine did mid put asked so steps) lives in
       subst (λ (l : List DeskItem). DeskSo new l (asked ++ and_item (asked_item (action_of machine did.handled)) (items_asked events))) (and_item-append put did.put (items_put events))
       (subst (λ (l : List DeskItem). DeskSo new ((put ++ and_item did.put []) ++ items_put events) l) (and_item-append asked (asked_item (action_of machine did.handled)) (items_asked events)) next)
-  life_so old (replied wire cause ∷ events) new put asked so (mid, (end, seat, inl stays), lives) = life_so mid events new put asked (stays_so old mid put asked so stays.same) lives
-  life_so old (replied wire cause ∷ events) new put asked so (mid, (end, seat, inr (inl takes)), lives) =
+  life_so old (replied wire cause ∷ events) new put asked so (mid, (end, passes, inl stays), lives) = life_so mid events new put asked (stays_so old mid put asked so stays.same) lives
+  life_so old (replied wire cause ∷ events) new put asked so (mid, (end, passes, inr (inl takes)), lives) =
       let now = open-stays mid.stage (ap (λ (p : PortFacts L). is_closed p.stage) takes.rest ∙ after_reply-open end old.stage takes.was_open) in
       life_so mid events new put asked (moves old mid put asked so (open-stays old.stage takes.was_open) now (ap (λ (p : PortFacts L). p.waiting) takes.rest)) lives
-  life_so old (replied wire cause ∷ events) new put asked so (mid, (end, seat, inr (inr closes)), lives) =
+  life_so old (replied wire cause ∷ events) new put asked so (mid, (end, passes, inr (inr closes)), lives) =
       life_so mid events new put asked (moves old mid put asked so (open-stays old.stage closes.was_open) (ap (λ (p : PortFacts L). has_left p.stage) closes.closes.rest) (ap (λ (p : PortFacts L). p.waiting) closes.closes.rest)) lives
   life_so old (lagged cause ∷ events) new put asked so (mid, inl stays, lives) = life_so mid events new put asked (stays_so old mid put asked so stays.same) lives
   life_so old (lagged cause ∷ events) new put asked so (mid, inr lags, lives) =

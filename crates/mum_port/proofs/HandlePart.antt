@@ -210,7 +210,7 @@ module _ {L V : Type 0} (routed : V → ℕ → SessionId → List ℕ → V →
     pub allowed : (f : Frame) → frame ≡ Some f → IsTrue (may_handle old)
     pub shows : HandledOrNot old frame went new
     pub link : new.link ≡ old.link
-    pub seat : new.seat ≡ old.seat
+    pub passes : new.passes ≡ old.passes
     pub stage : new.stage ≡ stage_by went old.stage
 
   pub handle-leaves : (old : PortFacts L) (router : V) (went : Went) (new : PortFacts L) (router_new : V) (handles : Handles routed old router went new router_new)
@@ -229,7 +229,7 @@ module _ {L V : Type 0} (routed : V → ℕ → SessionId → List ℕ → V →
     allowed = λ f is. absurd (cc is);
     shows = inl (never.so, refl, never.same, never.forbidden);
     link = ap (λ (p : PortFacts L). p.link) never.same;
-    seat = ap (λ (p : PortFacts L). p.seat) never.same;
+    passes = ap (λ (p : PortFacts L). p.passes) never.same;
     stage = ap (λ (p : PortFacts L). p.stage) never.same ∙ ap (λ (w : Went). stage_by w old.stage) (sym never.so);
   }
   handle-leaves old router went new router_new (inr one) =
@@ -247,6 +247,6 @@ module _ {L V : Type 0} (routed : V → ℕ → SessionId → List ℕ → V →
         allowed = λ f is. one.allowed;
         shows = inr (one.allowed, kept.shows);
         link = ap (λ (p : PortFacts L). p.link) one.left;
-        seat = ap (λ (p : PortFacts L). p.seat) one.left;
+        passes = ap (λ (p : PortFacts L). p.passes) one.left;
         stage = ap (λ (p : PortFacts L). p.stage) one.left;
       }

@@ -22,13 +22,13 @@ use Rattle.mum_port.specs.Taking.{has_taken, stage_after_post}
 use Rattle.mum_port.specs.Turn.{FindBoxesEmpty, FindsNothing, IsIdle, did_nothing}
 use Rattle.mum_port.specs.declared.item.DeskItem.{DeskItem}
 use Rattle.mum_port.specs.declared.port.Step.{Step}
-use Rattle.mum_port.specs.declared.seat.Seat.{Seat}
+use Rattle.mum_port.specs.declared.passes.Passes.{Passes}
 use Rattle.mum_port.specs.declared.stage.Went.{Went}
 use Rattle.mum_port.specs.declared.stage.Went.TheVariants.{NotDue, Stalled, Worked, Closes}
 use Rattle.mum_port.proofs.Balance.{at_close-none, echo_handle, kept_put, kept_write, out_post, settle-same}
-use Rattle.mum_port.proofs.BoxParts.{SeatAfterPost, SeatAfterVoice}
+use Rattle.mum_port.proofs.BoxParts.{PassesAfterPost, PassesAfterVoice}
 use Rattle.mum_port.proofs.Closing.{and-left}
-use Rattle.mum_port.proofs.Course.{at_close, bytes_written, did_of, frame, goes_on, handle_closes, handle_part, item, machine_read, machine_write, out_read, port_put, post, post_part, read_part, remains, seat_handle, session_handle, session_post, took, unsent, voice, voice_part, write_part}
+use Rattle.mum_port.proofs.Course.{at_close, bytes_written, did_of, frame, goes_on, handle_closes, handle_part, item, machine_read, machine_write, out_read, port_put, post, post_part, read_part, remains, passes_handle, session_handle, session_post, took, unsent, voice, voice_part, write_part}
 use Rattle.mum_port.proofs.Ends.{may_same, rose_read, rose_write}
 use Rattle.mum_port.proofs.HandlePart.{HandleShows, HandledOrNot}
 use Rattle.mum_port.proofs.ReadPart.{ReadShows, closes, put-due, put-pass, put-some, put-worked, read-shows, stage_by-open}
@@ -111,21 +111,21 @@ module _ {L V : Type 0} (routed : V → ℕ → SessionId → List ℕ → V →
   handle_worked old frame went new (inl never) on none = ap has_worked never.0
   handle_worked old frame went new (inr due) on none = shows_worked routed old.framer.kept frame went due.1 on none
 
-boxes_empty : (posts voices : List QueueFacts) (seat mid after : Option Seat) → SeatAfterPost posts seat None mid → SeatAfterVoice voices mid None after → FindBoxesEmpty posts voices seat after
+boxes_empty : (posts voices : List QueueFacts) (passes mid after : Option Passes) → PassesAfterPost posts passes None mid → PassesAfterVoice voices mid None after → FindBoxesEmpty posts voices passes after
 boxes_empty posts voices None None None posted heard = refl
 boxes_empty posts voices None None (Some after) posted heard = absurd heard
 boxes_empty posts voices None (Some mid) after posted heard = absurd posted
-boxes_empty posts voices (Some seat) None after posted heard = absurd posted
-boxes_empty posts voices (Some seat) (Some mid) None posted heard = absurd heard
-boxes_empty posts voices (Some seat) (Some mid) (Some after) posted heard = (
-  subst (λ (p : PassFacts PostParcel). FindsNothing POST_CAPACITY posts seat.slot.0 seat.post p) (sym heard.1) (posted.3 refl),
-  subst (λ (n : ℕ). FindsNothing VOICE_CAPACITY voices n seat.voice after.voice) (ap (λ (s : _). s.0) posted.0)
+boxes_empty posts voices (Some passes) None after posted heard = absurd posted
+boxes_empty posts voices (Some passes) (Some mid) None posted heard = absurd heard
+boxes_empty posts voices (Some passes) (Some mid) (Some after) posted heard = (
+  subst (λ (p : PassFacts PostParcel). FindsNothing POST_CAPACITY posts passes.slot.0 passes.post p) (sym heard.1) (posted.3 refl),
+  subst (λ (n : ℕ). FindsNothing VOICE_CAPACITY voices n passes.voice after.voice) (ap (λ (s : _). s.0) posted.0)
       (subst (λ (p : PassFacts VoiceParcel). FindsNothing VOICE_CAPACITY voices mid.slot.0 p after.voice) posted.1 (heard.3 refl)),
 )
 
--- a port whose parts are those of another, but for its link, its framer and its seat
+-- a port whose parts are those of another, but for its link, its framer and its passes
 port_same : {L : Type 0} (new old : PortFacts L) → new.machine ≡ old.machine → new.waiting ≡ old.waiting → new.out ≡ old.out → new.stage ≡ old.stage
-    → new ≡ record old { link = new.link; framer = new.framer; seat = new.seat }
+    → new ≡ record old { link = new.link; framer = new.framer; passes = new.passes }
 port_same new old machine waiting out stage = rw (sym machine, sym waiting, sym out, sym stage) refl
 
 taking_same : {L : Type 0} (later port : PortFacts L) → later.stage ≡ port.stage → later.out ≡ port.out → session_of later.machine.stage ≡ session_of port.machine.stage
@@ -278,20 +278,20 @@ module _ {L V : Type 0} {counts : L → Counts} {left written : L → Option (Li
   may_idle : (idle : AllIdle) → may_handle c.after_read ≡ may_handle old
   may_idle idle = may_same old c.after_read (stage_read idle) (machine_read c) (waiting_read idle) (out_read c)
 
-  empty_idle : (idle : AllIdle) (session : SessionId) → taking_session old ≡ Some session → FindBoxesEmpty posts voices old.seat c.after_voice.seat
+  empty_idle : (idle : AllIdle) (session : SessionId) → taking_session old ≡ Some session → FindBoxesEmpty posts voices old.passes c.after_voice.passes
   empty_idle idle session looks =
       let first : taking_session c.after_handle ≡ Some session =
       taking_same c.after_handle old (stage_idle idle) (out_idle idle) (session_handle c) ∙ looks in
       let second : taking_session c.after_post ≡ Some session =
       taking_same c.after_post old (stage_posted idle) (out_posted idle) (session_post c) ∙ looks in
-      let posted : SeatAfterPost posts c.after_handle.seat (post c) c.after_post.seat =
+      let posted : PassesAfterPost posts c.after_handle.passes (post c) c.after_post.passes =
       ⊎_elim (λ unlooked. absurd (cc (sym unlooked.2 ∙ first))) (λ looked. looked.2) (post_part c).looked in
-      let heard : SeatAfterVoice voices c.after_post.seat (voice c) c.after_voice.seat =
+      let heard : PassesAfterVoice voices c.after_post.passes (voice c) c.after_voice.passes =
       ⊎_elim (λ unheard. absurd (cc (sym unheard.2 ∙ second))) (λ looked. looked.2) (voice_part c).looked in
-      boxes_empty posts voices old.seat c.after_post.seat c.after_voice.seat
-      (subst (λ (s : Option Seat). SeatAfterPost posts s None c.after_post.seat) (seat_handle c)
-      (subst (λ (p : Option PostParcel). SeatAfterPost posts c.after_handle.seat p c.after_post.seat) (none_post idle) posted))
-      (subst (λ (v : Option VoiceParcel). SeatAfterVoice voices c.after_post.seat v c.after_voice.seat) (none_voice idle) heard)
+      boxes_empty posts voices old.passes c.after_post.passes c.after_voice.passes
+      (subst (λ (s : Option Passes). PassesAfterPost posts s None c.after_post.passes) (passes_handle c)
+      (subst (λ (p : Option PostParcel). PassesAfterPost posts c.after_handle.passes p c.after_post.passes) (none_post idle) posted))
+      (subst (λ (v : Option VoiceParcel). PassesAfterVoice voices c.after_post.passes v c.after_voice.passes) (none_voice idle) heard)
 
   pub is_idle : step.worked ≡ false → IsIdle counts left written is_shut posts voices old desk (did_of c) new desk_after
   is_idle worked =
@@ -313,8 +313,8 @@ module _ {L V : Type 0} {counts : L → Counts} {left written : L → Option (Li
         read_stalled = λ may. rose_read c (λ (k : Counts). k.stalls) (λ a b falls. falls.stalls) ((read_so idle).1 (subst (λ (p : PortFacts L). MayRead p) (sym put) may));
         write_stalled = λ may. rose_write c (λ (k : Counts). k.stalls) (λ a b falls. falls.stalls)
             ((write_so idle).1 (may_write_same c.after_voice old stage_voiced (out_heard idle) ∙ may));
-        boxes_empty = λ session looks. subst (λ (p : PortFacts L). FindBoxesEmpty posts voices old.seat p.seat) (sym same)
-            (subst (FindBoxesEmpty posts voices old.seat) (sym (write_part c).seat) (empty_idle idle session looks));
+        boxes_empty = λ session looks. subst (λ (p : PortFacts L). FindBoxesEmpty posts voices old.passes p.passes) (sym same)
+            (subst (FindBoxesEmpty posts voices old.passes) (sym (write_part c).passes) (empty_idle idle session looks));
         kept = ap (λ (p : PortFacts L). p.framer.kept) same ∙ (kept_write c ∙ (sym ((handle_part c).unhandled_kept (worked-closes c.handled idle.handled_idle))
             ∙ (sym ((handle_part c).bytes ∙ ap (λ (f : Option Frame). bytes_of f ++ (handle_part c).unhandled) (handle_so idle).0) ∙ kept_read idle)));
         rest = port_same new old

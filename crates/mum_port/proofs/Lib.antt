@@ -13,8 +13,8 @@ pub mod Living
 pub mod Machines
 pub mod ReadPart
 pub mod Resting
-pub mod SeatTakes
-pub mod Seats
+pub mod PassTakes
+pub mod PassesKept
 pub mod Speaking
 pub mod Turned
 pub mod Wires

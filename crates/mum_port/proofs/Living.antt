@@ -98,10 +98,10 @@ module _ {L V : Type 0} (counts : L → Counts) (left written : L → Option (Li
         ap (λ (l : List ℕ). l ++ bytes_written events) rests.no_write ∙ others.2,
         others.3,
       )
-  closed_life old (replied wire cause ∷ events) new (mid, (end, seat, inl stays), lives) closed =
+  closed_life old (replied wire cause ∷ events) new (mid, (end, passes, inl stays), lives) closed =
       closed_life mid events new lives (ap (λ (p : PortFacts L). is_closed p.stage) stays.same ∙ closed)
-  closed_life old (replied wire cause ∷ events) new (mid, (end, seat, inr (inl takes)), lives) closed = absurd (true≢false (sym closed ∙ takes.was_open))
-  closed_life old (replied wire cause ∷ events) new (mid, (end, seat, inr (inr closes)), lives) closed = absurd (true≢false (sym closed ∙ closes.was_open))
+  closed_life old (replied wire cause ∷ events) new (mid, (end, passes, inr (inl takes)), lives) closed = absurd (true≢false (sym closed ∙ takes.was_open))
+  closed_life old (replied wire cause ∷ events) new (mid, (end, passes, inr (inr closes)), lives) closed = absurd (true≢false (sym closed ∙ closes.was_open))
   closed_life old (lagged cause ∷ events) new (mid, inl stays, lives) closed =
       closed_life mid events new lives (ap (λ (p : PortFacts L). is_closed p.stage) stays.same ∙ closed)
   closed_life old (lagged cause ∷ events) new (mid, inr lags, lives) closed = absurd (true≢false (sym closed ∙ lags.0))
@@ -164,11 +164,11 @@ module _ {L V : Type 0} (counts : L → Counts) (left written : L → Option (Li
   }
   life_handled old (stepped machine did ∷ events) new (mid, steps, lives) =
       step_handled old mid new machine did events did.closed refl steps steps.turn.ends.settled (life_handled mid events new lives) lives
-  life_handled old (replied wire cause ∷ events) new (mid, (end, seat, inl stays), lives) =
+  life_handled old (replied wire cause ∷ events) new (mid, (end, passes, inl stays), lives) =
       same_handled old mid new (replied wire cause) events (ap (λ (p : PortFacts L). p.framer.kept) stays.same) refl refl (life_handled mid events new lives)
-  life_handled old (replied wire cause ∷ events) new (mid, (end, seat, inr (inl takes)), lives) =
+  life_handled old (replied wire cause ∷ events) new (mid, (end, passes, inr (inl takes)), lives) =
       same_handled old mid new (replied wire cause) events (ap (λ (p : PortFacts L). p.framer.kept) takes.rest) refl refl (life_handled mid events new lives)
-  life_handled old (replied wire cause ∷ events) new (mid, (end, seat, inr (inr closes)), lives) =
+  life_handled old (replied wire cause ∷ events) new (mid, (end, passes, inr (inr closes)), lives) =
       let others = closed_life mid events new lives (ap (λ (p : PortFacts L). is_closed p.stage) closes.closes.rest) in
       handled_closing old (replied wire cause ∷ events) new others.0 others.1 others.3
   life_handled old (lagged cause ∷ events) new (mid, inl stays, lives) =
@@ -220,16 +220,16 @@ module _ {L V : Type 0} (counts : L → Counts) (left written : L → Option (Li
   }
   life_wrote old (stepped machine did ∷ events) new (mid, steps, lives) =
       step_wrote old mid new machine did events did.closed refl steps steps.turn.ends.settled (life_wrote mid events new lives) lives
-  life_wrote old (replied wire cause ∷ events) new (mid, (end, seat, inl stays), lives) =
+  life_wrote old (replied wire cause ∷ events) new (mid, (end, passes, inl stays), lives) =
       let others = closed_life mid events new lives (ap (λ (p : PortFacts L). is_closed p.stage) stays.same ∙ stays.was_closed) in
       wrote_closing old new (replied wire cause) events others.2 others.3
-  life_wrote old (replied wire cause ∷ events) new (mid, (end, seat, inr (inl takes)), lives) =
+  life_wrote old (replied wire cause ∷ events) new (mid, (end, passes, inr (inl takes)), lives) =
       let next = life_wrote mid events new lives in record {
         rest = next.rest;
         bytes = sym (append_assoc old.out wire (bytes_queued events)) ∙ (ap (λ (p : PortFacts L). p.out ++ bytes_queued events) (sym takes.rest) ∙ next.bytes);
         kept = next.kept;
       }
-  life_wrote old (replied wire cause ∷ events) new (mid, (end, seat, inr (inr closes)), lives) =
+  life_wrote old (replied wire cause ∷ events) new (mid, (end, passes, inr (inr closes)), lives) =
       let others = closed_life mid events new lives (ap (λ (p : PortFacts L). is_closed p.stage) closes.closes.rest) in
       wrote_closing old new (replied wire cause) events others.2 others.3
   life_wrote old (lagged cause ∷ events) new (mid, inl stays, lives) =

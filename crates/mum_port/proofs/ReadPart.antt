@@ -102,7 +102,7 @@ module _ {L : Type 0} (counts : L → Counts) (left written : L → Option (List
     pub machine : new.machine ≡ old.machine
     pub waiting : new.waiting ≡ old.waiting
     pub out : new.out ≡ old.out
-    pub seat : new.seat ≡ old.seat
+    pub passes : new.passes ≡ old.passes
     pub stage : new.stage ≡ stage_by went old.stage
     pub allowed : took ≢ [] → MayRead old
 
@@ -118,7 +118,7 @@ module _ {L : Type 0} (counts : L → Counts) (left written : L → Option (List
     machine = ap (λ (p : PortFacts L). p.machine) never.same;
     waiting = ap (λ (p : PortFacts L). p.waiting) never.same;
     out = ap (λ (p : PortFacts L). p.out) never.same;
-    seat = ap (λ (p : PortFacts L). p.seat) never.same;
+    passes = ap (λ (p : PortFacts L). p.passes) never.same;
     stage = ap (λ (p : PortFacts L). p.stage) never.same ∙ ap (λ (w : Went). stage_by w old.stage) (sym never.so);
     allowed = λ some. absurd (some refl);
   }
@@ -132,7 +132,7 @@ module _ {L : Type 0} (counts : L → Counts) (left written : L → Option (List
     machine = ap (λ (p : PortFacts L). p.machine) once.rest;
     waiting = ap (λ (p : PortFacts L). p.waiting) once.rest;
     out = ap (λ (p : PortFacts L). p.out) once.rest;
-    seat = ap (λ (p : PortFacts L). p.seat) once.rest;
+    passes = ap (λ (p : PortFacts L). p.passes) once.rest;
     stage = ap (λ (p : PortFacts L). p.stage) once.rest;
     allowed = λ some. once.allowed;
   }

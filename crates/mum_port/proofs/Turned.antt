@@ -23,7 +23,7 @@ use Rattle.mum_port.proofs.Ends.{falls_all, may_before, settled_in_turn}
 use Rattle.mum_port.proofs.HandlePart.{RoutesOf}
 use Rattle.mum_port.proofs.Idle.{and-right, did_something, is_idle, too_long}
 use Rattle.mum_port.proofs.ReadPart.{closes, put-due, put-pass}
-use Rattle.mum_port.proofs.SeatTakes.{looks_where_it_may, takes_in_turn}
+use Rattle.mum_port.proofs.PassTakes.{looks_where_it_may, takes_in_turn}
 use Rattle.mum_port.proofs.Speaking.{routes_packet}
 
 -- ---- the bound on what is kept

@@ -58,7 +58,7 @@ module _ {L : Type 0} (counts : L → Counts) (left written : L → Option (List
     pub machine : new.machine ≡ old.machine
     pub framer : new.framer ≡ old.framer
     pub waiting : new.waiting ≡ old.waiting
-    pub seat : new.seat ≡ old.seat
+    pub passes : new.passes ≡ old.passes
     pub stage : new.stage ≡ stage_by went old.stage
 
   pub write-leaves : (old : PortFacts L) (went : Went) (new : PortFacts L) (writes : Writes counts left written is_shut old went new)
@@ -73,7 +73,7 @@ module _ {L : Type 0} (counts : L → Counts) (left written : L → Option (List
     machine = ap (λ (p : PortFacts L). p.machine) never.same;
     framer = ap (λ (p : PortFacts L). p.framer) never.same;
     waiting = ap (λ (p : PortFacts L). p.waiting) never.same;
-    seat = ap (λ (p : PortFacts L). p.seat) never.same;
+    passes = ap (λ (p : PortFacts L). p.passes) never.same;
     stage = ap (λ (p : PortFacts L). p.stage) never.same ∙ ap (λ (w : Went). stage_by w old.stage) (sym never.so);
   }
   write-leaves old went new (inr once) = record {
@@ -86,6 +86,6 @@ module _ {L : Type 0} (counts : L → Counts) (left written : L → Option (List
     machine = ap (λ (p : PortFacts L). p.machine) once.rest;
     framer = ap (λ (p : PortFacts L). p.framer) once.rest;
     waiting = ap (λ (p : PortFacts L). p.waiting) once.rest;
-    seat = ap (λ (p : PortFacts L). p.seat) once.rest;
+    passes = ap (λ (p : PortFacts L). p.passes) once.rest;
     stage = ap (λ (p : PortFacts L). p.stage) once.rest;
   }

@@ -9,7 +9,7 @@ use Rattle.mum_port.specs.Stage.{after_word, is_closed, is_live}
 use Rattle.mum_port.specs.declared.item.DeskItem.{DeskItem}
 use Rattle.mum_port.specs.declared.item.DeskItem.TheVariants as items
 use Rattle.mum_port.specs.declared.port.TheConstants.{UNWRITTEN_LIMIT}
-use Rattle.mum_port.specs.declared.seat.Seat.{Seat}
+use Rattle.mum_port.specs.declared.passes.Passes.{Passes}
 use Rattle.mum_port.specs.declared.stage.Farewell.TheVariants.{Leave, LastWord, Done}
 use Rattle.mum_port.specs.declared.stage.Stage.{Stage}
 use Rattle.mum_port.specs.declared.stage.Stage.TheVariants.{Live, Ending, Closed}
@@ -23,7 +23,7 @@ pub record PortFacts (L : Type 0) : Type 0 where
   pub waiting : Option DeskItem
   -- the bytes that are to be written
   pub out : List ℕ
-  pub seat : Option Seat
+  pub passes : Option Passes
   pub stage : Stage
 
 -- a framer that keeps nothing and has no room
@@ -38,7 +38,7 @@ new_port connection worker link = record {
   framer = empty_framer;
   waiting = None;
   out = [];
-  seat = None;
+  passes = None;
   stage = Live;
 }
 

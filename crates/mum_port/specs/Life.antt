@@ -17,7 +17,7 @@ use Rattle.mum_port.specs.Turn.{PortTurn}
 use Rattle.mum_port.specs.declared.item.DeskItem.{DeskItem}
 use Rattle.mum_port.specs.declared.item.DeskItem.TheVariants as items
 use Rattle.mum_port.specs.declared.port.Step.{Step}
-use Rattle.mum_port.specs.declared.seat.Seat.{Seat}
+use Rattle.mum_port.specs.declared.passes.Passes.{Passes}
 use Rattle.mum_port.specs.declared.stage.Farewell.TheVariants.{Leave, LastWord, Done}
 use Rattle.mum_port.specs.declared.stage.Stage.{Stage}
 use Rattle.mum_port.specs.declared.stage.Stage.TheVariants.{Live, Ending, Closed}
@@ -42,7 +42,7 @@ module _ {L V : Type 0} (counts : L → Counts) (left written : L → Option (Li
 
   abbrev pub Happens : PortFacts L → Event → PortFacts L → Type 0
   Happens old (stepped machine did) new = Steps old machine did new
-  Happens old (replied wire closed) new = (end : ReplyEnd) × (seat : Option Seat) × Answers counts left written is_shut end wire seat old closed new
+  Happens old (replied wire closed) new = (end : ReplyEnd) × (passes : Option Passes) × Answers counts left written is_shut end wire passes old closed new
   Happens old (lagged closed) new = Lags counts left written is_shut old closed new
 
   -- the events, one after another, lead from this port to that

@@ -9,13 +9,13 @@ use Rattle.mum_session.specs.Machine.{answered}
 use Rattle.mum_port.specs.Facts.{PortFacts}
 use Rattle.mum_port.specs.Stage.{is_closed, stage_after_reply}
 use Rattle.mum_port.specs.Steps.{ClosesFor}
-use Rattle.mum_port.specs.declared.seat.Seat.{Seat}
+use Rattle.mum_port.specs.declared.passes.Passes.{Passes}
 
--- a login that was accepted gives a seat, or none where its slot has no boxes
-abbrev pub seat_after : ReplyEnd → Option Seat → Option Seat → Option Seat
-seat_after (Joined session slot) given seat = given
-seat_after Decided given seat = seat
-seat_after Rejected given seat = seat
+-- a login that was accepted gives passes, or none where its slot has no boxes
+abbrev pub passes_after : ReplyEnd → Option Passes → Option Passes → Option Passes
+passes_after (Joined session slot) given passes = given
+passes_after Decided given passes = passes
+passes_after Rejected given passes = passes
 
 -- an open port that took a reply, before its bytes are written
 abbrev pub with_reply : {L : Type 0} → ReplyEnd → PortFacts L → PortFacts L
@@ -29,12 +29,12 @@ module _ {L : Type 0} (counts : L → Counts) (left written : L → Option (List
     pub same : new ≡ old
 
   -- an open one ends its wait, and is to write the bytes after all else
-  pub record TakesReply (end : ReplyEnd) (wire : List ℕ) (seat : Option Seat) (old : PortFacts L) (closed : Option Cause) (new : PortFacts L) : Type 0 where
+  pub record TakesReply (end : ReplyEnd) (wire : List ℕ) (passes : Option Passes) (old : PortFacts L) (closed : Option Cause) (new : PortFacts L) : Type 0 where
     pub was_open : is_closed old.stage ≡ false
     pub so : closed ≡ None
     pub rest : new ≡ record (with_reply end old) {
       out = old.out ++ wire;
-      seat = seat_after end seat old.seat;
+      passes = passes_after end passes old.passes;
       stage = stage_after_reply end old.stage;
     }
 
@@ -44,9 +44,9 @@ module _ {L : Type 0} (counts : L → Counts) (left written : L → Option (List
     pub so : closed ≡ Some causes.Memory
     pub closes : ClosesFor counts left written is_shut causes.Memory (with_reply end old) new
 
-  abbrev pub Answers : ReplyEnd → List ℕ → Option Seat → PortFacts L → Option Cause → PortFacts L → Type 0
-  Answers end wire seat old closed new =
-      StaysClosed old closed new ⊎ (TakesReply end wire seat old closed new ⊎ ClosesAtReply end old closed new)
+  abbrev pub Answers : ReplyEnd → List ℕ → Option Passes → PortFacts L → Option Cause → PortFacts L → Type 0
+  Answers end wire passes old closed new =
+      StaysClosed old closed new ⊎ (TakesReply end wire passes old closed new ⊎ ClosesAtReply end old closed new)
 
   -- an open port closes at a lag, and a closed one stays as it is
   abbrev pub Lags : PortFacts L → Option Cause → PortFacts L → Type 0

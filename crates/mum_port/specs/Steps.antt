@@ -67,8 +67,8 @@ module _ {L : Type 0} where
   pub record CollectsOne (posts : List QueueFacts) (old : PortFacts L) (took : Taking) (new : PortFacts L) : Type 0 where
     pub session : SessionId
     pub allowed : taking_session old ≡ Some session
-    pub taken : Collects posts session old.seat old.stage took new.seat new.out new.stage
-    pub left : new ≡ record old { seat = new.seat; out = new.out; stage = new.stage }
+    pub taken : Collects posts session old.passes old.stage took new.passes new.out new.stage
+    pub left : new ≡ record old { passes = new.passes; out = new.out; stage = new.stage }
 
   abbrev pub CollectsPost : List QueueFacts → PortFacts L → Taking → PortFacts L → Type 0
   CollectsPost posts old took new = TakesNothing old took new ⊎ CollectsOne posts old took new
@@ -77,8 +77,8 @@ module _ {L : Type 0} where
   pub record DrainsOne (voices : List QueueFacts) (old : PortFacts L) (took : Taking) (new : PortFacts L) : Type 0 where
     pub session : SessionId
     pub allowed : taking_session old ≡ Some session
-    pub taken : Drains voices session old.seat took new.seat new.out
-    pub left : new ≡ record old { seat = new.seat; out = new.out }
+    pub taken : Drains voices session old.passes took new.passes new.out
+    pub left : new ≡ record old { passes = new.passes; out = new.out }
 
   abbrev pub DrainsVoice : List QueueFacts → PortFacts L → Taking → PortFacts L → Type 0
   DrainsVoice voices old took new = TakesNothing old took new ⊎ DrainsOne voices old took new

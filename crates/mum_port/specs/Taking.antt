@@ -10,7 +10,7 @@ use Rattle.mum_outbox.specs.declared.parcel.TheConstants.{POST_CAPACITY, VOICE_C
 use Rattle.mum_outbox.specs.declared.parcel.VoiceParcel.{VoiceParcel}
 use Rattle.mum_port.specs.declared.outbound.Taking.{Taking}
 use Rattle.mum_port.specs.declared.outbound.Taking.TheVariants.{NotDue, Nothing, Own, Foreign}
-use Rattle.mum_port.specs.declared.seat.Seat.{Seat}
+use Rattle.mum_port.specs.declared.passes.Passes.{Passes}
 use Rattle.mum_port.specs.declared.stage.Parting.TheVariants.{Kicked}
 use Rattle.mum_port.specs.declared.stage.Stage.{Stage}
 use Rattle.mum_port.specs.declared.stage.Stage.TheVariants.{Ending}
@@ -27,21 +27,21 @@ foreign_count Nothing = 0
 foreign_count Own = 0
 foreign_count Foreign = 1
 
--- the pass of the seat is one of the post box of its slot, where there is such a box
-abbrev pub IsPassOfPost : List QueueFacts → Seat → Type 0
-IsPassOfPost posts seat = (queue : QueueFacts) → slice_get posts seat.slot.0 ≡ Some queue → seat.post.queue ≡ queue.queue
+-- the pass is one of the post box of its slot, where there is such a box
+abbrev pub IsPassOfPost : List QueueFacts → Passes → Type 0
+IsPassOfPost posts passes = (queue : QueueFacts) → slice_get posts passes.slot.0 ≡ Some queue → passes.post.queue ≡ queue.queue
 
-abbrev pub IsPassOfVoice : List QueueFacts → Seat → Type 0
-IsPassOfVoice voices seat = (queue : QueueFacts) → slice_get voices seat.slot.0 ≡ Some queue → seat.voice.queue ≡ queue.queue
+abbrev pub IsPassOfVoice : List QueueFacts → Passes → Type 0
+IsPassOfVoice voices passes = (queue : QueueFacts) → slice_get voices passes.slot.0 ≡ Some queue → passes.voice.queue ≡ queue.queue
 
--- so is that of a port, where it has a seat
-abbrev pub IsPosted : List QueueFacts → Option Seat → Type 0
+-- so is that of a port, where it has passes
+abbrev pub IsPosted : List QueueFacts → Option Passes → Type 0
 IsPosted posts None = Unit {0}
-IsPosted posts (Some seat) = IsPassOfPost posts seat
+IsPosted posts (Some passes) = IsPassOfPost posts passes
 
-abbrev pub IsVoiced : List QueueFacts → Option Seat → Type 0
+abbrev pub IsVoiced : List QueueFacts → Option Passes → Type 0
 IsVoiced voices None = Unit {0}
-IsVoiced voices (Some seat) = IsPassOfVoice voices seat
+IsVoiced voices (Some passes) = IsPassOfVoice voices passes
 
 -- after the last parcel of its session a port ends, as one that was kicked
 abbrev pub stage_after_post : Bool → Stage → Stage
@@ -70,44 +70,44 @@ abbrev pub HearsTaken : Option VoiceParcel → SessionId → Taking → List ℕ
 HearsTaken None session took out = (took ≡ Nothing) × (out ≡ [])
 HearsTaken (Some parcel) session took out = HearsParcel parcel session took out
 
--- one take from the post box of the seat
-pub record TakesPost (session : SessionId) (seat : Seat) (stage : Stage) (took : Taking) (seat_after : Seat) (out : List ℕ) (stage_after : Stage) : Type 0 where
+-- one take from the post box
+pub record TakesPost (session : SessionId) (passes : Passes) (stage : Stage) (took : Taking) (passes_after : Passes) (out : List ℕ) (stage_after : Stage) : Type 0 where
   pub pass : PassFacts PostParcel
   pub parcel : Option PostParcel
-  pub after : seat_after ≡ record seat { post = pass }
-  pub takes : Takes POST_CAPACITY seat.post parcel pass
+  pub after : passes_after ≡ record passes { post = pass }
+  pub takes : Takes POST_CAPACITY passes.post parcel pass
   pub posted : PostsTaken parcel session took out stage stage_after
 
-pub record TakesVoice (session : SessionId) (seat : Seat) (took : Taking) (seat_after : Seat) (out : List ℕ) : Type 0 where
+pub record TakesVoice (session : SessionId) (passes : Passes) (took : Taking) (passes_after : Passes) (out : List ℕ) : Type 0 where
   pub pass : PassFacts VoiceParcel
   pub parcel : Option VoiceParcel
-  pub after : seat_after ≡ record seat { voice = pass }
-  pub takes : Takes VOICE_CAPACITY seat.voice parcel pass
+  pub after : passes_after ≡ record passes { voice = pass }
+  pub takes : Takes VOICE_CAPACITY passes.voice parcel pass
   pub heard : HearsTaken parcel session took out
 
 -- nothing was taken, since there is no box of the slot
-pub record FindsNoBox (boxes : List QueueFacts) (seat : Seat) (took : Taking) (seat_after : Seat) (out : List ℕ) : Type 0 where
-  pub no_box : slice_get boxes seat.slot.0 ≡ None
+pub record FindsNoBox (boxes : List QueueFacts) (passes : Passes) (took : Taking) (passes_after : Passes) (out : List ℕ) : Type 0 where
+  pub no_box : slice_get boxes passes.slot.0 ≡ None
   pub not_due : took ≡ NotDue
-  pub seat_same : seat_after ≡ seat
+  pub passes_same : passes_after ≡ passes
   pub out_same : out ≡ []
 
-abbrev pub SeatCollects : List QueueFacts → SessionId → Seat → Stage → Taking → Seat → List ℕ → Stage → Type 0
-SeatCollects posts session seat stage took seat_after out stage_after =
-    (FindsNoBox posts seat took seat_after out × (stage_after ≡ stage)) ⊎ TakesPost session seat stage took seat_after out stage_after
+abbrev pub PassesCollect : List QueueFacts → SessionId → Passes → Stage → Taking → Passes → List ℕ → Stage → Type 0
+PassesCollect posts session passes stage took passes_after out stage_after =
+    (FindsNoBox posts passes took passes_after out × (stage_after ≡ stage)) ⊎ TakesPost session passes stage took passes_after out stage_after
 
-abbrev pub SeatDrains : List QueueFacts → SessionId → Seat → Taking → Seat → List ℕ → Type 0
-SeatDrains voices session seat took seat_after out = FindsNoBox voices seat took seat_after out ⊎ TakesVoice session seat took seat_after out
+abbrev pub PassesDrain : List QueueFacts → SessionId → Passes → Taking → Passes → List ℕ → Type 0
+PassesDrain voices session passes took passes_after out = FindsNoBox voices passes took passes_after out ⊎ TakesVoice session passes took passes_after out
 
--- a port takes from the boxes of its seat, and nothing where it has none
-abbrev pub Collects : List QueueFacts → SessionId → Option Seat → Stage → Taking → Option Seat → List ℕ → Stage → Type 0
+-- a port takes from the boxes of its passes, and nothing where it has none
+abbrev pub Collects : List QueueFacts → SessionId → Option Passes → Stage → Taking → Option Passes → List ℕ → Stage → Type 0
 Collects posts session None stage took None out stage_after = (took ≡ NotDue) × (out ≡ []) × (stage_after ≡ stage)
 Collects posts session None stage took (Some after) out stage_after = ⊥
-Collects posts session (Some seat) stage took None out stage_after = ⊥
-Collects posts session (Some seat) stage took (Some after) out stage_after = SeatCollects posts session seat stage took after out stage_after
+Collects posts session (Some passes) stage took None out stage_after = ⊥
+Collects posts session (Some passes) stage took (Some after) out stage_after = PassesCollect posts session passes stage took after out stage_after
 
-abbrev pub Drains : List QueueFacts → SessionId → Option Seat → Taking → Option Seat → List ℕ → Type 0
+abbrev pub Drains : List QueueFacts → SessionId → Option Passes → Taking → Option Passes → List ℕ → Type 0
 Drains voices session None took None out = (took ≡ NotDue) × (out ≡ [])
 Drains voices session None took (Some after) out = ⊥
-Drains voices session (Some seat) took None out = ⊥
-Drains voices session (Some seat) took (Some after) out = SeatDrains voices session seat took after out
+Drains voices session (Some passes) took None out = ⊥
+Drains voices session (Some passes) took (Some after) out = PassesDrain voices session passes took after out

@@ -19,7 +19,7 @@ use Rattle.mum_port.specs.Stage.{closed_for, is_closed}
 use Rattle.mum_port.specs.declared.item.DeskItem.{DeskItem}
 use Rattle.mum_port.specs.declared.port.Step.{Step}
 use Rattle.mum_port.specs.declared.port.TheConstants.{UNWRITTEN_LIMIT}
-use Rattle.mum_port.specs.declared.seat.Seat.{Seat}
+use Rattle.mum_port.specs.declared.passes.Passes.{Passes}
 use Rattle.mum_port.specs.declared.stage.Parting.{Parting}
 use Rattle.mum_port.specs.declared.stage.Parting.TheVariants as partings
 use Rattle.mum_port.specs.declared.stage.Stage.TheVariants.{Ending}
@@ -59,30 +59,30 @@ module _ {L : Type 0} where
 abbrev pub TakesAtMostOne : {I : Type 0} → ℕ → PassFacts I → Option I → PassFacts I → Type 0
 TakesAtMostOne capacity pass parcel after = ((parcel ≡ None) × (after ≡ pass)) ⊎ Takes capacity pass parcel after
 
-pub record SeatTakes (seat : Seat) (did : PortDid) (after : Seat) : Type 0 where
-  pub slot : after.slot ≡ seat.slot
-  pub post : TakesAtMostOne POST_CAPACITY seat.post did.post after.post
-  pub voice : TakesAtMostOne VOICE_CAPACITY seat.voice did.voice after.voice
+pub record PassTakes (passes : Passes) (did : PortDid) (after : Passes) : Type 0 where
+  pub slot : after.slot ≡ passes.slot
+  pub post : TakesAtMostOne POST_CAPACITY passes.post did.post after.post
+  pub voice : TakesAtMostOne VOICE_CAPACITY passes.voice did.voice after.voice
 
 abbrev pub NothingTaken : PortDid → Type 0
 NothingTaken did = (did.post ≡ None) × (did.voice ≡ None)
 
--- a port takes from the boxes of its seat alone
-abbrev pub SeatsTake : Option Seat → PortDid → Option Seat → Type 0
-SeatsTake None did None = NothingTaken did
-SeatsTake None did (Some after) = ⊥
-SeatsTake (Some seat) did None = ⊥
-SeatsTake (Some seat) did (Some after) = SeatTakes seat did after
+-- a port takes from the boxes of its passes alone
+abbrev pub PassesTake : Option Passes → PortDid → Option Passes → Type 0
+PassesTake None did None = NothingTaken did
+PassesTake None did (Some after) = ⊥
+PassesTake (Some passes) did None = ⊥
+PassesTake (Some passes) did (Some after) = PassTakes passes did after
 
 module _ {L : Type 0} where
   -- its boxes were not looked at, or it might look at them: it is live and logged in, and had nothing to write
   abbrev pub LooksWhereItMay : PortFacts L → PortDid → PortFacts L → Type 0
   LooksWhereItMay old did new =
-      (NothingTaken did × (new.seat ≡ old.seat)) ⊎ ((session : SessionId) × (taking_session old ≡ Some session))
+      (NothingTaken did × (new.passes ≡ old.passes)) ⊎ ((session : SessionId) × (taking_session old ≡ Some session))
 
   -- one parcel of each box of its slot at most; what is for another session is counted
   pub record TakesInTurn (old : PortFacts L) (did : PortDid) (step : Step) (new : PortFacts L) : Type 0 where
-    pub seats : SeatsTake old.seat did new.seat
+    pub passes : PassesTake old.passes did new.passes
     pub looks : LooksWhereItMay old did new
     pub stale : step.stale ≡ stray_posts (session_of old.machine.stage) did.post + stray_voices (session_of old.machine.stage) did.voice
 
@@ -100,15 +100,15 @@ module _ {L : Type 0} where
 abbrev pub did_nothing : PortDid
 did_nothing = record { put = None; took = []; lost = []; handled = None; post = None; voice = None; wrote = []; unsaid = []; closed = None }
 
--- the box of the seat had nothing, if there is one
+-- the box of the passes had nothing, if there is one
 abbrev pub FindsNothing : {I : Type 0} → ℕ → List QueueFacts → ℕ → PassFacts I → PassFacts I → Type 0
 FindsNothing capacity boxes slot pass after = (queue : QueueFacts) → slice_get boxes slot ≡ Some queue → Takes capacity pass None after
 
-abbrev pub FindBoxesEmpty : List QueueFacts → List QueueFacts → Option Seat → Option Seat → Type 0
+abbrev pub FindBoxesEmpty : List QueueFacts → List QueueFacts → Option Passes → Option Passes → Type 0
 FindBoxesEmpty posts voices None after = after ≡ None
-FindBoxesEmpty posts voices (Some seat) None = ⊥
-FindBoxesEmpty posts voices (Some seat) (Some after) =
-    FindsNothing POST_CAPACITY posts seat.slot.0 seat.post after.post × FindsNothing VOICE_CAPACITY voices seat.slot.0 seat.voice after.voice
+FindBoxesEmpty posts voices (Some passes) None = ⊥
+FindBoxesEmpty posts voices (Some passes) (Some after) =
+    FindsNothing POST_CAPACITY posts passes.slot.0 passes.post after.post × FindsNothing VOICE_CAPACITY voices passes.slot.0 passes.voice after.voice
 
 -- ---- the link, and the close
 
@@ -174,9 +174,9 @@ module _ {L : Type 0} (counts : L → Counts) (left written : L → Option (List
     pub no_frame : IsTrue (may_handle old) → HasNoFrame old.framer.kept × ¬ TooLong old.framer.kept
     pub read_stalled : MayRead old → Rose (counts old.link).stalls (counts new.link).stalls
     pub write_stalled : IsTrue (may_write old) → Rose (counts old.link).stalls (counts new.link).stalls
-    pub boxes_empty : (session : SessionId) → taking_session old ≡ Some session → FindBoxesEmpty posts voices old.seat new.seat
+    pub boxes_empty : (session : SessionId) → taking_session old ≡ Some session → FindBoxesEmpty posts voices old.passes new.passes
     pub kept : new.framer.kept ≡ old.framer.kept
-    pub rest : new ≡ record old { link = new.link; framer = new.framer; seat = new.seat }
+    pub rest : new ≡ record old { link = new.link; framer = new.framer; passes = new.passes }
 
   -- ---- the whole step
 

@@ -10,14 +10,14 @@ pub mod item;
 pub mod laws;
 mod outbound;
 pub mod outgoing;
+pub mod passes;
 pub mod port;
 pub mod router;
-pub mod seat;
 pub mod stage;
 
 pub use item::DeskItem;
 pub use outgoing::Outgoing;
+pub use passes::Passes;
 pub use port::{Port, Step, UNWRITTEN_LIMIT};
 pub use router::VoiceRouter;
-pub use seat::Seat;
 pub use stage::{Farewell, Parting, Stage};

@@ -2,10 +2,10 @@
 
 ghost use Rattle.std.specs.Prelude.{◌≡◌, ◌<◌, ◌≤◌, [], length};
 ghost use Rattle.mum_port.specs.Linking.{WritesLink};
-ghost use Rattle.mum_port.specs.Taking.{Collects, Drains, HearsParcel, IsPassOfPost, IsPassOfVoice, IsPosted, IsVoiced, PostsParcel, SeatCollects, SeatDrains, foreign_count, has_taken};
+ghost use Rattle.mum_port.specs.Taking.{Collects, Drains, HearsParcel, IsPassOfPost, IsPassOfVoice, IsPosted, IsVoiced, PostsParcel, PassesCollect, PassesDrain, foreign_count, has_taken};
 
 use crate::outgoing::Outgoing;
-use crate::seat::Seat;
+use crate::passes::Passes;
 use crate::stage::{Parting, Stage, Went};
 use mum_base::{Cause, SessionId};
 use mum_io::{Link, PollWrite};
@@ -75,44 +75,44 @@ fn hear(parcel: &VoiceParcel, session: SessionId, out: &mut Outgoing) -> Taking
     Taking::Own
 }
 
-// Takes one parcel from the post box of the seat's slot, where there is one.
+// Takes one parcel from the post box of the slot, where there is one.
 fn take_post<R: Wait>(
     rt: &R,
     posts: &[PostBox],
     session: SessionId,
-    seat: &mut Seat,
+    passes: &mut Passes,
     out: &mut Outgoing,
     stage: &mut Stage,
 ) -> Taking
     requires empty { out.old ≡ [] }
-    requires queue { IsPassOfPost posts.now seat.old }
-    ensures { SeatCollects posts.now session seat.old stage.old result seat.new out.new stage.new }
+    requires queue { IsPassOfPost posts.now passes.old }
+    ensures { PassesCollect posts.now session passes.old stage.old result passes.new out.new stage.new }
 {
-    let Some(queue) = posts.get(usize::from(seat.slot.0)) else {
+    let Some(queue) = posts.get(usize::from(passes.slot.0)) else {
         return Taking::NotDue;
     };
-    match queue.take_as(rt, &mut seat.post) {
+    match queue.take_as(rt, &mut passes.post) {
         None => Taking::Nothing,
         Some(parcel) => post(parcel, session, out, stage),
     }
 }
 
-// Takes one parcel from the voice box of the seat's slot, where there is one.
+// Takes one parcel from the voice box of the slot, where there is one.
 fn take_voice<R: Wait>(
     rt: &R,
     voices: &[VoiceBox],
     session: SessionId,
-    seat: &mut Seat,
+    passes: &mut Passes,
     out: &mut Outgoing,
 ) -> Taking
     requires empty { out.old ≡ [] }
-    requires queue { IsPassOfVoice voices.now seat.old }
-    ensures { SeatDrains voices.now session seat.old result seat.new out.new }
+    requires queue { IsPassOfVoice voices.now passes.old }
+    ensures { PassesDrain voices.now session passes.old result passes.new out.new }
 {
-    let Some(queue) = voices.get(usize::from(seat.slot.0)) else {
+    let Some(queue) = voices.get(usize::from(passes.slot.0)) else {
         return Taking::NotDue;
     };
-    match queue.take_as(rt, &mut seat.voice) {
+    match queue.take_as(rt, &mut passes.voice) {
         None => Taking::Nothing,
         Some(parcel) => hear(&parcel, session, out),
     }
@@ -123,19 +123,19 @@ pub(crate) fn collect<R: Wait>(
     rt: &R,
     posts: &[PostBox],
     session: SessionId,
-    seat: &mut Option<Seat>,
+    passes: &mut Option<Passes>,
     out: &mut Outgoing,
     stage: &mut Stage,
 ) -> Taking
     requires empty { out.old ≡ [] }
-    requires queue { IsPosted posts.now seat.old }
-    ensures { Collects posts.now session seat.old stage.old result seat.new out.new stage.new }
+    requires queue { IsPosted posts.now passes.old }
+    ensures { Collects posts.now session passes.old stage.old result passes.new out.new stage.new }
 {
-    let Some(mut held) = seat.take() else {
+    let Some(mut held) = passes.take() else {
         return Taking::NotDue;
     };
     let took = take_post(rt, posts, session, &mut held, out, stage);
-    drop(seat.replace(held));
+    drop(passes.replace(held));
     took
 }
 
@@ -144,18 +144,18 @@ pub(crate) fn drain<R: Wait>(
     rt: &R,
     voices: &[VoiceBox],
     session: SessionId,
-    seat: &mut Option<Seat>,
+    passes: &mut Option<Passes>,
     out: &mut Outgoing,
 ) -> Taking
     requires empty { out.old ≡ [] }
-    requires queue { IsVoiced voices.now seat.old }
-    ensures { Drains voices.now session seat.old result seat.new out.new }
+    requires queue { IsVoiced voices.now passes.old }
+    ensures { Drains voices.now session passes.old result passes.new out.new }
 {
-    let Some(mut held) = seat.take() else {
+    let Some(mut held) = passes.take() else {
         return Taking::NotDue;
     };
     let took = take_voice(rt, voices, session, &mut held, out);
-    drop(seat.replace(held));
+    drop(passes.replace(held));
     took
 }
 

@@ -4,7 +4,7 @@ ghost use Rattle.std.specs.Prelude.{◌≡◌, ◌<◌, ◌==◌, ◌↔◌, IsT
 ghost use Rattle.mum_port.specs.Did.{PortDid};
 ghost use Rattle.mum_port.specs.Facts.{MayRead, PortFacts, may_handle, new_port, next_word, taking_session};
 ghost use Rattle.mum_port.specs.Stage.{is_closed, is_gone};
-ghost use Rattle.mum_port.specs.Replies.{Answers, Lags, seat_after};
+ghost use Rattle.mum_port.specs.Replies.{Answers, Lags, passes_after};
 ghost use Rattle.mum_port.specs.Steps.{ClosesFor, CollectsPost, DrainsVoice, Handles, PortChain, Puts, Reads, Settles, Writes, step_of};
 ghost use Rattle.mum_port.specs.Taking.{IsPosted, IsVoiced};
 ghost use Rattle.mum_port.specs.Turn.{PortTurn};
@@ -16,8 +16,8 @@ use crate::inbound::{handle, read};
 use crate::item::DeskItem;
 use crate::outbound::{Taking, collect, drain, write};
 use crate::outgoing::Outgoing;
+use crate::passes::Passes;
 use crate::router::VoiceRouter;
-use crate::seat::Seat;
 use crate::stage::{Farewell, Stage, Went, closed};
 use mum_base::{Cause, Octets, ReplyEnd, SessionId};
 use mum_frame::{Framer, Kept};
@@ -51,7 +51,7 @@ pub struct Port<L: Link> {
     framer: Framer,
     waiting: Option<DeskItem>,
     out: Outgoing,
-    seat: Option<Seat>,
+    passes: Option<Passes>,
     stage: Stage,
 }
 
@@ -67,7 +67,7 @@ impl<L: Link> Model for Port<L> {
       framer = p.framer;
       waiting = p.waiting;
       out = p.out;
-      seat = p.seat;
+      passes = p.passes;
       stage = p.stage;
     } };
 }
@@ -83,7 +83,7 @@ impl<L: Link> Port<L> {
             framer: Framer::new(alloc),
             waiting: None,
             out: Outgoing::new(alloc),
-            seat: None,
+            passes: None,
             stage: Stage::Live,
         }
     }
@@ -200,7 +200,7 @@ impl<L: Link> Port<L> {
 
     // Takes from its post box, where it may.
     fn collect<R: Wait>(&mut self, rt: &R, posts: &[PostBox]) -> Taking
-        requires { IsPosted posts.now self.old.seat }
+        requires { IsPosted posts.now self.old.passes }
         ensures { CollectsPost posts.now self.old result self.new }
     {
         let Some(session) = self.taking_session() else {
@@ -210,7 +210,7 @@ impl<L: Link> Port<L> {
             rt,
             posts,
             session,
-            &mut self.seat,
+            &mut self.passes,
             &mut self.out,
             &mut self.stage,
         )
@@ -218,13 +218,13 @@ impl<L: Link> Port<L> {
 
     // Takes from its voice box, where it may.
     fn drain<R: Wait>(&mut self, rt: &R, voices: &[VoiceBox]) -> Taking
-        requires { IsVoiced voices.now self.old.seat }
+        requires { IsVoiced voices.now self.old.passes }
         ensures { DrainsVoice voices.now self.old result self.new }
     {
         let Some(session) = self.taking_session() else {
             return Taking::NotDue;
         };
-        drain(rt, voices, session, &mut self.seat, &mut self.out)
+        drain(rt, voices, session, &mut self.passes, &mut self.out)
     }
 
     // Its session, where it may look at its boxes.
@@ -277,29 +277,29 @@ impl<L: Link> Port<L> {
     }
 
     /// The control owner answered: how the wait ends, the bytes that the connection is sent, and with a
-    /// session its seat, where there are boxes of its slot. Answers for what the port closes, if it does:
+    /// session its passes, where there are boxes of its slot. Answers for what the port closes, if it does:
     /// for `Memory`, where there is none for the bytes. A closed port drops all.
     pub fn answered(
         &mut self,
         alloc: Global,
         end: ReplyEnd,
         wire: Octets,
-        seat: Option<Seat>,
+        passes: Option<Passes>,
     ) -> Option<Cause>
-        ensures { Answers L.counts L.left L.written L.is_shut end wire seat self.old result self.new }
+        ensures { Answers L.counts L.left L.written L.is_shut end wire passes self.old result self.new }
     {
         if self.stage.is_closed() {
             drop(wire);
-            drop(seat);
+            drop(passes);
             return None;
         }
         self.client.answered(end);
         if self.out.push(wire).is_err() {
-            drop(seat);
+            drop(passes);
             self.close(alloc, Cause::Memory);
             return Some(Cause::Memory);
         }
-        sit(&mut self.seat, end, seat);
+        take_passes(&mut self.passes, end, passes);
         self.stage = self.stage.answered(end);
         None
     }
@@ -331,8 +331,8 @@ impl<L: Link> Port<L> {
         buf: &mut [u8],
     ) -> Step
         requires desk { pass.old.queue ≡ desk.now.queue }
-        requires posts { IsPosted posts.now self.old.seat }
-        requires voices { IsVoiced voices.now self.old.seat }
+        requires posts { IsPosted posts.now self.old.passes }
+        requires voices { IsVoiced voices.now self.old.passes }
         requires buffer { 0 < length buf.old }
         ensures chain { PortChain L.counts L.left L.written L.is_shut V.routed posts.now voices.now
             self.old pass.old (V.without_room router.old) result self.new pass.new
@@ -341,8 +341,8 @@ impl<L: Link> Port<L> {
             self.old pass.old (V.without_room router.old) did result self.new pass.new
             (V.without_room router.new) }
         ensures desk { pass.new.queue ≡ desk.now.queue }
-        ensures posts { IsPosted posts.now self.new.seat }
-        ensures voices { IsVoiced voices.now self.new.seat }
+        ensures posts { IsPosted posts.now self.new.passes }
+        ensures voices { IsVoiced voices.now self.new.passes }
     {
         let was_closed = self.is_closed();
         let put = self.put(rt, desk, pass);
@@ -356,12 +356,12 @@ impl<L: Link> Port<L> {
     }
 }
 
-// The seat after a reply: a login that was accepted gives one, or none where its slot has no boxes.
-fn sit(seat: &mut Option<Seat>, end: ReplyEnd, given: Option<Seat>)
-    ensures { seat.new ≡ seat_after end given seat.old }
+// The passes after a reply: a login that was accepted gives some, or none where its slot has no boxes.
+fn take_passes(passes: &mut Option<Passes>, end: ReplyEnd, given: Option<Passes>)
+    ensures { passes.new ≡ passes_after end given passes.old }
 {
     match end {
-        ReplyEnd::Joined(_, _) => drop(replace(seat, given)),
+        ReplyEnd::Joined(_, _) => drop(replace(passes, given)),
         ReplyEnd::Decided => drop(given),
         ReplyEnd::Rejected => drop(given),
     }

@@ -7,7 +7,7 @@ ghost use Rattle.mum_port.specs.Taking.{IsPosted, IsVoiced};
 use mum_base::{Cause, Octets, OutOfMemory, ReplyEnd, SessionId, Slot};
 use mum_io::{Link, PollRead, PollWrite, Tally};
 use mum_outbox::{BoxPass, Desk, PostBox, PostParcel, VoiceBox};
-use mum_port::{DeskItem, Port, Seat, VoiceRouter};
+use mum_port::{DeskItem, Passes, Port, VoiceRouter};
 use std::alloc::Global;
 use std::sync::Wait;
 use std::test::Fail;
@@ -137,11 +137,11 @@ fn answer<R: Wait>(
     pass: &mut BoxPass<DeskItem>,
 ) -> Result<u32, OutOfMemory>
     requires desk { pass.old.queue ≡ desk.now.queue }
-    requires posts { IsPosted [] port.old.seat }
-    requires voices { IsVoiced [] port.old.seat }
+    requires posts { IsPosted [] port.old.passes }
+    requires voices { IsVoiced [] port.old.passes }
     ensures desk { pass.new.queue ≡ desk.now.queue }
-    ensures posts { IsPosted [] port.new.seat }
-    ensures voices { IsVoiced [] port.new.seat }
+    ensures posts { IsPosted [] port.new.passes }
+    ensures voices { IsVoiced [] port.new.passes }
 {
     let Some(item) = desk.take_as(rt, pass) else {
         return Ok(0);
@@ -165,8 +165,8 @@ fn run<R: Wait>(
     pass: &mut BoxPass<DeskItem>,
 ) -> Result<Seen, OutOfMemory>
     requires desk { pass.old.queue ≡ desk.now.queue }
-    requires posts { IsPosted [] port.old.seat }
-    requires voices { IsVoiced [] port.old.seat }
+    requires posts { IsPosted [] port.old.passes }
+    requires voices { IsVoiced [] port.old.passes }
 {
     let mut router = Nowhere;
     let mut buf = [0; 64];
@@ -228,8 +228,8 @@ fn half_a_frame_may_come_a_byte_at_a_time(rt: HostRuntime) -> Result<(), Fail> {
     Ok(())
 }
 
-/// A post box with one parcel, which is the last one of its session; a voice box; and a seat at both.
-fn last_parcel<R: Wait>(rt: &R, alloc: Global) -> Result<(PostBox, VoiceBox, Seat), OutOfMemory>
+/// A post box with one parcel, which is the last one of its session; a voice box; and the passes at both.
+fn last_parcel<R: Wait>(rt: &R, alloc: Global) -> Result<(PostBox, VoiceBox, Passes), OutOfMemory>
     ensures posts { IfOk result (λ made. made.2.post.queue ≡ made.0.queue) }
     ensures voices { IfOk result (λ made. made.2.voice.queue ≡ made.1.queue) }
     ensures slot { IfOk result (λ made. made.2.slot.0 ≡ 0) }
@@ -243,12 +243,12 @@ fn last_parcel<R: Wait>(rt: &R, alloc: Global) -> Result<(PostBox, VoiceBox, Sea
         last: true,
     };
     let _sent = post.offer_as(rt, &mut offers, parcel);
-    let seat = Seat {
+    let passes = Passes {
         slot: Slot(0),
         post: post.pass(),
         voice: voice.pass(),
     };
-    Ok((post, voice, seat))
+    Ok((post, voice, passes))
 }
 
 /// A port takes the last parcel of its session, which its link does not take, and then lags twice. Whether the step
@@ -258,18 +258,18 @@ fn lag_behind<R: Wait>(
     alloc: Global,
     post: PostBox,
     voice: VoiceBox,
-    seat: Seat,
+    passes: Passes,
 ) -> Result<(bool, [Option<Cause>; 3]), OutOfMemory>
-    requires post { seat.post.queue ≡ post.queue }
-    requires voice { seat.voice.queue ≡ voice.queue }
-    requires slot { seat.slot.0 ≡ 0 }
+    requires post { passes.post.queue ≡ post.queue }
+    requires voice { passes.voice.queue ≡ voice.queue }
+    requires slot { passes.slot.0 ≡ 0 }
 {
     let mut desk = Desk::<DeskItem>::new(alloc)?;
     let mut pass = desk.pass();
     let mut port = Port::new(alloc, 1, 0, deaf_link(Sends::Nothing));
     let joined = ReplyEnd::Joined(SessionId(5), Slot(0));
     let nothing = Octets::from_vec(Vec::new(alloc));
-    port.answered(alloc, joined, nothing, Some(seat));
+    port.answered(alloc, joined, nothing, Some(passes));
     let mut buf = [0; 64];
     let step = port.step(
         rt,
@@ -287,8 +287,8 @@ fn lag_behind<R: Wait>(
 #[test]
 fn a_lag_closes_a_port_that_keeps_its_last_parcel(rt: HostRuntime) -> Result<(), Fail> {
     let alloc: Global = rt.alloc();
-    let (post, voice, seat) = last_parcel(&rt, alloc)?;
-    let seen = lag_behind(&rt, alloc, post, voice, seat)?;
+    let (post, voice, passes) = last_parcel(&rt, alloc)?;
+    let seen = lag_behind(&rt, alloc, post, voice, passes)?;
     assert_eq!(rt; seen, (true, [None, Some(Cause::Lagged), None]));
     Ok(())
 }

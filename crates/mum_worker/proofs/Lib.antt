@@ -2,4 +2,5 @@ pub mod Journals
 pub mod Lists
 pub mod Openings
 pub mod Queues
-pub mod Seats
+pub mod PassesKept
+pub mod Stood

@@ -6,7 +6,7 @@ use Rattle.mum_base.specs.declared.reply.ReplyEnd.{ReplyEnd}
 use Rattle.mum_base.specs.declared.reply.ReplyEnd.TheVariants.{Joined, Decided, Rejected}
 use Rattle.mum_outbox.specs.Calls.{IsNewPass}
 use Rattle.mum_outbox.specs.Facts.{QueueFacts}
-use Rattle.mum_port.specs.declared.seat.Seat.{Seat}
+use Rattle.mum_port.specs.declared.passes.Passes.{Passes}
 
 pub record BoxesFacts : Type 0 where
   pub posts : List QueueFacts
@@ -21,27 +21,27 @@ pub record AreSameBoxes (old new : BoxesFacts) : Type 0 where
   pub posts : queues new.posts ≡ queues old.posts
   pub voices : queues new.voices ≡ queues old.voices
 
--- a seat in a slot, with a new pass of each box of the slot
-pub record IsNewSeat (boxes : BoxesFacts) (slot : Slot) (seat : Seat) : Type 0 where
-  pub slot_is : seat.slot ≡ slot
+-- new passes of a slot, one of each box
+pub record AreNewPasses (boxes : BoxesFacts) (slot : Slot) (passes : Passes) : Type 0 where
+  pub slot_is : passes.slot ≡ slot
   pub post_box : QueueFacts
   pub voice_box : QueueFacts
   pub post_there : slice_get boxes.posts slot.0 ≡ Some post_box
   pub voice_there : slice_get boxes.voices slot.0 ≡ Some voice_box
-  pub post : IsNewPass post_box seat.post
-  pub voice : IsNewPass voice_box seat.voice
+  pub post : IsNewPass post_box passes.post
+  pub voice : IsNewPass voice_box passes.voice
 
 -- there is no box of the slot
 abbrev pub HasNoBoxes : BoxesFacts → Slot → Type 0
 HasNoBoxes boxes slot = (slice_get boxes.posts slot.0 ≡ None) ⊎ (slice_get boxes.voices slot.0 ≡ None)
 
--- a seat in a slot that has boxes, and none where it has not
-abbrev pub IsSeatIn : BoxesFacts → Slot → Option Seat → Type 0
-IsSeatIn boxes slot None = HasNoBoxes boxes slot
-IsSeatIn boxes slot (Some seat) = IsNewSeat boxes slot seat
+-- passes of a slot that has boxes, and none where it has not
+abbrev pub ArePassesIn : BoxesFacts → Slot → Option Passes → Type 0
+ArePassesIn boxes slot None = HasNoBoxes boxes slot
+ArePassesIn boxes slot (Some passes) = AreNewPasses boxes slot passes
 
--- a login that was accepted gives a seat in its slot, and another end gives none
-abbrev pub IsSeatFor : BoxesFacts → ReplyEnd → Option Seat → Type 0
-IsSeatFor boxes (Joined session slot) seat = IsSeatIn boxes slot seat
-IsSeatFor boxes Decided seat = seat ≡ None
-IsSeatFor boxes Rejected seat = seat ≡ None
+-- a login that was accepted gives passes of its slot, and another end gives none
+abbrev pub ArePassesFor : BoxesFacts → ReplyEnd → Option Passes → Type 0
+ArePassesFor boxes (Joined session slot) passes = ArePassesIn boxes slot passes
+ArePassesFor boxes Decided passes = passes ≡ None
+ArePassesFor boxes Rejected passes = passes ≡ None

@@ -7,14 +7,14 @@ use Rattle.mum_base.specs.declared.reply.ReplyEnd.{ReplyEnd}
 use Rattle.mum_io.specs.Counts.{Counts}
 use Rattle.mum_port.specs.Facts.{PortFacts, new_port}
 use Rattle.mum_port.specs.Replies.{Answers, Lags}
-use Rattle.mum_port.specs.declared.seat.Seat.{Seat}
+use Rattle.mum_port.specs.declared.passes.Passes.{Passes}
 use Rattle.mum_published.specs.Calls.{Learnt}
 use Rattle.mum_published.specs.Facts.{NoteFacts}
 use Rattle.mum_router.specs.Facts.{RouterFacts}
 use Rattle.mum_session.specs.Machine.{session_of}
 use Rattle.mum_worker.specs.Along.{EachAlong}
 use Rattle.mum_worker.specs.Bell.{ReplyFacts, Ring, Answer, Comes, Lagging, NoMore}
-use Rattle.mum_worker.specs.Boxes.{AreSameBoxes, BoxesFacts, IsSeatFor}
+use Rattle.mum_worker.specs.Boxes.{AreSameBoxes, BoxesFacts, ArePassesFor}
 use Rattle.mum_worker.specs.Facts.{WorkerFacts, is_of, stays}
 use Rattle.mum_worker.specs.Record.{RecordFacts, after_close, may_take_in, taking_in}
 
@@ -46,13 +46,13 @@ module _ {L : Type 0} where
 
 module _ {L : Type 0} (counts : L → Counts) (left written : L → Option (List ℕ)) (is_shut : L → Bool) where
   -- the first port of the connection takes a reply
-  pub record FirstAnswers (connection : ℕ) (end : ReplyEnd) (wire : List ℕ) (seat : Option Seat) (olds : List (PortFacts L)) (closed : Option Cause) (news : List (PortFacts L)) : Type 0 where
+  pub record FirstAnswers (connection : ℕ) (end : ReplyEnd) (wire : List ℕ) (passes : Option Passes) (olds : List (PortFacts L)) (closed : Option Cause) (news : List (PortFacts L)) : Type 0 where
     pub place : ℕ
     pub old : PortFacts L
     pub new : PortFacts L
     pub first : position (is_of connection) olds ≡ Some place
     pub there : slice_get olds place ≡ Some old
-    pub answers : Answers counts left written is_shut end wire seat old closed new
+    pub answers : Answers counts left written is_shut end wire passes old closed new
     pub others : news ≡ slice_set olds place new
 
   -- no port is of the connection, and the reply is dropped
@@ -61,9 +61,9 @@ module _ {L : Type 0} (counts : L → Counts) (left written : L → Option (List
     pub closed_none : closed ≡ None
     pub same : news ≡ olds
 
-  abbrev pub AnswersFirst : ℕ → ReplyEnd → List ℕ → Option Seat → List (PortFacts L) → Option Cause → List (PortFacts L) → Type 0
-  AnswersFirst connection end wire seat olds closed news =
-      NoneAnswers connection olds closed news ⊎ FirstAnswers connection end wire seat olds closed news
+  abbrev pub AnswersFirst : ℕ → ReplyEnd → List ℕ → Option Passes → List (PortFacts L) → Option Cause → List (PortFacts L) → Type 0
+  AnswersFirst connection end wire passes olds closed news =
+      NoneAnswers connection olds closed news ⊎ FirstAnswers connection end wire passes olds closed news
 
   -- a port of the session closes, unless it is closed already
   pub record LagsPort (session : SessionId) (old : PortFacts L) (before : RecordFacts) (new : PortFacts L) (after : RecordFacts) : Type 0 where
@@ -81,15 +81,15 @@ module _ {L : Type 0} (counts : L → Counts) (left written : L → Option (List
   abbrev pub LagsWhereIts : SessionId → PortFacts L → RecordFacts → PortFacts L → RecordFacts → Type 0
   LagsWhereIts session old before new after = PassesPort session old before new after ⊎ LagsPort session old before new after
 
-  -- a reply: its note is learnt first, and then the first port of its connection takes it, with a seat where it gives one
+  -- a reply: its note is learnt first, and then the first port of its connection takes it, with passes where it gives some
   pub record TakesReply (reply : ReplyFacts) (router : RouterFacts) (kept : RecordFacts) (boxes : BoxesFacts) (ports : List (PortFacts L))
       (router_after : RouterFacts) (kept_after : RecordFacts) (boxes_after : BoxesFacts) (ports_after : List (PortFacts L)) : Type 0 where
     pub learns : LearnsGiven reply.note router router_after
-    pub seat : Option Seat
-    pub seats : IsSeatFor boxes reply.end seat
+    pub passes : Option Passes
+    pub given : ArePassesFor boxes reply.end passes
     pub same : AreSameBoxes boxes boxes_after
     pub closed : Option Cause
-    pub answers : AnswersFirst reply.connection reply.end reply.wire seat ports closed ports_after
+    pub answers : AnswersFirst reply.connection reply.end reply.wire passes ports closed ports_after
     pub noted : kept_after ≡ after_close reply.connection closed kept
 
   pub record HearsReply (reply : ReplyFacts) (old new : WorkerFacts L) : Type 0 where

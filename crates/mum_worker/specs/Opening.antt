@@ -3,7 +3,7 @@ use Rattle.std.specs.Prelude.{◌≡◌, ℕ, false, List, [], Option, Some}
 use Rattle.mum_base.specs.declared.number.SessionId.{SessionId}
 use Rattle.mum_published.specs.Facts.{Opening, PassFacts}
 use Rattle.mum_route.specs.declared.hearer.Hearer.{Hearer}
-use Rattle.mum_router.specs.Picking.{Picks}
+use Rattle.mum_router.specs.Picking.{EntryStood, Picks}
 use Rattle.mum_router.specs.Routing.{Routes}
 use Rattle.mum_router.specs.declared.offering.Routed.{Routed}
 use Rattle.mum_voice.specs.Packet.{Parts}
@@ -34,3 +34,9 @@ module _ {L : Type 0} where
     pub speaker_is : speaker_of old.ports port ≡ Some speaker
     pub routes : Routes opening old.common.router speaker packet new.common.router routed
     pub rest : new ≡ record old { common = record old.common { router = new.common.router } }
+
+  -- the entry of the port's session and the packet's target stood already at the state that the look saw
+  pub record EntryStoodFor (opening : Opening) (old : WorkerFacts L) (port : ℕ) (packet : Parts) (new : WorkerFacts L) : Type 0 where
+    pub speaker : SessionId
+    pub speaker_is : speaker_of old.ports port ≡ Some speaker
+    pub stood : EntryStood opening old.common.router speaker packet new.common.router

@@ -19,9 +19,9 @@ pub record Shares : Type 0 where
   pub worked : Bool
 
 -- the passes of a port are of the boxes of its slot
-pub record IsSeated {L : Type 0} (boxes : BoxesFacts) (port : PortFacts L) : Type 0 where
-  pub posted : IsPosted boxes.posts port.seat
-  pub voiced : IsVoiced boxes.voices port.seat
+pub record OwnsPasses {L : Type 0} (boxes : BoxesFacts) (port : PortFacts L) : Type 0 where
+  pub posted : IsPosted boxes.posts port.passes
+  pub voiced : IsVoiced boxes.voices port.passes
 
 module _ {L : Type 0} (counts : L → Counts) (left written : L → Option (List ℕ)) (is_shut : L → Bool) (opening : Opening) (boxes : BoxesFacts) where
   -- a port makes its step, and what the step came to is noted

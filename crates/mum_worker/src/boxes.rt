@@ -1,11 +1,11 @@
 //! The boxes of all slots, from which ports take.
 
 ghost use Rattle.std.specs.Prelude.{◌≡◌, IfOk, length};
-ghost use Rattle.mum_worker.specs.Boxes.{AreSameBoxes, IsSeatFor, IsSeatIn};
+ghost use Rattle.mum_worker.specs.Boxes.{AreSameBoxes, ArePassesFor, ArePassesIn};
 
 use mum_base::{OutOfMemory, ReplyEnd, Slot};
 use mum_outbox::{PostBox, VoiceBox};
-use mum_port::Seat;
+use mum_port::Passes;
 use std::alloc::Global;
 use std::marker::Model;
 
@@ -43,9 +43,9 @@ pub(crate) fn share_each(
 }
 
 impl Boxes {
-    // A seat in this slot, where it has boxes.
-    fn seat_in(&mut self, slot: Slot) -> Option<Seat>
-        ensures seat { IsSeatIn self.old slot result }
+    // Passes of this slot, where it has boxes.
+    fn passes_in(&mut self, slot: Slot) -> Option<Passes>
+        ensures passes { ArePassesIn self.old slot result }
         ensures same { AreSameBoxes self.old self.new }
     {
         let place = usize::from(slot.0);
@@ -54,16 +54,16 @@ impl Boxes {
         }
         let post = self.posts[place].pass();
         let voice = self.voices[place].pass();
-        Some(Seat { slot, post, voice })
+        Some(Passes { slot, post, voice })
     }
 
-    /// The seat that a reply gives.
-    pub(crate) fn seat_for(&mut self, end: ReplyEnd) -> Option<Seat>
-        ensures seat { IsSeatFor self.old end result }
+    /// The passes that a reply gives.
+    pub(crate) fn passes_for(&mut self, end: ReplyEnd) -> Option<Passes>
+        ensures passes { ArePassesFor self.old end result }
         ensures same { AreSameBoxes self.old self.new }
     {
         match end {
-            ReplyEnd::Joined(_, slot) => self.seat_in(slot),
+            ReplyEnd::Joined(_, slot) => self.passes_in(slot),
             ReplyEnd::Decided => None,
             ReplyEnd::Rejected => None,
         }

@@ -8,7 +8,7 @@ ghost use Rattle.mum_worker.specs.Bell.{reply_of};
 ghost use Rattle.mum_worker.specs.Facts.{stays};
 ghost use Rattle.mum_worker.specs.Hearing.{LagsWhereIts, LearnsGiven, TakesOrTurns, TakesReply};
 ghost use Rattle.mum_worker.specs.Record.{without_room};
-ghost use Rattle.mum_worker.specs.Stepping.{IsSeated};
+ghost use Rattle.mum_worker.specs.Stepping.{OwnsPasses};
 
 use crate::boxes::Boxes;
 use crate::ports::Ports;
@@ -39,11 +39,11 @@ pub(crate) fn take_reply<L: Link, N: Naming>(
     boxes: &mut Boxes,
     ports: &mut Ports<L>,
 )
-    requires { All (IsSeated boxes.old) ports.old }
+    requires { All (OwnsPasses boxes.old) ports.old }
     ensures takes { TakesReply L.counts L.left L.written L.is_shut (reply_of reply)
         router.old (without_room kept.old) boxes.old ports.old
         router.new (without_room kept.new) boxes.new ports.new }
-    ensures seated { All (IsSeated boxes.new) ports.new }
+    ensures owned { All (OwnsPasses boxes.new) ports.new }
 {
     learn_given(router, &reply.note);
     let Reply {
@@ -52,8 +52,8 @@ pub(crate) fn take_reply<L: Link, N: Naming>(
         wire,
         ..
     } = reply;
-    let seat = boxes.seat_for(end);
-    let closed = ports.answered(alloc, connection, end, wire, seat);
+    let passes = boxes.passes_for(end);
+    let closed = ports.answered(alloc, connection, end, wire, passes);
     kept.closed(connection, closed);
 }
 
@@ -67,9 +67,9 @@ pub(crate) fn take_connection<L: Link>(
     boxes: &mut Boxes,
     ports: &mut Ports<L>,
 )
-    requires { All (IsSeated boxes.old) ports.old }
+    requires { All (OwnsPasses boxes.old) ports.old }
     ensures takes { TakesOrTurns number connection link ports.old (without_room kept.old) ports.new (without_room kept.new) }
-    ensures seated { All (IsSeated boxes.new) ports.new }
+    ensures owned { All (OwnsPasses boxes.new) ports.new }
     ensures boxes { boxes.new ≡ boxes.old }
 {
     let _boxes = boxes;
@@ -84,10 +84,10 @@ pub(crate) fn take_lag<L: Link>(
     boxes: &mut Boxes,
     ports: &mut Ports<L>,
 )
-    requires { All (IsSeated boxes.old) ports.old }
+    requires { All (OwnsPasses boxes.old) ports.old }
     ensures lags { EachAlong (LagsWhereIts L.counts L.left L.written L.is_shut session) stays
         ports.old (without_room kept.old) ports.new (without_room kept.new) }
-    ensures seated { All (IsSeated boxes.new) ports.new }
+    ensures owned { All (OwnsPasses boxes.new) ports.new }
     ensures boxes { boxes.new ≡ boxes.old }
 {
     let _boxes = boxes;

@@ -8,7 +8,7 @@ ghost use Rattle.mum_worker.specs.Facts.{is_empty, is_of, session_at, speaker_of
 ghost use Rattle.mum_worker.specs.Hearing.{AnswersFirst, LagsWhereIts, TakesOrTurns};
 ghost use Rattle.mum_worker.specs.Record.{without_room};
 ghost use Rattle.mum_worker.specs.Routing.{bare};
-ghost use Rattle.mum_worker.specs.Stepping.{IsSeated, PortSteps};
+ghost use Rattle.mum_worker.specs.Stepping.{OwnsPasses, PortSteps};
 
 use crate::boxes::Boxes;
 use crate::common::Common;
@@ -17,7 +17,7 @@ use crate::record::Record;
 use mum_base::{CONNECTION_LIMIT, Cause, Octets, OutOfMemory, ReplyEnd, SessionId};
 use mum_crew::Gate;
 use mum_io::Link;
-use mum_port::{Port, Seat};
+use mum_port::{Passes, Port};
 use mum_published::Naming;
 use std::alloc::Global;
 use std::collections::VecDeque;
@@ -65,12 +65,12 @@ fn step_port<L: Link, G: Gate, N: Naming, R: Wait + Copy>(
     buf: &mut [u8],
     worked: bool,
 ) -> bool
-    requires seated { IsSeated boxes.now port.old }
+    requires owned { OwnsPasses boxes.now port.old }
     requires buffer { 0 < length buf.old }
     ensures steps { PortSteps L.counts L.left L.written L.is_shut N.opening boxes.now
         port.old (record { common = bare common.old; desk = desk.old; worked = worked })
         port.new (record { common = bare common.new; desk = desk.new; worked = result }) }
-    ensures seated { IsSeated boxes.now port.new }
+    ensures owned { OwnsPasses boxes.now port.new }
 {
     let connection = port.connection();
     let alloc = common.alloc;
@@ -106,13 +106,13 @@ fn step_all<L: Link, G: Gate, N: Naming, R: Wait + Copy>(
     buf: &mut [u8],
     heard: bool,
 ) -> (bool, bool)
-    requires seated { All (IsSeated boxes.now) list.old.items }
+    requires owned { All (OwnsPasses boxes.now) list.old.items }
     requires buffer { 0 < length buf.old }
     ensures steps { Along (PortSteps L.counts L.left L.written L.is_shut N.opening boxes.now)
         list.old.items (record { common = bare common.old; desk = desk.old; worked = heard })
         list.new.items (record { common = bare common.new; desk = desk.new; worked = result.0 }) }
     ensures staying { result.1 ≡ false → filter stays list.new.items ≡ list.new.items }
-    ensures seated { All (IsSeated boxes.now) list.new.items }
+    ensures owned { All (OwnsPasses boxes.now) list.new.items }
     ensures capacity { deque_capacity list.new ≡ deque_capacity list.old }
 {
     let count = list.len();
@@ -147,12 +147,12 @@ fn step_each<L: Link, G: Gate, N: Naming, R: Wait + Copy>(
     buf: &mut [u8],
     heard: bool,
 ) -> bool
-    requires seated { All (IsSeated boxes.now) list.old.items }
+    requires owned { All (OwnsPasses boxes.now) list.old.items }
     requires buffer { 0 < length buf.old }
     ensures steps { EachAlong (PortSteps L.counts L.left L.written L.is_shut N.opening boxes.now) stays
         list.old.items (record { common = bare common.old; desk = desk.old; worked = heard })
         list.new.items (record { common = bare common.new; desk = desk.new; worked = result }) }
-    ensures seated { All (IsSeated boxes.now) list.new.items }
+    ensures owned { All (OwnsPasses boxes.now) list.new.items }
     ensures capacity { deque_capacity list.new ≡ deque_capacity list.old }
 {
     let (worked, gone) = step_all(list, rt, desk, boxes, common, buf, heard);
@@ -225,17 +225,17 @@ fn answer_first<L: Link>(
     connection: u32,
     end: ReplyEnd,
     wire: Octets,
-    seat: Option<Seat>,
+    passes: Option<Passes>,
 ) -> Option<Cause>
-    ensures answers { AnswersFirst L.counts L.left L.written L.is_shut connection end wire seat
+    ensures answers { AnswersFirst L.counts L.left L.written L.is_shut connection end wire passes
         list.old.items result list.new.items }
     ensures capacity { deque_capacity list.new ≡ deque_capacity list.old }
 {
     match place_of(list, connection) {
-        Some(place) => list[place].answered(alloc, end, wire, seat),
+        Some(place) => list[place].answered(alloc, end, wire, passes),
         None => {
             drop(wire);
-            drop(seat);
+            drop(passes);
             None
         }
     }
@@ -296,12 +296,12 @@ impl<L: Link> Ports<L> {
         connection: u32,
         end: ReplyEnd,
         wire: Octets,
-        seat: Option<Seat>,
+        passes: Option<Passes>,
     ) -> Option<Cause>
-        ensures { AnswersFirst L.counts L.left L.written L.is_shut connection end wire seat
+        ensures { AnswersFirst L.counts L.left L.written L.is_shut connection end wire passes
             self.old result self.new }
     {
-        answer_first(&mut self.list, alloc, connection, end, wire, seat)
+        answer_first(&mut self.list, alloc, connection, end, wire, passes)
     }
 
     /// Closes each open port of a session.
@@ -323,12 +323,12 @@ impl<L: Link> Ports<L> {
         buf: &mut [u8],
         heard: bool,
     ) -> bool
-        requires seated { All (IsSeated boxes.old) self.old }
+        requires owned { All (OwnsPasses boxes.old) self.old }
         requires buffer { 0 < length buf.old }
         ensures steps { EachAlong (PortSteps L.counts L.left L.written L.is_shut N.opening boxes.old) stays
             self.old (record { common = bare common.old; desk = desk.old; worked = heard })
             self.new (record { common = bare common.new; desk = desk.new; worked = result }) }
-        ensures seated { All (IsSeated boxes.old) self.new }
+        ensures owned { All (OwnsPasses boxes.old) self.new }
         ensures boxes { boxes.new ≡ boxes.old }
     {
         step_each(&mut self.list, rt, desk, boxes, common, buf, heard)

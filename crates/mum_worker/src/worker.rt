@@ -9,7 +9,7 @@ ghost use Rattle.mum_voice.specs.Packet.{IsPacket, plain_parts};
 ghost use Rattle.mum_worker.specs.Bell.{reply_of, ring_of};
 ghost use Rattle.mum_worker.specs.Facts.{speaker_of};
 ghost use Rattle.mum_worker.specs.Hearing.{Heeds, HearsConnection, HearsLag, HearsReply};
-ghost use Rattle.mum_worker.specs.Opening.{HasOpened, PicksFor, RoutesFor};
+ghost use Rattle.mum_worker.specs.Opening.{EntryStoodFor, HasOpened, PicksFor, RoutesFor};
 ghost use Rattle.mum_worker.specs.Turning.{HearsBell, StepsPorts, Turned};
 
 use crate::boxes::{Boxes, share_each};
@@ -88,7 +88,7 @@ impl<L: Link, G: Gate, N: Naming, R: Wait + Copy> Model for Worker<L, G, N, R> {
     ghost use Rattle.std.specs.List.{All};
     ghost use Rattle.mum_worker.specs.Facts.{WorkerFacts};
     ghost use Rattle.mum_worker.specs.Routing.{bare};
-    ghost use Rattle.mum_worker.specs.Stepping.{IsSeated};
+    ghost use Rattle.mum_worker.specs.Stepping.{OwnsPasses};
 
     ghost Value = { WorkerFacts L };
 
@@ -102,7 +102,7 @@ impl<L: Link, G: Gate, N: Naming, R: Wait + Copy> Model for Worker<L, G, N, R> {
       ended = w.ended;
     } };
 
-    ghost invariant = { λ w. All (IsSeated w.boxes) w.ports × (0 < length w.buffer.items) };
+    ghost invariant = { λ w. All (OwnsPasses w.boxes) w.ports × (0 < length w.buffer.items) };
 }
 
 // Room for what a port reads at once.
@@ -264,8 +264,16 @@ impl<L: Link, G: Gate, N: Naming, R: Wait + Copy> Worker<L, G, N, R> {
         }
     }
 
-    /// Who hears a packet of a port, in slot order, by one look. It takes no memory, and only the look may try
-    /// again.
+    // The session of a port, where it is logged in.
+    fn speaker(&self, port: PortId) -> Option<SessionId>
+        ensures { result ≡ speaker_of self.now.ports port.0 }
+    {
+        self.ports.speaker(port.0)
+    }
+
+    /// Who hears a packet of a port, in slot order, by one look. Where the route is kept already, and the state
+    /// of the look has the same count of routing, no step is counted. It takes no memory, and only the look may
+    /// try again.
     pub fn pick<C: Ledger>(
         &mut self,
         port: PortId,
@@ -274,13 +282,13 @@ impl<L: Link, G: Gate, N: Naming, R: Wait + Copy> Worker<L, G, N, R> {
     ) -> Audience
         requires logged_in { IsSome (speaker_of self.old.ports port.0) }
         requires packet { IsPacket (plain_parts packet.now) }
-        ensures { PicksFor N.opening self.old port.0 (plain_parts packet.now) self.new result }
+        ensures picks { PicksFor N.opening self.old port.0 (plain_parts packet.now) self.new result }
+        ensures steps { EntryStoodFor N.opening self.old port.0 (plain_parts packet.now) self.new → steps.new ≡ steps.old }
     {
-        let Some(speaker) = self.ports.speaker(port.0) else {
+        let Some(speaker) = self.speaker(port) else {
             unreachable!()
         };
-        let rt = self.rt;
-        self.common.router.pick(&rt, speaker, packet, steps)
+        self.common.pick(speaker, packet, steps)
     }
 
     /// One `pick`, and one offer for each who hears the packet. It takes no memory, and only the look and the
@@ -293,13 +301,13 @@ impl<L: Link, G: Gate, N: Naming, R: Wait + Copy> Worker<L, G, N, R> {
     ) -> Routed
         requires logged_in { IsSome (speaker_of self.old.ports port.0) }
         requires packet { IsPacket (plain_parts packet.now) }
-        ensures { RoutesFor N.opening self.old port.0 (plain_parts packet.now) self.new result }
+        ensures routes { RoutesFor N.opening self.old port.0 (plain_parts packet.now) self.new result }
+        ensures steps { EntryStoodFor N.opening self.old port.0 (plain_parts packet.now) self.new → steps.new ≡ steps.old }
     {
-        let Some(speaker) = self.ports.speaker(port.0) else {
+        let Some(speaker) = self.speaker(port) else {
             unreachable!()
         };
-        let rt = self.rt;
-        self.common.router.route(&rt, speaker, packet, steps)
+        self.common.route_packet(speaker, packet, steps)
     }
 
     /// What the worker did in all, and its journal.

@@ -15,7 +15,7 @@ use Rattle.mum_port.specs.Life.{Event, Happens, Lives, Steps, and_frame, and_ite
 use Rattle.mum_port.specs.Replies.{Answers, Lags}
 use Rattle.mum_port.specs.Stage.{is_live}
 use Rattle.mum_port.specs.declared.item.DeskItem.{DeskItem}
-use Rattle.mum_port.specs.declared.seat.Seat.{Seat}
+use Rattle.mum_port.specs.declared.passes.Passes.{Passes}
 use Rattle.mum_port.proofs.Closing.{and-left}
 use Rattle.mum_port.proofs.Idle.{and-right}
 use Rattle.mum_port.proofs.Course.{did_of}
@@ -238,14 +238,14 @@ module _ {L : Type 0} (counts : L → Counts) (left written : L → Option (List
     waiting = ap (λ (p : PortFacts L). p.waiting) same;
   }
 
-  pub place_answered : (end : ReplyEnd) (wire : List ℕ) (seat : Option Seat) (old : PortFacts L) (closed : Option Cause) (new : PortFacts L)
-      → Answers counts left written is_shut end wire seat old closed new → KeepsPlace old new
-  place_answered end wire seat old closed new (inl stays) = same_place old new stays.same
-  place_answered end wire seat old closed new (inr (inl takes)) = record {
+  pub place_answered : (end : ReplyEnd) (wire : List ℕ) (passes : Option Passes) (old : PortFacts L) (closed : Option Cause) (new : PortFacts L)
+      → Answers counts left written is_shut end wire passes old closed new → KeepsPlace old new
+  place_answered end wire passes old closed new (inl stays) = same_place old new stays.same
+  place_answered end wire passes old closed new (inr (inl takes)) = record {
     number = ap (λ (p : PortFacts L). p.machine.connection) takes.rest;
     waiting = ap (λ (p : PortFacts L). p.waiting) takes.rest;
   }
-  place_answered end wire seat old closed new (inr (inr closes)) = record {
+  place_answered end wire passes old closed new (inr (inr closes)) = record {
     number = ap (λ (p : PortFacts L). p.machine.connection) closes.closes.rest;
     waiting = ap (λ (p : PortFacts L). p.waiting) closes.closes.rest;
   }
@@ -270,15 +270,15 @@ module _ {L : Type 0} (counts : L → Counts) (left written : L → Option (List
     waits = λ item is. subst (λ (n : ℕ). is_item_of n item ≡ true) (sym place.number) (own.waits item (sym place.waiting ∙ is));
   }
 
-  pub one_reply : (reply : ReplyFacts) (seat : Option Seat) (closed : Option Cause) (life : Life L) (new : PortFacts L) → is_of reply.connection life.last ≡ true
-      → Answers counts left written is_shut reply.end reply.wire seat life.last closed new → One (Told reply ∷ []) life [] new []
-  one_reply reply seat closed life new its answers =
-      let place = place_answered reply.end reply.wire seat life.last closed new answers in record {
+  pub one_reply : (reply : ReplyFacts) (passes : Option Passes) (closed : Option Cause) (life : Life L) (new : PortFacts L) → is_of reply.connection life.last ≡ true
+      → Answers counts left written is_shut reply.end reply.wire passes life.last closed new → One (Told reply ∷ []) life [] new []
+  one_reply reply passes closed life new its answers =
+      let place = place_answered reply.end reply.wire passes life.last closed new answers in record {
         put = [];
         now = event_life life (replied reply.wire closed) new;
         changes = record {
           first = refl;
-          lived = λ lives. lives_more counts left written is_shut (RoutesPacket opening) life.first life.events life.last (replied reply.wire closed) new lives (reply.end, seat, answers);
+          lived = λ lives. lives_more counts left written is_shut (RoutesPacket opening) life.first life.events life.last (replied reply.wire closed) new lives (reply.end, passes, answers);
           owned = own_place life (replied reply.wire closed) new place;
           puts = items_put-append life.events (replied reply.wire closed ∷ []);
           its = λ own connection b is. nothing_either b;

@@ -25,8 +25,10 @@ use Rattle.mum_published.specs.Facts.{NoteFacts, Opening, PassFacts}
 use Rattle.mum_published.proofs.Prefixes.{prefix_self, prefix_trans}
 use Rattle.mum_router.specs.Facts.{RouterFacts}
 use Rattle.mum_router.specs.Offering.{Delivers, Delivery, Outs, parcel_for}
+use Rattle.mum_router.specs.Laws.{RoutedPacket}
 use Rattle.mum_router.specs.Routing.{RoutesAt}
 use Rattle.mum_router.specs.declared.offering.Routed.{Routed}
+use Rattle.mum_router.proofs.Entries.{Kept, SeesEach, kept_of, sees_append, sees_of}
 use Rattle.mum_session.specs.Action.{action}
 use Rattle.mum_session.specs.Machine.{Machine, session_of}
 use Rattle.mum_session.specs.declared.action.Action.{Action}
@@ -41,7 +43,7 @@ use Rattle.mum_worker.specs.Hearing.{Hears, LearnsGiven}
 use Rattle.mum_worker.specs.Routing.{CommonFacts, RoutesPacket}
 use Rattle.mum_worker.specs.Stepping.{PortSteps, Shares}
 use Rattle.mum_worker.specs.Turning.{Turned, shares_of}
-use Rattle.mum_worker_laws.specs.Laws.{Follows, Look, Moment, Told, Looked, SeesFrom, TurnsTo, ask_made, copies_at, copies_made, copy_for, edits_of, edits_told, history, if_sent, if_there, look_acted, look_handled, look_in, look_kept, look_made, look_of_session, look_stepped, looks_along, looks_in, moments_of, offered_in, told_by}
+use Rattle.mum_worker_laws.specs.Laws.{Follows, Look, Moment, Told, Looked, SeesFrom, TurnsTo, ask_made, copies_at, copies_made, copy_for, edits_of, edits_told, history, if_sent, if_there, look_acted, look_handled, look_in, look_kept, look_made, look_of_session, look_stepped, looks_along, looks_in, moments_of, offered_in, packets_in, routed_packet, told_by}
 
 -- ---- the copies of one packet
 
@@ -126,22 +128,26 @@ abbrev IsKnown : List Edit → Moment → Type 0
 IsKnown known moment = IsPrefix (edits_of moment) known
 
 -- these moments lead from this router to that
-pub record Goes (old new : RouterFacts) (moments : List Moment) : Type 0 where
+pub record Goes (opening : Opening) (old new : RouterFacts) (moments : List Moment) : Type 0 where
   pub asks : new.pass.asks ≡ old.pass.asks ++ map ask_made (looks_in moments)
   pub knows : IsPrefix old.pass.known new.pass.known
   pub within : All (IsKnown new.pass.known) moments
   pub beyond : All (SeesFrom old.pass.known) moments
   pub pairs : AllPairs Follows moments
   pub copies : (slot : ℕ) → copies_at slot new.outs ≡ copies_at slot old.outs ++ flat_map (copies_made slot) (looks_in moments)
+  pub opened : new.pass.opening ≡ old.pass.opening
+  pub sees : old.pass.opening ≡ opening → SeesEach opening (kept_of old) (packets_in moments) (kept_of new)
 
-stays : (old new : RouterFacts) → new ≡ old → Goes old new []
-stays old new same = record {
+stays : (opening : Opening) (old new : RouterFacts) → new ≡ old → Goes opening old new []
+stays opening old new same = record {
   asks = ap (λ (r : RouterFacts). r.pass.asks) same ∙ sym (append-nil old.pass.asks);
   knows = subst (λ (r : RouterFacts). IsPrefix old.pass.known r.pass.known) (sym same) (prefix_self old.pass.known);
   within = All-nil (IsKnown new.pass.known);
   beyond = All-nil (SeesFrom old.pass.known);
   pairs = pairs_nil Follows;
   copies = λ slot. ap (λ (r : RouterFacts). copies_at slot r.outs) same ∙ sym (append-nil (copies_at slot old.outs));
+  opened = ap (λ (r : RouterFacts). r.pass.opening) same;
+  sees = λ opened. ap kept_of same;
 }
 
 one_pair : (moment : Moment) → AllPairs Follows (moment ∷ [])
@@ -154,6 +160,8 @@ pub record Learns (edits : List Edit) (old new : RouterFacts) : Type 0 where
   pub outs : new.outs ≡ old.outs
   pub mine : IsPrefix old.pass.known new.pass.known
   pub its : IsPrefix edits new.pass.known
+  pub opening : new.pass.opening ≡ old.pass.opening
+  pub kept : kept_of new ≡ kept_of old
 
 learnt : (note : Option NoteFacts) (old new : RouterFacts) → LearnsGiven note old new → Learns (edits_told note) old new
 learnt None old new same = record {
@@ -161,16 +169,20 @@ learnt None old new same = record {
   outs = ap (λ (r : RouterFacts). r.outs) same;
   mine = subst (λ (r : RouterFacts). IsPrefix old.pass.known r.pass.known) (sym same) (prefix_self old.pass.known);
   its = (new.pass.known, refl);
+  opening = ap (λ (r : RouterFacts). r.pass.opening) same;
+  kept = ap kept_of same;
 }
 learnt (Some note) old new learns = record {
   asks = ap (λ (p : PassFacts). p.asks) learns.0.same;
   outs = ap (λ (r : RouterFacts). r.outs) learns.1;
   mine = learns.0.mine;
   its = learns.0.its;
+  opening = ap (λ (p : PassFacts). p.opening) learns.0.same;
+  kept = λ i. record { seen = ap (λ (p : PassFacts). p.seen) learns.0.same i; routes = ap (λ (r : RouterFacts). r.caches.routes) learns.1 i };
 }
 
-told : (reply : ReplyFacts) (old new : RouterFacts) → LearnsGiven reply.note old new → Goes old new (Told reply ∷ [])
-told reply old new learns =
+told : (opening : Opening) (reply : ReplyFacts) (old new : RouterFacts) → LearnsGiven reply.note old new → Goes opening old new (Told reply ∷ [])
+told opening reply old new learns =
     let facts = learnt reply.note old new learns in record {
       asks = facts.asks ∙ sym (append-nil old.pass.asks);
       knows = facts.mine;
@@ -178,13 +190,15 @@ told reply old new learns =
       beyond = All-cons (SeesFrom old.pass.known) (Told reply) [] tt (All-nil (SeesFrom old.pass.known));
       pairs = one_pair (Told reply);
       copies = λ slot. ap (λ (os : Outs). copies_at slot os) facts.outs ∙ sym (append-nil (copies_at slot old.outs));
+      opened = facts.opening;
+      sees = λ opened. facts.kept;
     }
 
 -- ---- a look
 
 saw : (opening : Opening) (connection : ℕ) (old : RouterFacts) (speaker : SessionId) (packet : Parts) (edits : List Edit) (deliveries : List Delivery) (new : RouterFacts) (routed : Routed)
     → RoutesAt opening old speaker packet edits deliveries new routed
-    → Goes old new (Looked (record { connection = connection; speaker = speaker; packet = packet; edits = edits; deliveries = deliveries }) ∷ [])
+    → Goes opening old new (Looked (record { connection = connection; speaker = speaker; packet = packet; edits = edits; deliveries = deliveries }) ∷ [])
 saw opening connection old speaker packet edits deliveries new routed routes =
     let look : Look = record { connection = connection; speaker = speaker; packet = packet; edits = edits; deliveries = deliveries } in
     let known : new.pass.known ≡ edits = ap (λ (r : RouterFacts). r.pass.known) routes.router in record {
@@ -195,6 +209,8 @@ saw opening connection old speaker packet edits deliveries new routed routes =
       pairs = one_pair (Looked look);
       copies = λ slot. delivered slot speaker packet deliveries old.outs new.outs routes.offers
           ∙ ap (λ (l : List VoiceParcel). copies_at slot old.outs ++ l) (sym (append-nil (copies_made slot look)));
+      opened = ap (λ (r : RouterFacts). r.pass.opening) routes.router;
+      sees = λ opened. (kept_of new, sees_of opening old (routed_packet look) deliveries new routed opened routes, refl);
     }
 
 -- ---- one thing after another
@@ -209,12 +225,15 @@ asks_join ms ns = ap (λ (l : List Look). map ask_made l) (filter_map-append loo
 copies_join : (slot : ℕ) (ms ns : List Moment) → flat_map (copies_made slot) (looks_in (ms ++ ns)) ≡ flat_map (copies_made slot) (looks_in ms) ++ flat_map (copies_made slot) (looks_in ns)
 copies_join slot ms ns = ap (λ (l : List Look). flat_map (copies_made slot) l) (filter_map-append look_in ms ns) ∙ flat_map-append (copies_made slot) (looks_in ms) (looks_in ns)
 
+packets_join : (ms ns : List Moment) → packets_in (ms ++ ns) ≡ packets_in ms ++ packets_in ns
+packets_join ms ns = ap (λ (l : List Look). map routed_packet l) (filter_map-append look_in ms ns) ∙ map-append routed_packet (looks_in ms) (looks_in ns)
+
 chained : {X : Type 0} (a b c ms ns both : List X) → b ≡ a ++ ms → c ≡ b ++ ns → both ≡ ms ++ ns → c ≡ a ++ both
 chained a b c ms ns both one other joined =
     other ∙ (ap (λ l. l ++ ns) one ∙ (append_assoc a ms ns ∙ ap (λ l. a ++ l) (sym joined)))
 
-goes_on : (old mid new : RouterFacts) (ms ns : List Moment) → Goes old mid ms → Goes mid new ns → Goes old new (ms ++ ns)
-goes_on old mid new ms ns one other = record {
+goes_on : (opening : Opening) (old mid new : RouterFacts) (ms ns : List Moment) → Goes opening old mid ms → Goes opening mid new ns → Goes opening old new (ms ++ ns)
+goes_on opening old mid new ms ns one other = record {
   asks = chained old.pass.asks mid.pass.asks new.pass.asks (map ask_made (looks_in ms)) (map ask_made (looks_in ns)) (map ask_made (looks_in (ms ++ ns))) one.asks other.asks (asks_join ms ns);
   knows = prefix_trans old.pass.known mid.pass.known new.pass.known one.knows other.knows;
   within = All-append (IsKnown new.pass.known) ms ns
@@ -225,28 +244,31 @@ goes_on old mid new ms ns one other = record {
       ms ns one.pairs one.within other.pairs other.beyond;
   copies = λ slot. chained (copies_at slot old.outs) (copies_at slot mid.outs) (copies_at slot new.outs) (flat_map (copies_made slot) (looks_in ms)) (flat_map (copies_made slot) (looks_in ns)) (flat_map (copies_made slot) (looks_in (ms ++ ns)))
       (one.copies slot) (other.copies slot) (copies_join slot ms ns);
+  opened = other.opened ∙ one.opened;
+  sees = λ opened. subst (λ (packets : List RoutedPacket). SeesEach opening (kept_of old) packets (kept_of new)) (sym (packets_join ms ns))
+      (sees_append opening (packets_in ms) (packets_in ns) (kept_of old) (kept_of mid) (kept_of new) (one.sees opened) (other.sees (one.opened ∙ opened)));
 }
 
 -- ---- the step of a port
 
 module _ (opening : Opening) where
   go_made : (old : CommonFacts) (connection : ℕ) (speaker : SessionId) (bytes : List ℕ) (new : CommonFacts) (routes : RoutesPacket opening old connection speaker bytes new)
-      → Goes old.router new.router (look_made opening old connection speaker bytes new routes)
-  go_made old connection speaker bytes new (inl drops) = stays old.router new.router drops.not_one.same
+      → Goes opening old.router new.router (look_made opening old connection speaker bytes new routes)
+  go_made old connection speaker bytes new (inl drops) = stays opening old.router new.router drops.not_one.same
   go_made old connection speaker bytes new (inr keeps) =
       saw opening connection old.router speaker keeps.once.parts keeps.once.routes.0 keeps.once.routes.1 new.router keeps.routed keeps.once.routes.2
 
-  same_common : (old new : CommonFacts) → new ≡ old → Goes old.router new.router []
-  same_common old new same = stays old.router new.router (ap (λ (c : CommonFacts). c.router) same)
+  same_common : (old new : CommonFacts) → new ≡ old → Goes opening old.router new.router []
+  same_common old new same = stays opening old.router new.router (ap (λ (c : CommonFacts). c.router) same)
 
   go_session : (old : CommonFacts) (connection : ℕ) (session : Option SessionId) (bytes : List ℕ) (new : CommonFacts) (routes : PortRoutes (RoutesPacket opening) connection session bytes old new)
-      → Goes old.router new.router (look_of_session opening old connection session bytes new routes)
+      → Goes opening old.router new.router (look_of_session opening old connection session bytes new routes)
   go_session old connection None bytes new same = same_common old new same
   go_session old connection (Some speaker) bytes new routes = go_made old connection speaker bytes new routes
 
   go_acted : (connection : ℕ) (session : Option SessionId) (asked : Action) (waiting : Option DeskItem) (out : List ℕ) (old : CommonFacts) (went : _) (waiting_after : Option DeskItem) (out_after : List ℕ) (new : CommonFacts)
       (acts : Acts (RoutesPacket opening) connection session asked waiting out old went waiting_after out_after new)
-      → Goes old.router new.router (look_acted opening connection session asked waiting out old went waiting_after out_after new acts)
+      → Goes opening old.router new.router (look_acted opening connection session asked waiting out old went waiting_after out_after new acts)
   go_acted connection session (Ask command) waiting out old went waiting_after out_after new acts = same_common old new acts.3
   go_acted connection session (Voice packet) waiting out old went waiting_after out_after new acts = go_session old connection session packet new acts.3
   go_acted connection session (Echo wire) waiting out old went waiting_after out_after new acts = same_common old new acts.2
@@ -255,7 +277,7 @@ module _ (opening : Opening) where
 
   go_kept : (machine : Machine) (kept : List ℕ) (waiting : Option DeskItem) (out : List ℕ) (old : CommonFacts) (went : _) (machine_after : Machine) (kept_after : List ℕ) (waiting_after : Option DeskItem) (out_after : List ℕ) (new : CommonFacts)
       (handles : HandlesKept (RoutesPacket opening) machine kept waiting out old went machine_after kept_after waiting_after out_after new)
-      → Goes old.router new.router (look_kept opening machine kept waiting out old went machine_after kept_after waiting_after out_after new handles)
+      → Goes opening old.router new.router (look_kept opening machine kept waiting out old went machine_after kept_after waiting_after out_after new handles)
   go_kept machine kept waiting out old went machine_after kept_after waiting_after out_after new (inl (has, inl first)) =
       go_acted machine.connection (session_of machine.stage) (action machine first.frame.kind first.frame.payload) waiting out old went waiting_after out_after new first.handled.acts
   go_kept machine kept waiting out old went machine_after kept_after waiting_after out_after new (inl (has, inr lacks)) = same_common old new lacks.router_same
@@ -263,26 +285,26 @@ module _ (opening : Opening) where
 
   module _ {L : Type 0} where
     go_handled : (old : PortFacts L) (router : CommonFacts) (went : _) (new : PortFacts L) (after : CommonFacts) (handles : Handles (RoutesPacket opening) old router went new after)
-        → Goes router.router after.router (look_handled opening old router went new after handles)
+        → Goes opening router.router after.router (look_handled opening old router went new after handles)
     go_handled old router went new after (inl none) = same_common router after none.1
     go_handled old router went new after (inr one) =
         go_kept old.machine old.framer.kept old.waiting old.out router went new.machine new.framer.kept new.waiting new.out after one.handled
 
   module _ {L : Type 0} (counts : L → Counts) (left written : L → Option (List ℕ)) (is_shut : L → Bool) where
     go_stepped : (boxes : BoxesFacts) (old : PortFacts L) (before : Shares) (new : PortFacts L) (after : Shares) (steps : PortSteps counts left written is_shut opening boxes old before new after)
-        → Goes before.common.router after.common.router (look_stepped opening counts left written is_shut boxes old before new after steps)
+        → Goes opening before.common.router after.common.router (look_stepped opening counts left written is_shut boxes old before new after steps)
     go_stepped boxes old before new after steps =
-        subst (λ (r : RouterFacts). Goes before.common.router r (look_stepped opening counts left written is_shut boxes old before new after steps))
+        subst (λ (r : RouterFacts). Goes opening before.common.router r (look_stepped opening counts left written is_shut boxes old before new after steps))
         (sym (ap (λ (c : CommonFacts). c.router) steps.noted))
         (go_handled steps.chain.after_read before.common steps.chain.handled steps.chain.after_handle steps.routed steps.chain.handles)
 
     go_along : (boxes : BoxesFacts) (olds : List (PortFacts L)) (before : Shares) (news : List (PortFacts L)) (after : Shares) (along : Along (PortSteps counts left written is_shut opening boxes) olds before news after)
-        → Goes before.common.router after.common.router (looks_along opening counts left written is_shut boxes olds before news after along)
+        → Goes opening before.common.router after.common.router (looks_along opening counts left written is_shut boxes olds before news after along)
     go_along boxes [] before [] after same = same_common before.common after.common (ap (λ (s : Shares). s.common) same)
     go_along boxes [] before (new ∷ news) after none = absurd none
     go_along boxes (old ∷ olds) before [] after none = absurd none
     go_along boxes (old ∷ olds) before (new ∷ news) after (between, step, rest) =
-        goes_on before.common.router between.common.router after.common.router
+        goes_on opening before.common.router between.common.router after.common.router
         (look_stepped opening counts left written is_shut boxes old before new between step)
         (looks_along opening counts left written is_shut boxes olds between news after rest)
         (go_stepped boxes old before new between step)
@@ -290,27 +312,27 @@ module _ (opening : Opening) where
 
     -- ---- the bell, and the turns
 
-    go_heard : (ring : Option (Ring L)) (old new : WorkerFacts L) → Hears counts left written is_shut ring old new → Goes old.common.router new.common.router (told_by ring)
+    go_heard : (ring : Option (Ring L)) (old new : WorkerFacts L) → Hears counts left written is_shut ring old new → Goes opening old.common.router new.common.router (told_by ring)
     go_heard None old new same = same_common old.common new.common (ap (λ (w : WorkerFacts L). w.common) same)
-    go_heard (Some (Answer reply)) old new hears = told reply old.common.router new.common.router hears.takes.learns
-    go_heard (Some (Comes connection link)) old new hears = stays old.common.router new.common.router hears.router
-    go_heard (Some (Lagging session)) old new hears = stays old.common.router new.common.router hears.router
+    go_heard (Some (Answer reply)) old new hears = told opening reply old.common.router new.common.router hears.takes.learns
+    go_heard (Some (Comes connection link)) old new hears = stays opening old.common.router new.common.router hears.router
+    go_heard (Some (Lagging session)) old new hears = stays opening old.common.router new.common.router hears.router
     go_heard (Some NoMore) old new same = same_common old.common new.common (ap (λ (w : WorkerFacts L). w.common) same)
 
-    go_turn : (old new : WorkerFacts L) (turn : Turn) (turned : Turned counts left written is_shut opening old new turn)
-        → Goes old.common.router new.common.router (moments_of counts left written is_shut opening old new turn turned)
+    pub go_turn : (old new : WorkerFacts L) (turn : Turn) (turned : Turned counts left written is_shut opening old new turn)
+        → Goes opening old.common.router new.common.router (moments_of counts left written is_shut opening old new turn turned)
     go_turn old new turn turned =
-        goes_on old.common.router turned.between.common.router new.common.router
+        goes_on opening old.common.router turned.between.common.router new.common.router
         (told_by turned.hears.ring)
         (looks_along opening counts left written is_shut turned.between.boxes turned.between.ports (shares_of turned.between turned.heard) turned.steps.steps.stepped (shares_of new turned.worked) turned.steps.steps.along)
         (go_heard turned.hears.ring (record old { bell = turned.hears.bell }) turned.between turned.hears.hears)
         (go_along turned.between.boxes turned.between.ports (shares_of turned.between turned.heard) turned.steps.steps.stepped (shares_of new turned.worked) turned.steps.steps.along)
 
     pub go_turns : (old : WorkerFacts L) (turns : List Turn) (new : WorkerFacts L) (all : TurnsTo counts left written is_shut opening old turns new)
-        → Goes old.common.router new.common.router (history counts left written is_shut opening old turns new all)
+        → Goes opening old.common.router new.common.router (history counts left written is_shut opening old turns new all)
     go_turns old [] new same = same_common old.common new.common (ap (λ (w : WorkerFacts L). w.common) same)
     go_turns old (turn ∷ turns) new (mid, turned, rest) =
-        goes_on old.common.router mid.common.router new.common.router
+        goes_on opening old.common.router mid.common.router new.common.router
         (moments_of counts left written is_shut opening old mid turn turned)
         (history counts left written is_shut opening mid turns new rest)
         (go_turn old mid turn turned) (go_turns mid turns new rest)

@@ -15,7 +15,7 @@ use Rattle.mum_port.specs.Facts.{PortFacts, new_port}
 use Rattle.mum_port.specs.Replies.{Answers}
 use Rattle.mum_port.specs.Stage.{is_closed, is_gone, stage_after_reply}
 use Rattle.mum_port.specs.declared.item.DeskItem.{DeskItem}
-use Rattle.mum_port.specs.declared.seat.Seat.{Seat}
+use Rattle.mum_port.specs.declared.passes.Passes.{Passes}
 use Rattle.mum_port.specs.declared.stage.Stage.{Stage}
 use Rattle.mum_port.specs.declared.stage.Stage.TheVariants.{Live, Ending, Closed}
 use Rattle.mum_published.specs.Facts.{Opening}
@@ -102,12 +102,12 @@ module _ {L : Type 0} where
 -- ---- the bell
 
 module _ {L : Type 0} (counts : L → Counts) (left written : L → Option (List ℕ)) (is_shut : L → Bool) (opening : Opening) where
-  stays_on : (end : ReplyEnd) (wire : List ℕ) (seat : Option Seat) (old : PortFacts L) (closed : Option Cause) (new : PortFacts L)
-      → Answers counts left written is_shut end wire seat old closed new → stays old ≡ true → stays new ≡ true
-  stays_on end wire seat old closed new (inl same) there = ap (λ (p : PortFacts L). stays p) same.same ∙ there
-  stays_on end wire seat old closed new (inr (inl takes)) there =
+  stays_on : (end : ReplyEnd) (wire : List ℕ) (passes : Option Passes) (old : PortFacts L) (closed : Option Cause) (new : PortFacts L)
+      → Answers counts left written is_shut end wire passes old closed new → stays old ≡ true → stays new ≡ true
+  stays_on end wire passes old closed new (inl same) there = ap (λ (p : PortFacts L). stays p) same.same ∙ there
+  stays_on end wire passes old closed new (inr (inl takes)) there =
       ap (λ (p : PortFacts L). stays p) takes.rest ∙ ap not (open-kept (stage_after_reply end old.stage) (answered-open end old.stage takes.was_open))
-  stays_on end wire seat old closed new (inr (inr closes)) there = ap (λ (p : PortFacts L). stays p) closes.closes.rest
+  stays_on end wire passes old closed new (inr (inr closes)) there = ap (λ (p : PortFacts L). stays p) closes.closes.rest
 
   -- what was heard leads from these ports to those
   pub record HeardLives (told : List Moment) (taken : List (PortFacts L)) (lives : List (Life L)) (ports : List (PortFacts L)) : Type 0 where
@@ -144,23 +144,23 @@ module _ {L : Type 0} (counts : L → Counts) (left written : L → Option (List
         waits = λ connection spared waits. waits;
       }
 
-  hear_reply : (reply : ReplyFacts) (seat : Option Seat) (closed : Option Cause) (olds news : List (PortFacts L)) (lives : List (Life L)) → olds ≡ filter stays (lasts lives)
-      → AnswersFirst counts left written is_shut reply.connection reply.end reply.wire seat olds closed news → HeardLives (Told reply ∷ []) [] lives news
-  hear_reply reply seat closed olds news lives kept (inl none) = record {
+  hear_reply : (reply : ReplyFacts) (passes : Option Passes) (closed : Option Cause) (olds news : List (PortFacts L)) (lives : List (Life L)) → olds ≡ filter stays (lasts lives)
+      → AnswersFirst counts left written is_shut reply.connection reply.end reply.wire passes olds closed news → HeardLives (Told reply ∷ []) [] lives news
+  hear_reply reply passes closed olds news lives kept (inl none) = record {
     now = lives;
     grows = reply_dropped reply lives;
     kept = none.same ∙ kept;
   }
-  hear_reply reply seat closed olds news lives kept (inr first) =
+  hear_reply reply passes closed olds news lives kept (inr first) =
       let its = first_is_of reply.connection olds first.place first.old first.first first.there in
       let there : slice_get (filter stays (lasts lives)) first.place ≡ Some first.old =
       subst (λ (l : List (PortFacts L)). slice_get l first.place ≡ Some first.old) kept first.there in
       let one_set : (life : Life L) → life.last ≡ first.old → One counts left written is_shut opening (Told reply ∷ []) life [] first.new [] =
-      λ life same. one_reply counts left written is_shut opening reply seat closed life first.new
+      λ life same. one_reply counts left written is_shut opening reply passes closed life first.new
       (ap (λ (p : PortFacts L). is_of reply.connection p) same ∙ its)
-      (subst (λ (p : PortFacts L). Answers counts left written is_shut reply.end reply.wire seat p closed first.new) (sym same) first.answers) in
+      (subst (λ (p : PortFacts L). Answers counts left written is_shut reply.end reply.wire passes p closed first.new) (sym same) first.answers) in
       let set = grow_set counts left written is_shut opening (Told reply ∷ []) first.old first.new
-      (stays_on reply.end reply.wire seat first.old closed first.new first.answers) one_set lives first.place there in record {
+      (stays_on reply.end reply.wire passes first.old closed first.new first.answers) one_set lives first.place there in record {
         now = set.now;
         grows = set.grows;
         kept = first.others ∙ (ap (λ (l : List (PortFacts L)). slice_set l first.place first.new) kept ∙ sym set.kept);
@@ -221,7 +221,7 @@ module _ {L : Type 0} (counts : L → Counts) (left written : L → Option (List
       → HeardLives (told_by ring) (taken_in counts left written is_shut ring old new hears) lives new.ports
   hear_lives None old new same lives kept = same_ports lives old.ports new.ports (ap (λ (w : WorkerFacts L). w.ports) same) kept
   hear_lives (Some (Answer reply)) old new hears lives kept =
-      hear_reply reply hears.takes.seat hears.takes.closed old.ports new.ports lives kept hears.takes.answers
+      hear_reply reply hears.takes.passes hears.takes.closed old.ports new.ports lives kept hears.takes.answers
   hear_lives (Some (Comes connection link)) old new hears lives kept =
       hear_new old.number connection link old.ports old.common.kept new.ports new.common.kept hears.takes lives kept
   hear_lives (Some (Lagging session)) old new hears lives kept =

@@ -144,12 +144,12 @@ module _ (opening : Opening) (asked : ℕ) where
 
     -- ---- the bell
 
-    answer_awaits : (connection : ℕ) (end : _) (wire : List ℕ) (seat : _) (olds : List (PortFacts L)) (closed : _) (news : List (PortFacts L)) → AnswersFirst counts left written is_shut connection end wire seat olds closed news
+    answer_awaits : (connection : ℕ) (end : _) (wire : List ℕ) (passes : _) (olds : List (PortFacts L)) (closed : _) (news : List (PortFacts L)) → AnswersFirst counts left written is_shut connection end wire passes olds closed news
         → connection ≢ asked → Each (AwaitsReply asked) olds → Each (AwaitsReply asked) news
-    answer_awaits connection end wire seat olds closed news (inl none) another await = subst (λ (l : List (PortFacts L)). Each (AwaitsReply asked) l) (sym none.same) await
-    answer_awaits connection end wire seat olds closed news (inr first) another await =
+    answer_awaits connection end wire passes olds closed news (inl none) another await = subst (λ (l : List (PortFacts L)). Each (AwaitsReply asked) l) (sym none.same) await
+    answer_awaits connection end wire passes olds closed news (inr first) another await =
         let its = eqb-true first.old.machine.connection connection (first_is_of counts left written is_shut opening connection olds first.place first.old first.first first.there) in
-        let place = place_answered counts left written is_shut opening end wire seat first.old closed first.new first.answers in
+        let place = place_answered counts left written is_shut opening end wire passes first.old closed first.new first.answers in
         subst (λ (l : List (PortFacts L)). Each (AwaitsReply asked) l) (sym first.others)
         (each_set (AwaitsReply asked) olds first.place first.new (λ of_it. absurd (another (sym its ∙ (sym place.number ∙ of_it)))) await)
 
@@ -177,7 +177,7 @@ module _ (opening : Opening) (asked : ℕ) where
         → Each (AwaitsReply asked) old.ports → Each (AwaitsReply asked) new.ports
     hear_awaits None old new same spared others await = subst (λ (w : WorkerFacts L). Each (AwaitsReply asked) w.ports) (sym same) await
     hear_awaits (Some (Answer reply)) old new hears spared others await =
-        answer_awaits reply.connection reply.end reply.wire hears.takes.seat old.ports hears.takes.closed new.ports hears.takes.answers spared.0 await
+        answer_awaits reply.connection reply.end reply.wire hears.takes.passes old.ports hears.takes.closed new.ports hears.takes.answers spared.0 await
     hear_awaits (Some (Comes connection link)) old new hears spared others await =
         taken_awaits old.number connection link old.ports old.common.kept new.ports new.common.kept hears.takes others await
     hear_awaits (Some (Lagging session)) old new hears spared others await =

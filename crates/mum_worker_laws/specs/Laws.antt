@@ -1,5 +1,5 @@
 -- The turns of a worker, one after another, and what came of them.
-use Rattle.std.specs.Prelude.{◌≡◌, ◌==◌, ⊤, ℕ, Bool, true, false, List, [], ◌∷◌, ◌++◌, slice_get, Option, Some, None}
+use Rattle.std.specs.Prelude.{◌≡◌, ◌==◌, ⊤, ℕ, Bool, true, false, List, [], ◌∷◌, ◌++◌, map, slice_get, Option, Some, None}
 use mathlib.Core.Logic.{inl, inr}
 use Rattle.std.specs.List.{filter_map}
 use mathlib.Core.List.{IsPrefix}
@@ -17,6 +17,7 @@ use Rattle.mum_port.specs.declared.item.DeskItem.{DeskItem}
 use Rattle.mum_published.specs.Calls.{ask_at}
 use Rattle.mum_published.specs.Facts.{NoteFacts, Opening}
 use Rattle.mum_published.specs.declared.rule.AskAt.{AskAt}
+use Rattle.mum_router.specs.Laws.{RoutedPacket}
 use Rattle.mum_router.specs.Offering.{Delivery, Outs, parcel_for}
 use Rattle.mum_router.specs.Picking.{ask_of}
 use Rattle.mum_session.specs.Machine.{Machine, session_of}
@@ -59,6 +60,13 @@ looks_in moments = filter_map look_in moments
 -- what a look asks, at the revision of the edits that it saw
 abbrev pub ask_made : Look → AskAt
 ask_made look = ask_at look.edits (ask_of look.speaker look.packet)
+
+-- a look as the packet that was routed by it, and these packets in order
+abbrev pub routed_packet : Look → RoutedPacket
+routed_packet look = record { speaker = look.speaker; packet = look.packet; edits = look.edits }
+
+abbrev pub packets_in : List Moment → List RoutedPacket
+packets_in moments = map routed_packet (looks_in moments)
 
 -- ---- what is known
 

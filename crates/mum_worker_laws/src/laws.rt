@@ -5,9 +5,12 @@ ghost use Rattle.std.specs.Prelude.{◌≡◌, ◌++◌, ℕ, Bool, List, Option
 ghost use Rattle.std.specs.List.{All, AllPairs, flat_map};
 ghost use Rattle.mum_crew.specs.declared.role.Turn.{Turn};
 ghost use Rattle.mum_published.specs.Facts.{Opening, PassFacts};
+ghost use Rattle.mum_router.specs.Laws.{HaveEntries};
+ghost use Rattle.mum_state.specs.Proper.{IsProper};
 ghost use Rattle.mum_worker.specs.Facts.{WorkerFacts};
 ghost use Rattle.mum_worker.specs.Opening.{HasOpened};
-ghost use Rattle.mum_worker_laws.specs.Laws.{Follows, SeesFrom, TurnsTo, ask_made, copies_at, copies_made, history, looks_in};
+ghost use Rattle.mum_worker.specs.Turning.{Turned};
+ghost use Rattle.mum_worker_laws.specs.Laws.{Follows, SeesFrom, TurnsTo, ask_made, copies_at, copies_made, history, looks_in, moments_of, packets_in};
 
 use mum_io::Link;
 
@@ -45,4 +48,17 @@ pub fn copies_keep_their_order<L: Link>()
         ≡ copies_at slot opened.common.router.outs
         ++ flat_map (copies_made slot)
         (looks_in (history L.counts L.left L.written L.is_shut opening opened turns worker all)) }
+{}
+
+/// Routes that a turn found are kept: each packet that it routed, but for loopback, has the entry of its speaker and
+/// target after it, where the speaker was in the state of the look and is in the state that was seen last. It is that of
+/// this look, or of a later look of the turn for the same two.
+pub fn routes_are_kept<L: Link>()
+    ensures { (opening : Opening) (number : ℕ) (pass : PassFacts) (journal : Option ℕ)
+        (opened old new : WorkerFacts L) (before : List Turn) (answer : Turn) → HasOpened number pass journal opened →
+        pass.opening ≡ opening → IsProper opening.state →
+        TurnsTo L.counts L.left L.written L.is_shut opening opened before old →
+        (turned : Turned L.counts L.left L.written L.is_shut opening old new answer) →
+        HaveEntries opening (packets_in (moments_of L.counts L.left L.written L.is_shut opening old new answer turned))
+        new.common.router.pass.seen new.common.router.caches.routes }
 {}

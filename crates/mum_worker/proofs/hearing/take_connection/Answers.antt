@@ -1,6 +1,6 @@
-use Rattle.mum_worker.proofs.Seats.{takes_all}
+use Rattle.mum_worker.proofs.PassesKept.{takes_all}
 use Rattle.mum_worker.proofs.hearing.take_connection.Goals as goal
 
-pub returns-clause-seated : goal.returns-clause-seated
-returns-clause-seated g c =
+pub returns-clause-owned : goal.returns-clause-owned
+returns-clause-owned g c =
     takes_all g.L.Link.counts g.L.Link.left g.L.Link.written g.L.Link.is_shut c.args.boxes.now c.args.number c.args.connection c.args.link _ _ _ _ c.requires c.take_in.ensures

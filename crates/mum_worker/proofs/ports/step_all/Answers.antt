@@ -4,7 +4,7 @@ use Rattle.std.proofs.lemmas.List.Elements.{All-set}
 use Rattle.mum_worker.proofs.Lists.{all_stay_on, along_more}
 use Rattle.mum_worker.specs.Facts.{stays}
 use Rattle.mum_worker.specs.Routing.{bare}
-use Rattle.mum_worker.specs.Stepping.{IsSeated, PortSteps}
+use Rattle.mum_worker.specs.Stepping.{OwnsPasses, PortSteps}
 use Rattle.mum_worker.proofs.ports.step_all.Goals as goal
 
 pub loop-done-preserved : goal.loop-done-preserved
@@ -27,6 +27,6 @@ loop-done-preserved g c =
       along = on.0;
       rest = on.1;
       staying = all_stay_on stays ports c.loop-done.done port c.loop-done.gone c.is_gone_too-gone.result within c.loop-done.invariant.staying c.is_gone_too-gone.ensures;
-      seated = All-set (IsSeated c.args.boxes.now) ports c.loop-done.done port c.step_port-worked.ensures.seated c.loop-done.invariant.seated;
+      owned = All-set (OwnsPasses c.args.boxes.now) ports c.loop-done.done port c.step_port-worked.ensures.owned c.loop-done.invariant.owned;
       capacity = search rules;
     }

@@ -4,7 +4,7 @@ use Rattle.std.specs.VecDeque.{deque_capacity}
 use Rattle.mum_worker.specs.Along.{Along}
 use Rattle.mum_worker.specs.Facts.{stays}
 use Rattle.mum_worker.specs.Routing.{bare}
-use Rattle.mum_worker.specs.Stepping.{IsSeated, PortSteps}
+use Rattle.mum_worker.specs.Stepping.{OwnsPasses, PortSteps}
 use Rattle.mum_worker.proofs.ports.step_all.Given as goal
 
 abbrev pub invariant-loop-done : goal.invariant-loop-done
@@ -17,7 +17,7 @@ invariant-loop-done g l = record {
       (take l.done l.list.items) (record { common = bare l.common; desk = l.desk; worked = l.worked });
   rest : drop l.done l.list.items ≡ drop l.done l.fn.list.items;
   staying : l.gone ≡ false → filter stays (take l.done l.list.items) ≡ take l.done l.list.items;
-  seated : All (IsSeated l.boxes) l.list.items;
+  owned : All (OwnsPasses l.boxes) l.list.items;
   capacity : deque_capacity l.list ≡ deque_capacity l.fn.list;
 }
 

@@ -1,11 +1,11 @@
 use Rattle.std.proofs.Common.{filter}
 use Rattle.std.proofs.lemmas.List.Elements.{All-filter, All-same}
 use Rattle.mum_worker.specs.Facts.{stays}
-use Rattle.mum_worker.specs.Stepping.{IsSeated}
+use Rattle.mum_worker.specs.Stepping.{OwnsPasses}
 use Rattle.mum_worker.proofs.ports.step_each.Goals as goal
 
-pub returns-clause-seated : goal.returns-clause-seated
-returns-clause-seated g c =
+pub returns-clause-owned : goal.returns-clause-owned
+returns-clause-owned g c =
     let all = c.step_all-worked.new.list.items in
-    All-same (IsSeated c.args.boxes.now) c.let_go.new.list.items (filter stays all) c.let_go.ensures.items
-    (All-filter stays (IsSeated c.args.boxes.now) all c.step_all-worked.ensures.seated)
+    All-same (OwnsPasses c.args.boxes.now) c.let_go.new.list.items (filter stays all) c.let_go.ensures.items
+    (All-filter stays (OwnsPasses c.args.boxes.now) all c.step_all-worked.ensures.owned)

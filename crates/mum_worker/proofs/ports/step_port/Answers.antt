@@ -5,12 +5,12 @@ use Rattle.mum_port.specs.Taking.{IsPosted, IsVoiced}
 use Rattle.mum_worker.specs.Boxes.{BoxesFacts}
 use Rattle.mum_worker.proofs.ports.step_port.Goals as goal
 
-pub returns-clause-seated : goal.returns-clause-seated
-returns-clause-seated g c = record {
+pub returns-clause-owned : goal.returns-clause-owned
+returns-clause-owned g c = record {
   posted =
-      subst (λ (boxes : BoxesFacts). IsPosted boxes.posts c.step-step.new.self.seat) c.boxes.view_is
-      (subst (λ (posts : List QueueFacts). IsPosted posts c.step-step.new.self.seat) c.deref.ensures.value c.step-step.ensures.posts);
+      subst (λ (boxes : BoxesFacts). IsPosted boxes.posts c.step-step.new.self.passes) c.boxes.view_is
+      (subst (λ (posts : List QueueFacts). IsPosted posts c.step-step.new.self.passes) c.deref.ensures.value c.step-step.ensures.posts);
   voiced =
-      subst (λ (boxes : BoxesFacts). IsVoiced boxes.voices c.step-step.new.self.seat) c.boxes.view_is
-      (subst (λ (voices : List QueueFacts). IsVoiced voices c.step-step.new.self.seat) c.deref-2.ensures.value c.step-step.ensures.voices);
+      subst (λ (boxes : BoxesFacts). IsVoiced boxes.voices c.step-step.new.self.passes) c.boxes.view_is
+      (subst (λ (voices : List QueueFacts). IsVoiced voices c.step-step.new.self.passes) c.deref-2.ensures.value c.step-step.ensures.voices);
 }

@@ -1,22 +1,22 @@
 use Rattle.std.proofs.Common.{Bool, ◌∙◌, subst, sym}
 use Rattle.mum_port.specs.Steps.{Settles}
 use Rattle.mum_port.specs.Taking.{IsPosted, IsVoiced}
-use Rattle.mum_port.proofs.Seats.{CollectsPost-posted, CollectsPost-voiced, DrainsVoice-posted, DrainsVoice-voiced, Handles-seat, Puts-queue, Puts-seat, Reads-seat, Settles-seat, Writes-seat}
+use Rattle.mum_port.proofs.PassesKept.{CollectsPost-posted, CollectsPost-voiced, DrainsVoice-posted, DrainsVoice-voiced, Handles-passes, Puts-queue, Puts-passes, Reads-passes, Settles-passes, Writes-passes}
 use Rattle.mum_port.proofs.Turned.{did_turn}
 use Rattle.mum_port.proofs.port.Port.step.Goals as goal
 
 pub collect-posted-requires : goal.collect-posted-requires
 collect-posted-requires g c =
-    let at_put = Puts-seat _ _ _ _ _ c.put-put.ensures in
-    let at_read = Reads-seat _ _ _ _ _ _ _ c.read-read.ensures in
-    let at_handle = Handles-seat _ _ _ _ _ _ c.handle-handled.ensures in
+    let at_put = Puts-passes _ _ _ _ _ c.put-put.ensures in
+    let at_read = Reads-passes _ _ _ _ _ _ _ c.read-read.ensures in
+    let at_handle = Handles-passes _ _ _ _ _ _ c.handle-handled.ensures in
     subst (IsPosted c.args.posts.now) (sym (at_handle ∙ at_read ∙ at_put)) c.requires.posts
 
 pub drain-heard-requires : goal.drain-heard-requires
 drain-heard-requires g c =
-    let at_put = Puts-seat _ _ _ _ _ c.put-put.ensures in
-    let at_read = Reads-seat _ _ _ _ _ _ _ c.read-read.ensures in
-    let at_handle = Handles-seat _ _ _ _ _ _ c.handle-handled.ensures in
+    let at_put = Puts-passes _ _ _ _ _ c.put-put.ensures in
+    let at_read = Reads-passes _ _ _ _ _ _ _ c.read-read.ensures in
+    let at_handle = Handles-passes _ _ _ _ _ _ c.handle-handled.ensures in
     CollectsPost-voiced _ _ _ _ _ c.collect-posted.ensures
     (subst (IsVoiced c.args.voices.now) (sym (at_handle ∙ at_read ∙ at_put)) c.requires.voices)
 
@@ -55,11 +55,11 @@ returns-clause-desk g c = Puts-queue _ _ _ _ _ c.put-put.ensures ∙ c.requires.
 
 pub returns-clause-posts : goal.returns-clause-posts
 returns-clause-posts g c =
-    let at_put = Puts-seat _ _ _ _ _ c.put-put.ensures in
-    let at_read = Reads-seat _ _ _ _ _ _ _ c.read-read.ensures in
-    let at_handle = Handles-seat _ _ _ _ _ _ c.handle-handled.ensures in
-    let at_write = Writes-seat _ _ _ _ _ _ _ c.write-wrote.ensures in
-    let at_end = Settles-seat _ _ _ _ _ _ _ _ c.settle-closed.ensures in
+    let at_put = Puts-passes _ _ _ _ _ c.put-put.ensures in
+    let at_read = Reads-passes _ _ _ _ _ _ _ c.read-read.ensures in
+    let at_handle = Handles-passes _ _ _ _ _ _ c.handle-handled.ensures in
+    let at_write = Writes-passes _ _ _ _ _ _ _ c.write-wrote.ensures in
+    let at_end = Settles-passes _ _ _ _ _ _ _ _ c.settle-closed.ensures in
     subst (IsPosted c.args.posts.now) (sym (at_end ∙ at_write))
     (DrainsVoice-posted _ _ _ _ _ c.drain-heard.ensures
     (CollectsPost-posted _ _ _ _ _ c.collect-posted.ensures
@@ -67,11 +67,11 @@ returns-clause-posts g c =
 
 pub returns-clause-voices : goal.returns-clause-voices
 returns-clause-voices g c =
-    let at_put = Puts-seat _ _ _ _ _ c.put-put.ensures in
-    let at_read = Reads-seat _ _ _ _ _ _ _ c.read-read.ensures in
-    let at_handle = Handles-seat _ _ _ _ _ _ c.handle-handled.ensures in
-    let at_write = Writes-seat _ _ _ _ _ _ _ c.write-wrote.ensures in
-    let at_end = Settles-seat _ _ _ _ _ _ _ _ c.settle-closed.ensures in
+    let at_put = Puts-passes _ _ _ _ _ c.put-put.ensures in
+    let at_read = Reads-passes _ _ _ _ _ _ _ c.read-read.ensures in
+    let at_handle = Handles-passes _ _ _ _ _ _ c.handle-handled.ensures in
+    let at_write = Writes-passes _ _ _ _ _ _ _ c.write-wrote.ensures in
+    let at_end = Settles-passes _ _ _ _ _ _ _ _ c.settle-closed.ensures in
     subst (IsVoiced c.args.voices.now) (sym (at_end ∙ at_write))
     (DrainsVoice-voiced _ _ _ _ _ c.drain-heard.ensures
     (CollectsPost-voiced _ _ _ _ _ c.collect-posted.ensures

@@ -1,4 +1,4 @@
--- What a step takes from the boxes of its seat.
+-- What a step takes from the boxes of its passes.
 use Rattle.std.proofs.Common.{◌≡◌, ℕ, ◌+◌, Bool, true, false, List, [], ◌∷◌, ◌++◌, Option, Some, None, refl, sym, ap, subst, ◌∙◌, inl, inr, ⊎_elim}
 use Rattle.mum_base.specs.declared.number.SessionId.{SessionId}
 use Rattle.mum_io.specs.Counts.{Counts}
@@ -12,64 +12,64 @@ use Rattle.mum_port.specs.Facts.{PortFacts, taking_session}
 use Rattle.mum_port.specs.Stage.{stage_by}
 use Rattle.mum_port.specs.Steps.{PortChain}
 use Rattle.mum_port.specs.Taking.{foreign_count, stage_after_post}
-use Rattle.mum_port.specs.Turn.{LooksWhereItMay, SeatsTake, TakesAtMostOne, TakesInTurn}
+use Rattle.mum_port.specs.Turn.{LooksWhereItMay, PassesTake, TakesAtMostOne, TakesInTurn}
 use Rattle.mum_port.specs.declared.item.DeskItem.{DeskItem}
 use Rattle.mum_port.specs.declared.port.Step.{Step}
-use Rattle.mum_port.specs.declared.seat.Seat.{Seat}
+use Rattle.mum_port.specs.declared.passes.Passes.{Passes}
 use Rattle.mum_port.specs.declared.stage.Stage.{Stage}
 use Rattle.mum_port.specs.declared.stage.Stage.TheVariants.{Live, Ending, Closed}
 use Rattle.mum_port.specs.declared.stage.Went.{Went}
 use Rattle.mum_port.specs.declared.stage.Went.TheVariants.{NotDue, Stalled, Worked, Closes}
 use Rattle.mum_port.proofs.Balance.{echo_handle, out_post, settle-machine}
-use Rattle.mum_port.proofs.BoxParts.{SeatAfterPost, SeatAfterVoice, taking-is}
+use Rattle.mum_port.proofs.BoxParts.{PassesAfterPost, PassesAfterVoice, taking-is}
 use Rattle.mum_port.proofs.Closing.{Puts-live, stage_by-live}
-use Rattle.mum_port.proofs.Course.{did_of, handle_part, post, post_part, read_part, seat_handle, session_handle, session_post, voice, voice_part, write_part}
+use Rattle.mum_port.proofs.Course.{did_of, handle_part, post, post_part, read_part, passes_handle, session_handle, session_post, voice, voice_part, write_part}
 use Rattle.mum_port.proofs.ReadPart.{closes}
 
--- ---- seats
+-- ---- passes
 
 -- what one take leaves, whether the box was looked at or not
-abbrev PostTaken : Option Seat → Option PostParcel → Option Seat → Type 0
+abbrev PostTaken : Option Passes → Option PostParcel → Option Passes → Type 0
 PostTaken None post None = post ≡ None
 PostTaken None post (Some after) = ⊥
-PostTaken (Some seat) post None = ⊥
-PostTaken (Some seat) post (Some after) = (after.slot ≡ seat.slot) × (after.voice ≡ seat.voice) × TakesAtMostOne POST_CAPACITY seat.post post after.post
+PostTaken (Some passes) post None = ⊥
+PostTaken (Some passes) post (Some after) = (after.slot ≡ passes.slot) × (after.voice ≡ passes.voice) × TakesAtMostOne POST_CAPACITY passes.post post after.post
 
-abbrev VoiceTaken : Option Seat → Option VoiceParcel → Option Seat → Type 0
+abbrev VoiceTaken : Option Passes → Option VoiceParcel → Option Passes → Type 0
 VoiceTaken None voice None = voice ≡ None
 VoiceTaken None voice (Some after) = ⊥
-VoiceTaken (Some seat) voice None = ⊥
-VoiceTaken (Some seat) voice (Some after) = (after.slot ≡ seat.slot) × (after.post ≡ seat.post) × TakesAtMostOne VOICE_CAPACITY seat.voice voice after.voice
+VoiceTaken (Some passes) voice None = ⊥
+VoiceTaken (Some passes) voice (Some after) = (after.slot ≡ passes.slot) × (after.post ≡ passes.post) × TakesAtMostOne VOICE_CAPACITY passes.voice voice after.voice
 
-post_unlooked : (seat : Option Seat) (post : Option PostParcel) → post ≡ None → PostTaken seat post seat
+post_unlooked : (passes : Option Passes) (post : Option PostParcel) → post ≡ None → PostTaken passes post passes
 post_unlooked None post none = none
-post_unlooked (Some seat) post none = (refl, refl, inl (none, refl))
+post_unlooked (Some passes) post none = (refl, refl, inl (none, refl))
 
-post_looked : (posts : List QueueFacts) (seat : Option Seat) (post : Option PostParcel) (after : Option Seat) → SeatAfterPost posts seat post after → PostTaken seat post after
+post_looked : (posts : List QueueFacts) (passes : Option Passes) (post : Option PostParcel) (after : Option Passes) → PassesAfterPost posts passes post after → PostTaken passes post after
 post_looked posts None post None takes = takes
 post_looked posts None post (Some after) takes = takes
-post_looked posts (Some seat) post None takes = takes
-post_looked posts (Some seat) post (Some after) takes = (takes.0, takes.1, takes.2)
+post_looked posts (Some passes) post None takes = takes
+post_looked posts (Some passes) post (Some after) takes = (takes.0, takes.1, takes.2)
 
-voice_unlooked : (seat : Option Seat) (voice : Option VoiceParcel) → voice ≡ None → VoiceTaken seat voice seat
+voice_unlooked : (passes : Option Passes) (voice : Option VoiceParcel) → voice ≡ None → VoiceTaken passes voice passes
 voice_unlooked None voice none = none
-voice_unlooked (Some seat) voice none = (refl, refl, inl (none, refl))
+voice_unlooked (Some passes) voice none = (refl, refl, inl (none, refl))
 
-voice_looked : (voices : List QueueFacts) (seat : Option Seat) (voice : Option VoiceParcel) (after : Option Seat) → SeatAfterVoice voices seat voice after → VoiceTaken seat voice after
+voice_looked : (voices : List QueueFacts) (passes : Option Passes) (voice : Option VoiceParcel) (after : Option Passes) → PassesAfterVoice voices passes voice after → VoiceTaken passes voice after
 voice_looked voices None voice None takes = takes
 voice_looked voices None voice (Some after) takes = takes
-voice_looked voices (Some seat) voice None takes = takes
-voice_looked voices (Some seat) voice (Some after) takes = (takes.0, takes.1, takes.2)
+voice_looked voices (Some passes) voice None takes = takes
+voice_looked voices (Some passes) voice (Some after) takes = (takes.0, takes.1, takes.2)
 
-both_taken : (seat mid after : Option Seat) (did : PortDid) → PostTaken seat did.post mid → VoiceTaken mid did.voice after → SeatsTake seat did after
+both_taken : (passes mid after : Option Passes) (did : PortDid) → PostTaken passes did.post mid → VoiceTaken mid did.voice after → PassesTake passes did after
 both_taken None None None did posted heard = (posted, heard)
 both_taken None None (Some after) did posted heard = absurd heard
 both_taken None (Some mid) after did posted heard = absurd posted
-both_taken (Some seat) None after did posted heard = absurd posted
-both_taken (Some seat) (Some mid) None did posted heard = absurd heard
-both_taken (Some seat) (Some mid) (Some after) did posted heard = record {
+both_taken (Some passes) None after did posted heard = absurd posted
+both_taken (Some passes) (Some mid) None did posted heard = absurd heard
+both_taken (Some passes) (Some mid) (Some after) did posted heard = record {
   slot = heard.0 ∙ posted.0;
-  post = subst (λ (p : PassFacts PostParcel). TakesAtMostOne POST_CAPACITY seat.post did.post p) (sym heard.1) posted.2;
+  post = subst (λ (p : PassFacts PostParcel). TakesAtMostOne POST_CAPACITY passes.post did.post p) (sym heard.1) posted.2;
   voice = subst (λ (p : PassFacts VoiceParcel). TakesAtMostOne VOICE_CAPACITY p did.voice after.voice) posted.1 heard.2;
 }
 
@@ -119,25 +119,25 @@ module _ {L V : Type 0} {counts : L → Counts} {left written : L → Option (Li
       looks_old session (not_last _ c.after_handle.stage (sym (post_part c).stage ∙ is.0)) (nothing_before c.after_handle.out _ (sym (out_post c) ∙ is.1))
       (sym (ap (λ (m : _). session_of m.stage) (post_part c).machine) ∙ is.2)
 
-  seat_end : new.seat ≡ c.after_voice.seat
-  seat_end = (settle-machine counts left written is_shut _ _ _ _ c.settles).2 ∙ (write_part c).seat
+  passes_end : new.passes ≡ c.after_voice.passes
+  passes_end = (settle-machine counts left written is_shut _ _ _ _ c.settles).2 ∙ (write_part c).passes
 
-  post_taken : PostTaken old.seat (post c) c.after_post.seat
+  post_taken : PostTaken old.passes (post c) c.after_post.passes
   post_taken = ⊎_elim
-      (λ unlooked. subst (PostTaken old.seat (post c)) (sym (ap (λ (p : PortFacts L). p.seat) unlooked.1 ∙ seat_handle c)) (post_unlooked old.seat (post c) unlooked.0))
-      (λ looked. subst (λ (s : Option Seat). PostTaken s (post c) c.after_post.seat) (seat_handle c) (post_looked posts c.after_handle.seat (post c) c.after_post.seat looked.2))
+      (λ unlooked. subst (PostTaken old.passes (post c)) (sym (ap (λ (p : PortFacts L). p.passes) unlooked.1 ∙ passes_handle c)) (post_unlooked old.passes (post c) unlooked.0))
+      (λ looked. subst (λ (s : Option Passes). PostTaken s (post c) c.after_post.passes) (passes_handle c) (post_looked posts c.after_handle.passes (post c) c.after_post.passes looked.2))
       (post_part c).looked
 
-  voice_taken : VoiceTaken c.after_post.seat (voice c) c.after_voice.seat
+  voice_taken : VoiceTaken c.after_post.passes (voice c) c.after_voice.passes
   voice_taken = ⊎_elim
-      (λ unlooked. subst (VoiceTaken c.after_post.seat (voice c)) (sym (ap (λ (p : PortFacts L). p.seat) unlooked.1)) (voice_unlooked c.after_post.seat (voice c) unlooked.0))
-      (λ looked. voice_looked voices c.after_post.seat (voice c) c.after_voice.seat looked.2)
+      (λ unlooked. subst (VoiceTaken c.after_post.passes (voice c)) (sym (ap (λ (p : PortFacts L). p.passes) unlooked.1)) (voice_unlooked c.after_post.passes (voice c) unlooked.0))
+      (λ looked. voice_looked voices c.after_post.passes (voice c) c.after_voice.passes looked.2)
       (voice_part c).looked
 
   pub looks_where_it_may : LooksWhereItMay old (did_of c) new
   looks_where_it_may = ⊎_elim
       (λ unlooked. ⊎_elim
-      (λ unheard. inl ((unlooked.0, unheard.0), seat_end ∙ (ap (λ (p : PortFacts L). p.seat) unheard.1 ∙ (ap (λ (p : PortFacts L). p.seat) unlooked.1 ∙ seat_handle c))))
+      (λ unheard. inl ((unlooked.0, unheard.0), passes_end ∙ (ap (λ (p : PortFacts L). p.passes) unheard.1 ∙ (ap (λ (p : PortFacts L). p.passes) unlooked.1 ∙ passes_handle c))))
       (λ heard. inr (heard.0, voice_session heard.0 heard.1)) (voice_part c).looked)
       (λ looked. inr (looked.0, post_session looked.0 looked.1)) (post_part c).looked
 
@@ -149,7 +149,7 @@ module _ {L V : Type 0} {counts : L → Counts} {left written : L → Option (Li
 
   pub takes_in_turn : TakesInTurn old (did_of c) step new
   takes_in_turn = record {
-    seats = subst (SeatsTake old.seat (did_of c)) (sym seat_end) (both_taken old.seat c.after_post.seat c.after_voice.seat (did_of c) post_taken voice_taken);
+    passes = subst (PassesTake old.passes (did_of c)) (sym passes_end) (both_taken old.passes c.after_post.passes c.after_voice.passes (did_of c) post_taken voice_taken);
     looks = looks_where_it_may;
     stale = stale_is;
   }

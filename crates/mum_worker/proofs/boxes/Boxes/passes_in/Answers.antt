@@ -2,7 +2,7 @@ use Rattle.std.proofs.Common.{ap, ◌∙◌}
 use Rattle.mum_outbox.specs.Facts.{QueueFacts}
 use Rattle.mum_worker.specs.Boxes.{BoxesFacts, queues}
 use Rattle.mum_worker.proofs.Queues.{queues_set}
-use Rattle.mum_worker.proofs.boxes.Boxes.seat_in.Goals as goal
+use Rattle.mum_worker.proofs.boxes.Boxes.passes_in.Goals as goal
 
 pub returns-clause-same : goal.returns-clause-same
 returns-clause-same c = record {

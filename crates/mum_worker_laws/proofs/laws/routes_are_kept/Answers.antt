@@ -1,0 +1,15 @@
+use Rattle.std.proofs.Common.{◌∙◌, ap}
+use Rattle.mum_published.specs.Facts.{PassFacts}
+use Rattle.mum_router.proofs.Entries.{have_entries, kept_of}
+use Rattle.mum_worker_laws.specs.Laws.{moments_of, packets_in}
+use Rattle.mum_worker_laws.proofs.Going.{go_turn, go_turns}
+use Rattle.mum_worker_laws.proofs.laws.routes_are_kept.Goals as goal
+
+pub returns : goal.returns
+returns g c opening number pass journal opened old new before answer begun own proper turns turned =
+    let link = g.L.Link in
+    let earlier = go_turns opening link.counts link.left link.written link.is_shut opened before old turns in
+    have_entries opening proper (packets_in (moments_of link.counts link.left link.written link.is_shut opening old new answer turned))
+    (kept_of old.common.router) (kept_of new.common.router)
+    ((go_turn opening link.counts link.left link.written link.is_shut old new answer turned).sees
+    (earlier.opened ∙ ap (λ (p : PassFacts). p.opening) begun.pass_is ∙ own))

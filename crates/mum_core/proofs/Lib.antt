@@ -11,6 +11,8 @@ pub mod Decided
 pub mod Nexts
 pub mod Lagged
 pub mod Fitted
+pub mod Keeping
+pub mod Looking
 pub mod Members
 pub mod Copies
 pub mod Drains

@@ -1,35 +1,24 @@
 -- What the crates below prove of states and decisions, by the names under which it is used here.
-use Rattle.std.proofs.Common.{◌≡◌, ℕ, ℤ, ◌≤◌, Bool, List, Option, None, Some, refl, inl, inr}
+use Rattle.std.proofs.Common.{◌≡◌, ℕ, ◌≤◌, List, Option, None, Some, refl, inl, inr}
 use Rattle.std.specs.Prelude.{◌⊎◌, IsTrue}
-use Rattle.std.specs.Option.{option_map_or}
 use Rattle.mum_base.specs.declared.number.AccountId.{AccountId}
-use Rattle.mum_base.specs.declared.number.ChannelId.{ChannelId}
 use Rattle.mum_base.specs.declared.number.SessionId.{SessionId}
-use Rattle.mum_base.specs.declared.perm.Perm.{Perm}
-use Rattle.mum_frame.specs.declared.frame.Frame.{Frame}
-use Rattle.mum_policy.specs.declared.policy.ChannelPolicy.{ChannelPolicy}
-use Rattle.mum_policy.specs.Member.{Asker}
-use Rattle.mum_tree.specs.declared.channel.ChannelInfo.{ChannelInfo}
+use Rattle.mum_policy.specs.Member.{Actor}
 use Rattle.mum_users.specs.Sessions.{next_number, next_slot}
 use Rattle.mum_state.specs.declared.edit.Edit.{Edit}
-use Rattle.mum_state.specs.declared.edit.Edit.TheVariants.{MakeChannel, EditChannel, RemoveChannel, SetAcl, Join as JoinEdit}
+use Rattle.mum_state.specs.declared.edit.Edit.TheVariants.{Join as JoinEdit}
 use Rattle.mum_state.specs.declared.verdict.Verdict.{Verdict}
-use Rattle.mum_state.specs.declared.verdict.Verdict.TheVariants.{Accepted, Lacks, Refused, Answer, Ignored}
+use Rattle.mum_state.specs.declared.verdict.Verdict.TheVariants.{Accepted, Answer}
 use Rattle.mum_state.specs.After.{all_fit, led_to}
 use Rattle.mum_state.specs.Applied.{applied}
 use Rattle.mum_state.specs.Permissions.{granted_where_there}
 use Rattle.mum_state.specs.Proper.{IsProper}
-use Rattle.mum_state.specs.State.{StateValue, policy_of}
+use Rattle.mum_state.specs.State.{StateValue}
 use Rattle.mum_state.proofs.Keeping.{keeps_proper_lem}
 use Rattle.mum_state.proofs.Numbers.{last_rises as numbers_rise}
 use Rattle.mum_rules_tree.specs.declared.message.TreeMessage.{TreeMessage}
-use Rattle.mum_rules_tree.specs.Asked.{Command as TreeCommand, command_of as tree_command_of}
 use Rattle.mum_rules_tree.specs.Decision.{FitsWhereAccepted, first_lack, first_standing}
-use Rattle.mum_rules_tree.specs.Limits.{limits as limits_of_tree}
-use Rattle.mum_rules_tree.specs.Needs.{needs as needs_of_tree}
-use Rattle.mum_rules_tree.specs.Outcome.{answer_frame as answer_of_tree, outcome as outcome_of_tree}
-use Rattle.mum_rules_tree.specs.Reasons.{reasons as reasons_of_tree}
-use Rattle.mum_rules_tree.specs.Verdict.{asker_named, tree_verdict}
+use Rattle.mum_rules_tree.specs.Verdict.{tree_verdict}
 use Rattle.mum_rules_tree.proofs.Accepted.{accepted_fits as tree_accepted_fits}
 use Rattle.mum_rules_user.specs.declared.message.UserMessage.{UserMessage}
 use Rattle.mum_rules_user.specs.declared.message.UserMessage.TheVariants.{Join, User, Kick, Text, Target, Query, Leave}
@@ -39,7 +28,7 @@ use Rattle.mum_rules_user.specs.Login.{limits_of_login}
 use Rattle.mum_rules_user.specs.Needs.{needs}
 use Rattle.mum_rules_user.specs.Outcome.{answer_frame, outcome}
 use Rattle.mum_rules_user.specs.Reasons.{reasons}
-use Rattle.mum_rules_user.specs.Verdict.{asker_for, command_verdict, heard_verdict, user_verdict}
+use Rattle.mum_rules_user.specs.Verdict.{actor_for, command_verdict, heard_verdict, user_verdict}
 use Rattle.mum_rules_user.proofs.Accepted.{accepted_fits, login_accepted_fits}
 use Rattle.mum_session.specs.declared.command.Asked.{Asked}
 use Rattle.mum_session.specs.declared.command.Asked.TheVariants as commands
@@ -75,7 +64,7 @@ SeatsNext state session decided =
     ⊎ ((session ≡ None) × ((name : List ℕ) × (account : Option AccountId) × (tokens : List (List ℕ))
     × (decided ≡ Accepted (JoinEdit (next_number state.roster) (next_slot state.roster) name account tokens))))
 
-outcome_seats : (state : StateValue) (session : Option SessionId) (who : Asker) (actor : SessionId) (command : UserCommand) → SeatsNext state session (outcome state who actor command)
+outcome_seats : (state : StateValue) (session : Option SessionId) (who : Actor) (actor : SessionId) (command : UserCommand) → SeatsNext state session (outcome state who actor command)
 outcome_seats state session who actor (UserCommand.renew message) = inl refl
 outcome_seats state session who actor (UserCommand.change other message) = inl refl
 outcome_seats state session who actor (UserCommand.kick other message) = inl refl
@@ -85,14 +74,14 @@ outcome_seats state session who actor (UserCommand.query id) =
     unless (SeatsNext state session) (λ held. Answer (answer_frame id held)) (granted_where_there state who id) _ (λ held. inl refl) (inl refl)
 outcome_seats state session who actor UserCommand.leave = inl refl
 
-command_seats : (state : StateValue) (session : Option SessionId) (who : Asker) (actor : SessionId) (command : UserCommand) → SeatsNext state session (command_verdict state who actor command)
+command_seats : (state : StateValue) (session : Option SessionId) (who : Actor) (actor : SessionId) (command : UserCommand) → SeatsNext state session (command_verdict state who actor command)
 command_seats state session who actor command =
     unless (SeatsNext state session) _ (first_lack state (needs state who actor command)) _ (λ lack. inl refl)
     (unless (SeatsNext state session) _ (first_standing (limits state actor command)) _ (λ kind. inl refl)
     (outcome_seats state session who actor command))
 
 heard_seats : (state : StateValue) (session : Option SessionId) (message : UserMessage) → SeatsNext state session (heard_verdict state session message)
-heard_seats state (Some actor) message = command_seats state (Some actor) (asker_for state actor message) actor (command_of actor message)
+heard_seats state (Some actor) message = command_seats state (Some actor) (actor_for state actor message) actor (command_of actor message)
 heard_seats state None (Join message version) =
     unless (SeatsNext state None) _ (first_standing (limits_of_login state version message)) _ (λ kind. inl refl) (inr (refl, (_, _, _, refl)))
 heard_seats state None (User message) = inl refl

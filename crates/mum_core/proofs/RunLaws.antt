@@ -208,7 +208,7 @@ published_never_falls version opening workers run more = published_on (ran (star
 
 -- ---- workers
 
-abbrev Further : WorkerState → WorkerState → Type 0
+abbrev pub Further : WorkerState → WorkerState → Type 0
 Further old new = (old.seen ≤ new.seen) × (old.told ≤ new.told)
 
 same_worker : (w : WorkerState) → Further w w
@@ -286,7 +286,7 @@ collect_workers core seat = delivery_workers notice_queues core seat (λ slot. r
 unchanged : (core new : CoreState) (w : ℕ) → new.workers ≡ core.workers → Further (worker_at core w) (worker_at new w)
 unchanged core new w same = rw same (same_worker (worker_at core w))
 
-goes_on : (core : CoreState) (step : Step) (w : ℕ) → illegal core step ≡ None → Further (worker_at core w) (worker_at (does core step) w)
+pub goes_on : (core : CoreState) (step : Step) (w : ℕ) → illegal core step ≡ None → Further (worker_at core w) (worker_at (does core step) w)
 goes_on core (Open c v) w h = same_worker (worker_at core w)
 goes_on core (Frame c bytes) w h = frame_goes_on core c w (frame_version core c bytes) (frame_action core c bytes)
 goes_on core (steps.Edit c) w h = decided_goes_on core c w (edit_step.decision core c)

@@ -80,7 +80,7 @@ seat_given reply = option_and_then (λ reply. reply.seat) reply
 abbrev pub seat_accepted : Connection → Option Seat
 seat_accepted connection = option_or (seat_given connection.decided) connection.seat
 
--- the session that its accepted login gave it, told or not: who asks by it
+-- the session that its accepted login gave it, told or not: the actor of its commands
 abbrev pub session_of : Connection → Option SessionId
 session_of connection = option_map (λ seat. seat.session) (seat_accepted connection)
 

@@ -4,6 +4,7 @@ pub mod Connection
 pub mod Machine
 pub mod Worker
 pub mod Core
+pub mod Caches
 pub mod Case
 pub mod Line
 pub mod Delivery

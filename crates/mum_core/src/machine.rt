@@ -1,22 +1,23 @@
 //! The machine: connections, workers, outboxes and the list of accepted edits. Each step has a file of
-//! its own.
+//! its own. What a worker keeps of earlier looks is no part of it: a look is handed the caches.
 
 ghost use Rattle.std.specs.Prelude.{◌≡◌, ◌∷◌, [], IfOk, length, replicate};
 ghost use Rattle.mum_record.specs.Grammar.{IsRecordable};
 ghost use Rattle.mum_core.specs.declared.machine.StepFault.TheVariants.{Illegal};
 ghost use Rattle.mum_base.specs.declared.number.TheConstants.{SLOTS as slots};
-ghost use Rattle.mum_core.specs.Core as spec;
 ghost use Rattle.mum_core.specs.Worker.{idle};
 
 use crate::connection::Connection;
 use crate::outbox::Outbox;
 use crate::post::empty_posts;
+use crate::reply::know_proper;
 use crate::worker::Worker;
 use mum_base::{Items, OutOfMemory, SLOTS, Text};
-use mum_history::{History, View, readers, state_after};
+use mum_cache::Caches;
+use mum_history::{History, View, readers};
 use mum_notify::NoticeQueue;
 use mum_record::{Step, Version};
-use mum_state::{Edit, State};
+use mum_state::State;
 use mum_tree::Scratch;
 use std::alloc::{AllocError, Global};
 use std::marker::Model;
@@ -77,9 +78,9 @@ pub struct Totals {
     pub stale: u64,
 }
 
-/// The core of the server.
+/// The core of the server, but for the caches of its workers.
 #[derive(Drop)]
-pub struct Core {
+pub struct Machine {
     alloc: Global,
     history: History,
     connections: Vec<Connection>,
@@ -99,7 +100,7 @@ pub struct Core {
     line: u64,
 }
 
-impl Model for Core {
+impl Model for Machine {
     ghost use Rattle.mum_core.specs.Core.{CoreState};
 
     ghost Value = { CoreState };
@@ -159,32 +160,25 @@ fn idle_hands(alloc: Global, count: u8) -> Result<(Vec<Worker>, Vec<Outbox>), Ou
     Ok((workers, outboxes))
 }
 
-/// The version of a recording whose steps begin after these edits.
-fn version_of(edits: &[Edit]) -> Version
-    ensures { result ≡ spec.version_of edits.now }
-{
-    match edits.first() {
-        Some(Edit::SetLimits { .. }) => Version::Two,
-        _ => Version::One,
-    }
-}
-
-impl Core {
-    ghost use Rattle.std.specs.Prelude.{◌≡◌, ◌++◌, ◌∷◌, [], ◌+◌, ◌-◌, ◌<◌, IfOk, IfSome, OnOk, IsSome, IsTrue, is_some, false, true, length, map, nat_lt, string_bytes, vec_capacity, vec_len, ◌⊎◌};
+impl Machine {
+    ghost use Rattle.std.specs.Prelude.{◌≡◌, ◌++◌, [], ◌-◌, ◌<◌, ◌≤◌, None, IfOk, IfSome, OnOk, IsTrue, is_some, false, length, map, nat_lt, string_bytes, ◌⊎◌};
     ghost use Rattle.mum_base.specs.Refusal.{Gives, Settles};
-    ghost use Rattle.mum_state.specs.After.{after, all_fit};
-    ghost use Rattle.mum_state.specs.State.{empty_state};
+    ghost use Rattle.mum_state.specs.After.{all_fit};
+    ghost use Rattle.mum_state.specs.Proper.{IsProper};
     ghost use Rattle.mum_record.specs.Head.{first_step_line};
     ghost use Rattle.mum_record.specs.Words.{line_of_words};
+    ghost use Rattle.mum_record.specs.declared.step.Step.TheVariants.{Look, Tell};
+    ghost use Rattle.mum_cache.specs.Caches.{AreSound};
+    ghost use Rattle.mum_core.specs.Caches.{KeepsFor, is_look};
     ghost use Rattle.mum_core.specs.Case.{IsStarved, named_cause};
-    ghost use Rattle.mum_core.specs.Core.{start, version_of, is_opened, connection_at, up, worker_at};
+    ghost use Rattle.mum_core.specs.Core.{start, state_at, is_opened, connection_at, up, worker_at};
     ghost use Rattle.mum_core.specs.Kept.{IsKept};
     ghost use Rattle.mum_core.specs.Line.{joined};
-    ghost use Rattle.mum_core.specs.Step.{changes, does, illegal, is_tell, lines};
+    ghost use Rattle.mum_core.specs.Step.{changes, does, illegal, lines};
     ghost use Rattle.mum_core.specs.Worker.{in_hand};
     ghost use Rattle.mum_core.specs.declared.machine.StepFault.TheVariants as faults;
 
-    /// A core to which nothing was counted, of parts that fit one another; its steps stand in a recording
+    /// A machine to which nothing was counted, of parts that fit one another; its steps stand in a recording
     /// of this version.
     fn of(
         alloc: Global,
@@ -195,7 +189,7 @@ impl Core {
         outboxes: Vec<Outbox>,
         posts: Vec<NoticeQueue>,
         scratch: Scratch,
-    ) -> Core
+    ) -> Machine
         requires { IsKept history views.items workers.items outboxes.items posts.items }
         ensures { result ≡ record {
           opening = history.opening;
@@ -211,7 +205,7 @@ impl Core {
           line = first_step_line version - 1;
         } }
     {
-        Core {
+        Machine {
             alloc,
             history,
             connections: Vec::new(alloc),
@@ -232,7 +226,7 @@ impl Core {
         }
     }
 
-    /// A core of so many workers that nothing happened to, at this state; its steps stand in a recording of
+    /// A machine of so many workers that nothing happened to, at this state; its steps stand in a recording of
     /// this version. The edits that lead to the state are no part of its accepted ones: revisions count from
     /// here on.
     pub fn begin(
@@ -240,37 +234,33 @@ impl Core {
         version: Version,
         workers: u8,
         opening: State,
-    ) -> Result<Core, OutOfMemory>
-        ensures { IfOk result (λ core. core ≡ start version opening workers) }
+    ) -> Result<Machine, OutOfMemory>
+        ensures { IfOk result (λ machine. machine ≡ start version opening workers) }
     {
         let (hands, outboxes) = idle_hands(alloc, workers)?;
         let posts = empty_posts(alloc)?;
         let scratch = Scratch::new(alloc)?;
         let (history, views) = readers(alloc, workers, opening)?;
-        Ok(Core::of(
+        Ok(Machine::of(
             alloc, version, history, views, hands, outboxes, posts, scratch,
         ))
     }
 
-    /// The same at the state after edits of which each fits where it stands. Its first step stands at line 5
-    /// where the first of the edits sets the limits, and else at line 4.
-    pub fn open(alloc: Global, workers: u8, edits: &[Edit]) -> Result<Core, OutOfMemory>
-        requires { IsTrue (all_fit empty_state edits.now) }
-        ensures { IfOk result (λ core. core ≡ start (version_of edits.now) (after edits.now) workers) }
+    /// What it keeps true of its edits: the opening is that of a server, and each accepted edit fits.
+    pub fn know_edits(&self)
+        ensures proper { IsProper self.now.opening }
+        ensures fit { IsTrue (all_fit self.now.opening self.now.accepted) }
     {
-        Core::begin(
-            alloc,
-            version_of(edits),
-            workers,
-            state_after(alloc, edits)?,
-        )
+        let _accepted = self.history.accepted();
+        know_proper(self.history.opening());
     }
 
-    /// Takes a step, and appends the lines that the transcript gains, parted by line feeds. A refusal
-    /// leaves the core as it was: `Illegal` has the two numbers of the first case that forbids the step.
-    /// After a refusal the text may have been added to.
+    /// Takes a step that is not a look, and appends the lines that the transcript gains, parted by line
+    /// feeds. A refusal leaves the machine as it was: `Illegal` has the two numbers of the first case that
+    /// forbids the step. After a refusal the text may have been added to.
     pub fn take(&mut self, step: &Step, text: &mut String) -> Result<(), StepFault>
         requires recordable { IsRecordable step.now }
+        requires other { is_look step.now ≡ false }
         ensures settled { Settles named_cause (illegal self.old step.now) (does self.old step.now) self.old result self.new }
         ensures told { OnOk result (string_bytes text.new ≡ string_bytes text.old ++ joined (lines self.old step.now)) }
     {
@@ -286,9 +276,33 @@ impl Core {
         self.line = self.line.saturating_add(1);
     }
 
-    /// Makes the change of a step, but for the line that it takes.
+    /// Takes a look that is allowed, by the caches of its worker, and appends the line that it tells. Where
+    /// memory runs out the caches may be ahead of what the worker saw.
+    pub fn look(
+        &mut self,
+        caches: &mut Caches,
+        worker: u32,
+        revision: u64,
+        text: &mut String,
+    ) -> Result<(), StepFault>
+        requires allowed { illegal self.old (Look worker revision) ≡ None }
+        requires there { worker < length self.old.workers }
+        requires accepted { revision ≤ length self.old.accepted }
+        requires sound { AreSound (state_at self.old revision) caches.old }
+        ensures settled { Settles named_cause (illegal self.old (Look worker revision)) (does self.old (Look worker revision)) self.old result self.new }
+        ensures told { OnOk result (string_bytes text.new ≡ string_bytes text.old ++ joined (lines self.old (Look worker revision))) }
+        ensures asked { OnOk result (KeepsFor (state_at self.old revision) (worker_at self.old worker).held caches.old.routes caches.new.routes) }
+        ensures sound { OnOk result (AreSound (state_at self.old revision) caches.new) }
+    {
+        self.take_look(caches, worker, revision, text)?;
+        self.count_line();
+        Ok(())
+    }
+
+    /// Makes the change of a step that is not a look, but for the line that it takes.
     fn change(&mut self, step: &Step, text: &mut String) -> Result<(), StepFault>
         requires recordable { IsRecordable step.now }
+        requires other { is_look step.now ≡ false }
         ensures settled { Settles named_cause (illegal self.old step.now) (changes self.old step.now) self.old result self.new }
         ensures told { OnOk result (string_bytes text.new ≡ string_bytes text.old ++ joined (lines self.old step.now)) }
     {
@@ -303,7 +317,7 @@ impl Core {
                 connection,
                 revision,
             } => self.take_tell(*connection, *revision, text),
-            Step::Look { worker, revision } => self.take_look(*worker, *revision, text),
+            Step::Look { .. } => unreachable!(),
             Step::Offer { worker } => self.take_offer(*worker, text),
             Step::Post => self.take_post(text),
             Step::Drain { connection } => self.take_drain(*connection, text),
@@ -313,50 +327,15 @@ impl Core {
         }
     }
 
-    /// Takes a step, and answers the lines that the transcript gains. A refusal leaves the core as it was:
-    /// `Illegal` has the two numbers of the first case that forbids the step.
-    pub fn step(&mut self, step: &Step) -> Result<Effects, StepFault>
-        requires recordable { IsRecordable step.now }
+    /// Takes a tell, and answers the lines that the transcript gains. A refusal leaves the machine as it was.
+    pub fn step_tell(&mut self, connection: u32, note: Option<u64>) -> Result<Effects, StepFault>
         ensures { IsStarved self.old result self.new ⊎
-            Gives named_cause (illegal self.old step.now) (map line_of_words (lines self.old step.now)) (does self.old step.now) self.old result self.new }
+            Gives named_cause (illegal self.old (Tell connection note)) (map line_of_words (lines self.old (Tell connection note))) (does self.old (Tell connection note)) self.old result self.new }
     {
-        let Step::Tell {
-            connection,
-            revision,
-        } = *step
-        else {
-            return self.step_alone(step);
-        };
-        let reported = self.tell_lines(connection, revision)?;
-        self.tell(connection, revision);
+        let reported = self.tell_lines(connection, note)?;
+        self.tell(connection, note);
         self.count_line();
         Ok(reported)
-    }
-
-    /// The same of a step that tells one line.
-    fn step_alone(&mut self, step: &Step) -> Result<Effects, StepFault>
-        requires recordable { IsRecordable step.now }
-        requires alone { is_tell step.now ≡ false }
-        ensures { IsStarved self.old result self.new ⊎
-            Gives named_cause (illegal self.old step.now) (map line_of_words (lines self.old step.now)) (does self.old step.now) self.old result self.new }
-    {
-        match Vec::with_capacity(self.alloc, 1) {
-            Ok(room) => self.step_into(step, room),
-            Err(_) => Err(StepFault::OutOfMemory),
-        }
-    }
-
-    /// The same with room for what it tells, as one text.
-    fn step_into(&mut self, step: &Step, mut room: Vec<Text>) -> Result<Effects, StepFault>
-        requires recordable { IsRecordable step.now }
-        requires nothing { room.items ≡ [] }
-        requires room { vec_len room < vec_capacity room }
-        ensures { Gives named_cause (illegal self.old step.now) (joined (lines self.old step.now) ∷ []) (does self.old step.now) self.old result self.new }
-    {
-        let mut text = String::new(self.alloc);
-        self.take(step, &mut text)?;
-        room.push_reserved(Text::from_string(text));
-        Ok(Items::from_vec(room))
     }
 
     /// A connection that was opened.

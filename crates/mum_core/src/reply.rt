@@ -21,7 +21,7 @@ use std::alloc::Global;
 use std::mem::drop;
 
 // That the slots of the sessions are below the greatest limit.
-fn know_proper(state: &State)
+pub(crate) fn know_proper(state: &State)
     ensures { IsProper state.now }
 {
     let _roster = state.roster();

@@ -5,6 +5,9 @@ ghost use Rattle.std.specs.List.{filter_map};
 ghost use Rattle.mum_route.specs.Hearers.{member_of};
 ghost use Rattle.mum_route.specs.Route.{route};
 ghost use Rattle.mum_route.specs.declared.routes.TheConstants.{LOOPBACK};
+ghost use Rattle.mum_cache.specs.Caches.{AreSound};
+ghost use Rattle.mum_cache.specs.Routes.{KeepsAsked};
+ghost use Rattle.mum_core.specs.Caches.{KeepsFor};
 ghost use Rattle.mum_core.specs.Route.{in_its_slot, members, share_context};
 ghost use Rattle.mum_core.specs.steps.Look.{audience, copies, copy_to};
 
@@ -12,7 +15,8 @@ use crate::outbox::CopyBytes;
 use crate::slot::ValidSlot;
 use crate::worker::{Held, Outgoing};
 use mum_base::{OutOfMemory, SessionId, Steps};
-use mum_route::{Audience, route};
+use mum_cache::Caches;
+use mum_route::Audience;
 use mum_state::State;
 use mum_tree::Scratch;
 use std::alloc::Global;
@@ -63,30 +67,45 @@ pub struct Member {
     pub context: Context,
 }
 
-/// The route of a packet, over a counter of its own.
+/// Who hears what a session says to a target, over a counter of its own.
 fn counted<L: Ledger>(
     blank: Blank,
     state: &State,
     speaker: SessionId,
     target: u8,
+    caches: &mut Caches,
     scratch: &mut Scratch,
 ) -> Audience
     requires name { blank.name ≡ L.name }
     requires parts { blank.parts ≡ L.parts }
     requires some { 0 < blank.parts }
     requires target { target ≤ LOOPBACK }
-    ensures { map member_of result ≡ route state.now speaker target }
+    requires sound { AreSound state.now caches.old }
+    ensures members { map member_of result ≡ route state.now speaker target }
+    ensures entry { KeepsAsked state.now speaker target caches.old.routes caches.new.routes }
+    ensures sound { AreSound state.now caches.new }
 {
     let mut steps = Steps::<L>::new(blank);
-    route(state, speaker, target, scratch, &mut steps)
+    let mut audience = Audience::new();
+    caches.route_at(state, speaker, target, scratch, &mut steps, &mut audience);
+    audience
 }
 
 /// Who hears what a session says to a target, for those who count no steps.
-fn routed(state: &State, speaker: SessionId, target: u8, scratch: &mut Scratch) -> Audience
-    requires { target ≤ LOOPBACK }
-    ensures { map member_of result ≡ route state.now speaker target }
+fn routed(
+    state: &State,
+    speaker: SessionId,
+    target: u8,
+    caches: &mut Caches,
+    scratch: &mut Scratch,
+) -> Audience
+    requires target { target ≤ LOOPBACK }
+    requires sound { AreSound state.now caches.old }
+    ensures members { map member_of result ≡ route state.now speaker target }
+    ensures entry { KeepsAsked state.now speaker target caches.old.routes caches.new.routes }
+    ensures sound { AreSound state.now caches.new }
 {
-    counted::<Brand>(Blank::new(1), state, speaker, target, scratch)
+    counted::<Brand>(Blank::new(1), state, speaker, target, caches, scratch)
 }
 
 /// Appends a session that a packet reaches in a context, with its slot.
@@ -116,12 +135,16 @@ fn members(
     state: &State,
     speaker: SessionId,
     target: u8,
+    caches: &mut Caches,
     scratch: &mut Scratch,
 ) -> Result<Vec<Member>, OutOfMemory>
-    requires { target ≤ LOOPBACK }
-    ensures { IfOk result (λ listed. listed.items ≡ members state.now speaker target) }
+    requires target { target ≤ LOOPBACK }
+    requires sound { AreSound state.now caches.old }
+    ensures members { IfOk result (λ listed. listed.items ≡ members state.now speaker target) }
+    ensures entry { KeepsAsked state.now speaker target caches.old.routes caches.new.routes }
+    ensures sound { AreSound state.now caches.new }
 {
-    let audience = routed(state, speaker, target, scratch);
+    let audience = routed(state, speaker, target, caches, scratch);
     let mut members = Vec::with_capacity(alloc, audience.len())?;
     for i in 0..audience.len() {
         let (session, context) = audience.at(i);
@@ -135,11 +158,16 @@ fn audience(
     alloc: Global,
     state: &State,
     held: &Held,
+    caches: &mut Caches,
     scratch: &mut Scratch,
 ) -> Result<Vec<Member>, OutOfMemory>
-    ensures { IfOk result (λ members. members.items ≡ audience state.now (Some held.now)) }
+    requires { AreSound state.now caches.old }
+    ensures members { IfOk result (λ members. members.items ≡ audience state.now (Some held.now)) }
+    ensures asked { KeepsFor state.now (Some held.now) caches.old.routes caches.new.routes }
+    ensures sound { AreSound state.now caches.new }
 {
-    members(alloc, state, held.speaker(), held.packet().target, scratch)
+    let target = held.packet().target;
+    members(alloc, state, held.speaker(), target, caches, scratch)
 }
 
 /// Whether two sessions are in the same context of their plugins.
@@ -198,12 +226,16 @@ pub(crate) fn heard(
     alloc: Global,
     state: &State,
     held: &Held,
+    caches: &mut Caches,
     scratch: &mut Scratch,
 ) -> Result<(Vec<Member>, VecDeque<Outgoing>), OutOfMemory>
+    requires { AreSound state.now caches.old }
     ensures members { IfOk result (λ heard. heard.0.items ≡ audience state.now (Some held.now)) }
     ensures copies { IfOk result (λ heard. heard.1.items ≡ copies state.now (Some held.now)) }
+    ensures asked { KeepsFor state.now (Some held.now) caches.old.routes caches.new.routes }
+    ensures sound { AreSound state.now caches.new }
 {
-    let members = audience(alloc, state, held, scratch)?;
+    let members = audience(alloc, state, held, caches, scratch)?;
     let copies = copies(alloc, state, held, &members)?;
     Ok((members, copies))
 }

@@ -10,7 +10,7 @@ ghost use Rattle.mum_core.specs.Core.{connection_at, is_opened};
 ghost use Rattle.mum_core.specs.Line.{joined};
 ghost use Rattle.mum_core.specs.steps.Close.{does, forbids, has_cause, kicks, lines, was_kicked};
 
-use super::{Core, StepFault, illegal};
+use super::{Machine, StepFault, illegal};
 use crate::connection::{Connection, close_at};
 use mum_base::{Cause, SessionId};
 use mum_record::{Word, cause_name, push_line};
@@ -37,7 +37,7 @@ fn one_kicks(edits: &[Edit], session: SessionId) -> bool
     edits.iter().rev().any(|edit| kicks(session, edit))
 }
 
-impl Core {
+impl Machine {
     /// Whether an accepted edit put a session out.
     fn was_kicked(&self, session: SessionId) -> bool
         ensures { result ≡ was_kicked self.now session }

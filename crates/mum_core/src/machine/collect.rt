@@ -9,7 +9,7 @@ ghost use Rattle.mum_core.specs.steps.Collect.{framed, notice_queues};
 
 use super::delivery::{Waiting, push_empty, push_taken};
 use super::tell::push_wire;
-use super::{Core, StepFault};
+use super::{Machine, StepFault};
 use crate::post::drop_front_at;
 use mum_base::{OutOfMemory, SessionId};
 use mum_notify::Notice;
@@ -32,7 +32,7 @@ impl Waiting for Notice {
     }
 }
 
-impl Core {
+impl Machine {
     pub(super) fn take_collect(
         &mut self,
         connection: u32,

@@ -6,7 +6,7 @@ ghost use Rattle.mum_core.specs.Core.{connection_at};
 ghost use Rattle.mum_core.specs.Delivery.{Delivery, forbids, is_for, line, with_stale};
 ghost use Rattle.mum_core.specs.Line.{joined, wire_words};
 
-use super::{Core, StepFault, illegal};
+use super::{Machine, StepFault, illegal};
 use crate::connection::Seat;
 use mum_base::{OutOfMemory, SessionId};
 use mum_record::{Word, push_line};
@@ -68,7 +68,7 @@ pub(super) fn push_taken<W: Waiting>(
     Ok(false)
 }
 
-impl Core {
+impl Machine {
     /// The seat of a connection that takes what waits in its slot: it is not closed.
     pub(super) fn seated(&self, connection: u32) -> Result<Seat, StepFault>
         ensures { MatchResult result

@@ -9,7 +9,7 @@ ghost use Rattle.mum_core.specs.steps.Drain.{carried, copy_queues};
 
 use super::delivery::{Waiting, push_empty, push_taken};
 use super::tell::push_wire;
-use super::{Core, StepFault};
+use super::{Machine, StepFault};
 use crate::outbox::{Parcel, take_at};
 use mum_base::{OutOfMemory, SessionId};
 use mum_frame::kind::UDP_TUNNEL;
@@ -34,7 +34,7 @@ impl Waiting for Parcel {
     }
 }
 
-impl Core {
+impl Machine {
     pub(super) fn take_drain(&mut self, connection: u32, text: &mut String) -> Result<(), StepFault>
         ensures settled { Settles named_cause (first_that_stands (forbids self.old connection)) (does copy_queues self.old connection) self.old result self.new }
         ensures told { OnOk result (string_bytes text.new ≡ string_bytes text.old ++ joined (lines copy_queues self.old connection)) }

@@ -21,7 +21,7 @@ ghost use Rattle.mum_core.specs.steps.Edit.{forbids, does, lines, next_revision,
 ghost use Rattle.mum_notify.specs.Notices.{FitsFrame, notices as edit_notices};
 ghost use Rattle.mum_record.specs.Journal.{verdict_words};
 
-use super::{Core, StepFault, illegal};
+use super::{Machine, StepFault, illegal};
 use crate::connection::{Connection, Reply, answer_at};
 use crate::reply::{decide_next, reply};
 use mum_base::{Mark, OutOfMemory, SessionId};
@@ -210,9 +210,9 @@ fn accept(
     }
 }
 
-impl Core {
+impl Machine {
     /// The connection whose next command this step decides.
-    fn asker(&self, connection: u32) -> Result<&Connection, StepFault>
+    fn actor_from(&self, connection: u32) -> Result<&Connection, StepFault>
         ensures opened { OnOk result (is_opened self.now connection ≡ true) }
         ensures asks { MatchResult result
             (λ found. (first_that_stands (forbids self.now connection) ≡ None)
@@ -254,9 +254,9 @@ impl Core {
         ensures settled { Settles named_cause (first_that_stands (forbids self.old connection)) (does self.old connection) self.old result self.new }
         ensures told { OnOk result (string_bytes text.new ≡ string_bytes text.old ++ joined (lines self.old connection)) }
     {
-        let asker = self.asker(connection)?;
-        let session = asker.session();
-        let verdict = decide_next(self.alloc, self.history.current(), asker)?;
+        let actor_from = self.actor_from(connection)?;
+        let session = actor_from.session();
+        let verdict = decide_next(self.alloc, self.history.current(), actor_from)?;
         let revision = self.next_revision();
         match tell_verdict(self.alloc, text, connection, revision, session, &verdict) {
             Ok(reply) => Ok(self.settle(connection, verdict, reply)?),

@@ -7,7 +7,7 @@ ghost use Rattle.mum_core.specs.Line.{joined};
 ghost use Rattle.mum_core.specs.steps.End.{forbids, does, lines, totals_words};
 ghost use Rattle.std.specs.Prelude.{◌∷◌, [], IfOk};
 
-use super::{Core, StepFault, Totals};
+use super::{Machine, StepFault, Totals};
 use mum_base::OutOfMemory;
 use mum_record::{Word, push_line};
 use std::alloc::Global;
@@ -29,7 +29,7 @@ fn push_totals(alloc: Global, text: &mut String, totals: &Totals) -> Result<(), 
     push_line(alloc, text, "totals", &words)
 }
 
-impl Core {
+impl Machine {
     pub(super) fn take_end(&self, text: &mut String) -> Result<(), StepFault>
         ensures settled { Settles named_cause (first_that_stands forbids) (does self.now) self.now result self.now }
         ensures told { OnOk result (string_bytes text.new ≡ string_bytes text.old ++ joined (lines self.now)) }

@@ -14,7 +14,7 @@ ghost use Rattle.mum_core.specs.Machine.{machine_of};
 ghost use Rattle.mum_core.specs.Step.{frame_action, frame_version};
 ghost use Rattle.mum_core.specs.steps.Frame.{forbids, does, hears, heard_line, lines, spoken};
 
-use super::{Core, StepFault, illegal};
+use super::{Machine, StepFault, illegal};
 use crate::connection::{Connection, ask_at, keep_version_at};
 use crate::worker::{Held, hold_at};
 use mum_base::{Octets, OutOfMemory};
@@ -54,7 +54,7 @@ fn asked_by(
     Ok((action, machine.version()))
 }
 
-impl Core {
+impl Machine {
     pub(super) fn take_frame(
         &mut self,
         connection: u32,

@@ -4,18 +4,21 @@ ghost use Rattle.std.specs.Prelude.{◌≡◌, ◌++◌, OnOk, string_bytes};
 ghost use Rattle.mum_base.specs.Refusal.{Settles};
 ghost use Rattle.mum_core.specs.Case.{Passes, first_that_stands, named_cause};
 ghost use Rattle.mum_core.specs.Line.{joined};
-ghost use Rattle.std.specs.Prelude.{◌<◌, ◌≤◌, ◌∷◌, [], IfOk, IfSome, length, map, slice_get};
+ghost use Rattle.std.specs.Prelude.{◌<◌, ◌≤◌, ◌∷◌, [], None, IfOk, IfSome, length, map, slice_get};
 ghost use Rattle.std.specs.List.{All, flat_map};
 ghost use Rattle.std.specs.Option.{option_copied};
 ghost use Rattle.mum_history.specs.History.{state_at};
 ghost use Rattle.mum_history.specs.View.{IsViewOf};
+ghost use Rattle.mum_cache.specs.Caches.{AreSound};
+ghost use Rattle.mum_core.specs.Caches.{KeepsFor};
 ghost use Rattle.mum_core.specs.Core.{state_at as core_state_at, worker_at};
 ghost use Rattle.mum_core.specs.steps.Look.{audience, copies, forbids, does, lines, member_word, route_words};
 
-use super::{Core, StepFault, illegal};
+use super::{Machine, StepFault, illegal};
 use crate::route::{Member, heard};
 use crate::worker::{Held, Outgoing, look_at};
 use mum_base::OutOfMemory;
+use mum_cache::Caches;
 use mum_history::{History, View};
 use mum_record::{Word, push_line, push_word};
 use mum_state::State;
@@ -92,48 +95,63 @@ fn heard_in(
     alloc: Global,
     state: &State,
     held: Option<&Held>,
+    caches: &mut Caches,
     scratch: &mut Scratch,
 ) -> Result<(Vec<Member>, VecDeque<Outgoing>), OutOfMemory>
+    requires { AreSound state.now caches.old }
     ensures members { IfOk result (λ heard. heard.0.items ≡ audience state.now (option_copied held.entry)) }
     ensures copies { IfOk result (λ heard. heard.1.items ≡ copies state.now (option_copied held.entry)) }
+    ensures asked { OnOk result (KeepsFor state.now (option_copied held.entry) caches.old.routes caches.new.routes) }
+    ensures sound { OnOk result (AreSound state.now caches.new) }
 {
     match held {
-        Some(held) => heard(alloc, state, held, scratch),
+        Some(held) => heard(alloc, state, held, caches, scratch),
         None => Ok((Vec::new(alloc), VecDeque::new(alloc))),
     }
 }
 
-impl Core {
+impl Machine {
     /// Who hears the packet that a worker holds, at a revision, and the copies for them; nobody where it
     /// holds none. A look at all accepted edits needs no view of its own.
     #[tactic(auto, using(mum_history::proofs::Fronts::at_all))]
     fn heard_at(
         &mut self,
+        caches: &mut Caches,
         worker: u32,
         revision: u64,
     ) -> Result<(Vec<Member>, VecDeque<Outgoing>), OutOfMemory>
         requires there { worker < length self.old.workers }
         requires accepted { revision ≤ length self.old.accepted }
+        requires sound { AreSound (core_state_at self.old revision) caches.old }
         ensures members { IfOk result (λ heard. heard.0.items ≡ audience (core_state_at self.old revision) (worker_at self.old worker).held) }
         ensures copies { IfOk result (λ heard. heard.1.items ≡ copies (core_state_at self.old revision) (worker_at self.old worker).held) }
+        ensures asked { OnOk result (KeepsFor (core_state_at self.old revision) (worker_at self.old worker).held caches.old.routes caches.new.routes) }
+        ensures sound { OnOk result (AreSound (core_state_at self.old revision) caches.new) }
         ensures same { self.new ≡ self.old }
     {
         let place = worker as usize;
         let held = self.workers[place].held();
         if revision == self.history.revision() {
-            return heard_in(self.alloc, self.history.current(), held, &mut self.scratch);
+            return heard_in(
+                self.alloc,
+                self.history.current(),
+                held,
+                caches,
+                &mut self.scratch,
+            );
         }
         go_to_at(&mut self.views, place, self.alloc, &self.history, revision)?;
         heard_in(
             self.alloc,
             self.views[place].state(),
             held,
+            caches,
             &mut self.scratch,
         )
     }
 
     /// Refuses a look that is not allowed.
-    fn check_look(&self, worker: u32, revision: u64) -> Result<(), StepFault>
+    pub fn check_look(&self, worker: u32, revision: u64) -> Result<(), StepFault>
         ensures passes { Passes (first_that_stands (forbids self.now worker revision)) result }
         ensures there { OnOk result (worker < length self.now.workers) }
         ensures accepted { OnOk result (revision ≤ length self.now.accepted) }
@@ -154,17 +172,24 @@ impl Core {
         Ok(())
     }
 
+    /// Takes a look that is allowed.
     pub(super) fn take_look(
         &mut self,
+        caches: &mut Caches,
         worker: u32,
         revision: u64,
         text: &mut String,
     ) -> Result<(), StepFault>
+        requires allowed { first_that_stands (forbids self.old worker revision) ≡ None }
+        requires there { worker < length self.old.workers }
+        requires accepted { revision ≤ length self.old.accepted }
+        requires sound { AreSound (core_state_at self.old revision) caches.old }
         ensures settled { Settles named_cause (first_that_stands (forbids self.old worker revision)) (does self.old worker revision) self.old result self.new }
         ensures told { OnOk result (string_bytes text.new ≡ string_bytes text.old ++ joined (lines self.old worker revision)) }
+        ensures asked { OnOk result (KeepsFor (core_state_at self.old revision) (worker_at self.old worker).held caches.old.routes caches.new.routes) }
+        ensures sound { OnOk result (AreSound (core_state_at self.old revision) caches.new) }
     {
-        self.check_look(worker, revision)?;
-        let (members, left) = self.heard_at(worker, revision)?;
+        let (members, left) = self.heard_at(caches, worker, revision)?;
         push_route(self.alloc, text, worker, revision, &members)?;
         look_at(&mut self.workers, worker as usize, revision, left);
         self.totals.looks = self.totals.looks.saturating_add(1);

@@ -6,12 +6,12 @@ ghost use Rattle.mum_core.specs.Case.{first_that_stands, named_cause};
 ghost use Rattle.mum_core.specs.Line.{joined};
 ghost use Rattle.mum_core.specs.steps.Offer.{forbids, does, lines};
 
-use super::{Core, StepFault, illegal};
+use super::{Machine, StepFault, illegal};
 use crate::outbox::{Parcel, put_at};
 use crate::worker::take_copy_at;
 use mum_record::{Word, push_line};
 
-impl Core {
+impl Machine {
     pub(super) fn take_offer(&mut self, worker: u32, text: &mut String) -> Result<(), StepFault>
         ensures settled { Settles named_cause (first_that_stands (forbids self.old worker)) (does self.old worker) self.old result self.new }
         ensures told { OnOk result (string_bytes text.new ≡ string_bytes text.old ++ joined (lines self.old worker)) }

@@ -6,12 +6,12 @@ ghost use Rattle.mum_core.specs.Case.{first_that_stands, named_cause};
 ghost use Rattle.mum_core.specs.Line.{joined};
 ghost use Rattle.mum_core.specs.steps.Open.{forbids, does, lines};
 
-use super::{Core, StepFault, illegal};
+use super::{Machine, StepFault, illegal};
 use crate::connection::Connection;
 use mum_record::{Word, push_line};
 use std::alloc::AllocError;
 
-impl Core {
+impl Machine {
     pub(super) fn take_open(
         &mut self,
         connection: u32,

@@ -7,13 +7,13 @@ ghost use Rattle.mum_core.specs.Core.{up};
 ghost use Rattle.mum_core.specs.Line.{joined};
 ghost use Rattle.mum_core.specs.steps.Post.{forbids, does, lines};
 
-use super::{Core, StepFault, illegal};
+use super::{Machine, StepFault, illegal};
 use crate::connection::lag_at_session;
 use crate::post::{has_room_at, put_at};
 use mum_notify::shared;
 use mum_record::{Word, push_line};
 
-impl Core {
+impl Machine {
     /// The first pending notice is no longer pending.
     fn count_post(&mut self)
         ensures { self.new ≡ record self.old { pending = drop 1 self.old.pending; posted = up self.old.posted } }

@@ -6,10 +6,10 @@ ghost use Rattle.mum_core.specs.Case.{first_that_stands, named_cause};
 ghost use Rattle.mum_core.specs.Line.{joined};
 ghost use Rattle.mum_core.specs.steps.Publish.{forbids, does, lines};
 
-use super::{Core, StepFault};
+use super::{Machine, StepFault};
 use mum_record::{Word, push_line};
 
-impl Core {
+impl Machine {
     pub(super) fn take_publish(&mut self, text: &mut String) -> Result<(), StepFault>
         ensures settled { Settles named_cause (first_that_stands forbids) (does self.old) self.old result self.new }
         ensures told { OnOk result (string_bytes text.new ≡ string_bytes text.old ++ joined (lines self.old)) }

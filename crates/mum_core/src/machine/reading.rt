@@ -4,10 +4,10 @@ ghost use Rattle.std.specs.Prelude.{◌≡◌, IfOk, map};
 ghost use Rattle.std.specs.Option.{option_map};
 ghost use Rattle.mum_core.specs.Core.{connection_at, worker_at};
 
-use super::{Core, Totals};
+use super::{Machine, Totals};
 use mum_base::{Mark, OutOfMemory, SessionId};
 
-impl Core {
+impl Machine {
     /// How many accepted edits are published.
     pub fn published(&self) -> u64
         ensures { result ≡ self.now.published }

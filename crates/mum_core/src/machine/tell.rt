@@ -11,7 +11,7 @@ ghost use Rattle.mum_record.specs.Words.{line_of_words, spelled_word};
 ghost use Rattle.mum_core.specs.Core.{is_opened};
 ghost use Rattle.mum_core.specs.steps.Tell.{forbids, does, lines, note_cases, told_words, wire_lines, wire_to};
 
-use super::{Core, Effects, StepFault, illegal};
+use super::{Effects, Machine, StepFault, illegal};
 use crate::connection::{Reply, tell_at};
 use crate::worker::note_at;
 use mum_base::{Items, Mark, OutOfMemory, Text};
@@ -85,7 +85,7 @@ fn push_lines(text: &mut String, lines: &[Text]) -> Result<(), OutOfMemory>
     }
 }
 
-impl Core {
+impl Machine {
     /// Refuses a note where no edit was accepted, or that does not hold it, or that is not published.
     fn check_note(&self, reply: &Reply, note: Option<u64>) -> Result<(), StepFault>
         ensures { Passes (first_that_stands (note_cases self.now (Some reply.now) note)) result }

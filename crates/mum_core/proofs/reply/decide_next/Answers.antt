@@ -8,17 +8,17 @@ use Rattle.mum_core.proofs.reply.decide_next.Goals as goal
 
 pub returns-in-Some-clause-verdict : goal.returns-in-Some-clause-verdict
 returns-in-Some-clause-verdict c =
-    let asker = c.args.connection.now in
+    let actor = c.args.connection.now in
     let command = c.in-Some.command.now in
     IfOk-weaker c.decide.result _ _
-    (λ decided is. decided_of c.args.state.now c.session-session.result asker command decided c.session-session.ensures (frame_next asker command (sym c.in-Some.ensures)) is)
+    (λ decided is. decided_of c.args.state.now c.session-session.result actor command decided c.session-session.ensures (frame_next actor command (sym c.in-Some.ensures)) is)
     c.decide.ensures.verdict
 
 pub returns-in-None-clause-verdict : goal.returns-in-None-clause-verdict
 returns-in-None-clause-verdict c =
-    let asker = c.args.connection.now in
+    let actor = c.args.connection.now in
     IfOk-weaker c.decide-in-None.result _ _
-    (λ decided is. decided_of c.args.state.now c.session-session.result asker (User messages.Leave) decided c.session-session.ensures (leave_next asker (sym c.in-None.ensures) c.requires) is)
+    (λ decided is. decided_of c.args.state.now c.session-session.result actor (User messages.Leave) decided c.session-session.ensures (leave_next actor (sym c.in-None.ensures) c.requires) is)
     c.decide-in-None.ensures.verdict
 
 pub returns-in-Some-clause-seated : goal.returns-in-Some-clause-seated

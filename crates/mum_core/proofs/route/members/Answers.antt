@@ -26,10 +26,10 @@ loop-i-preserved c =
     ∙ ap (λ (listed : List Member). listed ++ filter_map f (one ∷ [])) c.loop-i.invariant
     ∙ sym (one_more f (map member_of c.routed-audience.result) c.loop-i.i one c.at-context.ensures.member)
 
-pub returns : goal.returns
+pub returns-clause-members : goal.returns-clause-members
 unfolding members
-returns c =
+returns-clause-members c =
     let f = in_its_slot c.args.state.now in
     let heard = map member_of c.routed-audience.result in
     let all : take c.loop-i.i heard ≡ heard = take_all c.loop-i.i heard (omega (arith, length-map c.routed-audience.result member_of)) in
-    c.loop-i.invariant ∙ ap (filter_map f) all ∙ ap (filter_map f) c.routed-audience.ensures
+    c.loop-i.invariant ∙ ap (filter_map f) all ∙ ap (filter_map f) c.routed-audience.ensures.members

@@ -1,6 +1,6 @@
 use Rattle.std.proofs.Common.{arith}
 use Rattle.mum_core.proofs.Begun.{is_start, kept_at_start}
-use Rattle.mum_core.proofs.machine.Core.begin.Goals as goal
+use Rattle.mum_core.proofs.machine.Machine.begin.Goals as goal
 
 pub of-requires : goal.of-requires
 of-requires c =

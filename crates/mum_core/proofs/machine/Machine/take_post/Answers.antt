@@ -4,7 +4,7 @@ use Rattle.mum_notify.specs.declared.notice.Notice.{Notice}
 use Rattle.mum_core.specs.Connection.{is_of, lagging}
 use Rattle.mum_core.specs.Core.{CoreState, up}
 use Rattle.mum_core.proofs.Lagged.{found_full, lags}
-use Rattle.mum_core.proofs.machine.Core.take_post.Goals as goal
+use Rattle.mum_core.proofs.machine.Machine.take_post.Goals as goal
 
 pub returns-then-not-has_room_at-clause-settled : goal.returns-then-not-has_room_at-clause-settled
 returns-then-not-has_room_at-clause-settled c =

@@ -1,5 +1,5 @@
 use Rattle.mum_core.proofs.Taken.{done_of}
-use Rattle.mum_core.proofs.machine.Core.take.Goals as goal
+use Rattle.mum_core.proofs.machine.Machine.take.Goals as goal
 
 pub returns-clause-settled : goal.returns-clause-settled
 returns-clause-settled c =

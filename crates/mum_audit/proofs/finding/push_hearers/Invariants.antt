@@ -1,0 +1,9 @@
+use Rattle.std.proofs.Common.{◌≡◌, ◌++◌, ◌∷◌, take}
+use Rattle.std.specs.Prelude.{string_bytes}
+use Rattle.std.specs.List.{flat_map}
+use Rattle.mum_route.specs.Hearers.{member_of}
+use Rattle.mum_audit.specs.Finding.{member_word}
+use Rattle.mum_audit.proofs.finding.push_hearers.Given as goal
+
+abbrev pub invariant-loop-hearer : goal.invariant-loop-hearer
+invariant-loop-hearer l = string_bytes l.text ≡ string_bytes l.initial.text ++ flat_map (λ hearer. 32 ∷ member_word (member_of hearer)) (take l.hearer-index l.hearers)

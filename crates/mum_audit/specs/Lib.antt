@@ -1,0 +1,11 @@
+pub mod Past
+pub mod Decision
+pub mod Acted
+pub mod Finding
+pub mod Controls
+pub mod Voice
+pub mod Workers
+pub mod Audit
+pub mod Counts
+pub mod Legal
+pub mod Lines

@@ -1,0 +1,33 @@
+-- The state at which the steps of a recording and the entries of a journal begin: the limits and the document of its head.
+use Rattle.std.specs.Prelude.{ℕ, List, [], ◌∷◌, ◌++◌, Option, Some, None}
+use Rattle.std.specs.Option.{option_map_or}
+use Rattle.mum_config.specs.Document.{config_in, fault_of}
+use Rattle.mum_document.specs.Fault.{Fault}
+use Rattle.mum_state.specs.declared.edit.Edit.{Edit}
+use Rattle.mum_state.specs.declared.edit.Edit.TheVariants.{SetLimits}
+use Rattle.mum_state.specs.After.{after}
+use Rattle.mum_state.specs.State.{StateValue}
+
+-- the first fault of a document; where there is none, there is no fault
+abbrev pub document_fault : List ℕ → Option Fault
+document_fault [] = None
+document_fault (byte ∷ bytes) = fault_of (byte ∷ bytes)
+
+-- the edits that a document describes; without one the server starts empty. A recording and a journal name their own
+-- workers, so those that a document names do not count
+abbrev pub document_edits : List ℕ → List Edit
+document_edits [] = []
+document_edits (byte ∷ bytes) = option_map_or (λ config. config.edits) (config_in (byte ∷ bytes)) []
+
+-- the edit that sets limits of sessions and of channels, where a head names them
+abbrev pub limits_edits : Option (ℕ × ℕ) → List Edit
+limits_edits None = []
+limits_edits (Some limits) = SetLimits limits.0 limits.1 ∷ []
+
+-- the edits after which steps or entries begin: limits come first
+abbrev pub opening_edits : Option (ℕ × ℕ) → List ℕ → List Edit
+opening_edits limits document = limits_edits limits ++ document_edits document
+
+-- the state at which steps or entries begin
+abbrev pub opening : Option (ℕ × ℕ) → List ℕ → StateValue
+opening limits document = after (opening_edits limits document)

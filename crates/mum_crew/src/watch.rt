@@ -62,6 +62,7 @@ impl Pace {
             station.hold();
         }
         if self.rounds % ROUNDS == 0 {
+            self.for_owner = self.for_owner || !station.were_all_asked();
             if self.for_workers {
                 station.wake_others(self.for_owner);
             }

@@ -429,6 +429,29 @@ def who_is_held_up_is_not_held_up_longer(folder):
 
 
 @test
+def the_bytes_of_messages_are_held_up_too(folder):
+    # a text of 20,000 bytes counts as 21 messages
+    each_second, at_once, texts = 20, 40, 3
+    with Server(folder, 2, MURMUR_PACE=f"{each_second}/{at_once},200/400") as server:
+        ann, bob = server.client().log_in("ann"), server.client().log_in("bob")
+        ann.wait_until(lambda: ann.user("bob"))
+        began = time.monotonic()
+        for number in range(texts):
+            ann.send(TEXT_MESSAGE, message((3, 0), (5, str(number) * 20000)))
+        came = []
+        while len(came) < texts:
+            assert bob.read(5), f"{len(came)} texts came"
+            came = [dict(parse(payload))[5] for kind, payload in bob.frames if kind == TEXT_MESSAGE]
+        seconds = time.monotonic() - began
+        assert came == [str(number).encode() * 20000 for number in range(texts)]
+        for client in (ann, bob):
+            client.close()
+        server.totals()
+        assert seconds > (21 * texts - at_once) / each_second - 0.1, seconds
+    return f"{texts} texts in {seconds:.1f} s"
+
+
+@test
 def a_signal_ends_it_and_its_clients_see_that(folder):
     with Server(folder, 10) as server:
         ann = server.client().log_in("ann")

@@ -7,6 +7,7 @@ use crate::hub::{Hub, LINK_LIMIT, READABLE};
 use crate::life::Life;
 use crate::link::SocketLink;
 use crate::listener::Listener;
+use crate::long::Reservation;
 use crate::pace::{Meter, Pace};
 use crate::proxy::{HEADER_LIMIT, Header, header_of};
 use crate::stream::Stream;
@@ -365,6 +366,7 @@ impl<X: Net + Files + Eprint + Copy> Entrance<X> {
         };
         let kept = Vec::with_capacity(self.alloc, KEPT_LIMIT)?;
         let hub = self.hub.clone()?;
+        let reservation = Reservation::new(hub.long_frames.clone()?);
         let board = post.board.clone()?;
         let registry = post.registry.clone()?;
         stream.set_no_delay()?;
@@ -386,6 +388,7 @@ impl<X: Net + Files + Eprint + Copy> Entrance<X> {
             registry,
             slot,
             meter: Meter::new(self.pace, opened),
+            reservation,
             kept,
             sent: 0,
             batch: 0,

@@ -1,6 +1,8 @@
 //! What the links, the door and the stations share: which slots are ready, who sleeps, who worked.
 
+use crate::long::LongFrames;
 use std::alloc::{AllocError, Global};
+use std::sync::Arc;
 use std::sync::atomic::{AtomicBool, AtomicU32, AtomicU64, Ordering};
 
 /// The most links, those among them that wait for their header.
@@ -21,9 +23,11 @@ pub const HUNG_UP: u32 = 4;
 // A link has the slot.
 const TAKEN: u32 = 8;
 
-/// The flags of each slot, the threads that sleep, and counts that one thread raises and another reads.
+/// The flags of each slot, the threads that sleep, counts that one thread raises and another reads, and the allowance
+/// for long frames.
 #[derive(Drop)]
 pub struct Hub {
+    pub long_frames: Arc<LongFrames>,
     slots: Vec<AtomicU32>,
     sleepers: AtomicU64,
     owner_turns: AtomicU64,
@@ -47,6 +51,7 @@ impl Hub {
             slots.push(AtomicU32::new(0))?;
         }
         Ok(Hub {
+            long_frames: Arc::new(alloc, LongFrames::new())?,
             slots,
             sleepers: AtomicU64::new(0),
             owner_turns: AtomicU64::new(0),

@@ -13,6 +13,7 @@ mod hub;
 pub mod life;
 pub mod link;
 mod listener;
+pub mod long;
 pub mod machine;
 pub mod pace;
 mod proxy;

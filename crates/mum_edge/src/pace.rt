@@ -1,5 +1,6 @@
 //! How fast a client may send. Whoever toggles a mute as fast as the line takes it makes as many notices for everybody,
-//! and no rule of the server knows time; so a link reads no more for a while from a client that sends too many frames.
+//! and no rule of the server knows time; so a link reads no more for a while from a client that sends too many frames, or
+//! too many bytes of them.
 
 ghost use Rattle.std.specs.Prelude.{◌<◌, ◌≤◌, length};
 
@@ -10,7 +11,8 @@ pub struct Rate {
     pub at_once: u32,
 }
 
-/// How fast the client of one connection may send. A Ping counts as nothing.
+/// How fast the client of one connection may send. A Ping counts as nothing, a frame of voice as one, and a message as one
+/// for each thousand of its bytes that is begun, those of its header among them.
 #[derive(Clone, Copy, Debug, PartialEq, Eq)]
 pub enum Pace {
     /// As fast as its line takes it.
@@ -28,6 +30,9 @@ const HEADER_LENGTH: usize = 6;
 
 /// What one frame takes of a rate, which is counted in thousandths.
 const FRAME: u64 = 1000;
+
+/// So many bytes of a message count as one frame.
+const THOUSAND: u64 = 1000;
 
 impl Pace {
     /// What applies unless something else is asked for. Clients send 50 to 100 frames of voice a second.
@@ -87,8 +92,9 @@ impl Used {
         }
     }
 
-    fn add_frame(&mut self) {
-        self.thousandths = self.thousandths.saturating_add(FRAME);
+    fn add_frames(&mut self, frames: u64) {
+        let added = frames.saturating_mul(FRAME);
+        self.thousandths = self.thousandths.saturating_add(added);
     }
 
     fn give_back(&mut self, milliseconds: u64) {
@@ -103,20 +109,32 @@ impl Used {
     }
 }
 
-// What the bytes at the front of a piece are: of a payload or a header, how many, and the type of the frame whose
-// header they end.
+// What the bytes at the front of a piece are, of a payload or a header: how many, and what begins in them.
 #[derive(Clone, Copy)]
 struct Front {
     length: usize,
-    kind: Option<u16>,
+    begins: Begins,
 }
 
-// Where a client is in the frames that it sends.
+#[derive(Clone, Copy)]
+enum Begins {
+    // The bytes are of a header that goes on.
+    Nothing,
+    // A frame of this type, whose header they end.
+    Frame(u16),
+    // So many thousands of bytes of a message's payload, that are not counted yet.
+    Thousands(u64),
+}
+
+// Where a client is in the frames that it sends: how much of the next header has come; of the payload under way the
+// length, how many bytes are to come, and how many of these are counted already.
 #[derive(Clone, Copy)]
 struct Frames {
     header: [u8; HEADER_LENGTH],
     gathered: usize,
+    payload: u64,
     payload_left: u64,
+    counted: u64,
     ghost begun: { gathered < 6 },
 }
 
@@ -125,7 +143,9 @@ impl Frames {
         Frames {
             header: [0; HEADER_LENGTH],
             gathered: 0,
+            payload: 0,
             payload_left: 0,
+            counted: 0,
         }
     }
 
@@ -140,21 +160,29 @@ impl Frames {
         self.header[self.gathered..self.gathered + length].copy_from_slice(&piece[..length]);
         if self.gathered + length < HEADER_LENGTH {
             self.gathered += length;
-            return Front { length, kind: None };
+            return Front {
+                length,
+                begins: Begins::Nothing,
+            };
         }
         self.gathered = 0;
-        let [a, b, c, d, e, f] = self.header;
-        self.payload_left = u64::from(u32::from_be_bytes([c, d, e, f]));
         Front {
             length,
-            kind: Some(u16::from_be_bytes([a, b])),
+            begins: Begins::Frame(self.begin_payload()),
         }
     }
 
-    // The least length of what is left of a payload and of so many frames behind it.
-    fn length_of(&self, frames: u64) -> usize {
-        let headers = frames.saturating_mul(HEADER_LENGTH as u64);
-        usize::try_from(self.payload_left.saturating_add(headers)).unwrap_or(usize::MAX)
+    // Goes on to the payload of the header that is gathered. The frame's type.
+    fn begin_payload(&mut self) -> u16 {
+        let [a, b, c, d, e, f] = self.header;
+        let kind = u16::from_be_bytes([a, b]);
+        self.payload = u64::from(u32::from_be_bytes([c, d, e, f]));
+        self.payload_left = self.payload;
+        self.counted = match kind {
+            VOICE | PING => self.payload,
+            _ => THOUSAND - HEADER_LENGTH as u64,
+        };
+        kind
     }
 
     fn pass_payload(&mut self, most: usize) -> Front
@@ -162,7 +190,40 @@ impl Frames {
     {
         let length = most.min(usize::try_from(self.payload_left).unwrap_or(usize::MAX));
         self.payload_left = self.payload_left.saturating_sub(length as u64);
-        Front { length, kind: None }
+        Front {
+            length,
+            begins: Begins::Thousands(self.count_bytes(length as u64)),
+        }
+    }
+
+    // Counts so many bytes of a payload. How many thousands begin in them.
+    fn count_bytes(&mut self, bytes: u64) -> u64 {
+        let thousands = self.thousands_in(bytes);
+        let counted = self
+            .counted
+            .saturating_add(thousands.saturating_mul(THOUSAND));
+        self.counted = counted.saturating_sub(bytes);
+        thousands
+    }
+
+    // How many thousands begin in the next bytes of a payload.
+    fn thousands_in(&self, bytes: u64) -> u64 {
+        bytes.saturating_sub(self.counted).div_ceil(THOUSAND)
+    }
+
+    // The least length of what takes up this much room: of the payload under way, as far as its thousands find room, and
+    // of frames behind it.
+    fn length_within(&self, messages: u64, voice: u64) -> usize {
+        let thousands = self.thousands_in(self.payload_left);
+        let length = if thousands > messages {
+            self.counted
+                .saturating_add(messages.saturating_mul(THOUSAND))
+        } else {
+            let frames = messages.saturating_sub(thousands).min(voice);
+            self.payload_left
+                .saturating_add(frames.saturating_mul(HEADER_LENGTH as u64))
+        };
+        usize::try_from(length).unwrap_or(usize::MAX)
     }
 }
 
@@ -196,7 +257,8 @@ impl Meter {
         }
     }
 
-    /// How many bytes may be read at this time, so that no more frames begin in them than there is room for.
+    /// How many bytes may be read at this time, so that no more frames and thousands of bytes begin in them than there is
+    /// room for.
     pub fn allowance(&mut self, milliseconds: u64) -> usize {
         if !self.is_limited {
             return usize::MAX;
@@ -206,7 +268,15 @@ impl Meter {
         self.messages.give_back(passed);
         self.voice.give_back(passed);
         self.frames
-            .length_of(self.messages.room().min(self.voice.room()))
+            .length_within(self.messages.room(), self.voice.room())
+    }
+
+    /// The length of the payload that is under way. 0: none is.
+    pub fn payload(&self) -> u64 {
+        if self.frames.payload_left == 0 {
+            return 0;
+        }
+        self.frames.payload
     }
 
     /// Counts the frames that begin in what was read. How many there are.
@@ -218,9 +288,13 @@ impl Meter {
                 break;
             }
             let front = self.frames.pass_front(rest);
-            if let Some(kind) = front.kind {
-                begun = begun.saturating_add(1);
-                self.count_frame(kind);
+            match front.begins {
+                Begins::Nothing => {}
+                Begins::Frame(kind) => {
+                    begun = begun.saturating_add(1);
+                    self.count_frame(kind);
+                }
+                Begins::Thousands(thousands) => self.messages.add_frames(thousands),
             }
             rest = &rest[front.length..];
         }
@@ -229,9 +303,9 @@ impl Meter {
 
     fn count_frame(&mut self, kind: u16) {
         match kind {
-            VOICE => self.voice.add_frame(),
+            VOICE => self.voice.add_frames(1),
             PING => {}
-            _ => self.messages.add_frame(),
+            _ => self.messages.add_frames(1),
         }
     }
 }

@@ -6,6 +6,7 @@ ghost use Rattle.mum_io.specs.Link.{PollReadLeaves, PollWriteLeaves};
 
 use crate::board::Board;
 use crate::hub::{HUNG_UP, Hub, READABLE, WRITABLE};
+use crate::long::Reservation;
 use crate::pace::Meter;
 use crate::stream::Stream;
 use mio::Registry;
@@ -30,6 +31,7 @@ pub struct Wire {
     pub registry: Arc<Registry>,
     pub slot: usize,
     pub meter: Meter,
+    pub reservation: Reservation,
     pub kept: Vec<u8>,
     pub sent: usize,
     pub batch: u64,
@@ -40,7 +42,8 @@ pub struct Wire {
 }
 
 impl Wire {
-    /// Reads what has come, if its pace allows that. What was kept in an earlier batch is sent before.
+    /// Reads what has come, if its pace and the allowance for long frames allow that. What was kept in an earlier batch
+    /// is sent before.
     pub fn read(&mut self, buf: &mut [u8]) -> PollRead
         requires { 0 < length buf.old }
         ensures { PollReadLeaves result None None buf.new }
@@ -55,13 +58,27 @@ impl Wire {
         if !self.hub.has(self.slot, READABLE) {
             return PollRead::NotYet;
         }
-        let allowance = self.meter.allowance(self.board.milliseconds());
+        let allowance = self.allowance();
+        if self.is_broken {
+            return PollRead::Failed;
+        }
         if allowance == 0 {
             self.board.slow_down();
             return PollRead::NotYet;
         }
         let length = buf.len().min(allowance);
         self.read_stream(&mut buf[..length])
+    }
+
+    // How many bytes may be read now. Where none may because a long frame finds no room beside those of other links,
+    // nobody waits for a client that has hung up: else it would keep its slot.
+    fn allowance(&mut self) -> usize {
+        let allowance = self.meter.allowance(self.board.milliseconds());
+        if allowance == 0 || self.reservation.covers(self.meter.payload()) {
+            return allowance;
+        }
+        self.is_broken = self.hub.has(self.slot, HUNG_UP);
+        0
     }
 
     // The flag is left where there may be more: the system reports no change of that.
@@ -94,6 +111,7 @@ impl Wire {
         if self.meter.count(bytes) > 1 {
             self.board.hold();
         }
+        self.reservation.leave_frames_before(self.meter.payload());
         if is_full || self.hub.has(self.slot, HUNG_UP) {
             self.hub.set(self.slot, READABLE);
         }
@@ -235,6 +253,7 @@ impl Wire {
         self.drain();
         let _gone_already = self.stream.deregister(&self.registry);
         self.is_broken = true;
+        self.reservation.give_back();
         self.hub.free_slot(self.slot);
         self.board.shut_link();
         self.hub.note_shut();

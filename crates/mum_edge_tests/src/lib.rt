@@ -8,4 +8,6 @@ mod echo;
 #[cfg(test)]
 mod lines;
 #[cfg(test)]
+mod long_frames;
+#[cfg(test)]
 mod paces;

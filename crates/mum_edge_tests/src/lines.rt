@@ -17,7 +17,7 @@ use std::{io, thread, time};
 const LOCAL: [u8; 16] = [0, 0, 0, 0, 0, 0, 0, 0, 0, 0, 255, 255, 127, 0, 0, 1];
 
 /// A machine that is open at a port of this machine, and the port's address.
-fn open<X: AllocGlobal + Net + Files + Env + Eprint + Threads + time::Clock + Copy + Send>(
+pub fn open<X: AllocGlobal + Net + Files + Env + Eprint + Threads + time::Clock + Copy + Send>(
     rt: X,
     threads: usize,
     pace: Pace,
@@ -115,6 +115,42 @@ fn who_floods_is_held_up_and_others_are_not(rt: HostRuntime) -> Result<(), Fail>
     assert_eq!(rt; (all.len(), most), (2, 3000));
     // 200 frames at once, and a few for the seconds that passed
     assert!(rt; (1200..1800).contains(&least), "{least} bytes");
+    Ok(())
+}
+
+#[test]
+fn the_bytes_of_a_message_are_held_up_too(rt: HostRuntime) -> Result<(), Fail> {
+    let alloc: Global = rt.alloc();
+    let rate = Rate {
+        each_second: 1,
+        at_once: 5,
+    };
+    let pace = Pace::Limited {
+        messages: rate,
+        voice: rate,
+    };
+    let (machine, address) = open(rt, 2, pace)?;
+    let Machine { mut crew, door, .. } = machine;
+    let roles = parts(rt, alloc, door, 2, 1, Manner::EchoForOne)?;
+    let client = thread::spawn(&rt, move || {
+        let mut stream = TcpStream::connect(&rt, address)?;
+        // a message with a payload of 20,000 bytes
+        stream.write_all(&[0, 9, 0, 0, 0x4e, 0x20])?;
+        stream.write_all(&[7; 20_000])?;
+        // five thousands at once, and a sixth after a second
+        let mut buf = [0u8; 6000];
+        stream.read_exact(&mut buf)?;
+        Ok::<bool, io::Error>(talk(&rt, address, 0).unwrap_or(false))
+    })?;
+    let run = crew.run(alloc, roles);
+    assert!(rt; client.join(&rt)?);
+    assert_eq!(rt; run.end, CrewEnd::Ran);
+    let all: Vec<Heard> = all_heard(alloc, &run.roles)?;
+    let most = all.iter().map(|heard| heard.bytes).max().unwrap_or(0);
+    assert!(rt;
+        all.len() == 2 && (6000..12_000).contains(&most),
+        "{most} bytes"
+    );
     Ok(())
 }
 

@@ -10,6 +10,9 @@ const VOICE: [u8; 6] = [0, 1, 0, 0, 0, 0];
 
 const PING: [u8; 6] = [0, 3, 0, 0, 0, 0];
 
+/// The header of a message with a payload of 5,000 bytes.
+const LONG_TEXT: [u8; 6] = [0, 11, 0, 0, 0x13, 0x88];
+
 /// A meter at a time of 1,000 milliseconds.
 fn meter() -> Meter {
     let pace = Pace::Limited {
@@ -58,6 +61,57 @@ fn a_payload_is_read_to_its_end(rt: HostRuntime) -> Result<(), Fail> {
     assert_eq!(rt; meter.allowance(1000), 98 + 12);
     assert_eq!(rt; meter.count(&VOICE), 0);
     assert_eq!(rt; meter.allowance(1000), 92 + 12);
+    Ok(())
+}
+
+#[test]
+fn each_thousand_bytes_of_a_message_counts_as_a_frame(rt: HostRuntime) -> Result<(), Fail> {
+    let mut meter = meter();
+    assert_eq!(rt; meter.count(&LONG_TEXT), 1);
+    // a thousand bytes with the header, and two thousand more
+    assert_eq!(rt; meter.allowance(1000), 2994);
+    assert_eq!(rt; meter.count(&[7; 1000]), 0);
+    assert_eq!(rt; meter.allowance(1000), 1994);
+    assert_eq!(rt; meter.count(&[7; 1994]), 0);
+    assert_eq!(rt; meter.allowance(1000), 0);
+    // 20 thousand bytes a second
+    assert_eq!(rt; meter.allowance(1049), 0);
+    assert_eq!(rt; meter.allowance(1050), 1000);
+    assert_eq!(rt; meter.count(&[7; 1]), 0);
+    assert_eq!(rt; meter.allowance(1050), 999);
+    // 2,005 are left, of which 999 are counted: two thousands more begin in them
+    assert_eq!(rt; meter.allowance(1149), 1999);
+    assert_eq!(rt; meter.allowance(1150), 2005);
+    assert_eq!(rt; meter.allowance(9000), 2005 + 6);
+    Ok(())
+}
+
+#[test]
+fn the_bytes_of_voice_and_of_a_ping_are_not_counted(rt: HostRuntime) -> Result<(), Fail> {
+    for kind in [1, 3] {
+        let mut meter = meter();
+        assert_eq!(rt; meter.count(&[0, kind, 0, 0, 0x13, 0x88]), 1);
+        assert_eq!(rt; meter.count(&[7; 4000]), 0);
+        assert!(rt; meter.allowance(1000) > 1000);
+        assert_eq!(rt; meter.count(&[7; 1000]), 0);
+        assert_eq!(rt; meter.count(&TEXT), 1);
+        assert_eq!(rt; meter.count(&TEXT), 1);
+        assert_eq!(rt; meter.allowance(1000), 6);
+    }
+    Ok(())
+}
+
+#[test]
+fn a_payload_is_under_way_until_its_last_byte(rt: HostRuntime) -> Result<(), Fail> {
+    let mut meter = Meter::new(Pace::Unlimited, 0);
+    assert_eq!(rt; meter.count(&LONG_TEXT[..5]), 0);
+    assert_eq!(rt; meter.payload(), 0);
+    assert_eq!(rt; meter.count(&LONG_TEXT[5..]), 1);
+    assert_eq!(rt; meter.payload(), 5000);
+    assert_eq!(rt; meter.count(&[7; 4999]), 0);
+    assert_eq!(rt; meter.payload(), 5000);
+    assert_eq!(rt; meter.count(&[7; 1]), 0);
+    assert_eq!(rt; meter.payload(), 0);
     Ok(())
 }
 

@@ -1,0 +1,3 @@
+pub mod LineFeeds
+pub mod Windows
+pub mod Readers

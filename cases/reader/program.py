@@ -11,6 +11,11 @@ TOP = Path(__file__).resolve().parents[2]
 SECONDS = 120
 
 
+def words_of(error):
+    """What a script says of an error; of a file its name and what is wrong with it."""
+    return f"{error.filename}: {error.strerror}" if isinstance(error, OSError) and error.filename else str(error)
+
+
 class NoProgram(Exception):
     """The program is not there."""
 

@@ -47,6 +47,11 @@ def published(lines):
     return ([line.split(" ")[1] for line in lines if line.startswith("published ")] or ["0"])[-1]
 
 
+def newest(lines):
+    """The revision that a further publish shows."""
+    return str(sum(line.startswith("accepted ") for line in lines))
+
+
 def command(draw, connection, lines):
     """A user asks for something. Its verdict may wait, or reach it with a note of what is published."""
     kind, fields = message(draw)
@@ -58,12 +63,13 @@ def command(draw, connection, lines):
 
 
 def speech(draw, connection, worker, lines):
-    """A user speaks, its worker looks, and some copies are offered and drained; what it says may be no packet."""
+    """A user speaks, its worker looks at what was published before or at what is now, and some copies are offered and
+    drained; what it says may be no packet."""
     packet = bytes([0x80 | draw.choice([0, 0, 0, 1, 2, 31]), draw.randrange(128)]) + bytes.fromhex("03aabbcc")
     packet = draw.choice([packet, packet, packet, packet, b"\x20"])
     frame = mumble.put_frame(mumble.VOICE, packet).hex()
     others = [f"offer {worker}", f"offer {worker}", f"drain {draw.randrange(1, connection + 1)}"]
-    return [f"frame {connection} {frame}", f"look {worker} {published(lines)}"] + others[:draw.randrange(4)]
+    return [f"frame {connection} {frame}", f"look {worker} {draw.choice([published(lines), newest(lines)])}"] + others[:draw.randrange(4)]
 
 
 def round_of(draw, workers, closed, lines):

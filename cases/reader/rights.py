@@ -9,7 +9,7 @@ from concurrent.futures import ThreadPoolExecutor
 from dataclasses import dataclass
 from functools import lru_cache
 
-from . import documents, mumble, program
+from . import documents, mumble, program, recipes
 from .configuration import SUPERUSER, sha256
 
 GUESTS, ANY_ACCOUNT, ROOT = "guests", "any account", "the root"
@@ -28,8 +28,9 @@ class Repeating(dict):
 
 
 def read_document(text):
-    """The document of a text or of bytes. Of a key that comes twice the last one counts, as in the program."""
-    return json.loads(text, object_pairs_hook=Repeating)
+    """The document of a text or of bytes. Of a key that comes twice the last one counts, and an empty text is `{}`, as
+    in the program."""
+    return json.loads(text or b"{}", object_pairs_hook=Repeating)
 
 
 # ---- what a document names
@@ -157,9 +158,14 @@ def with_strangers(channel, askers):
     """A channel whose groups have the strangers that ask for them, and nobody else."""
     if "groups" not in channel:
         return channel
-    groups = [{**group, "add": [asker.account for asker in askers if asker.group == group["name"]], "remove": []}
-              for group in channel["groups"]]
-    return {**channel, "groups": groups}
+    return {**channel, "groups": [group_of_strangers(group, askers) for group in channel["groups"]]}
+
+
+def group_of_strangers(group, askers):
+    """A definition of a group without its accounts, and with the strangers that ask for it."""
+    members = [asker.account for asker in askers if asker.group == group["name"]]
+    kept = {key: value for key, value in group.items() if key not in ("add", "remove")}
+    return {**kept, "add": members} if members else kept
 
 
 # ---- the questions
@@ -195,7 +201,10 @@ def asked(document, askers, inside):
     for asker in askers:
         if asker.account == 0:
             ask_all(steps, places, 1, asker, channels, False)
-    told = program.replay(copy_for(document, askers), steps)
+    copy = copy_for(document, askers)
+    if len(copy) > documents.MOST_BYTES:
+        raise program.Stopped("the document is so long that nobody can be added to its groups to ask")
+    told = program.replay(copy, steps)
     refuse_failures(steps, told)
     answers = {place: permissions_told(told, at) for place, at in places.items()}
     entered = {place for place, at in places.items() if place[2] and told[at - 4][0].startswith("accepted")}
@@ -237,12 +246,21 @@ class Rights:
     inside: dict
 
 
+def fitting(document, askers):
+    """Those who ask in parts, each of which has a copy that is not too long."""
+    if len(askers) > 1 and len(copy_for(document, askers)) > documents.MOST_BYTES:
+        middle = len(askers) // 2
+        return fitting(document, askers[:middle]) + fitting(document, askers[middle:])
+    return [askers]
+
+
 def rights_of(document):
     """Who may do what in each channel."""
     inside, askers, answers = asks_who_is_inside(document), askers_of(document), {}
     kinds = [[asker for asker in askers if asker.is_stranger == stranger] for stranger in (False, True)]
     size = min(AT_ONCE, max(1, QUESTIONS // len(channels_of(document))))
-    parts = [kind[at:at + size] for kind in kinds for at in range(0, len(kind), size)]
+    parts = [part for kind in kinds for at in range(0, len(kind), size)
+             for part in fitting(document, kind[at:at + size])]
     with ThreadPoolExecutor(os.cpu_count()) as pool:
         for part in pool.map(lambda some: asked(document, some, inside), parts):
             answers.update(part)
@@ -272,10 +290,17 @@ def gathered(pairs):
 
 @lru_cache(maxsize=8)
 def known(text):
-    """A document that a table names, a file of `examples` or the document itself, and its rights."""
-    is_file = not text.startswith("{")
-    document = read_document((program.TOP / "examples" / text).read_bytes() if is_file else documents.document_of(text))
+    """A document that a table names, and its rights."""
+    document = read_document(named(text))
     return document, rights_of(document)
+
+
+def named(text):
+    """The bytes of a file of `examples`, of a recipe of docs/COMMANDS.md, or of the document that the text itself is."""
+    if text.startswith("{"):
+        return documents.document_of(text)
+    word, _, name = text.partition(" ")
+    return recipes.document_of(name) if word == "recipe" else (program.TOP / "examples" / text).read_bytes()
 
 
 def answer(question):

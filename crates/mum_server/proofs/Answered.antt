@@ -1,5 +1,5 @@
 -- What a line of the configuration, and what a line of a step, is answered by.
-use Rattle.std.proofs.Common.{◌≡◌, ℕ, List, [], ◌∷◌, ◌++◌, Option, Some, None, Result, Ok, Err, true, false, refl, sym, ap, ◌∙◌}
+use Rattle.std.proofs.Common.{◌≡◌, ℕ, List, [], ◌∷◌, ◌++◌, Option, Some, None, Result, Ok, Err, Bool, true, false, refl, sym, ap, ◌∙◌}
 use Rattle.std.specs.Option.{option_map_or}
 use Rattle.mum_config.specs.Document.{ReadsText}
 use Rattle.mum_document.specs.Fault.{Fault}
@@ -19,13 +19,13 @@ use Rattle.mum_state.specs.After.{after}
 use Rattle.mum_state.specs.declared.edit.Edit.{Edit}
 use Rattle.mum_state.specs.State.{StateValue}
 use Rattle.mum_server.specs.declared.replay.Phase.{Phase}
-use Rattle.mum_server.specs.declared.replay.Phase.TheVariants.{Config, LimitedConfig, Running, Over}
-use Rattle.mum_server.specs.declared.end.LineFault.TheVariants.{TooLong, BadRecording, BadConfig, IllegalStep}
+use Rattle.mum_server.specs.declared.replay.Phase.TheVariants.{Running, Over}
+use Rattle.mum_server.specs.declared.end.LineFault.TheVariants.{TooLong, BadRecording, BadJournal, BadConfig, IllegalStep, AuditWrong}
 use Rattle.mum_server.specs.declared.end.End.{End}
 use Rattle.mum_server.specs.declared.end.End.TheVariants.{Finished, Faulty, ReadFault, WriteFault, OutOfMemory}
 use Rattle.mum_server.specs.Opening.{document_edits, document_fault, limits_edits, opening}
 use Rattle.mum_server.specs.Replay.{Goes, Stops, answer, config_answer, opening_answer, phase_after, step_answer}
-use Rattle.mum_server.specs.Runs.{Begins, Describes, Names, Opens, is_end}
+use Rattle.mum_server.specs.Runs.{Begins, Describes, LineAnswers, Names, Opens, is_end}
 
 -- what is read of a document that has bytes is what the recording says of it
 pub described : (n : ℕ) (document : List ℕ) (config : Configuration) → (document ≡ [] → ⊥) → ReadsText document (Ok config) → Describes n document (Ok config.edits)
@@ -60,7 +60,9 @@ pub opens_not : (n w : ℕ) (limits : Option (ℕ × ℕ)) (document : List ℕ)
 opens_not n w limits document (Faulty m (BadConfig cause key)) h = (config_stops w limits document (record { cause = cause; key = key }) h.0, h.1)
 opens_not n w limits document (Faulty m TooLong) h = absurd h
 opens_not n w limits document (Faulty m BadRecording) h = absurd h
+opens_not n w limits document (Faulty m BadJournal) h = absurd h
 opens_not n w limits document (Faulty m (IllegalStep given against)) h = absurd h
+opens_not n w limits document (Faulty m (AuditWrong given defined)) h = absurd h
 opens_not n w limits document OutOfMemory h = tt
 opens_not n w limits document Finished h = absurd h
 opens_not n w limits document ReadFault h = absurd h
@@ -82,16 +84,6 @@ named_begins n w limits line document (Err OutOfMemory) is h = tt
 named_begins n w limits line document (Err Finished) is h = absurd h
 named_begins n w limits line document (Err ReadFault) is h = absurd h
 named_begins n w limits line document (Err WriteFault) is h = absurd h
-
--- and the line is answered so
-pub config_goes : (w : ℕ) (line : List ℕ) (core : CoreState) (phase : Phase) → config_answer w None (config_of line) ≡ Goes (Running core) [] → phase ≡ Running core → answer (Config w) line ≡ Goes phase []
-unfolding answer
-config_goes w line core phase opens is = opens ∙ ap (λ (p : Phase). Goes p []) (sym is)
-
-pub limited_config_goes : (w : ℕ) (limits : ℕ × ℕ) (line : List ℕ) (core : CoreState) (phase : Phase) → config_answer w (Some limits) (config_of line) ≡ Goes (Running core) [] → phase ≡ Running core
-    → answer (LimitedConfig w limits) line ≡ Goes phase []
-unfolding answer
-limited_config_goes w limits line core phase opens is = opens ∙ ap (λ (p : Phase). Goes p []) (sym is)
 
 abbrev pub IsDone : CoreState → Step → List ℕ → CoreState → List ℕ → Type 0
 IsDone core step old new text =
@@ -125,3 +117,9 @@ pub step_ends : (core new : CoreState) (step : Step) (line old text : List ℕ) 
     → old ≡ [] → IsDone core step old new text
     → (told : List (List (List ℕ))) × (answer (Running core) line ≡ Goes Over told) × (text ≡ text_of told)
 step_ends core new step line old text said last none h = goes_by core new step line old text Over said none h (sym (ends_there core step last))
+
+-- a line that says a step was taken, with the last step or another
+pub line_taken : (n : ℕ) (core new : CoreState) (step : Step) (line old text : List ℕ) (last : Bool) → step_of line ≡ Some step → last ≡ is_end step
+    → old ≡ [] → IsDone core step old new text → LineAnswers n core line (Ok last) new text
+line_taken n core new step line old text true said is none h = step_ends core new step line old text said (sym is) none h
+line_taken n core new step line old text false said is none h = step_goes core new step line old text said (sym is) none h

@@ -6,7 +6,7 @@ use Rattle.std.proofs.lemmas.List.{length-append}
 use Rattle.std.proofs.lemmas.Result.{IfOk-weaker}
 use Rattle.mum_fields.specs.declared.shape.Kind.TheVariants.{Raw}
 use Rattle.mum_fields.specs.declared.shape.Label.TheVariants.{Repeated}
-use Rattle.mum_fields.specs.Table.{Table, items, layout, parts, spelled}
+use Rattle.mum_fields.specs.Table.{Table, layout, parts, spelled}
 use Rattle.mum_frame.specs.Frame.{IsOneFrame, spelling_of}
 use Rattle.mum_frame.specs.declared.frame.TheConstants.{PAYLOAD_LIMIT}
 use Rattle.mum_msg_rule.specs.Messages.{target_block, voice_target}

@@ -4,9 +4,12 @@ pub mod Asked
 pub mod Told
 pub mod Reported
 pub mod Limited
-pub mod Longer
+pub mod TooLong
 pub mod Underway
-pub mod Ends
+pub mod Gathering
+pub mod SameReading
+pub mod Audits
+pub mod Passes
 pub mod Courses
 pub mod Openings
 pub mod Documents

@@ -6,29 +6,37 @@ use Rattle.mum_io.specs.Outside.{AppendsFront, Rose}
 use Rattle.mum_io.proofs.OutsideLemmas.{AppendsFront-whole}
 use Rattle.mum_record.proofs.Numbers.{number_within-decimal}
 use Rattle.mum_server.proofs.Asked.{words_asked}
-use Rattle.mum_server.specs.Command.{Asks, IsExercise, replay_words}
-use Rattle.mum_server.specs.End.{fault_status, said, said_of, status_of}
+use Rattle.mum_server.specs.Command.{Asks, IsExercise, audit_words, replay_words}
+use Rattle.mum_server.specs.Audit.{audit_of}
+use Rattle.mum_server.specs.End.{fault_status, memory_line, said, said_of, status_of}
 use Rattle.mum_server.specs.Exercise.{exercise_outcome}
 use Rattle.mum_server.specs.Program.{Ends, IsCutShort, IsWhole, ReadsCounted, Reports, Tells, WritesCounted, outcome_of}
 use Rattle.mum_server.specs.Replay.{Outcome, replayed}
 use Rattle.mum_server.specs.declared.command.Command.{Command}
-use Rattle.mum_server.specs.declared.command.Command.TheVariants.{Replay, Exercise}
+use Rattle.mum_server.specs.declared.command.Command.TheVariants.{Replay, Audit, Exercise}
 use Rattle.mum_server.specs.declared.command.TheConstants.{ROUNDS_LIMIT}
 use Rattle.mum_server.specs.declared.end.End.{End}
 use Rattle.mum_server.specs.declared.end.End.TheVariants.{Finished, Faulty, ReadFault, WriteFault, OutOfMemory}
 use Rattle.mum_server.specs.declared.end.LineFault.{LineFault}
-use Rattle.mum_server.specs.declared.end.LineFault.TheVariants.{TooLong, BadRecording, BadConfig, IllegalStep}
+use Rattle.mum_server.specs.declared.end.LineFault.TheVariants.{TooLong, BadRecording, BadJournal, BadConfig, IllegalStep, AuditWrong}
 
 -- ---- the command
 
 -- the word that asks for a recording asks for nothing else
 pub asks_replay : (words : List (List ℕ)) (command : Command) → Asks words (Some command) → words ≡ replay_words → command ≡ Replay
 asks_replay words Replay asks is = refl
+asks_replay words Audit asks is = let other = sym is ∙ asks in cc
 asks_replay words (Exercise seed rounds) asks is = let other = sym is ∙ asks.words_are in cc
+
+pub asks_audit : (words : List (List ℕ)) (command : Command) → Asks words (Some command) → words ≡ audit_words → command ≡ Audit
+asks_audit words Audit asks is = refl
+asks_audit words Replay asks is = let other = sym is ∙ asks in cc
+asks_audit words (Exercise seed rounds) asks is = let other = sym is ∙ asks.words_are in cc
 
 -- words that ask for an exercise ask for that one
 pub asks_that : (words : List (List ℕ)) (command : Command) (seed rounds : ℕ) → Asks words (Some command) → IsExercise words seed rounds → command ≡ Exercise seed rounds
 asks_that words Replay seed rounds asks is = let other = sym asks ∙ is.words_are in cc
+asks_that words Audit seed rounds asks is = let other = sym asks ∙ is.words_are in cc
 asks_that words (Exercise s r) seed rounds asks is =
     let same = words_asked words (codes "exercise") (decimal s) (decimal r) seed rounds asks.words_are is in
     let fits = asks.seed_fits in
@@ -58,8 +66,10 @@ concluded outcome OutOfMemory status old new eold enew R W E ends (inr h) read w
 fault_says : (fault : LineFault) (end : End) → said (fault_status fault) end ≡ said_of end
 fault_says TooLong end = refl
 fault_says BadRecording end = refl
+fault_says BadJournal end = refl
 fault_says (BadConfig cause key) end = refl
 fault_says (IllegalStep given against) end = refl
+fault_says (AuditWrong given defined) end = refl
 
 -- the line is that of the status
 pub says_so : (outcome : Outcome) (end : End) (status : ℕ) (old new eold enew : Option (List ℕ)) (E : Type 0) → Ends outcome end old new → Reports end status eold enew E
@@ -83,7 +93,16 @@ of_replay : (left : Option (List ℕ)) (command : Command) (P Q : Outcome → Ty
     → IfSome left (λ bytes. Q (replayed bytes))
 of_replay None Replay P Q is more h = tt
 of_replay (Some bytes) Replay P Q is more h = more (replayed bytes) h
+of_replay left Audit P Q is more h = absurd cc
 of_replay left (Exercise seed rounds) P Q is more h = absurd cc
+
+-- and one that is audited as well
+of_audit : (left : Option (List ℕ)) (command : Command) (P Q : Outcome → Type 0) → command ≡ Audit → ((o : Outcome) → P o → Q o) → IfSome (outcome_of command left) P
+    → IfSome left (λ bytes. Q (audit_of bytes))
+of_audit None Audit P Q is more h = tt
+of_audit (Some bytes) Audit P Q is more h = more (audit_of bytes) h
+of_audit left Replay P Q is more h = absurd cc
+of_audit left (Exercise seed rounds) P Q is more h = absurd cc
 
 -- an exercise has its own outcome, whatever the input tells
 of_exercise : (left : Option (List ℕ)) (command : Command) (seed rounds : ℕ) (P : Outcome → Type 0) → command ≡ Exercise seed rounds → IfSome (outcome_of command left) P
@@ -111,6 +130,21 @@ replay_said words command left end status old new eold enew E asks asked ends re
     of_replay left command (λ o. Ends o end old new) (λ o. Tells (said status o.ending) eold enew E) (asks_replay words command asks asked)
     (λ o h. says_so o end status old new eold enew E h reports) ends
 
+pub audit_answered : (words : List (List ℕ)) (command : Command) (left : Option (List ℕ)) (end : End) (status : ℕ) (old new eold enew : Option (List ℕ)) (rold rnew wold wnew : ℕ) (E : Type 0)
+    → Asks words (Some command) → words ≡ audit_words → IfSome (outcome_of command left) (λ outcome. Ends outcome end old new) → Reports end status eold enew E
+    → ReadsCounted end rold rnew → WritesCounted end wold wnew
+    → IfSome left (λ bytes. IsWhole (audit_of bytes) status old new ⊎ (AppendsFront old new (audit_of bytes).text × IsCutShort status (Rose rold rnew) (Rose wold wnew)))
+audit_answered words command left end status old new eold enew rold rnew wold wnew E asks asked ends reports reads writes =
+    of_audit left command (λ o. Ends o end old new) (λ o. IsWhole o status old new ⊎ (AppendsFront old new o.text × IsCutShort status (Rose rold rnew) (Rose wold wnew))) (asks_audit words command asks asked)
+    (λ o h. concluded o end status old new eold enew (Rose rold rnew) (Rose wold wnew) E h reports (read_rose end rold rnew reads) (write_rose end wold wnew writes)) ends
+
+pub audit_said : (words : List (List ℕ)) (command : Command) (left : Option (List ℕ)) (end : End) (status : ℕ) (old new eold enew : Option (List ℕ)) (E : Type 0)
+    → Asks words (Some command) → words ≡ audit_words → IfSome (outcome_of command left) (λ outcome. Ends outcome end old new) → Reports end status eold enew E
+    → IfSome left (λ bytes. Tells (said status (audit_of bytes).ending) eold enew E)
+audit_said words command left end status old new eold enew E asks asked ends reports =
+    of_audit left command (λ o. Ends o end old new) (λ o. Tells (said status o.ending) eold enew E) (asks_audit words command asks asked)
+    (λ o h. says_so o end status old new eold enew E h reports) ends
+
 pub exercise_answered : (words : List (List ℕ)) (command : Command) (left : Option (List ℕ)) (end : End) (status seed rounds : ℕ) (old new eold enew : Option (List ℕ)) (wold wnew : ℕ) (E : Type 0)
     → Asks words (Some command) → IsExercise words seed rounds → IfSome (outcome_of command left) (λ outcome. Ends outcome end old new) → Reports end status eold enew E
     → (end ≡ ReadFault → ⊥) → WritesCounted end wold wnew
@@ -118,3 +152,27 @@ pub exercise_answered : (words : List (List ℕ)) (command : Command) (left : Op
 exercise_answered words command left end status seed rounds old new eold enew wold wnew E asks asked ends reports reads writes =
     let h = of_exercise left command seed rounds (λ o. Ends o end old new) (asks_that words command seed rounds asks asked) ends in
     concluded (exercise_outcome seed rounds) end status old new eold enew ⊥ (Rose wold wnew) E h reports reads (write_rose end wold wnew writes)
+
+pub exercise_said : (words : List (List ℕ)) (command : Command) (left : Option (List ℕ)) (end : End) (status seed rounds : ℕ) (old new eold enew : Option (List ℕ)) (E : Type 0)
+    → Asks words (Some command) → IsExercise words seed rounds → IfSome (outcome_of command left) (λ outcome. Ends outcome end old new) → Reports end status eold enew E
+    → Tells (said status (exercise_outcome seed rounds).ending) eold enew E
+exercise_said words command left end status seed rounds old new eold enew E asks asked ends reports =
+    let h = of_exercise left command seed rounds (λ o. Ends o end old new) (asks_that words command seed rounds asks asked) ends in
+    says_so (exercise_outcome seed rounds) end status old new eold enew E h reports
+
+fault_is_known : (fault : LineFault) → fault_status fault ≡ 70 → ⊥
+fault_is_known TooLong is = cc
+fault_is_known BadRecording is = cc
+fault_is_known BadJournal is = cc
+fault_is_known (BadConfig cause key) is = cc
+fault_is_known (IllegalStep given against) is = cc
+fault_is_known (AuditWrong given defined) is = cc
+
+-- where memory ran out that is said
+pub memory_said : (end : End) (status : ℕ) (eold enew : Option (List ℕ)) (E : Type 0) → Reports end status eold enew E → status ≡ 70 → Tells memory_line eold enew E
+memory_said Finished status eold enew E (inl h) is = let off = sym h.0 ∙ is in cc
+memory_said (Faulty n fault) status eold enew E (inl h) is = absurd (fault_is_known fault (sym h.0 ∙ is))
+memory_said ReadFault status eold enew E (inl h) is = let off = sym h.0 ∙ is in cc
+memory_said WriteFault status eold enew E (inl h) is = let off = sym h.0 ∙ is in cc
+memory_said OutOfMemory status eold enew E (inl h) is = h.1
+memory_said end status eold enew E (inr h) is = h.2

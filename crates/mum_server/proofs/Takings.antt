@@ -1,6 +1,6 @@
 -- What is taken of a course for each of several sessions.
 use Rattle.std.proofs.Common.{◌≡◌, ℕ, zero, suc, ◌+◌, ◌<◌, List, [], ◌∷◌, ◌++◌, length, get_or, take, Option, Some, None, refl, sym, ap, ◌∙◌, add-one}
-use Rattle.std.specs.Prelude.{fold, if◌then◌else◌, is_some, map, replicate}
+use Rattle.std.specs.Prelude.{if◌then◌else◌, is_some, map, replicate}
 use Rattle.std.specs.List.{flat_map}
 use Rattle.std.proofs.Math.Seq.{take-suc}
 use Rattle.std.proofs.lemmas.List.{append-nil}

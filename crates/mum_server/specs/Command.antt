@@ -3,11 +3,14 @@ use Rattle.std.specs.Prelude.{◌≡◌, ℕ, ◌^◌, ◌<◌, ◌≤◌, List,
 use Rattle.std.specs.Borrow.{Bor}
 use Rattle.mum_record.specs.Words.{number_within}
 use Rattle.mum_server.specs.declared.command.Command.{Command}
-use Rattle.mum_server.specs.declared.command.Command.TheVariants.{Replay, Exercise}
+use Rattle.mum_server.specs.declared.command.Command.TheVariants.{Replay, Audit, Exercise}
 use Rattle.mum_server.specs.declared.command.TheConstants.{CONNECTIONS_LIMIT, ROUNDS_LIMIT}
 
 abbrev pub replay_words : List (List ℕ)
 replay_words = codes "replay" ∷ []
+
+abbrev pub audit_words : List (List ℕ)
+audit_words = codes "audit" ∷ []
 
 -- numbers are decimal without leading zeros
 abbrev pub exercise_words : ℕ → ℕ → List (List ℕ)
@@ -41,9 +44,11 @@ AsksServe name address number None =
 -- the words ask for nothing of what is done without a door
 pub record IsNoCommand (words : List (List ℕ)) : Type 0 where
   pub no_replay : words ≡ replay_words → ⊥
+  pub no_audit : words ≡ audit_words → ⊥
   pub no_exercise : (seed rounds : ℕ) → IsExercise words seed rounds → ⊥
 
 abbrev pub Asks : List (List ℕ) → Option Command → Type 0
 Asks words (Some Replay) = words ≡ replay_words
+Asks words (Some Audit) = words ≡ audit_words
 Asks words (Some (Exercise seed rounds)) = IsExercise words seed rounds
 Asks words None = IsNoCommand words

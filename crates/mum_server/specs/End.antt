@@ -5,13 +5,15 @@ use Rattle.mum_document.specs.Fault.{fault_code}
 use Rattle.mum_server.specs.declared.end.End.{End}
 use Rattle.mum_server.specs.declared.end.End.TheVariants.{Finished, Faulty, ReadFault, WriteFault, OutOfMemory}
 use Rattle.mum_server.specs.declared.end.LineFault.{LineFault}
-use Rattle.mum_server.specs.declared.end.LineFault.TheVariants.{TooLong, BadRecording, BadConfig, IllegalStep}
+use Rattle.mum_server.specs.declared.end.LineFault.TheVariants.{TooLong, BadRecording, BadJournal, BadConfig, IllegalStep, AuditWrong}
 
 abbrev pub fault_status : LineFault → ℕ
 fault_status TooLong = 10
 fault_status BadRecording = 2
+fault_status BadJournal = 2
 fault_status (BadConfig cause key) = 6
 fault_status (IllegalStep given against) = 7
+fault_status (AuditWrong given defined) = 5
 
 abbrev pub status_of : End → ℕ
 status_of Finished = 0
@@ -22,19 +24,22 @@ status_of OutOfMemory = 70
 
 -- the statuses of the program; 1 is that of words that are no command
 abbrev pub statuses : List ℕ
-statuses = 0 ∷ 1 ∷ 2 ∷ 3 ∷ 4 ∷ 6 ∷ 7 ∷ 10 ∷ 70 ∷ []
+statuses = 0 ∷ 1 ∷ 2 ∷ 3 ∷ 4 ∷ 5 ∷ 6 ∷ 7 ∷ 10 ∷ 70 ∷ []
 
 abbrev pub fault_name : LineFault → List ℕ
 fault_name TooLong = codes "TooLong"
 fault_name BadRecording = codes "BadRecording"
+fault_name BadJournal = codes "BadJournal"
 fault_name (BadConfig cause key) = codes "BadConfig"
 fault_name (IllegalStep given against) = codes "IllegalStep"
+fault_name (AuditWrong given defined) = codes "AuditWrong"
 
 -- what a fault of line n tells beside its name: where it is, and what it is about. A configuration has one line, so
 -- its fault names the key and no line
 abbrev pub details : ℕ → LineFault → List (List ℕ)
 details n (BadConfig cause key) = decimal (fault_code cause) ∷ key ∷ []
 details n (IllegalStep given against) = codes "line" ∷ decimal n ∷ codes "given" ∷ decimal given ∷ codes "against" ∷ decimal against ∷ []
+details n (AuditWrong given defined) = codes "line" ∷ decimal n ∷ codes "given" ∷ given ∷ codes "defined" ∷ defined ∷ []
 details n others = codes "line" ∷ decimal n ∷ []
 
 -- what is said of a fault of line n

@@ -6,6 +6,8 @@ pub mod Runs
 pub mod Draws
 pub mod Acts
 pub mod Exercise
+pub mod JournalText
+pub mod Audit
 pub mod Program
 pub mod Serve
 pub mod Plain

@@ -2,7 +2,8 @@
 use Rattle.std.specs.Prelude.{◌≡◌, ◌==◌, ℕ, ◌⊎◌, List, Option, IfSome, IsTrue}
 use Rattle.std.specs.List.{list_any}
 use Rattle.mum_io.specs.Outside.{AppendsFront, Rose}
-use Rattle.mum_server.specs.Command.{IsExercise, IsNoCommand, replay_words}
+use Rattle.mum_server.specs.Audit.{audit_of}
+use Rattle.mum_server.specs.Command.{IsExercise, IsNoCommand, audit_words, replay_words}
 use Rattle.mum_server.specs.End.{memory_line, read_fault_line, said, statuses, write_fault_line}
 use Rattle.mum_server.specs.Exercise.{exercise_outcome}
 use Rattle.mum_server.specs.Program.{IsWhole, IsCutShort, Tells, usage_line}
@@ -30,6 +31,13 @@ pub record RunsPlainly (words : List (List ℕ)) (input input_after : InputFacts
   -- the line of that status is said
   pub says : words ≡ replay_words → IfSome input.left (λ bytes.
       Tells (said status (replayed bytes).ending) errors.written errors_after.written (Rose errors.faults errors_after.faults))
+  -- the counts of a legal journal are written, or the status is that of its first fault, or the run is cut short
+  pub audit : words ≡ audit_words → IfSome input.left (λ bytes.
+      IsWhole (audit_of bytes) status output.written output_after.written
+      ⊎ (AppendsFront output.written output_after.written (audit_of bytes).text
+      × IsCutShort status (Rose input.faults input_after.faults) (Rose output.faults output_after.faults)))
+  pub audit_says : words ≡ audit_words → IfSome input.left (λ bytes.
+      Tells (said status (audit_of bytes).ending) errors.written errors_after.written (Rose errors.faults errors_after.faults))
   -- an exercise reads nothing; its line is written and the status is 0, or it is cut short
   pub exercise : (seed rounds : ℕ) → IsExercise words seed rounds →
       input_same

@@ -7,6 +7,7 @@ use Rattle.mum_server.specs.declared.command.Command.TheVariants as commands
 use Rattle.mum_server.specs.declared.end.End.{End}
 use Rattle.mum_server.specs.declared.end.End.TheVariants.{Faulty, ReadFault, WriteFault, OutOfMemory}
 use Rattle.mum_server.specs.End.{status_of, said_of, memory_line}
+use Rattle.mum_server.specs.Audit.{audit_of}
 use Rattle.mum_server.specs.Exercise.{exercise_outcome}
 use Rattle.mum_server.specs.Replay.{Outcome, replayed}
 
@@ -29,6 +30,7 @@ Tells line old new failed = Appends old new line ⊎ (AppendsFront old new line 
 -- what a command comes to, where the input tells its bytes
 abbrev pub outcome_of : Command → Option (List ℕ) → Option Outcome
 outcome_of commands.Replay left = option_map replayed left
+outcome_of commands.Audit left = option_map audit_of left
 outcome_of (commands.Exercise seed rounds) left = Some (exercise_outcome seed rounds)
 
 -- ---- how a run ended, as the code has it

@@ -1,5 +1,5 @@
 -- What the program makes of a recording: its transcript, and how the run ends.
-use Rattle.std.specs.Prelude.{ℕ, ◌+◌, ◌-◌, ◌==◌, ◌||◌, Bool, List, [], ◌∷◌, ◌++◌, length, Option, Some, None, nat_lt, if◌then◌else◌}
+use Rattle.std.specs.Prelude.{ℕ, ◌+◌, ◌-◌, ◌||◌, Bool, List, [], ◌∷◌, ◌++◌, length, Option, Some, None, nat_lt, if◌then◌else◌}
 use Rattle.std.specs.List.{slice_split}
 use Rattle.mum_record.specs.declared.step.Step.{Step}
 use Rattle.mum_record.specs.declared.step.Step.TheVariants as steps
@@ -107,6 +107,11 @@ end_fault left rest = if is_too_long left (length rest) (length rest) then TooLo
 abbrev pub ending_of : Phase → ℕ → ℕ → List ℕ → End
 ending_of Over n left [] = Finished
 ending_of phase n left rest = Faulty n (end_fault left rest)
+
+-- at the end of the input behind a line feed: the recording is over, or line n is missing
+abbrev pub end_of : Phase → ℕ → End
+end_of Over n = Finished
+end_of phase n = Faulty n BadRecording
 
 -- the run from line n on, in a phase, where so many bytes may still come: the lines in order up to
 -- the first that is faulty. The last piece is what no line feed ends

@@ -1,17 +1,15 @@
 -- What the code that runs over a recording answers, in the words of its definition.
-use Rattle.std.specs.Prelude.{◌≡◌, ◌+◌, ◌-◌, ℕ, Bool, true, false, List, [], ◌∷◌, ◌++◌, length, Option, Some, None, Result, Ok, Err, ⊤, string_bytes}
-use Rattle.std.specs.List.{slice_split}
-use Rattle.std.specs.Borrow.{Bor}
+use Rattle.std.specs.Prelude.{◌≡◌, ◌+◌, ℕ, Bool, true, false, List, [], ◌++◌, Option, Some, None, Result, Ok, Err, ⊤, string_bytes}
 use Rattle.mum_record.specs.Head.{config_of}
 use Rattle.mum_record.specs.declared.step.Step.{Step}
 use Rattle.mum_record.specs.declared.step.Step.TheVariants as words
-use Rattle.mum_server.specs.declared.{end.End.End, end.End.TheVariants.Faulty, end.End.TheVariants.OutOfMemory, end.LineFault.TheVariants.BadRecording, end.LineFault.TheVariants.BadConfig, replay.Phase.Phase, replay.Phase.TheVariants.Running, replay.Run.Run}
+use Rattle.mum_server.specs.declared.{end.End.End, end.End.TheVariants.Faulty, end.End.TheVariants.OutOfMemory, end.LineFault.TheVariants.BadRecording, end.LineFault.TheVariants.BadConfig, replay.Phase.Phase, replay.Phase.TheVariants.Running, replay.Phase.TheVariants.Over, replay.Run.Run}
 use Rattle.mum_core.specs.Core.{CoreState}
 use Rattle.mum_core.specs.Line.{text_of}
 use Rattle.mum_core.specs.Step.{does, lines}
 use Rattle.mum_state.specs.declared.edit.Edit.{Edit}
 use Rattle.mum_server.specs.Opening.{document_edits, document_fault}
-use Rattle.mum_server.specs.Replay.{Goes, Stops, answer, config_answer, step_answer, phase_after, line_answer}
+use Rattle.mum_server.specs.Replay.{Answer, Goes, Stops, answer, config_answer, step_answer, phase_after}
 
 -- line n was taken, with these bytes told; or it is where the run ends
 abbrev pub Answers : ℕ → Phase → List ℕ → Result ⊤ End → Phase → List ℕ → Type 0
@@ -19,6 +17,13 @@ Answers n old line (Ok done) new text = (told : List (List (List ℕ))) × (answ
 Answers n old line (Err (Faulty m fault)) new text = (answer old line ≡ Stops fault) × (m ≡ n)
 Answers n old line (Err OutOfMemory) new text = Unit {0}
 Answers n old line (Err others) new text = ⊥
+
+-- line n of the head was taken, and tells nothing; or it is where the run ends
+abbrev pub Moves : ℕ → Answer → Result ⊤ End → Phase → Type 0
+Moves n answer (Ok done) new = answer ≡ Goes new []
+Moves n answer (Err (Faulty m fault)) new = (answer ≡ Stops fault) × (m ≡ n)
+Moves n answer (Err OutOfMemory) new = Unit {0}
+Moves n answer (Err others) new = ⊥
 
 -- the document that line n names, or that it names none
 abbrev pub Names : ℕ → Option (List ℕ) → Result (List ℕ) End → Type 0
@@ -68,14 +73,20 @@ abbrev pub is_end : Step → Bool
 is_end words.End = true
 is_end others = false
 
--- a run took its next line
-pub record IsNext (old new : Run) (line : List ℕ) : Type 0 where
-  pub number : new.line ≡ old.line + 1
-  pub left : new.left ≡ old.left - (length line + 1)
+-- the step that line n says was taken, with these bytes told, and is the last or not; or it is where the run ends
+abbrev pub LineAnswers : ℕ → CoreState → List ℕ → Result Bool End → CoreState → List ℕ → Type 0
+LineAnswers n core line (Ok true) new text =
+    (told : List (List (List ℕ))) × (answer (Running core) line ≡ Goes Over told) × (text ≡ text_of told)
+LineAnswers n core line (Ok false) new text =
+    (told : List (List (List ℕ))) × (answer (Running core) line ≡ Goes (Running new) told) × (text ≡ text_of told)
+LineAnswers n core line (Err (Faulty m fault)) new text = (answer (Running core) line ≡ Stops fault) × (m ≡ n)
+LineAnswers n core line (Err OutOfMemory) new text = Unit {0}
+LineAnswers n core line (Err others) new text = ⊥
 
+-- a run took its next line, or ends there
 abbrev pub Advances : Run → List ℕ → Result ⊤ End → Run → Type 0
 Advances old line (Ok done) new =
-    (told : List (List (List ℕ))) × (line_answer old.phase old.left line ≡ Goes new.phase told) × (string_bytes new.text ≡ text_of told) × IsNext old new line
-Advances old line (Err (Faulty n fault)) new = (line_answer old.phase old.left line ≡ Stops fault) × (n ≡ old.line)
+    (told : List (List (List ℕ))) × (answer old.phase line ≡ Goes new.phase told) × (string_bytes new.text ≡ text_of told) × (new.line ≡ old.line + 1)
+Advances old line (Err (Faulty n fault)) new = (answer old.phase line ≡ Stops fault) × (n ≡ old.line)
 Advances old line (Err OutOfMemory) new = Unit {0}
 Advances old line (Err others) new = ⊥

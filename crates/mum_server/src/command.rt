@@ -1,7 +1,7 @@
 //! What the words of the command line ask for.
 
 ghost use Rattle.std.specs.Prelude.{◌≡◌, ◌↔◌, ◌<◌, ◌∷◌, [], ℕ, IfSome, IsTrue, List, MatchOption, codes, map, string_bytes};
-ghost use Rattle.mum_server.specs.Command.{Asks, AsksServe, BeginsWithServe, IsExercise, IsServe, replay_words};
+ghost use Rattle.mum_server.specs.Command.{Asks, AsksServe, BeginsWithServe, IsExercise, IsServe, audit_words, replay_words};
 
 use mum_record::number_within;
 
@@ -16,6 +16,8 @@ pub const CONNECTIONS_LIMIT: u64 = 1_000_000;
 pub enum Command {
     /// Run the recording that the input is, and write its transcript.
     Replay,
+    /// Audit the journal that the input is, and write a line of its counts.
+    Audit,
     /// Run the exercise of a seed, of so many rounds, and write a line of what came of it.
     Exercise { seed: u64, rounds: u32 },
 }
@@ -31,6 +33,15 @@ fn is_replay(words: &[String]) -> bool
 {
     match words {
         [word] => is_word(word.as_str(), "replay"),
+        _ => false,
+    }
+}
+
+fn is_audit(words: &[String]) -> bool
+    ensures { IsTrue result ↔ (map string_bytes words.now ≡ audit_words) }
+{
+    match words {
+        [word] => is_word(word.as_str(), "audit"),
         _ => false,
     }
 }
@@ -59,6 +70,9 @@ pub fn command_of(words: &[String]) -> Option<Command>
 {
     if is_replay(words) {
         return Some(Command::Replay);
+    }
+    if is_audit(words) {
+        return Some(Command::Audit);
     }
     let (seed, rounds) = exercise_in(words)?;
     Some(Command::Exercise { seed, rounds })

@@ -19,10 +19,14 @@ pub enum LineFault {
     TooLong,
     /// It is not in the grammar of recordings.
     BadRecording,
+    /// It is not in the grammar of journals.
+    BadJournal,
     /// It names a document that is no configuration: the first fault of it, and the key at which that is.
     BadConfig { cause: ConfigFault, key: Text },
     /// Its step is not allowed: what the step gave, against what stands.
     IllegalStep { given: u64, against: u64 },
+    /// Its entry of a journal is wrong: what it says, and what it had to say.
+    AuditWrong { given: Text, defined: Text },
 }
 
 /// How the program ends.
@@ -109,6 +113,28 @@ fn push_numbers(
     push_words(alloc, text, &words)
 }
 
+/// Appends the line whose entry is wrong, what it says and what it had to say.
+fn push_entry<'a>(
+    alloc: Global,
+    text: &mut String,
+    n: u64,
+    given: &'a str,
+    defined: &'a str,
+) -> Result<(), OutOfMemory>
+    ensures { IfOk result (λ _. string_bytes text.new ≡ string_bytes text.old
+        ++ flat_map behind_word (details n (faults.AuditWrong given.now defined.now))) }
+{
+    let words = [
+        Word::Name("line"),
+        Word::Number(n),
+        Word::Name("given"),
+        Word::Name(given),
+        Word::Name("defined"),
+        Word::Name(defined),
+    ];
+    push_words(alloc, text, &words)
+}
+
 impl LineFault {
     /// The status of a run that ends at this fault.
     pub fn status(&self) -> u8
@@ -117,8 +143,10 @@ impl LineFault {
         match self {
             LineFault::TooLong => 10,
             LineFault::BadRecording => 2,
+            LineFault::BadJournal => 2,
             LineFault::BadConfig { .. } => 6,
             LineFault::IllegalStep { .. } => 7,
+            LineFault::AuditWrong { .. } => 5,
         }
     }
 
@@ -128,8 +156,10 @@ impl LineFault {
         match self {
             LineFault::TooLong => "TooLong",
             LineFault::BadRecording => "BadRecording",
+            LineFault::BadJournal => "BadJournal",
             LineFault::BadConfig { .. } => "BadConfig",
             LineFault::IllegalStep { .. } => "IllegalStep",
+            LineFault::AuditWrong { .. } => "AuditWrong",
         }
     }
 
@@ -140,11 +170,15 @@ impl LineFault {
         match self {
             LineFault::TooLong => push_place(alloc, text, n),
             LineFault::BadRecording => push_place(alloc, text, n),
+            LineFault::BadJournal => push_place(alloc, text, n),
             LineFault::BadConfig { cause, key } => {
                 push_config_fault(alloc, text, *cause, key.as_str())
             }
             LineFault::IllegalStep { given, against } => {
                 push_numbers(alloc, text, n, *given, *against)
+            }
+            LineFault::AuditWrong { given, defined } => {
+                push_entry(alloc, text, n, given.as_str(), defined.as_str())
             }
         }
     }

@@ -21,7 +21,7 @@ use crate::draws::{Act, Draws, Round, USERS};
 use crate::opening::open_core;
 use crate::tally::Tally;
 use mum_base::{Mark, Octets, OutOfMemory, SessionId};
-use mum_core::{Core, StepFault, Totals};
+use mum_core::{PlainCore, StepFault, Totals};
 use mum_record::{Step, Word, push_line};
 use std::alloc::{AllocError, Global};
 use std::marker::Model;
@@ -40,7 +40,7 @@ pub const DOCUMENT: &str =
 
 /// A core at the configuration of an exercise, to which nothing happened. The configuration has no fault,
 /// so any error is want of memory.
-fn core_at_opening(alloc: Global) -> Result<Core, OutOfMemory>
+fn core_at_opening(alloc: Global) -> Result<PlainCore, OutOfMemory>
     ensures core { IfOk result (λ core. core ≡ start One (opening None document) WORKERS) }
     ensures good { document_fault document ≡ None }
 {
@@ -77,7 +77,7 @@ fn frame_step(connection: u32, bytes: Octets) -> Step
 /// An exercise that is under way.
 #[derive(Drop)]
 struct Course {
-    core: Core,
+    core: PlainCore,
     /// The steps that were taken.
     steps: Vec<Step>,
     tally: Tally,
@@ -284,14 +284,14 @@ impl Course {
         requires { (target : ℕ) → round.act ≡ Talk target → target < 2 }
         ensures { OnOk result (self.new ≡ played number round self.old) }
     {
-        let asker = round.connection;
+        let actor_from = round.connection;
         match round.act {
-            Act::Talk { target } => self.speak(asker, voice_frame(alloc, target, number)?),
-            Act::Enter { channel } => self.command(asker, enter_frame(alloc, channel)?),
-            Act::Link { channel } => self.command(asker, link_frame(alloc, channel)?),
-            Act::SetSelfMute { muted } => self.command(asker, self_mute_frame(alloc, muted)?),
-            Act::Listen { channel } => self.command(asker, listen_frame(alloc, channel)?),
-            Act::Aim { channel } => self.command(asker, aim_frame(alloc, channel)?),
+            Act::Talk { target } => self.speak(actor_from, voice_frame(alloc, target, number)?),
+            Act::Enter { channel } => self.command(actor_from, enter_frame(alloc, channel)?),
+            Act::Link { channel } => self.command(actor_from, link_frame(alloc, channel)?),
+            Act::SetSelfMute { muted } => self.command(actor_from, self_mute_frame(alloc, muted)?),
+            Act::Listen { channel } => self.command(actor_from, listen_frame(alloc, channel)?),
+            Act::Aim { channel } => self.command(actor_from, aim_frame(alloc, channel)?),
         }
     }
 

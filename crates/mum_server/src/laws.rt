@@ -1,13 +1,19 @@
-//! What follows from the definitions for every recording and every exercise. These functions do nothing:
+//! What follows from the definitions for every recording, every journal and every exercise. These functions do nothing:
 //! each contract is a theorem.
 
-ghost use Rattle.std.specs.Prelude.{◌≡◌, ℕ, List, Option, None, IfSome};
+ghost use Rattle.std.specs.Prelude.{◌≡◌, ◌↔◌, ℕ, List, Option, None, IfSome, Ok};
 ghost use Rattle.mum_state.specs.Proper.{IsProper};
 ghost use Rattle.mum_record.specs.Head.{AreLimits};
 ghost use Rattle.mum_record.specs.declared.head.Version.TheVariants.{One};
+ghost use Rattle.mum_record.specs.declared.journal.Journal.{Journal};
+ghost use Rattle.mum_opening.specs.Opening as head;
+ghost use Rattle.mum_audit.specs.Legal.{IsLegal};
 ghost use Rattle.mum_core.specs.Core.{start};
 ghost use Rattle.mum_core.specs.Laws.{IsRun, ran};
+ghost use Rattle.mum_server.specs.Audit.{audit_of};
 ghost use Rattle.mum_server.specs.Exercise.{document, exercised};
+ghost use Rattle.mum_server.specs.JournalText.{journal_read};
+ghost use Rattle.mum_server.specs.declared.end.End.TheVariants.{Finished};
 ghost use Rattle.mum_server.specs.Opening.{document_fault, opening};
 ghost use Rattle.mum_server.specs.declared.exercise.TheConstants.{WORKERS};
 
@@ -15,6 +21,13 @@ ghost use Rattle.mum_server.specs.declared.exercise.TheConstants.{WORKERS};
 /// say of runs from a proper opening holds of every recording.
 pub fn recordings_open_properly()
     ensures { (limits : Option (ℕ × ℕ)) (document : List ℕ) → IfSome limits AreLimits → document_fault document ≡ None → IsProper (opening limits document) }
+{}
+
+/// A journal whose configuration has no fault passes its audit exactly where it is legal: only then the program ends
+/// well.
+pub fn legal_journals_pass()
+    ensures { (bytes : List ℕ) (journal : Journal) → journal_read bytes ≡ Ok journal → head.document_fault journal.config ≡ None
+        → ((audit_of bytes).ending ≡ Finished) ↔ IsLegal journal }
 {}
 
 /// The steps of an exercise are a recording: each is allowed where it comes, and they lead to the core of

@@ -1,12 +1,14 @@
-//! The runs of the server: the program's call over a recording or an exercise. An exercise is a generated
+//! The runs of the server: the program's call over a recording, a journal or an exercise. An exercise is a generated
 //! session of 16 users who talk and change channels, links, mutes, listening and voice targets.
 #![tactic(auto)]
 
 mod acts;
+mod audit;
 mod command;
 pub mod draws;
 mod end;
 mod exercise;
+mod journal_input;
 pub mod laws;
 mod opening;
 mod program;

@@ -11,7 +11,7 @@ ghost use Rattle.mum_server.specs.Runs.{Begins, Describes, Names, Opens};
 use crate::end::{End, LineFault};
 use mum_base::{Items, Octets, OutOfMemory};
 use mum_config::{BadConfig, Config, read_config};
-use mum_core::Core;
+use mum_core::PlainCore;
 use mum_history::{state_after, state_from};
 use mum_record::{Version, read_config_line, read_limits};
 use mum_state::{Edit, State};
@@ -132,12 +132,12 @@ pub(crate) fn open_core(
     workers: u8,
     limits: Option<Limits>,
     document: &[u8],
-) -> Result<Core, End>
+) -> Result<PlainCore, End>
     ensures { Opens n workers limits document.now result }
 {
     let edits = edits_of(alloc, n, document)?;
     let opening = opening_state(alloc, limits, edits.as_slice())?;
-    Ok(Core::begin(alloc, version_with(limits), workers, opening)?)
+    Ok(PlainCore::begin(alloc, version_with(limits), workers, opening)?)
 }
 
 /// The core at which the steps begin behind line `n`, which names the configuration.
@@ -147,7 +147,7 @@ pub(crate) fn begin(
     workers: u8,
     limits: Option<Limits>,
     line: &[u8],
-) -> Result<Core, End>
+) -> Result<PlainCore, End>
     ensures { Begins n workers limits line.now result }
 {
     let document = read_document(alloc, n, line)?;

@@ -3,7 +3,8 @@
 ghost use Rattle.std.specs.Prelude.{◌≡◌, ◌⊎◌, ◌==◌, ℕ, map, string_bytes, IsTrue, IfSome};
 ghost use Rattle.std.specs.List.{list_any};
 ghost use Rattle.mum_io.specs.Outside.{AppendsFront, Rose};
-ghost use Rattle.mum_server.specs.Command.{IsExercise, IsNoCommand, replay_words};
+ghost use Rattle.mum_server.specs.Audit.{audit_of};
+ghost use Rattle.mum_server.specs.Command.{IsExercise, IsNoCommand, audit_words, replay_words};
 ghost use Rattle.mum_server.specs.End.{memory_line, read_fault_line, said, said_of, statuses, write_fault_line};
 ghost use Rattle.mum_server.specs.Exercise.{exercise_outcome};
 ghost use Rattle.mum_server.specs.Program.{IsWhole, IsCutShort, Tells, Ends, ReadsCounted, WritesCounted, Reports, outcome_of, usage_line};
@@ -11,29 +12,16 @@ ghost use Rattle.mum_server.specs.Replay.{replayed};
 ghost use Rattle.mum_server.specs.declared.command.Command.TheVariants.{Exercise};
 ghost use Rattle.mum_server.specs.declared.end.End.TheVariants.{Faulty};
 
+use crate::audit::audit_input;
 use crate::command::{Command, command_of};
 use crate::end::{End, LineFault, MEMORY_LINE, READ_FAULT_LINE, WRITE_FAULT_LINE};
 use crate::exercise::account;
 use crate::replay::replay;
-use mum_io::{ReadFault, Sink, Source, read_up_to, write_all};
-use mum_record::INPUT_LIMIT;
+use mum_io::{Sink, Source, write_all};
 use std::alloc::Global;
 
 pub(crate) const USAGE_LINE: &str =
     "usage: murmur replay | audit | exercise SEED STEPS | serve ADDRESS SESSIONS [journal]\n";
-
-/// Reads the recording, and writes its transcript.
-fn run_recording<I: Source, O: Sink>(alloc: Global, input: &mut I, output: &mut O) -> End
-    ensures ends { IfSome (I.left input.old) (λ bytes. Ends (replayed bytes) result (O.written output.old) (O.written output.new)) }
-    ensures reads { ReadsCounted result (I.faults input.old) (I.faults input.new) }
-    ensures writes { WritesCounted result (O.faults output.old) (O.faults output.new) }
-{
-    match read_up_to(alloc, input, INPUT_LIMIT) {
-        Ok(bytes) => replay(alloc, &bytes, output),
-        Err(ReadFault::Failed) => End::ReadFault,
-        Err(ReadFault::OutOfMemory) => End::OutOfMemory,
-    }
-}
 
 /// Runs an exercise, and writes the line of what came of it.
 fn run_exercise<O: Sink>(alloc: Global, seed: u64, rounds: u32, output: &mut O) -> End
@@ -58,7 +46,8 @@ fn run<I: Source, O: Sink>(alloc: Global, command: Command, input: &mut I, outpu
     ensures untouched { (seed rounds : ℕ) → command ≡ Exercise seed rounds → (input.new ≡ input.old) × (result ≡ End.ReadFault → ⊥) }
 {
     match command {
-        Command::Replay => run_recording(alloc, input, output),
+        Command::Replay => replay(alloc, input, output),
+        Command::Audit => audit_input(alloc, input, output),
         Command::Exercise { seed, rounds } => run_exercise(alloc, seed, rounds, output),
     }
 }
@@ -114,7 +103,7 @@ pub(crate) fn report<E: Sink>(alloc: Global, end: &End, errors: &mut E) -> u8
 }
 
 /// The program without `serve`. `replay` reads a recording from the input and writes its transcript to the
-/// output; `exercise SEED STEPS` runs a session that is drawn from a seed, and writes one line of what came of
+/// output; `audit` reads a journal and writes one line of counts where it is legal; `exercise SEED STEPS` runs a session that is drawn from a seed, and writes one line of what came of
 /// it. What goes wrong is said in one line on the error stream, and the exit status tells it. Other words are
 /// answered by the usage line.
 pub fn run_plain<I: Source, O: Sink, E: Sink>(
@@ -133,6 +122,13 @@ pub fn run_plain<I: Source, O: Sink, E: Sink>(
     // The line of that status is said.
     ensures says { map string_bytes words.now ≡ replay_words → IfSome (I.left input.old) (λ bytes.
         Tells (said result (replayed bytes).ending) (E.written errors.old) (E.written errors.new) (Rose (E.faults errors.old) (E.faults errors.new))) }
+    // The counts of a legal journal are written, or the status is that of its first fault, or the run is cut short.
+    ensures audit { map string_bytes words.now ≡ audit_words → IfSome (I.left input.old) (λ bytes.
+        IsWhole (audit_of bytes) result (O.written output.old) (O.written output.new)
+        ⊎ (AppendsFront (O.written output.old) (O.written output.new) (audit_of bytes).text
+        × IsCutShort result (Rose (I.faults input.old) (I.faults input.new)) (Rose (O.faults output.old) (O.faults output.new)))) }
+    ensures audit_says { map string_bytes words.now ≡ audit_words → IfSome (I.left input.old) (λ bytes.
+        Tells (said result (audit_of bytes).ending) (E.written errors.old) (E.written errors.new) (Rose (E.faults errors.old) (E.faults errors.new))) }
     // An exercise reads nothing. Its line is written and the status is 0, or it is cut short by a write
     // that failed or by want of memory.
     ensures exercise { (seed rounds : ℕ) → IsExercise (map string_bytes words.now) seed rounds →

@@ -1,21 +1,21 @@
 //! A recording, line by line: its transcript, and how the run over it ends.
 
-ghost use Rattle.std.specs.Prelude.{position, ◌≡◌, ◌+◌, ◌<◌, ◌^◌, [], IfOk, IfSome, OnOk, false, length, option_map, string_bytes, true};
+ghost use Rattle.std.specs.Prelude.{◌≡◌, ◌+◌, ◌<◌, ◌^◌, [], IfOk, IfSome, false, string_bytes, true};
 ghost use Rattle.mum_io.specs.Outside.{Appends, AppendsFront, Rose};
+ghost use Rattle.mum_lines.specs.Lines.{at_start};
 ghost use Rattle.mum_record.specs.Grammar.{IsRecordable};
+ghost use Rattle.mum_record.specs.Head.{config_of, limits_of, recording_version, workers_of};
 ghost use Rattle.mum_record.specs.Reading.{step_of};
-ghost use Rattle.mum_record.specs.declared.split.TheConstants.{INPUT_LIMIT};
-ghost use Rattle.mum_server.specs.Program.{Ends, WritesCounted};
-ghost use Rattle.mum_server.specs.Replay.{replayed, ending_of, phase_behind_workers};
-ghost use Rattle.mum_server.specs.Runs.{Answers, Says, Advances, StepAnswers, is_end};
+ghost use Rattle.mum_server.specs.Program.{Ends, ReadsCounted, WritesCounted};
+ghost use Rattle.mum_server.specs.Replay.{config_answer, end_of, limits_answer, phase_behind_workers, replayed, version_answer, workers_answer};
+ghost use Rattle.mum_server.specs.Runs.{Advances, Answers, LineAnswers, Moves, Says, StepAnswers, is_end};
 
 use crate::end::{End, LineFault};
 use crate::opening::{Limits, begin};
-use mum_core::{Core, StepFault};
-use mum_io::{Sink, write_all};
-use mum_record::{
-    INPUT_LIMIT, LINE_LIMIT, Step, Version, read_step, read_workers, recording_version, split_line,
-};
+use mum_core::{PlainCore, StepFault};
+use mum_io::{Sink, Source, write_all};
+use mum_lines::{LineEnd, LineReader};
+use mum_record::{Step, Version, read_step, read_workers, recording_version};
 use std::alloc::Global;
 use std::mem::{drop, replace};
 
@@ -33,7 +33,7 @@ pub enum Phase {
     /// The line of the configuration, behind the number of workers and the limits.
     LimitedConfig(u8, Limits),
     /// The lines of steps.
-    Running(Core),
+    Running(PlainCore),
     /// None.
     Over,
 }
@@ -51,7 +51,7 @@ fn read(alloc: Global, n: u64, line: &[u8]) -> Result<Step, End>
 }
 
 /// Takes line `n`, which says a step, and appends what it tells.
-fn take_step(core: &mut Core, n: u64, step: &Step, text: &mut String) -> Result<(), End>
+fn take_step(core: &mut PlainCore, n: u64, step: &Step, text: &mut String) -> Result<(), End>
     requires { IsRecordable step.now }
     ensures { StepAnswers n core.old step.now (string_bytes text.old) result core.new (string_bytes text.new) }
 {
@@ -84,6 +84,23 @@ fn behind_workers(version: Version, workers: u8) -> Phase
     }
 }
 
+/// Takes line `n`, which says a step, and appends what it tells. Whether it was the last.
+#[tactic(auto, unfolding(crate::specs::Replay::answer))]
+fn take_line(
+    alloc: Global,
+    core: &mut PlainCore,
+    n: u64,
+    line: &[u8],
+    text: &mut String,
+) -> Result<bool, End>
+    requires { string_bytes text.old ≡ [] }
+    ensures { LineAnswers n core.old line.now result core.new (string_bytes text.new) }
+{
+    let step = read(alloc, n, line)?;
+    take_step(core, n, &step, text)?;
+    Ok(is_end(&step))
+}
+
 impl Phase {
     /// Goes over to another phase.
     #[inline(never)]
@@ -91,6 +108,55 @@ impl Phase {
         ensures { self.new ≡ next }
     {
         drop(replace(self, next));
+    }
+
+    /// Takes the first line, which names the version.
+    fn take_version(&mut self, n: u64, line: &[u8]) -> Result<(), End>
+        ensures { Moves n (version_answer (recording_version line.now)) result self.new }
+    {
+        let Some(version) = recording_version(line) else {
+            return Err(End::faulty(n, LineFault::BadRecording));
+        };
+        self.turn(Phase::Workers(version));
+        Ok(())
+    }
+
+    /// Takes the line of the number of workers.
+    fn take_workers(&mut self, n: u64, version: Version, line: &[u8]) -> Result<(), End>
+        ensures { Moves n (workers_answer version (workers_of line.now)) result self.new }
+    {
+        let Some(workers) = read_workers(line) else {
+            return Err(End::faulty(n, LineFault::BadRecording));
+        };
+        self.turn(behind_workers(version, workers));
+        Ok(())
+    }
+
+    /// Takes the line of the limits.
+    fn take_limits(&mut self, n: u64, workers: u8, line: &[u8]) -> Result<(), End>
+        ensures { Moves n (limits_answer workers (limits_of line.now)) result self.new }
+    {
+        let Some(limits) = Limits::read(line) else {
+            return Err(End::faulty(n, LineFault::BadRecording));
+        };
+        self.turn(Phase::LimitedConfig(workers, limits));
+        Ok(())
+    }
+
+    /// Takes the line of the configuration.
+    fn take_config(
+        &mut self,
+        alloc: Global,
+        n: u64,
+        workers: u8,
+        limits: Option<Limits>,
+        line: &[u8],
+    ) -> Result<(), End>
+        ensures { Moves n (config_answer workers limits (config_of line.now)) result self.new }
+    {
+        let core = begin(alloc, n, workers, limits, line)?;
+        self.turn(Phase::Running(core));
+        Ok(())
     }
 
     /// Takes line `n`, which is not too long, and appends what it tells to the transcript, which has
@@ -101,43 +167,25 @@ impl Phase {
         ensures { Answers n self.old line.now result self.new (string_bytes text.new) }
     {
         match self {
-            Phase::Head => {
-                let Some(version) = recording_version(line) else {
-                    return Err(End::faulty(n, LineFault::BadRecording));
-                };
-                self.turn(Phase::Workers(version));
-                Ok(())
-            }
+            Phase::Head => self.take_version(n, line),
             Phase::Workers(version) => {
-                let Some(workers) = read_workers(line) else {
-                    return Err(End::faulty(n, LineFault::BadRecording));
-                };
-                let next = behind_workers(*version, workers);
-                self.turn(next);
-                Ok(())
+                let version = *version;
+                self.take_workers(n, version, line)
             }
             Phase::Limits(workers) => {
-                let Some(limits) = Limits::read(line) else {
-                    return Err(End::faulty(n, LineFault::BadRecording));
-                };
-                let next = Phase::LimitedConfig(*workers, limits);
-                self.turn(next);
-                Ok(())
+                let workers = *workers;
+                self.take_limits(n, workers, line)
             }
             Phase::Config(workers) => {
-                let core = begin(alloc, n, *workers, None, line)?;
-                self.turn(Phase::Running(core));
-                Ok(())
+                let workers = *workers;
+                self.take_config(alloc, n, workers, None, line)
             }
             Phase::LimitedConfig(workers, limits) => {
-                let core = begin(alloc, n, *workers, Some(*limits), line)?;
-                self.turn(Phase::Running(core));
-                Ok(())
+                let (workers, limits) = (*workers, *limits);
+                self.take_config(alloc, n, workers, Some(limits), line)
             }
             Phase::Running(core) => {
-                let step = read(alloc, n, line)?;
-                take_step(core, n, &step, text)?;
-                if !is_end(&step) {
+                if !take_line(alloc, core, n, line, text)? {
                     return Ok(());
                 }
                 self.turn(Phase::Over);
@@ -154,8 +202,6 @@ struct Run {
     phase: Phase,
     /// The number of the next line, from 1.
     line: u64,
-    /// How many bytes may still come.
-    left: usize,
     /// What the last line told.
     text: String,
 }
@@ -164,44 +210,33 @@ impl Run {
     fn new(alloc: Global) -> Run
         ensures phase { result.phase ≡ Phase.Head }
         ensures line { result.line ≡ 1 }
-        ensures left { result.left ≡ INPUT_LIMIT }
     {
         Run {
             phase: Phase::Head,
             line: 1,
-            left: INPUT_LIMIT,
             text: String::new(alloc),
         }
     }
 
-    /// Takes the next line, which a line feed ends.
+    /// Takes the next line.
     fn take(&mut self, alloc: Global, line: &[u8]) -> Result<(), End>
         requires { self.old.line + 1 < 2 ^ 64 }
         ensures { Advances self.old line.now result self.new }
     {
-        if line.len() > LINE_LIMIT || line.len() >= self.left {
-            return Err(End::faulty(self.line, LineFault::TooLong));
-        }
         self.text.clear();
         self.phase.take(alloc, self.line, line, &mut self.text)?;
         self.line += 1;
-        self.left -= line.len() + 1;
         Ok(())
     }
 
-    /// How the run ends before bytes that no line feed ends.
-    fn end(&self, rest: &[u8]) -> End
-        ensures { result ≡ ending_of self.now.phase self.now.line self.now.left rest.now }
+    /// How the run ends at the end of the input.
+    fn ended(&self) -> End
+        ensures { result ≡ end_of self.now.phase self.now.line }
     {
-        if let (Phase::Over, []) = (&self.phase, rest) {
-            return End::Finished;
+        match self.phase {
+            Phase::Over => End::Finished,
+            _ => End::faulty(self.line, LineFault::BadRecording),
         }
-        let fault = if rest.len() > LINE_LIMIT || rest.len() > self.left {
-            LineFault::TooLong
-        } else {
-            LineFault::BadRecording
-        };
-        End::faulty(self.line, fault)
     }
 }
 
@@ -213,17 +248,30 @@ fn wrote<O: Sink>(output: &mut O, text: &str) -> bool
     write_all(output, text.as_bytes()).is_ok()
 }
 
-/// Writes the transcript of a recording, line by line, from a run that took no line yet on.
-fn replay_lines<O: Sink>(alloc: Global, run: &mut Run, bytes: &[u8], output: &mut O) -> End
+/// Writes the transcript of a recording, line by line, from a run that took no line yet on. What a line tells is
+/// written before the next line is read.
+fn replay_lines<I: Source, O: Sink>(
+    alloc: Global,
+    reader: &mut LineReader,
+    run: &mut Run,
+    input: &mut I,
+    output: &mut O,
+) -> End
+    requires reader { reader.old ≡ at_start }
     requires phase { run.old.phase ≡ Phase.Head }
     requires line { run.old.line ≡ 1 }
-    requires left { run.old.left ≡ INPUT_LIMIT }
-    ensures ends { Ends (replayed bytes.now) result (O.written output.old) (O.written output.new) }
-    ensures counted { WritesCounted result (O.faults output.old) (O.faults output.new) }
-    ensures no_read { result ≡ End.ReadFault → ⊥ }
+    ensures ends { IfSome (I.left input.old) (λ bytes. Ends (replayed bytes) result (O.written output.old) (O.written output.new)) }
+    ensures reads { ReadsCounted result (I.faults input.old) (I.faults input.new) }
+    ensures writes { WritesCounted result (O.faults output.old) (O.faults output.new) }
 {
-    let mut rest = bytes;
-    'lines: while let Some((line, behind)) = split_line(rest) {
+    'lines: loop {
+        let line = match reader.next(input) {
+            LineEnd::Line(line) => line,
+            LineEnd::End => return run.ended(),
+            LineEnd::Rest(_) => return End::faulty(run.line, LineFault::BadRecording),
+            LineEnd::TooLong => return End::faulty(run.line, LineFault::TooLong),
+            LineEnd::Failed => return End::ReadFault,
+        };
         match run.take(alloc, line) {
             Ok(()) => {}
             Err(end) => return end,
@@ -231,19 +279,20 @@ fn replay_lines<O: Sink>(alloc: Global, run: &mut Run, bytes: &[u8], output: &mu
         if !wrote(output, run.text.as_str()) {
             return End::WriteFault;
         }
-        rest = behind;
     }
-    run.end(rest)
 }
 
-/// Writes the transcript of a recording, line by line, and tells how the run over it ended.
-pub fn replay<O: Sink>(alloc: Global, bytes: &[u8], output: &mut O) -> End
-    ensures ends { Ends (replayed bytes.now) result (O.written output.old) (O.written output.new) }
-    ensures counted { WritesCounted result (O.faults output.old) (O.faults output.new) }
-    ensures no_read { result ≡ End.ReadFault → ⊥ }
+/// Reads a recording and writes its transcript, line by line, and tells how the run over it ended.
+pub(crate) fn replay<I: Source, O: Sink>(alloc: Global, input: &mut I, output: &mut O) -> End
+    ensures ends { IfSome (I.left input.old) (λ bytes. Ends (replayed bytes) result (O.written output.old) (O.written output.new)) }
+    ensures reads { ReadsCounted result (I.faults input.old) (I.faults input.new) }
+    ensures writes { WritesCounted result (O.faults output.old) (O.faults output.new) }
 {
+    let Ok(mut reader) = LineReader::new(alloc) else {
+        return End::OutOfMemory;
+    };
     let mut run = Run::new(alloc);
-    let end = replay_lines(alloc, &mut run, bytes, output);
+    let end = replay_lines(alloc, &mut reader, &mut run, input, output);
     drop(run);
     end
 }

@@ -1,48 +1,92 @@
 -- Each line that is taken goes on with what was told; each way out says what was written.
-use Rattle.std.proofs.Common.{◌∙◌, List, ℕ, refl, sym, subst}
+use Rattle.std.proofs.Common.{◌∙◌, List, ℕ, refl, ap, subst, arith}
 use Rattle.mum_io.specs.Outside.{Appends, AppendsFront}
-use Rattle.mum_server.specs.declared.end.End.{End}
-use Rattle.mum_server.specs.Program.{Ends}
-use Rattle.mum_server.specs.Replay.{replayed}
-use Rattle.mum_server.proofs.Underway.{starts, goes, breaks, halts, closes}
+use Rattle.mum_lines.specs.Lines.{ReaderState}
+use Rattle.mum_server.proofs.Underway.{begins, breaks_given, closes, goes_given, halts, pauses_given, stops_too_long, stops_unended}
 use Rattle.mum_server.proofs.replay.replay_lines.Goals as goal
 
 pub lines-init : goal.lines-init
 lines-init g c =
     record {
-      underway = rw (c.requires.phase, c.requires.line, c.requires.left) (starts (g.O.Sink.written c.args.output.now) c.args.bytes.now);
-      no_fault = refl;
+      underway = begins (g.O.Sink.written c.args.output.now) (g.I.Source.left c.args.input.now) c.args.reader.now c.args.run.now.phase c.args.run.now.line c.requires.reader c.requires.phase c.requires.line;
+      counted = omega (arith, c.requires.line, ap (λ (r : ReaderState). r.room) c.requires.reader);
+      read = refl;
+      wrote = refl;
     }
+
+pub returns-in-End-clause-ends : goal.returns-in-End-clause-ends
+returns-in-End-clause-ends g c =
+    let left = g.I.Source.left in
+    let written = g.O.Sink.written in
+    let given = rw c.in-End.is at c.next.follows.holds-at-none in
+    rw c.ended.ensures (closes (written c.args.output.now) (written c.lines.output) (left c.lines.input) (left c.next.new.input) (left c.args.input.now) c.lines.run.phase c.lines.run.line
+    c.lines.reader c.next.follows.lender-at-none c.lines.invariant.underway given.0 given.1 given.2)
+
+pub returns-in-Rest-clause-ends : goal.returns-in-Rest-clause-ends
+returns-in-Rest-clause-ends g c =
+    let left = g.I.Source.left in
+    let written = g.O.Sink.written in
+    let given = rw c.in-Rest.is at c.next.follows.holds-at-none in
+    rw c.faulty.ensures (stops_unended (written c.args.output.now) (written c.lines.output) (left c.lines.input) (left c.next.new.input) (left c.args.input.now) c.lines.run.phase c.lines.run.line
+    c.lines.reader c.next.follows.lender-at-none c.lines.invariant.underway given.0 given.1 (λ empty. given.3 (given.2 ∙ empty)) given.4)
+
+pub returns-in-TooLong-clause-ends : goal.returns-in-TooLong-clause-ends
+returns-in-TooLong-clause-ends g c =
+    let left = g.I.Source.left in
+    let written = g.O.Sink.written in
+    let given = rw c.in-TooLong.is at c.next.follows.holds-at-none in
+    rw c.faulty-in-TooLong.ensures (stops_too_long (written c.args.output.now) (written c.lines.output) (left c.lines.input) (left c.next.new.input) (left c.args.input.now) c.lines.run.phase c.lines.run.line
+    c.lines.reader c.next.follows.lender-at-none c.lines.invariant.underway given.0 given.1)
+
+pub returns-in-Failed-clause-ends : goal.returns-in-Failed-clause-ends
+returns-in-Failed-clause-ends g c =
+    let left = g.I.Source.left in
+    let written = g.O.Sink.written in
+    pauses_given (written c.args.output.now) (written c.lines.output) (left c.lines.input) (left c.args.input.now) c.lines.run.phase c.lines.run.line c.lines.reader c.lines.invariant.underway
+
+pub take-requires : goal.take-requires
+take-requires g c = omega (arith, c.lines.invariant.counted)
 
 pub lines-preserved : goal.lines-preserved
 lines-preserved g c =
+    let left = g.I.Source.left in
     let written = g.O.Sink.written in
     let run = c.lines.run in
+    let reader = c.next.follows.lender-at-none in
+    let parts = rw c.in-Line.is at c.next.follows.holds-at-none in
     let step = c.in-Ok.ensures in
     let whole = c.wrote.ensures.whole c.if-not-wrote.false in
     let told = subst (λ (t : List ℕ). Appends (written c.lines.output) (written c.wrote.new.output) t) (c.as_str.ensures.value ∙ step.2) whole.0 in
-    let gone = goes (written c.args.output.now) (written c.lines.output) (written c.wrote.new.output) run.phase run.line run.left c.in-Some.line.now c.lines.rest.now c.in-Some.behind.now c.args.bytes.now c.take.new.self.phase step.0 c.lines.invariant.underway c.in-Some.ensures.lines step.1 c.in-Some.ensures.shorter told in
+    let gone = goes_given (written c.args.output.now) (written c.lines.output) (written c.wrote.new.output) (left c.lines.input) (left c.next.new.input) (left c.args.input.now) run.phase c.take.new.self.phase
+    run.line c.lines.reader reader c.in-Line.line.now step.0 c.lines.invariant.underway parts step.1 told in
     record {
-      underway = rw (step.3.number, step.3.left) gone;
-      no_fault = whole.1 ∙ c.lines.invariant.no_fault;
+      underway = rw step.3 gone;
+      counted = omega (arith, step.3, parts.room, c.lines.invariant.counted);
+      read = c.in-Line.ensures.counts ∙ c.lines.invariant.read;
+      wrote = whole.1 ∙ c.lines.invariant.wrote;
     }
+
+pub lines-smaller : goal.lines-smaller
+lines-smaller g c =
+    let parts = rw c.in-Line.is at c.next.follows.holds-at-none in
+    omega (arith, parts.room)
 
 pub returns-in-Err-clause-ends : goal.returns-in-Err-clause-ends
 returns-in-Err-clause-ends g c =
-    halts (g.O.Sink.written c.args.output.now) (g.O.Sink.written c.lines.output) c.lines.run c.take.new.self c.in-Some.line.now c.lines.rest.now c.in-Some.behind.now c.args.bytes.now c.in-Err.end c.lines.invariant.underway c.in-Some.ensures.lines c.in-Err.ensures
+    let left = g.I.Source.left in
+    let written = g.O.Sink.written in
+    let parts = rw c.in-Line.is at c.next.follows.holds-at-none in
+    halts (written c.args.output.now) (written c.lines.output) (left c.lines.input) (left c.next.new.input) (left c.args.input.now) c.lines.run c.take.new.self c.lines.reader
+    c.next.follows.lender-at-none c.in-Line.line.now c.in-Err.end c.lines.invariant.underway parts c.in-Err.ensures
 
 pub returns-then-not-wrote-clause-ends : goal.returns-then-not-wrote-clause-ends
 returns-then-not-wrote-clause-ends g c =
+    let left = g.I.Source.left in
     let written = g.O.Sink.written in
     let run = c.lines.run in
+    let parts = rw c.in-Line.is at c.next.follows.holds-at-none in
     let step = c.in-Ok.ensures in
     let front = c.wrote.ensures.front c.if-not-wrote.true in
     let told = subst (λ (t : List ℕ). AppendsFront (written c.lines.output) (written c.wrote.new.output) t) (c.as_str.ensures.value ∙ step.2) front.0 in
-    breaks (written c.args.output.now) (written c.lines.output) (written c.wrote.new.output) run.phase run.line run.left c.in-Some.line.now c.lines.rest.now c.in-Some.behind.now c.args.bytes.now c.take.new.self.phase step.0 c.lines.invariant.underway c.in-Some.ensures.lines step.1 told
-
-pub returns-clause-ends : goal.returns-clause-ends
-returns-clause-ends g c =
-    let written = g.O.Sink.written in
-    let run = c.lines.run in
-    subst (λ (e : End). Ends (replayed c.args.bytes.now) e (written c.args.output.now) (written c.lines.output)) (sym c.end.ensures)
-    (closes (written c.args.output.now) (written c.lines.output) run.phase run.line run.left c.lines.rest.now c.args.bytes.now c.lines.invariant.underway c.in_default.ensures.lines)
+    breaks_given (written c.args.output.now) (written c.lines.output) (written c.wrote.new.output) (left c.lines.input) (left c.next.new.input) (left c.args.input.now) run.phase c.take.new.self.phase
+    run.line c.lines.reader c.next.follows.lender-at-none c.in-Line.line.now step.0 c.lines.invariant.underway parts step.1 told

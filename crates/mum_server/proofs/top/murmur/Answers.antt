@@ -8,6 +8,8 @@ returns-then-not-begins_with_serve-clause-plain g c = λ never.
       record {
         replay = plain.replay;
         says = plain.says;
+        audit = plain.audit;
+        audit_says = plain.audit_says;
         exercise = plain.exercise;
         exercise_says = plain.exercise_says;
         read_fault = plain.read_fault;

@@ -1,0 +1,34 @@
+-- A journal passes its audit where it is legal, and nowhere else.
+use Rattle.std.proofs.Common.{◌≡◌, ℕ, List, [], Option, Some, None, Ok, refl, sym, ap, ◌∙◌, subst}
+use Rattle.std.specs.Prelude.{◌↔◌}
+use Rattle.mum_document.specs.Fault.{Fault}
+use Rattle.mum_opening.specs.Opening.{document_fault}
+use Rattle.mum_record.specs.declared.journal.Journal.{Journal}
+use Rattle.mum_audit.specs.Audit.{answer, audited, findings, first_line, first_wrong}
+use Rattle.mum_audit.specs.Legal.{IsLegal}
+use Rattle.mum_audit.proofs.Law.{from_legal, legal_from}
+use Rattle.mum_server.specs.Audit.{answered, audit_of, found, judged, judged_with}
+use Rattle.mum_server.specs.JournalText.{journal_read}
+use Rattle.mum_server.specs.Replay.{Outcome}
+use Rattle.mum_server.specs.declared.end.End.TheVariants.{Finished}
+
+abbrev TypeOf : {A : Type 0} → A → Type 0
+TypeOf {A} x = A
+
+-- what is found first of wrong lines, which has no name here
+abbrev FirstWrong : Type 0
+FirstWrong = TypeOf (first_wrong 0 [])
+
+passes_by : (journal : Journal) (first : FirstWrong) → first_wrong (first_line journal) (findings journal) ≡ first → ((found (answer journal first)).ending ≡ Finished) ↔ IsLegal journal
+passes_by journal None is = (λ ends. legal_from journal is, λ legal. refl)
+passes_by journal (Some wrong) is = (λ ends. cc, λ legal. let none = sym (from_legal journal legal) ∙ is in cc)
+
+passes_found : (journal : Journal) → ((found (audited journal)).ending ≡ Finished) ↔ IsLegal journal
+unfolding audited
+passes_found journal = passes_by journal (first_wrong (first_line journal) (findings journal)) refl
+
+pub passes : (bytes : List ℕ) (journal : Journal) → journal_read bytes ≡ Ok journal → document_fault journal.config ≡ None → ((audit_of bytes).ending ≡ Finished) ↔ IsLegal journal
+unfolding audit_of
+passes bytes journal read faultless =
+    let outcome : audit_of bytes ≡ found (audited journal) = ap answered read ∙ ap (λ (fault : Option Fault). judged_with fault journal) faultless in
+    subst (λ (o : Outcome). (o.ending ≡ Finished) ↔ IsLegal journal) (sym outcome) (passes_found journal)

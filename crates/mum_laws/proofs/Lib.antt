@@ -1,0 +1,11 @@
+mod Counting
+mod Deciding
+mod Draining
+mod Finding
+mod Heading
+mod Offering
+mod Rejecting
+mod Staying
+mod Taking
+mod Transcribing
+mod Voicing

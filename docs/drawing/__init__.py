@@ -1,7 +1,10 @@
 """Draws recordings: their story, its rows, and the picture of them."""
 from .rows import gathered
-from .story import story_of
+from .story import NoStory, story_of
 from .svg import picture
+
+
+__all__ = ["NoStory", "picture_of"]
 
 
 def picture_of(recording, transcript, pings):

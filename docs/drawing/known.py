@@ -15,10 +15,18 @@ class Known:
         self.left = {}
         self.changes = []
         self.targets = {}
-        self.unheard = set()
-        self.revision = 0
+        self.edits = []
+        self.may_speak = {}
+        # the edits that moved users in a way that is known once they were sent of it: their revisions, with the
+        # channel that was removed, or None where a temporary one was made
+        self.moving = {}
 
     # ---- what is told
+
+    def begins(self, document):
+        """The channels of a configuration are there."""
+        for channel in document.get("channels", []):
+            self.channels.setdefault(channel["id"], channel.get("name", ""))
 
     def joins(self, name, revision):
         """A user logged in; its session."""
@@ -32,11 +40,15 @@ class Known:
 
     def accepted(self, session, kind, message, revision):
         """A command of a session was accepted."""
-        self.revision = revision
+        self.edits.append((revision, session, kind, message))
         if kind == mumble.USER_STATE:
             self.changes.append((revision, message.get("session", session), message))
         elif kind == mumble.USER_REMOVE:
             self.leaves(message.get("session"), revision)
+        elif kind == mumble.CHANNEL_REMOVE:
+            self.moving[revision] = message.get("channel_id")
+        elif kind == mumble.CHANNEL_STATE and message.get("temporary") and "channel_id" not in message:
+            self.moving[revision] = None
         elif kind == mumble.VOICE_TARGET:
             self.targets.setdefault((session, message.get("id")), []).append((revision, message.get("targets") or []))
 
@@ -45,17 +57,45 @@ class Known:
         if kind == mumble.CHANNEL_STATE and "name" in message:
             self.channels[message.get("channel_id")] = message["name"]
         elif kind == mumble.USER_STATE:
-            kept = {key: message[key] for key in ("suppress", "channel_id") if key in message}
-            self.changes.append((self.revision, message.get("session"), kept))
+            self.moved(self.revision_of(session, message), message)
+        elif kind == mumble.CHANNEL_REMOVE:
+            # who was in it was sent before
+            self.moving = {at: channel for at, channel in self.moving.items() if channel != message.get("channel_id")}
         elif kind == mumble.PERMISSION_QUERY and "flush" in message:
-            may_speak = message.get("permissions", 0) & mumble.PERMISSIONS["Speak"]
-            (self.unheard.discard if may_speak else self.unheard.add)(session)
+            may_speak = bool(message.get("permissions", 0) & mumble.PERMISSIONS["Speak"])
+            self.may_speak[session] = (self.newest(lambda _, made, __: made == mumble.ACL), may_speak)
+
+    def moved(self, revision, notice):
+        """A notice of a revision says where a user is, and whether it is suppressed."""
+        kept = {key: notice[key] for key in ("suppress", "channel_id") if key in notice}
+        self.changes.append((revision, notice.get("session"), kept))
+        self.changes.sort(key=lambda one: one[0])
+        if self.moving.get(revision, 0) is None:
+            del self.moving[revision]
+
+    def knows_places(self, revision):
+        """Whether it is known who is in which channel."""
+        return not any(at <= revision for at in self.moving)
+
+    def revision_of(self, session, notice):
+        """The revision of a notice about a user, which a session got: that of a login where the user is told whole."""
+        if "name" in notice:
+            return max(self.came.get(session, 0), self.came.get(notice.get("session"), 0))
+        return self.newest(lambda *edit: may_bring(edit, notice))
+
+    def newest(self, is_one):
+        """The revision of the newest edit that is one of these."""
+        return next((revision for revision, *edit in reversed(self.edits) if is_one(*edit)), 0)
 
     # ---- names
 
     def user(self, session):
         """The name of a session, or its number."""
         return self.names.get(session, f"session {session}")
+
+    def users(self, sessions):
+        """The names of sessions."""
+        return ", ".join(map(self.user, sessions))
 
     def session_text(self, session):
         """The name of a session behind the name of a field, or its number."""
@@ -81,7 +121,7 @@ class Known:
                 if self.came[session] <= revision and self.left.get(session, revision + 1) > revision]
 
     def why_nobody(self, session, target, revision):
-        """Why nobody hears a session, in words, as far as the recording shows it; else nothing."""
+        """Why nobody hears a session, in words, as far as the recording shows it or it follows from that."""
         state = self.state(session, revision)
         if session not in self.here(revision):
             came = session in self.came and self.came[session] <= revision
@@ -91,7 +131,9 @@ class Known:
                 return f"{self.user(session)} {words}"
         if target == 0:
             return self.why_no_talk(session, state["channel_id"], revision)
-        return "" if target == LOOPBACK else self.why_no_whisper(session, target, revision)
+        if target == LOOPBACK:
+            return f"{self.user(session)} is muted or suppressed"
+        return self.why_no_whisper(session, target, revision)
 
     def why_no_whisper(self, session, target, revision):
         """Why nobody hears who speaks to a voice target."""
@@ -102,29 +144,64 @@ class Known:
         if all(groups):
             return "it is for the group " + " and ".join(groups)
         if any("channel_id" in item for item in sets[-1]):
-            return ""
+            return f"nobody is where {self.user(session)} may whisper"
         named = {one for item in sets[-1] for one in item.get("session", [])} - {session}
         there = sorted(named.intersection(self.here(revision)))
-        return self.why_deaf(there, revision) if there else "nobody whom it names is here"
+        if not there:
+            return "nobody whom it names is here"
+        hearing = [one for one in there if not self.is_deaf(one, revision)]
+        may_not = f"{self.user(session)} may not whisper to {self.users(hearing)}"
+        return may_not if hearing else self.deaf_text(there)
 
     def why_no_talk(self, session, channel, revision):
         """Why nobody hears who talks in a channel."""
         others = [one for one in self.here(revision) if one != session]
-        beside = [one for one in others if self.state(one, revision)["channel_id"] == channel]
-        if session in self.unheard:
+        if self.lacks_speak(session, revision):
             return f"{self.user(session)} lacks Speak"
         if not others:
             return "nobody else is here"
+        if not self.knows_places(revision):
+            return f"nobody is where {self.user(session)} may be heard"
+        beside = [one for one in others if self.state(one, revision)["channel_id"] == channel]
         if not beside:
             return "nobody else is in the channel"
-        return self.why_deaf(beside, revision)
+        if all(self.is_deaf(one, revision) for one in beside):
+            return self.deaf_text(beside)
+        return f"{self.user(session)} may not speak in {self.channel(channel)}"
 
-    def why_deaf(self, sessions, revision):
-        """Which sessions are deaf, where all of them are and there are some; else nothing."""
-        states = [self.state(one, revision) for one in sessions]
-        if not states or not all(state["deaf"] or state["self_deaf"] for state in states):
-            return ""
-        return ", ".join(map(self.user, sessions)) + (" is deaf" if len(sessions) == 1 else " are deaf")
+    def lacks_speak(self, session, revision):
+        """Whether a session was sent that it may not speak where it is, and nothing was accepted since that bears on
+        it."""
+        at, may_speak = self.may_speak.get(session, (revision + 1, True))
+        return not may_speak and at <= revision and not any(
+            bears_on(edit, session) for then, *edit in self.edits if at < then <= revision)
+
+    def is_deaf(self, session, revision):
+        """Whether a session is deaf."""
+        state = self.state(session, revision)
+        return state["deaf"] or state["self_deaf"]
+
+    def deaf_text(self, sessions):
+        """That sessions are deaf."""
+        return self.users(sessions) + (" is deaf" if len(sessions) == 1 else " are deaf")
+
+
+def may_bring(edit, notice):
+    """Whether an edit, with its actor and its message, may be the one of which a notice tells that a user changed."""
+    actor, kind, message = edit
+    if kind == mumble.USER_STATE:
+        return notice.get("actor") == actor and notice.get("session") == message.get("session", actor)
+    if kind in (mumble.ACL, mumble.CHANNEL_REMOVE):
+        return notice.get("actor") == actor
+    return kind in (mumble.LOGIN, mumble.CHANNEL_STATE) and notice.get("session") == actor
+
+
+def bears_on(edit, session):
+    """Whether an edit may change what a session may do in its channel."""
+    actor, kind, message = edit
+    if kind == mumble.USER_STATE:
+        return "channel_id" in message and message.get("session", actor) == session
+    return kind in (mumble.CHANNEL_STATE, mumble.CHANNEL_REMOVE, mumble.ACL) or kind == mumble.LOGIN and actor == session
 
 
 def change(state, message):

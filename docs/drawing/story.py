@@ -1,4 +1,6 @@
 """The story of a recording: a row for each frame, and for what else a user notices."""
+import json
+
 from reader import mumble
 from reader.transcript import told_by_step
 
@@ -95,7 +97,7 @@ class Story:
             self.known.leaves(session, revision)
         elif kind == mumble.LOGIN and session is None:
             self.names[connection - 1] = message.get("username", "")
-            self.session_of[connection] = self.known.joins(self.names[connection - 1], revision)
+            session = self.session_of[connection] = self.known.joins(self.names[connection - 1], revision)
         self.known.accepted(session, kind, message, revision)
 
     def look(self, worker, told):
@@ -213,11 +215,40 @@ def tell(story, line, step, lines):
             story.wire(line, int(words[1]), words[2])
 
 
+class NoStory(Exception):
+    """What is no recording, or a transcript that is not the recording's."""
+
+
+def head_of(recording):
+    """How many lines the head of a recording has, and its configuration, or None where it is empty."""
+    count = {"recording 1": 3, "recording 2": 4}.get(recording[0] if recording else "")
+    if count is None or len(recording) < count:
+        raise NoStory("this is no recording")
+    digits = recording[count - 1].removeprefix("config ")
+    try:
+        return count, None if digits == "-" else json.loads(bytes.fromhex(digits))
+    except ValueError as error:
+        raise NoStory(f"line {count} of the recording names no configuration") from error
+
+
+def names_itself(step, told):
+    """Whether a line of the transcript names the connection or the worker of its step."""
+    return step[0] in ("publish", "post", "end") or told[1:2] == step[1:2]
+
+
 def story_of(recording, transcript, pings):
     """The story of a recording, with its Pings or without."""
-    story, steps = Story(), recording[3:]
+    count, document = head_of(recording)
+    story, steps = Story(), recording[count:]
+    story.known.begins(document or {})
     for place, lines in enumerate(told_by_step(steps, transcript)):
-        step = steps[place].split(" ")
-        if pings or not is_ping(step):
-            tell(story, place + 4, step, [line.split(" ") for line in lines])
+        line, step, told = place + count + 1, steps[place].split(" "), [one.split(" ") for one in lines]
+        try:
+            if not names_itself(step, told[0]):
+                raise ValueError
+            if pings or not is_ping(step):
+                tell(story, line, step, told)
+        except (LookupError, ValueError) as error:
+            raise NoStory(f"line {line} of the recording is `{shortened(steps[place], 60)}`, for which the "
+                          f"transcript has `{shortened(lines[0], 60)}`") from error
     return story

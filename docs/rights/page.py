@@ -6,7 +6,7 @@ from reader import mumble
 HEAD = """<!DOCTYPE html>
 <html lang="en">
 <head>
-<meta charset="utf-8">
+<meta charset="utf-8"/>
 <title>{title}</title>
 <style>
 body {{ font: 15px/1.4 sans-serif; margin: 2em; }}

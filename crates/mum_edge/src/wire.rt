@@ -70,11 +70,11 @@ impl Wire {
         self.read_stream(&mut buf[..length])
     }
 
-    // How many bytes may be read now. Where none may because a long frame finds no room beside those of other links,
-    // nobody waits for a client that has hung up: else it would keep its slot.
+    // How many bytes may be read now. Where none may, by the pace or because a long frame finds no room beside those of
+    // other links, nobody waits for a client that has hung up: else it would keep its slot.
     fn allowance(&mut self) -> usize {
         let allowance = self.meter.allowance(self.board.milliseconds());
-        if allowance == 0 || self.reservation.covers(self.meter.payload()) {
+        if allowance > 0 && self.reservation.covers(self.meter.payload()) {
             return allowance;
         }
         self.is_broken = self.hub.has(self.slot, HUNG_UP);

@@ -5,6 +5,7 @@ use Rattle.mum_base.specs.declared.name.TheConstants.{NAME_LIMIT, TEXT_LIMIT}
 use Rattle.mum_base.specs.declared.name.NameFault.{NameFault}
 use Rattle.mum_base.specs.declared.name.NameFault.TheVariants.{Empty, TooLong, ControlCharacter, EdgeSpace}
 
+-- the number by which a cause is written
 abbrev pub fault_code : NameFault → ℕ
 fault_code Empty = 1
 fault_code TooLong = 2
@@ -15,6 +16,7 @@ fault_code EdgeSpace = 4
 abbrev pub is_control_byte : ℕ → Bool
 is_control_byte byte = nat_lt byte 32 || (byte == 127)
 
+-- the first byte or the last is a space
 abbrev pub has_space_at_edge : List ℕ → Bool
 has_space_at_edge name = (slice_index name 0 == 32) || (slice_index name (length name - 1) == 32)
 
@@ -27,5 +29,6 @@ name_fault name =
     else if has_space_at_edge name then Some EdgeSpace
     else None
 
+-- a text of messages and descriptions is refused for its length alone
 abbrev pub text_fault : List ℕ → Option NameFault
 text_fault text = if nat_lt TEXT_LIMIT (length text) then Some TooLong else None

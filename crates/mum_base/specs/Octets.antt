@@ -4,6 +4,7 @@ use Rattle.std.specs.Arc.{arc_slice_items}
 use Rattle.mum_base.specs.declared.items.Bytes.{Bytes}
 use Rattle.mum_base.specs.declared.items.Bytes.TheVariants.{Own, Shared}
 
+-- the bytes that are held, whether they are owned or shared
 abbrev pub held_items : Bytes → List ℕ
 held_items (Own bytes) = bytes.items
 held_items (Shared bytes) = arc_slice_items bytes

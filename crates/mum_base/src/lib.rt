@@ -12,7 +12,10 @@ pub mod steps;
 
 pub use items::{Items, Octets, OutOfMemory, Text};
 pub use name::{NameFault, check_name, check_text};
-pub use number::{AccountId, CONNECTION_LIMIT, Cause, ChannelId, PLACES, SLOTS, SessionId, Slot};
+pub use number::{
+    AccountId, CONNECTION_LIMIT, Cause, ChannelId, PLACES, POST_CAPACITY, SLOTS, SessionId, Slot,
+    VOICE_CAPACITY,
+};
 pub use outcome::{DenyType, Reason, RejectType};
 pub use perm::{Perm, permission_bits};
 pub use reply::{Mark, ReplyEnd};

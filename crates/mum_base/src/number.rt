@@ -11,6 +11,12 @@ pub const PLACES: usize = 2048;
 /// The most connections that may be open at once.
 pub const CONNECTION_LIMIT: usize = 1024;
 
+/// The most copies of voice packets that wait for one session.
+pub const VOICE_CAPACITY: usize = 128;
+
+/// The most control frames that wait for one session.
+pub const POST_CAPACITY: usize = 8192;
+
 /// The numbers that definitions name. This does nothing: its contract is what they are.
 pub fn numbers()
     ensures root { ChannelId.ROOT.0 ≡ 0 }
@@ -18,6 +24,8 @@ pub fn numbers()
     ensures slots { SLOTS ≡ 512 }
     ensures places { PLACES ≡ 2048 }
     ensures connections { CONNECTION_LIMIT ≡ 1024 }
+    ensures voice { VOICE_CAPACITY ≡ 128 }
+    ensures post { POST_CAPACITY ≡ 8192 }
 {}
 
 /// The number of a session. Numbers are given in order from 1 and never given again; 0 is no

@@ -6,7 +6,7 @@ use Rattle.std.proofs.lemmas.List.{length-map, map-append}
 use Rattle.std.proofs.lemmas.Option.{slice_get_read}
 use Rattle.atomic_table.specs.Seated.{TableId}
 use Rattle.mum_outbox.specs.declared.parcel.PostParcel.{PostParcel}
-use Rattle.mum_outbox.specs.declared.parcel.TheConstants.{POST_CAPACITY}
+use Rattle.mum_base.specs.declared.number.TheConstants.{POST_CAPACITY}
 use Rattle.mum_outbox.specs.declared.queue.Offered.{Offered}
 use Rattle.mum_outbox.specs.declared.rule.Tagged.{Tagged}
 use Rattle.mum_outbox.specs.Calls.{Offers, Takes}

@@ -6,7 +6,7 @@ use Rattle.mum_base.specs.declared.number.Slot.{Slot}
 use Rattle.mum_state.specs.State.{StateValue}
 use Rattle.mum_notify.specs.declared.notice.Notice.{Notice}
 use Rattle.mum_outbox.specs.declared.parcel.PostParcel.{PostParcel}
-use Rattle.mum_outbox.specs.declared.parcel.TheConstants.{POST_CAPACITY}
+use Rattle.mum_base.specs.declared.number.TheConstants.{POST_CAPACITY}
 use Rattle.mum_outbox.specs.declared.queue.Offered.{Offered}
 use Rattle.mum_outbox.specs.declared.queue.Offered.TheVariants.{Sent, Full}
 use Rattle.mum_outbox.specs.declared.rule.Tagged.{Tagged}

@@ -3,7 +3,7 @@
 ghost use Rattle.std.specs.Prelude.{◌≡◌, ◌<◌, IfOk, length, map};
 ghost use Rattle.std.specs.List.{AllByRecursion};
 ghost use Rattle.mum_outbox.specs.Calls.{Offers};
-ghost use Rattle.mum_outbox.specs.declared.parcel.TheConstants.{POST_CAPACITY};
+ghost use Rattle.mum_base.specs.declared.number.TheConstants.{POST_CAPACITY};
 ghost use Rattle.mum_control.specs.Posting.{EmptiesAt, IsEmptied, IsUnused, OffersAt};
 
 use mum_base::OutOfMemory;

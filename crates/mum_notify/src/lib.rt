@@ -21,6 +21,6 @@ mod watch;
 
 pub use fitting::fits_frame;
 pub use notice::{Notice, Notices};
-pub use sync::{PROTOCOL, sync_block};
+pub use sync::{PROTOCOL, protocol, sync_block};
 pub use telling::notices;
 pub use waiting::{NoticeQueue, shared};

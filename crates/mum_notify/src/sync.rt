@@ -29,6 +29,11 @@ use std::alloc::Global;
 /// minor, one of the patch.
 pub const PROTOCOL: u32 = 0x0001_0400;
 
+/// The number that definitions name. This does nothing: its contract is what it is.
+pub fn protocol()
+    ensures { PROTOCOL ≡ 66560 }
+{}
+
 fn server_version(alloc: Global) -> Result<Version, OutOfMemory>
     ensures { IfOk result (λ told. told ≡ server_version) }
 {

@@ -13,7 +13,7 @@ pub mod queue;
 pub mod rule;
 
 pub use parcel::{
-    BELL_CAPACITY, Bell, DESK_CAPACITY, Desk, POST_CAPACITY, PostBox, PostParcel, VOICE_CAPACITY,
-    VoiceBox, VoiceParcel, capacities,
+    BELL_CAPACITY, Bell, DESK_CAPACITY, Desk, PostBox, PostParcel, VoiceBox, VoiceParcel,
+    capacities,
 };
 pub use queue::{BoxPass, Offered, Queue};

@@ -4,13 +4,7 @@ ghost use Rattle.std.specs.Prelude.{◌≡◌};
 
 use crate::queue::Queue;
 use arrayvec::ArrayVec;
-use mum_base::{Octets, SessionId};
-
-/// The most copies of voice packets that wait for one port.
-pub const VOICE_CAPACITY: usize = 128;
-
-/// The most control frames that wait for one port.
-pub const POST_CAPACITY: usize = 8192;
+use mum_base::{Octets, POST_CAPACITY, SessionId, VOICE_CAPACITY};
 
 /// The most commands that wait for the control owner.
 pub const DESK_CAPACITY: usize = 1024;

@@ -7,7 +7,7 @@ use Rattle.serde_json.specs.Data.{Data, Members}
 use Rattle.serde_json.specs.Read.{read}
 use Rattle.mum_document.specs.declared.fault.ConfigFault.TheVariants.{NotAnObject, NotJson}
 use Rattle.mum_config.specs.declared.config.Config.{Config}
-use Rattle.mum_document.specs.declared.fault.BadConfig.{BadConfig}
+use Rattle.mum_document.specs.declared.fault.DocumentError.{DocumentError}
 use Rattle.mum_config.specs.Document.{ReadsText, against_document, config_of, fault_of, object_fault_of, value_of}
 use Rattle.mum_document.specs.Reading.{Reads}
 use Rattle.mum_document.proofs.First.{later, none_said}
@@ -31,7 +31,7 @@ pub no_value_said : (text : List ℕ) → (IsUtf8 text → read text ≡ None) �
 no_value_said text none = rw (no_value text _ refl none) refl
 
 -- a text that is not too long is read as its value is
-pub text_read : (text : List ℕ) (value : Data) (r : Result Config BadConfig) → nat_lt 65536 (length text) ≡ false → value_of text ≡ Some value → Reads (object_fault_of value) (config_of value) r → ReadsText text r
+pub text_read : (text : List ℕ) (value : Data) (r : Result Config DocumentError) → nat_lt 65536 (length text) ≡ false → value_of text ≡ Some value → Reads (object_fault_of value) (config_of value) r → ReadsText text r
 unfolding fault_of
 text_read text value (Ok config) short is reads =
     rw (is, short) (none_said _ _ refl (none_said _ _ refl reads.0), ap Some (sym reads.1))

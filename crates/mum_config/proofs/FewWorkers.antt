@@ -8,7 +8,7 @@ use Rattle.serde_json.specs.Data.{Data, array, boolean, float, negative, null, n
 use Rattle.serde_json.specs.Find.{get}
 use Rattle.mum_state.proofs.Each.{Each}
 use Rattle.mum_config.specs.declared.config.Config.{Config}
-use Rattle.mum_document.specs.declared.fault.BadConfig.{BadConfig}
+use Rattle.mum_document.specs.declared.fault.DocumentError.{DocumentError}
 use Rattle.mum_document.specs.declared.fault.ConfigFault.TheVariants.{NotAnObject, OutOfRange}
 use Rattle.mum_config.specs.Document.{ReadsText, account_list_rows, against_document, channel_list_rows, channels_met, config_of, document_names, document_rows, link_list_rows, object_fault_of, settings_rows, value_of}
 use Rattle.mum_document.specs.Fault.{against}
@@ -48,7 +48,7 @@ document_workers document none =
     few (get (codes "workers") document) of_settings.1.1.0
 
 -- the workers of a text that is read are 1 to 8
-pub text_workers : (text : List ℕ) (r : Result Config BadConfig) → ReadsText text r → IfOk r (λ config. (1 ≤ config.workers) × (config.workers ≤ 8))
+pub text_workers : (text : List ℕ) (r : Result Config DocumentError) → ReadsText text r → IfOk r (λ config. (1 ≤ config.workers) × (config.workers ≤ 8))
 text_workers text (Err error) reads = tt
 text_workers text (Ok config) reads = step (value_of text) refl reads.1
   where

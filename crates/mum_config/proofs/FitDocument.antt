@@ -19,7 +19,7 @@ use Rattle.mum_state.proofs.Fitting.{fit_parts}
 use Rattle.mum_state.proofs.Limiting.{limits_fit}
 use Rattle.mum_state.proofs.Each.{Each}
 use Rattle.mum_config.specs.declared.config.Config.{Config}
-use Rattle.mum_document.specs.declared.fault.BadConfig.{BadConfig}
+use Rattle.mum_document.specs.declared.fault.DocumentError.{DocumentError}
 use Rattle.mum_document.specs.declared.fault.ConfigFault.TheVariants.{Limit, NotAnObject, NotJson}
 use Rattle.mum_config.specs.Account.{account_edit}
 use Rattle.mum_config.specs.Channel.{channel_edits, is_root_entry, root_met}
@@ -125,7 +125,7 @@ unfolding config_of
 same_edits value config same = ap (λ (c : Config). c.edits) same
 
 -- the edits of a text that is read fit a fresh state
-read_fits : (state : StateValue) → IsFresh 300001 state → (text : List ℕ) (r : Result Config BadConfig) → ReadsText text r → IfOk r (λ config. IsTrue (all_fit state config.edits))
+read_fits : (state : StateValue) → IsFresh 300001 state → (text : List ℕ) (r : Result Config DocumentError) → ReadsText text r → IfOk r (λ config. IsTrue (all_fit state config.edits))
 read_fits state fresh text (Err error) reads = tt
 read_fits state fresh text (Ok config) reads = step (value_of text) refl reads.1
   where
@@ -135,11 +135,11 @@ read_fits state fresh text (Ok config) reads = step (value_of text) refl reads.1
         subst (λ (edits : List Edit). all_fit state edits ≡ true) (same_edits value config (same_Some (config_of value) config read)) (edits_fit value state (said_of_value text value is reads.0) fresh)
 
 -- the empty one
-pub text_fits : (text : List ℕ) (r : Result Config BadConfig) → ReadsText text r → IfOk r (λ config. IsTrue (all_fit empty_state config.edits))
+pub text_fits : (text : List ℕ) (r : Result Config DocumentError) → ReadsText text r → IfOk r (λ config. IsTrue (all_fit empty_state config.edits))
 text_fits = read_fits empty_state empty_fresh
 
 -- and the same with limits
-pub text_fits_limits : (text : List ℕ) (r : Result Config BadConfig) → ReadsText text r → IfOk r (λ config. FitAfterLimits config.edits)
+pub text_fits_limits : (text : List ℕ) (r : Result Config DocumentError) → ReadsText text r → IfOk r (λ config. FitAfterLimits config.edits)
 text_fits_limits text (Err error) reads = tt
 text_fits_limits text (Ok config) reads = λ sessions channels fit.
     read_fits (applied empty_state (SetLimits sessions channels)) (limited_fresh sessions channels fit) text (Ok config) reads

@@ -12,7 +12,7 @@ use Rattle.mum_state.specs.After.{all_fit}
 use Rattle.mum_state.specs.Applied.{applied}
 use Rattle.mum_state.specs.Fits.{fits}
 use Rattle.mum_state.specs.State.{StateValue, empty_state}
-use Rattle.mum_document.specs.declared.fault.BadConfig.{BadConfig}
+use Rattle.mum_document.specs.declared.fault.DocumentError.{DocumentError}
 use Rattle.mum_document.specs.Given.{given_info, given_policy}
 use Rattle.mum_config.specs.declared.config.Config.{Config}
 use Rattle.mum_config.specs.Account.{account_edit}
@@ -103,7 +103,7 @@ settings_fit text config state reads fit = step (value_of text) reads.1
         subst (λ (edits : List Edit). all_fit state (settings_and_accounts edits) ≡ true) same
         (document_settings_fit state value (subst (λ (edits : List Edit). all_fit state edits ≡ true) (sym same) fit))
 
-pub settings_fit_limits : (text : List ℕ) (r : Result Config BadConfig) → ReadsText text r → IfOk r (λ config. FitAfterLimits (settings_and_accounts config.edits))
+pub settings_fit_limits : (text : List ℕ) (r : Result Config DocumentError) → ReadsText text r → IfOk r (λ config. FitAfterLimits (settings_and_accounts config.edits))
 settings_fit_limits text (Err error) reads = tt
 settings_fit_limits text (Ok config) reads = λ sessions channels fit.
     settings_fit text config (applied empty_state (SetLimits sessions channels)) reads

@@ -16,7 +16,7 @@ use Rattle.mum_state.specs.declared.edit.Edit.TheVariants.{EditChannel, MakeChan
 use Rattle.mum_tree.specs.declared.channel.ChannelInfo.{ChannelInfo}
 use Rattle.mum_tree.specs.declared.channel.TheConstants.{CHANNEL_LIMIT, PATH_LIMIT}
 use Rattle.mum_config.specs.declared.channel.Met.{Met}
-use Rattle.mum_document.specs.declared.fault.BadConfig.{BadConfig}
+use Rattle.mum_document.specs.declared.fault.DocumentError.{DocumentError}
 use Rattle.mum_document.specs.declared.given.GivenInfo.{GivenInfo}
 use Rattle.mum_document.specs.declared.given.GivenPolicy.{GivenPolicy}
 use Rattle.mum_document.specs.declared.fault.ConfigFault.TheVariants.{Limit, NoSuch, OutOfRange, Twice}
@@ -175,6 +175,6 @@ channel_edits value =
     ++ policy_edits (record { 0 = channel_number value }) (given_policy value)
 
 -- the depths of the channels where nothing is said against their entries, or the first fault
-abbrev pub ReadsDepths : {S : Type 0} → Option Fault → ChannelsMet → Result (IndexMap ℕ ℕ S) BadConfig → Type 0
+abbrev pub ReadsDepths : {S : Type 0} → Option Fault → ChannelsMet → Result (IndexMap ℕ ℕ S) DocumentError → Type 0
 ReadsDepths fault met (Ok depths) = (fault ≡ None) × (depths.entries ≡ met.depths)
 ReadsDepths fault met (Err error) = Names error fault

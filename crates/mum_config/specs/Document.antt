@@ -16,7 +16,7 @@ use Rattle.serde_json.specs.declared.value.Value.{Value}
 use Rattle.mum_config.specs.declared.config.Config.{Config}
 use Rattle.mum_config.specs.declared.config.Settings.{Settings}
 use Rattle.mum_config.specs.declared.config.TheConstants.{DEFAULT_WORKERS, DOCUMENT_LIMIT, WORKERS}
-use Rattle.mum_document.specs.declared.fault.BadConfig.{BadConfig}
+use Rattle.mum_document.specs.declared.fault.DocumentError.{DocumentError}
 use Rattle.mum_document.specs.declared.fault.ConfigFault.{ConfigFault}
 use Rattle.mum_document.specs.declared.fault.ConfigFault.TheVariants.{Limit, NotAnObject, NotJson}
 use Rattle.mum_config.specs.Account.{account_edit, account_fault, no_accounts, with_account_met}
@@ -26,6 +26,8 @@ use Rattle.mum_document.specs.Fault.{Fault, against, or_else}
 use Rattle.mum_config.specs.Link.{link_edit, link_fault, with_link_met}
 use Rattle.mum_document.specs.Object.{Row, elements_at, elements_fault, rows_fault, unknown_fault}
 use Rattle.mum_document.specs.Reading.{Names}
+use Rattle.mum_config.specs.Refusal.{NamesByCode}
+use Rattle.mum_config.specs.declared.refusal.BadConfig.{BadConfig}
 
 -- the value that a text is, if it is one
 abbrev pub value_of : List ℕ → Option Data
@@ -130,11 +132,16 @@ abbrev pub config_in : List ℕ → Option Config
 config_in text = option_map config_of (value_of text)
 
 -- the configuration of a text where nothing is said against it, or the first fault; or memory ran out
-abbrev pub ReadsText : List ℕ → Result Config BadConfig → Type 0
+abbrev pub ReadsText : List ℕ → Result Config DocumentError → Type 0
 ReadsText text (Ok config) = (fault_of text ≡ None) × (config_in text ≡ Some config)
 ReadsText text (Err error) = Names error (fault_of text)
 
+-- the same, where a fault is told by its number
+abbrev pub ReadsConfig : List ℕ → Result Config BadConfig → Type 0
+ReadsConfig text (Ok config) = (fault_of text ≡ None) × (config_in text ≡ Some config)
+ReadsConfig text (Err error) = NamesByCode error (fault_of text)
+
 -- the value of a text, or that it is none
-abbrev pub ReadsValue : List ℕ → Result Value BadConfig → Type 0
+abbrev pub ReadsValue : List ℕ → Result Value DocumentError → Type 0
 ReadsValue text (Ok value) = value_of text ≡ Some (view value)
 ReadsValue text (Err error) = Names error (against_document NotJson (is_none (value_of text)))

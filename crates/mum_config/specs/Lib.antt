@@ -3,3 +3,4 @@ pub mod Channel
 pub mod Link
 pub mod Document
 pub mod Limits
+pub mod Refusal

@@ -9,7 +9,7 @@ ghost use Rattle.mum_document.specs.Reading.{Reads};
 
 use indexmap::IndexSet;
 use mum_base::{AccountId, OutOfMemory, Text};
-use mum_document::{BadConfig, ConfigFault, Object, at_place, new_name};
+use mum_document::{ConfigFault, DocumentError, Object, at_place, new_name};
 use mum_state::Edit;
 use serde_json::Value;
 use std::alloc::Global;
@@ -43,7 +43,7 @@ fn read_account<'a>(
     numbers: &mut IndexSet<u32>,
     names: &mut IndexSet<&'a str>,
     edits: &mut Vec<Edit>,
-) -> Result<(), BadConfig>
+) -> Result<(), DocumentError>
     ensures reads { Reads (account_fault (record {
       numbers = numbers.old.keys;
       names = map (λ n. n.now) names.old.keys;
@@ -77,7 +77,7 @@ fn add_accounts<'a>(
     numbers: &mut IndexSet<u32>,
     names: &mut IndexSet<&'a str>,
     edits: &mut Vec<Edit>,
-) -> Result<(), BadConfig>
+) -> Result<(), DocumentError>
     ensures reads { Reads (elements_fault account_fault with_account_met (record {
       numbers = numbers.old.keys;
       names = map (λ n. n.now) names.old.keys;
@@ -100,7 +100,7 @@ pub(crate) fn read_accounts(
     alloc: Global,
     values: &[Value],
     edits: &mut Vec<Edit>,
-) -> Result<(), BadConfig>
+) -> Result<(), DocumentError>
     ensures reads { Reads (elements_fault account_fault with_account_met no_accounts 0
         (map view values.now)) tt result }
     ensures edits { OnOk result

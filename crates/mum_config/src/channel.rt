@@ -11,7 +11,7 @@ ghost use Rattle.mum_document.specs.Reading.{Lends, Reads};
 use crate::given::{add_policy, info_of, push_root_edit};
 use indexmap::{IndexMap, IndexSet};
 use mum_base::{ChannelId, OutOfMemory, Text};
-use mum_document::{BadConfig, ConfigFault, GivenInfo, Object, at_place};
+use mum_document::{ConfigFault, DocumentError, GivenInfo, Object, at_place};
 use mum_state::Edit;
 use mum_tree::{CHANNEL_LIMIT, PATH_LIMIT};
 use serde_json::Value;
@@ -93,7 +93,7 @@ fn rises(last: Option<u32>, number: u32) -> bool
 }
 
 /// The number of an entry, above that of the entry before.
-fn number_in(object: &Object<'_>, last: Option<u32>) -> Result<u32, BadConfig>
+fn number_in(object: &Object<'_>, last: Option<u32>) -> Result<u32, DocumentError>
     ensures { let value = view object.now.value.now in
         Reads (rows_fault object.now.dot.now (number_rows last value)) (channel_number value) result }
 {
@@ -117,7 +117,7 @@ pub(crate) fn depth_in(depths: &IndexMap<u32, usize>, number: u32) -> Option<usi
 }
 
 /// The parent that an entry names.
-fn parent_in(object: &Object<'_>, depths: &IndexMap<u32, usize>) -> Result<Parent, BadConfig>
+fn parent_in(object: &Object<'_>, depths: &IndexMap<u32, usize>) -> Result<Parent, DocumentError>
     ensures reads { let value = view object.now.value.now in
         Reads (rows_fault object.now.dot.now (parent_rows depths.now.entries value))
         (record { number = parent_number value; depth = depth_above depths.now.entries value }) result }
@@ -137,7 +137,7 @@ fn name_in<'a>(
     object: &Object<'a>,
     parent: u32,
     seats: &mut IndexSet<(u32, &'a str)>,
-) -> Result<&'a str, BadConfig>
+) -> Result<&'a str, DocumentError>
     requires { parent ≡ parent_number (view object.now.value.now) }
     ensures reads { let value = view object.now.value.now in
         Lends (rows_fault object.now.dot.now (name_rows (seats_of seats.old.keys) value))
@@ -158,7 +158,7 @@ fn read_root<'a>(
     value: &'a Value,
     met: &mut Met<'a>,
     edits: &mut Vec<Edit>,
-) -> Result<(), BadConfig>
+) -> Result<(), DocumentError>
     requires { is_root_entry (view value.now) ≡ true }
     ensures reads { Reads (root_fault (met_of met.old) (view value.now)) tt result }
     ensures met { OnOk result (met_of met.new ≡ with_channel_met (met_of met.old) (view value.now)) }
@@ -217,7 +217,7 @@ fn read_made<'a>(
     value: &'a Value,
     met: &mut Met<'a>,
     edits: &mut Vec<Edit>,
-) -> Result<(), BadConfig>
+) -> Result<(), DocumentError>
     requires { is_root_entry (view value.now) ≡ false }
     ensures reads { Reads (made_fault (met_of met.old) (view value.now)) tt result }
     ensures met { OnOk result (met_of met.new ≡ with_channel_met (met_of met.old) (view value.now)) }
@@ -247,7 +247,7 @@ fn read_channel<'a>(
     value: &'a Value,
     met: &mut Met<'a>,
     edits: &mut Vec<Edit>,
-) -> Result<(), BadConfig>
+) -> Result<(), DocumentError>
     ensures reads { Reads (channel_fault (met_of met.old) (view value.now)) tt result }
     ensures met { OnOk result (met_of met.new ≡ with_channel_met (met_of met.old) (view value.now)) }
     ensures edits { OnOk result
@@ -284,7 +284,7 @@ fn add_channels<'a>(
     values: &'a [Value],
     met: &mut Met<'a>,
     edits: &mut Vec<Edit>,
-) -> Result<(), BadConfig>
+) -> Result<(), DocumentError>
     ensures reads { Reads (elements_fault channel_fault with_channel_met (met_of met.old) 0
         (map view values.now)) tt result }
     ensures met { OnOk result
@@ -303,7 +303,7 @@ pub(crate) fn read_channels(
     alloc: Global,
     values: &[Value],
     edits: &mut Vec<Edit>,
-) -> Result<IndexMap<u32, usize>, BadConfig>
+) -> Result<IndexMap<u32, usize>, DocumentError>
     ensures reads { ReadsDepths (elements_fault channel_fault with_channel_met root_met 0
         (map view values.now)) (fold with_channel_met root_met (map view values.now)) result }
     ensures edits { OnOk result

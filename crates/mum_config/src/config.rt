@@ -7,7 +7,7 @@ ghost use Rattle.mum_state.specs.After.{all_fit};
 ghost use Rattle.mum_state.specs.State.{empty_state};
 ghost use Rattle.mum_config.specs.Account.{account_edit};
 ghost use Rattle.mum_config.specs.Channel.{ReadsDepths, channel_edits};
-ghost use Rattle.mum_config.specs.Document.{ReadsText, ReadsValue, account_list_rows, accounts_in, channel_list_rows, channels_in, channels_met, config_of, link_list_rows, links_in, object_fault_of, server_edit, settings_of, settings_rows};
+ghost use Rattle.mum_config.specs.Document.{ReadsConfig, ReadsText, ReadsValue, account_list_rows, accounts_in, channel_list_rows, channels_in, channels_met, config_of, link_list_rows, links_in, object_fault_of, server_edit, settings_of, settings_rows};
 ghost use Rattle.mum_config.specs.Limits.{FitAfterLimits, settings_and_accounts};
 ghost use Rattle.mum_config.specs.Link.{link_edit};
 ghost use Rattle.mum_document.specs.Object.{rows_fault};
@@ -16,10 +16,11 @@ ghost use Rattle.mum_document.specs.Reading.{Reads};
 use crate::account::read_accounts;
 use crate::channel::{are_too_many, read_channels};
 use crate::link::read_links;
+use crate::refusal::{BadConfig, by_code};
 use indexmap::IndexMap;
 use mum_base::name::TEXT_LIMIT;
 use mum_base::{Items, Text};
-use mum_document::{BadConfig, ConfigFault, Object, fault_at, or_empty};
+use mum_document::{ConfigFault, DocumentError, Object, fault_at, or_empty};
 use mum_state::{ACCOUNT_LIMIT, DEFAULT_BANDWIDTH, Edit};
 use serde_json::Value;
 use std::alloc::Global;
@@ -69,7 +70,7 @@ struct Settings {
     password: Option<[u8; 32]>,
 }
 
-fn read_settings(object: &Object<'_>) -> Result<Settings, BadConfig>
+fn read_settings(object: &Object<'_>) -> Result<Settings, DocumentError>
     ensures reads { let value = view object.now.value.now in
         Reads (rows_fault object.now.dot.now (settings_rows value)) (settings_of value) result }
     ensures workers { IfOk result (λ settings. IfSome settings.workers (λ workers. workers ≤ 8)) }
@@ -100,7 +101,7 @@ impl Settings {
 }
 
 /// Adds the edits of the accounts, if there are any.
-fn accounts_in(object: &Object<'_>, edits: &mut Vec<Edit>) -> Result<(), BadConfig>
+fn accounts_in(object: &Object<'_>, edits: &mut Vec<Edit>) -> Result<(), DocumentError>
     ensures reads { Reads (rows_fault object.now.dot.now (account_list_rows (view object.now.value.now)))
         tt result }
     ensures edits { OnOk result (edits.new.items
@@ -114,7 +115,7 @@ fn accounts_in(object: &Object<'_>, edits: &mut Vec<Edit>) -> Result<(), BadConf
 fn channels_in(
     object: &Object<'_>,
     edits: &mut Vec<Edit>,
-) -> Result<IndexMap<u32, usize>, BadConfig>
+) -> Result<IndexMap<u32, usize>, DocumentError>
     ensures reads { let value = view object.now.value.now in
         ReadsDepths (rows_fault object.now.dot.now (channel_list_rows value)) (channels_met value) result }
     ensures edits { OnOk result (edits.new.items
@@ -133,7 +134,7 @@ fn links_in(
     object: &Object<'_>,
     depths: &IndexMap<u32, usize>,
     edits: &mut Vec<Edit>,
-) -> Result<(), BadConfig>
+) -> Result<(), DocumentError>
     ensures reads { Reads (rows_fault object.now.dot.now
         (link_list_rows depths.now.entries (view object.now.value.now))) tt result }
     ensures edits { OnOk result (edits.new.items
@@ -144,7 +145,7 @@ fn links_in(
 }
 
 /// Adds the edits of the three lists, one after the other.
-fn lists_in(object: &Object<'_>, edits: &mut Vec<Edit>) -> Result<(), BadConfig>
+fn lists_in(object: &Object<'_>, edits: &mut Vec<Edit>) -> Result<(), DocumentError>
     ensures reads { let value = view object.now.value.now in
         Reads (rows_fault object.now.dot.now (account_list_rows value ++ channel_list_rows value
         ++ link_list_rows (channels_met value).depths value)) tt result }
@@ -160,7 +161,7 @@ fn lists_in(object: &Object<'_>, edits: &mut Vec<Edit>) -> Result<(), BadConfig>
 }
 
 /// The configuration that a document describes.
-fn read_document(alloc: Global, document: &Value) -> Result<Config, BadConfig>
+fn read_document(alloc: Global, document: &Value) -> Result<Config, DocumentError>
     ensures { Reads (object_fault_of (view document.now)) (config_of (view document.now)) result }
 {
     if !document.is_object() {
@@ -189,22 +190,18 @@ fn read_document(alloc: Global, document: &Value) -> Result<Config, BadConfig>
 }
 
 /// The value that a text is.
-fn read_value(alloc: Global, text: &[u8]) -> Result<Value, BadConfig>
+fn read_value(alloc: Global, text: &[u8]) -> Result<Value, DocumentError>
     ensures { ReadsValue text.now result }
 {
     match Value::from_slice(alloc, text) {
         Ok(value) => Ok(value),
-        Err(error) if error.is_memory() => Err(BadConfig::OutOfMemory),
+        Err(error) if error.is_memory() => Err(DocumentError::OutOfMemory),
         Err(_) => Err(fault_at(alloc, ConfigFault::NotJson, "document")),
     }
 }
 
-/// Reads the JSON document from which a server starts, or finds its first fault. Its edits fit one
-/// after the other from the empty state, also where limits of sessions and channels are set first, and
-/// there its settings and accounts fit alone too; a document has at most 1,024 channels whatever the
-/// limits are. Its workers are 1 to 8. The keys, and the order in which they are looked at, are in
-/// `docs/FORMATS.md`. Where a key comes twice the last one counts.
-pub fn read_config(alloc: Global, text: &[u8]) -> Result<Config, BadConfig>
+// The configuration that a text is, or its first fault.
+fn read_text(alloc: Global, text: &[u8]) -> Result<Config, DocumentError>
     ensures reads { ReadsText text.now result }
     ensures fits { IfOk result (λ config. IsTrue (all_fit empty_state config.edits)) }
     ensures limited { IfOk result (λ config. FitAfterLimits config.edits) }
@@ -216,4 +213,22 @@ pub fn read_config(alloc: Global, text: &[u8]) -> Result<Config, BadConfig>
     }
     let document = read_value(alloc, text)?;
     read_document(alloc, &document)
+}
+
+/// Reads the JSON document from which a server starts, or finds its first fault. Its edits fit one
+/// after the other from the empty state, also where limits of sessions and channels are set first, and
+/// there its settings and accounts fit alone too; a document has at most 1,024 channels whatever the
+/// limits are. Its workers are 1 to 8. The keys, and the order in which they are looked at, are in
+/// `docs/FORMATS.md`. Where a key comes twice the last one counts.
+pub fn read_config(alloc: Global, text: &[u8]) -> Result<Config, BadConfig>
+    ensures reads { ReadsConfig text.now result }
+    ensures fits { IfOk result (λ config. IsTrue (all_fit empty_state config.edits)) }
+    ensures limited { IfOk result (λ config. FitAfterLimits config.edits) }
+    ensures alone { IfOk result (λ config. FitAfterLimits (settings_and_accounts config.edits)) }
+    ensures workers { IfOk result (λ config. (1 ≤ config.workers) × (config.workers ≤ 8)) }
+{
+    match read_text(alloc, text) {
+        Ok(config) => Ok(config),
+        Err(error) => Err(by_code(error)),
+    }
 }

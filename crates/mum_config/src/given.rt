@@ -8,7 +8,7 @@ ghost use Rattle.mum_document.specs.Object.{rows_fault};
 ghost use Rattle.mum_document.specs.Reading.{Reads};
 
 use mum_base::{ChannelId, Items, OutOfMemory};
-use mum_document::{BadConfig, GivenInfo, GivenPolicy, Object, or_empty};
+use mum_document::{DocumentError, GivenInfo, GivenPolicy, Object, or_empty};
 use mum_policy::ChannelPolicy;
 use mum_state::Edit;
 use mum_tree::ChannelInfo;
@@ -87,7 +87,7 @@ pub(crate) fn add_policy(
     object: &Object<'_>,
     channel: ChannelId,
     edits: &mut Vec<Edit>,
-) -> Result<(), BadConfig>
+) -> Result<(), DocumentError>
     ensures reads { Reads (rows_fault object.now.dot.now (policy_rows (view object.now.value.now)))
         tt result }
     ensures edits { OnOk result (edits.new.items

@@ -7,6 +7,8 @@ mod channel;
 pub mod config;
 mod given;
 mod link;
+mod refusal;
 
 pub use config::{Config, DOCUMENT_LIMIT, read_config};
-pub use mum_document::{BadConfig, ConfigFault};
+pub use mum_document::ConfigFault;
+pub use refusal::BadConfig;

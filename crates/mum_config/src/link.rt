@@ -11,7 +11,7 @@ ghost use Rattle.mum_document.specs.Value.{number_of};
 use crate::channel::depth_in;
 use indexmap::{IndexMap, IndexSet};
 use mum_base::{ChannelId, Items, OutOfMemory};
-use mum_document::{BadConfig, ConfigFault, at_place, fault_at, read_number};
+use mum_document::{ConfigFault, DocumentError, at_place, fault_at, read_number};
 use mum_state::Edit;
 use mum_tree::LINK_LIMIT;
 use serde_json::Value;
@@ -67,7 +67,7 @@ impl Met {
     }
 
     /// Notes a link, if it is new; refuses it where one of its channels has all that it may have.
-    fn note(&mut self, alloc: Global, a: u32, b: u32) -> Result<(), BadConfig>
+    fn note(&mut self, alloc: Global, a: u32, b: u32) -> Result<(), DocumentError>
         requires { AreCounted self.old.counts.entries self.old.ends.keys }
         ensures reads { Reads (crowding_fault self.old.ends.keys a b) tt result }
         ensures ends { OnOk result (self.new.ends.keys ≡ with_ends self.old.ends.keys a b) }
@@ -85,7 +85,11 @@ impl Met {
 }
 
 /// One of the channels of a link, which is there.
-fn read_end(alloc: Global, value: &Value, depths: &IndexMap<u32, usize>) -> Result<u32, BadConfig>
+fn read_end(
+    alloc: Global,
+    value: &Value,
+    depths: &IndexMap<u32, usize>,
+) -> Result<u32, DocumentError>
     ensures { Reads (end_fault depths.now.entries (view value.now)) (number_of (view value.now)) result }
 {
     let number = match read_number(value, 0, u32::MAX) {
@@ -136,7 +140,7 @@ fn read_link(
     depths: &IndexMap<u32, usize>,
     met: &mut Met,
     edits: &mut Vec<Edit>,
-) -> Result<(), BadConfig>
+) -> Result<(), DocumentError>
     requires { AreCounted met.old.counts.entries met.old.ends.keys }
     ensures reads { Reads (link_fault depths.now.entries met.old.ends.keys (view value.now)) tt result }
     ensures met { OnOk result (met.new.ends.keys ≡ with_link_met met.old.ends.keys (view value.now)) }
@@ -161,7 +165,7 @@ fn add_links(
     depths: &IndexMap<u32, usize>,
     met: &mut Met,
     edits: &mut Vec<Edit>,
-) -> Result<(), BadConfig>
+) -> Result<(), DocumentError>
     requires { AreCounted met.old.counts.entries met.old.ends.keys }
     ensures reads { Reads (elements_fault (link_fault depths.now.entries) with_link_met met.old.ends.keys 0
         (map view values.now)) tt result }
@@ -180,7 +184,7 @@ pub(crate) fn read_links(
     values: &[Value],
     depths: &IndexMap<u32, usize>,
     edits: &mut Vec<Edit>,
-) -> Result<(), BadConfig>
+) -> Result<(), DocumentError>
     ensures reads { Reads (elements_fault (link_fault depths.now.entries) with_link_met [] 0
         (map view values.now)) tt result }
     ensures edits { OnOk result

@@ -6,7 +6,7 @@ use Rattle.std.proofs.lemmas.Grind.{flat_map-append, fold-append}
 use Rattle.serde_json.specs.Data.{Data}
 use Rattle.serde_json.specs.View.{view}
 use Rattle.serde_json.specs.declared.value.Value.{Value}
-use Rattle.mum_document.specs.declared.fault.BadConfig.{BadConfig}
+use Rattle.mum_document.specs.declared.fault.DocumentError.{DocumentError}
 use Rattle.mum_document.specs.Fault.{Fault, place_text, within}
 use Rattle.mum_document.specs.Object.{each_fault, elements_fault}
 use Rattle.mum_document.specs.Reading.{Names}
@@ -22,7 +22,7 @@ module _ {Met : Type 0} (fault : Met → Data → Option Fault) (next : Met → 
       → elements_fault fault next met i (map view (drop i values)) ≡ elements_fault fault next (next met (view v)) (i + 1) (map view (drop (i + 1) values))
   elements_step met values i v is inside none = rw (drop_here values i v is inside) (or_else-none _ _ none)
 
-  pub elements_stop : (e : BadConfig) (met : Met) (values : List Value) (i : ℕ) (v : Value) → v ≡ get_or values i v → i < length values → Names e (within (place_text i) (fault met (view v)))
+  pub elements_stop : (e : DocumentError) (met : Met) (values : List Value) (i : ℕ) (v : Value) → v ≡ get_or values i v → i < length values → Names e (within (place_text i) (fault met (view v)))
       → Names e (elements_fault fault next met i (map view (drop i values)))
   elements_stop e met values i v is inside names = rw (drop_here values i v is inside) (first e _ _ names)
 
@@ -31,7 +31,7 @@ module _ (fault : Data → Option Fault) where
       → each_fault fault i (map view (drop i values)) ≡ each_fault fault (i + 1) (map view (drop (i + 1) values))
   each_step values i v is inside none = rw (drop_here values i v is inside) (or_else-none _ _ none)
 
-  pub each_stop : (e : BadConfig) (values : List Value) (i : ℕ) (v : Value) → v ≡ get_or values i v → i < length values → Names e (within (place_text i) (fault (view v)))
+  pub each_stop : (e : DocumentError) (values : List Value) (i : ℕ) (v : Value) → v ≡ get_or values i v → i < length values → Names e (within (place_text i) (fault (view v)))
       → Names e (each_fault fault i (map view (drop i values)))
   each_stop e values i v is inside names = rw (drop_here values i v is inside) (first e _ _ names)
 

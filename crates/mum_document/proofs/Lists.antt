@@ -5,7 +5,7 @@ use Rattle.std.specs.Borrow.{Bor}
 use Rattle.serde_json.specs.Data.{Data}
 use Rattle.serde_json.specs.View.{view}
 use Rattle.serde_json.specs.declared.value.Value.{Value}
-use Rattle.mum_document.specs.declared.fault.BadConfig.{BadConfig}
+use Rattle.mum_document.specs.declared.fault.DocumentError.{DocumentError}
 use Rattle.mum_document.specs.Fault.{Fault, or_else, within}
 use Rattle.mum_document.specs.Reading.{Names, Reads}
 use Rattle.mum_document.proofs.First.{later, none_said, or_else-end, reads_later, within_none}
@@ -19,11 +19,11 @@ pub given_none : (read : Option (Bor (List Value))) (elements : Option (List Dat
 given_none read elements same is = sym (ap (option_map (λ (v : Bor (List Value)). map view v.now)) is) ∙ same
 
 module _ (a : Option Fault) (way : List ℕ) (inner : List Data → Option Fault) (elements : Option (List Data)) (none : a ≡ None) where
-  pub list_read : {X : Type 0} (f : List Data → X) (values : List Data) (r : Result X BadConfig) → Some values ≡ elements → Reads (within way (inner values)) (f values) r
+  pub list_read : {X : Type 0} (f : List Data → X) (values : List Data) (r : Result X DocumentError) → Some values ≡ elements → Reads (within way (inner values)) (f values) r
       → Reads (or_else a (or_else (within way (inner (unwrap_or elements []))) None)) (f (unwrap_or elements [])) r
   list_read f values r is reads = rw (sym is, or_else-end) (reads_later a _ _ r none reads)
 
-  pub list_faulty : (values : List Data) (e : BadConfig) → Some values ≡ elements → Names e (within way (inner values)) → Names e (or_else a (or_else (within way (inner (unwrap_or elements []))) None))
+  pub list_faulty : (values : List Data) (e : DocumentError) → Some values ≡ elements → Names e (within way (inner values)) → Names e (or_else a (or_else (within way (inner (unwrap_or elements []))) None))
   list_faulty values e is names = rw (sym is, or_else-end) (later e a _ none names)
 
   pub list_good : (values : List Data) → Some values ≡ elements → within way (inner values) ≡ None → or_else a (or_else (within way (inner (unwrap_or elements []))) None) ≡ None

@@ -7,7 +7,7 @@ use Rattle.std.specs.Str.{bytes_eq}
 use Rattle.std.proofs.lemmas.List.{append-nil}
 use Rattle.serde_json.specs.Data.{Data, Members, member}
 use Rattle.serde_json.specs.Find.{as_object}
-use Rattle.mum_document.specs.declared.fault.BadConfig.{BadConfig}
+use Rattle.mum_document.specs.declared.fault.DocumentError.{DocumentError}
 use Rattle.mum_document.specs.declared.fault.ConfigFault.TheVariants.{UnknownKey, WrongKind}
 use Rattle.mum_document.specs.Fault.{against, within}
 use Rattle.mum_document.specs.Object.{unknown_fault, unknown_key}
@@ -34,7 +34,7 @@ pub unknown_key-here : (names : List (List ℕ)) (key : List ℕ) (value : Data)
     → unknown_key names (member key value rest) ≡ Some key
 unknown_key-here names key value rest other = rw other refl
 
-pub unknown_said : (dot key : List ℕ) (names : List (List ℕ)) (value : Data) (inner : Members) (e : BadConfig) → Some inner ≡ as_object value → unknown_key names inner ≡ Some key
+pub unknown_said : (dot key : List ℕ) (names : List (List ℕ)) (value : Data) (inner : Members) (e : DocumentError) → Some inner ≡ as_object value → unknown_key names inner ≡ Some key
     → Names e (within (dot ++ key) (Some (record { cause = UnknownKey; key = [] }))) → Names e (unknown_fault dot names value)
 unfolding within
 unknown_said dot key names value inner e is unknown said =

@@ -3,6 +3,7 @@ use Rattle.std.specs.Prelude.{ℕ, Bool, List, [], ◌++◌, Option, Some, None,
 use Rattle.mum_document.specs.declared.fault.ConfigFault.{ConfigFault}
 use Rattle.mum_document.specs.declared.fault.ConfigFault.TheVariants.{NotJson, NotAnObject, UnknownKey, WrongKind, OutOfRange, BadName, BadDigest, Twice, NoSuch, Limit}
 
+-- the number by which a fault is told, in the order in which faults are looked for at one key
 abbrev pub fault_code : ConfigFault → ℕ
 fault_code NotJson = 60
 fault_code NotAnObject = 61

@@ -5,24 +5,24 @@ use Rattle.std.specs.Option.{option_map}
 use Rattle.serde_json.specs.Data.{Data}
 use Rattle.serde_json.specs.View.{view}
 use Rattle.serde_json.specs.declared.value.Value.{Value}
-use Rattle.mum_document.specs.declared.fault.BadConfig.{BadConfig}
-use Rattle.mum_document.specs.declared.fault.BadConfig.TheVariants as bad
+use Rattle.mum_document.specs.declared.fault.DocumentError.{DocumentError}
+use Rattle.mum_document.specs.declared.fault.DocumentError.TheVariants as bad
 use Rattle.mum_document.specs.declared.fault.ConfigFault.{ConfigFault}
 use Rattle.mum_document.specs.Fault.{Fault}
 use Rattle.mum_document.specs.Value.{elements_of, list_fault}
 
 -- the error names this fault, or memory ran out
-unfoldable pub Names : BadConfig → Option Fault → Type 0
+unfoldable pub Names : DocumentError → Option Fault → Type 0
 Names (bad.Fault cause key) fault = fault ≡ Some (record { cause = cause; key = key })
 Names bad.OutOfMemory fault = ⊤
 
 -- the value where nothing is said against it, or the first fault; memory may run out before either
-abbrev pub Reads : {X : Type 0} → Option Fault → X → Result X BadConfig → Type 0
+abbrev pub Reads : {X : Type 0} → Option Fault → X → Result X DocumentError → Type 0
 Reads fault value (Ok read) = (fault ≡ None) × (read ≡ value)
 Reads fault value (Err error) = Names error fault
 
 -- the same of a reader that lends a text
-abbrev pub Lends : Option Fault → List ℕ → Result (Bor (List ℕ)) BadConfig → Type 0
+abbrev pub Lends : Option Fault → List ℕ → Result (Bor (List ℕ)) DocumentError → Type 0
 Lends fault text (Ok read) = (fault ≡ None) × (read.now ≡ text)
 Lends fault text (Err error) = Names error fault
 
@@ -42,11 +42,11 @@ JudgesList limit value (Ok read) = (list_fault limit value ≡ None) × (map vie
 JudgesList limit value (Err cause) = list_fault limit value ≡ Some (record { cause = cause; key = [] })
 
 -- the elements of a list, where one is given
-abbrev pub ReadsElements : Option Fault → Option (List Data) → Result (Option (Bor (List Value))) BadConfig → Type 0
+abbrev pub ReadsElements : Option Fault → Option (List Data) → Result (Option (Bor (List Value))) DocumentError → Type 0
 ReadsElements fault elements (Ok read) = (fault ≡ None) × (option_map (λ values. map view values.now) read ≡ elements)
 ReadsElements fault elements (Err error) = Names error fault
 
 -- the elements of a list, none where it is left out
-abbrev pub ReadsValues : Option Fault → List Data → Result (Bor (List Value)) BadConfig → Type 0
+abbrev pub ReadsValues : Option Fault → List Data → Result (Bor (List Value)) DocumentError → Type 0
 ReadsValues fault elements (Ok read) = (fault ≡ None) × (map view read.now ≡ elements)
 ReadsValues fault elements (Err error) = Names error fault

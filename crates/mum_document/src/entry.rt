@@ -9,7 +9,7 @@ ghost use Rattle.mum_document.specs.Policy.{entry_fault, entry_of, lacks_whom, p
 ghost use Rattle.mum_document.specs.Reading.{Reads};
 ghost use Rattle.mum_document.specs.Value.{number_fault, wanted};
 
-use crate::fault::{BadConfig, ConfigFault, at_place};
+use crate::fault::{ConfigFault, DocumentError, at_place};
 use crate::object::Object;
 use crate::value::or_empty;
 use mum_base::name::NAME_LIMIT;
@@ -29,7 +29,7 @@ fn lacks_whom(object: &Object<'_>) -> bool
 }
 
 /// Whom an entry speaks of: an account, if one is given, or else a group.
-fn whom_in(object: &Object<'_>) -> Result<Whom, BadConfig>
+fn whom_in(object: &Object<'_>) -> Result<Whom, DocumentError>
     ensures { Reads (rows_fault object.now.dot.now (whom_rows (view object.now.value.now)))
         (whom_of (view object.now.value.now)) result }
 {
@@ -43,7 +43,7 @@ fn whom_in(object: &Object<'_>) -> Result<Whom, BadConfig>
 }
 
 /// A set of permissions, of which those that there are count.
-fn permissions_in(object: &Object<'_>, name: &str) -> Result<Perm, BadConfig>
+fn permissions_in(object: &Object<'_>, name: &str) -> Result<Perm, DocumentError>
     ensures { let value = view object.now.value.now in
         Reads (within (object.now.dot.now ++ name.now)
         (wanted (number_fault 0 Perm.ALL.0) (get name.now value)))
@@ -62,7 +62,7 @@ pub(crate) struct Rights {
     pub deny: Perm,
 }
 
-fn rights_in(object: &Object<'_>) -> Result<Rights, BadConfig>
+fn rights_in(object: &Object<'_>) -> Result<Rights, DocumentError>
     ensures { Reads (rows_fault object.now.dot.now (right_rows (view object.now.value.now)))
         (rights_of (view object.now.value.now)) result }
 {
@@ -98,7 +98,11 @@ fn push_entry(whom: Whom, rights: Rights, entries: &mut Vec<AclEntry>) -> Result
 }
 
 /// Adds an entry.
-fn read_entry(alloc: Global, value: &Value, entries: &mut Vec<AclEntry>) -> Result<(), BadConfig>
+fn read_entry(
+    alloc: Global,
+    value: &Value,
+    entries: &mut Vec<AclEntry>,
+) -> Result<(), DocumentError>
     ensures reads { Reads (entry_fault (view value.now)) tt result }
     ensures entries { OnOk result
         (entries.new.items ≡ entries.old.items ++ entry_of (view value.now) ∷ []) }
@@ -120,7 +124,10 @@ fn read_entry(alloc: Global, value: &Value, entries: &mut Vec<AclEntry>) -> Resu
 }
 
 /// The entries of a channel, in order.
-pub(crate) fn read_entries(alloc: Global, values: &[Value]) -> Result<Items<AclEntry>, BadConfig>
+pub(crate) fn read_entries(
+    alloc: Global,
+    values: &[Value],
+) -> Result<Items<AclEntry>, DocumentError>
     ensures { Reads (each_fault entry_fault 0 (map view values.now))
         (map entry_of (map view values.now)) result }
 {

@@ -59,7 +59,7 @@ impl ConfigFault {
 
 /// Why no configuration was read.
 #[derive(Debug, Drop, Error)]
-pub enum BadConfig {
+pub enum DocumentError {
     /// The first fault of the document. The key is its whole way, as `channels[1].name` with places
     /// from 0, and `document` for the document as a whole.
     #[error("{cause}")]
@@ -68,36 +68,36 @@ pub enum BadConfig {
     OutOfMemory,
 }
 
-impl From<OutOfMemory> for BadConfig {
+impl From<OutOfMemory> for DocumentError {
     ghost use Rattle.std.specs.Prelude.{◌≡◌};
-    ghost use Rattle.mum_document.specs.declared.fault.BadConfig.TheVariants.{OutOfMemory};
+    ghost use Rattle.mum_document.specs.declared.fault.DocumentError.TheVariants.{OutOfMemory};
 
     ghost from_gives = { λ _ error. error ≡ OutOfMemory };
 
-    fn from(_error: OutOfMemory) -> BadConfig {
-        BadConfig::OutOfMemory
+    fn from(_error: OutOfMemory) -> DocumentError {
+        DocumentError::OutOfMemory
     }
 }
 
-impl<T: Drop> From<AllocFailed<T>> for BadConfig {
+impl<T: Drop> From<AllocFailed<T>> for DocumentError {
     ghost use Rattle.std.specs.Prelude.{◌≡◌};
-    ghost use Rattle.mum_document.specs.declared.fault.BadConfig.TheVariants.{OutOfMemory};
+    ghost use Rattle.mum_document.specs.declared.fault.DocumentError.TheVariants.{OutOfMemory};
 
     ghost from_gives = { λ _ error. error ≡ OutOfMemory };
 
-    fn from(_error: AllocFailed<T>) -> BadConfig {
-        BadConfig::OutOfMemory
+    fn from(_error: AllocFailed<T>) -> DocumentError {
+        DocumentError::OutOfMemory
     }
 }
 
 /// The fault at this key, unless memory runs out.
 #[tactic(auto, unfolding(crate::specs::Reading::Names))]
-pub fn fault_at(alloc: Global, cause: ConfigFault, key: &str) -> BadConfig
+pub fn fault_at(alloc: Global, cause: ConfigFault, key: &str) -> DocumentError
     ensures { Names result (Some (record { cause = cause; key = key.now })) }
 {
     match Text::of(alloc, key) {
-        Ok(key) => BadConfig::Fault { cause, key },
-        Err(_) => BadConfig::OutOfMemory,
+        Ok(key) => DocumentError::Fault { cause, key },
+        Err(_) => DocumentError::OutOfMemory,
     }
 }
 
@@ -111,15 +111,15 @@ fn joined(alloc: Global, first: &str, second: &str) -> Result<Text, OutOfMemory>
 }
 
 /// The same error, seen from the value that the way leads from.
-pub(crate) fn seen_from(alloc: Global, way: &str, error: BadConfig) -> BadConfig
+pub(crate) fn seen_from(alloc: Global, way: &str, error: DocumentError) -> DocumentError
     ensures { (fault : Option Fault) → Names error fault → Names result (within way.now fault) }
 {
     match error {
-        BadConfig::Fault { cause, key } => match joined(alloc, way, key.as_str()) {
-            Ok(key) => BadConfig::Fault { cause, key },
-            Err(_) => BadConfig::OutOfMemory,
+        DocumentError::Fault { cause, key } => match joined(alloc, way, key.as_str()) {
+            Ok(key) => DocumentError::Fault { cause, key },
+            Err(_) => DocumentError::OutOfMemory,
         },
-        BadConfig::OutOfMemory => BadConfig::OutOfMemory,
+        DocumentError::OutOfMemory => DocumentError::OutOfMemory,
     }
 }
 
@@ -131,13 +131,13 @@ fn place_way(alloc: Global, place: usize) -> Result<Text, OutOfMemory>
 }
 
 /// The same error, seen from the list that has what it is about at this place.
-fn seen_at(alloc: Global, place: usize, error: BadConfig) -> BadConfig
+fn seen_at(alloc: Global, place: usize, error: DocumentError) -> DocumentError
     ensures { (fault : Option Fault) → Names error fault →
         Names result (within (place_text place) fault) }
 {
     match place_way(alloc, place) {
         Ok(way) => seen_from(alloc, way.as_str(), error),
-        Err(_) => BadConfig::OutOfMemory,
+        Err(_) => DocumentError::OutOfMemory,
     }
 }
 
@@ -145,8 +145,8 @@ fn seen_at(alloc: Global, place: usize, error: BadConfig) -> BadConfig
 pub fn at_place<T: Drop>(
     alloc: Global,
     place: usize,
-    read: Result<T, BadConfig>,
-) -> Result<T, BadConfig>
+    read: Result<T, DocumentError>,
+) -> Result<T, DocumentError>
     ensures reads { (fault : Option Fault) (value : T) → Reads fault value read →
         Reads (within (place_text place) fault) value result }
     ensures ok { IfOk result (λ value. read ≡ Ok value) }

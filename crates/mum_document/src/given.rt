@@ -7,7 +7,7 @@ ghost use Rattle.mum_document.specs.Object.{rows_fault};
 ghost use Rattle.mum_document.specs.Reading.{Reads};
 
 use crate::entry::read_entries;
-use crate::fault::BadConfig;
+use crate::fault::DocumentError;
 use crate::group::read_groups;
 use crate::object::Object;
 use mum_base::name::TEXT_LIMIT;
@@ -33,7 +33,7 @@ pub struct GivenPolicy {
 
 impl GivenInfo {
     /// The info at the keys `position`, `max_users` and `description`, each of which may be left out.
-    pub fn read(object: &Object<'_>) -> Result<GivenInfo, BadConfig>
+    pub fn read(object: &Object<'_>) -> Result<GivenInfo, DocumentError>
         ensures { Reads (rows_fault object.now.dot.now (info_rows (view object.now.value.now)))
             (given_info (view object.now.value.now)) result }
     {
@@ -49,7 +49,7 @@ impl GivenInfo {
 }
 
 /// The groups at the key `groups`, if it is there.
-fn groups_in(object: &Object<'_>) -> Result<Option<Items<Group>>, BadConfig>
+fn groups_in(object: &Object<'_>) -> Result<Option<Items<Group>>, DocumentError>
     ensures { let value = view object.now.value.now in
         Reads (rows_fault object.now.dot.now (group_list_rows value)) (groups_at value) result }
 {
@@ -63,7 +63,7 @@ fn groups_in(object: &Object<'_>) -> Result<Option<Items<Group>>, BadConfig>
 }
 
 /// The entries at the key `acls`, if it is there.
-fn acls_in(object: &Object<'_>) -> Result<Option<Items<AclEntry>>, BadConfig>
+fn acls_in(object: &Object<'_>) -> Result<Option<Items<AclEntry>>, DocumentError>
     ensures { let value = view object.now.value.now in
         Reads (rows_fault object.now.dot.now (entry_list_rows value)) (acls_at value) result }
 {
@@ -78,7 +78,7 @@ fn acls_in(object: &Object<'_>) -> Result<Option<Items<AclEntry>>, BadConfig>
 
 impl GivenPolicy {
     /// The policy at the keys `inherit_acls`, `groups` and `acls`, each of which may be left out.
-    pub fn read(object: &Object<'_>) -> Result<GivenPolicy, BadConfig>
+    pub fn read(object: &Object<'_>) -> Result<GivenPolicy, DocumentError>
         ensures { Reads (rows_fault object.now.dot.now (policy_rows (view object.now.value.now)))
             (given_policy (view object.now.value.now)) result }
     {

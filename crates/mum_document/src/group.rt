@@ -7,7 +7,7 @@ ghost use Rattle.mum_document.specs.Object.{each_fault, elements_fault, rows_fau
 ghost use Rattle.mum_document.specs.Policy.{account_of, accounts_at, group_fault, group_of, id_rows, with_group_met};
 ghost use Rattle.mum_document.specs.Reading.{Reads};
 
-use crate::fault::{BadConfig, at_place, fault_at};
+use crate::fault::{DocumentError, at_place, fault_at};
 use crate::name::new_name;
 use crate::object::Object;
 use crate::value::read_number;
@@ -22,7 +22,7 @@ use std::mem::drop;
 const KEYS: [&str; 5] = ["name", "inherit", "inheritable", "add", "remove"];
 
 /// The number of an account, which need not be there.
-fn read_account(alloc: Global, value: &Value) -> Result<AccountId, BadConfig>
+fn read_account(alloc: Global, value: &Value) -> Result<AccountId, DocumentError>
     ensures { Reads (number_fault 0 greatest (view value.now)) (account_of (view value.now)) result }
 {
     match read_number(value, 0, u32::MAX) {
@@ -31,7 +31,7 @@ fn read_account(alloc: Global, value: &Value) -> Result<AccountId, BadConfig>
     }
 }
 
-fn read_accounts(alloc: Global, values: &[Value]) -> Result<Items<AccountId>, BadConfig>
+fn read_accounts(alloc: Global, values: &[Value]) -> Result<Items<AccountId>, DocumentError>
     ensures { Reads (each_fault (number_fault 0 greatest) 0 (map view values.now))
         (map account_of (map view values.now)) result }
 {
@@ -44,7 +44,7 @@ fn read_accounts(alloc: Global, values: &[Value]) -> Result<Items<AccountId>, Ba
 }
 
 /// The accounts at a key of a group; none where it is left out.
-fn accounts_in(object: &Object<'_>, name: &str) -> Result<Items<AccountId>, BadConfig>
+fn accounts_in(object: &Object<'_>, name: &str) -> Result<Items<AccountId>, DocumentError>
     ensures { let value = view object.now.value.now in
         Reads (rows_fault object.now.dot.now (id_rows name.now value)) (accounts_at name.now value) result }
 {
@@ -97,7 +97,7 @@ fn read_group<'a>(
     value: &'a Value,
     names: &mut IndexSet<&'a str>,
     groups: &mut Vec<Group>,
-) -> Result<(), BadConfig>
+) -> Result<(), DocumentError>
     ensures reads { Reads (group_fault (map (λ n. n.now) names.old.keys) (view value.now)) tt result }
     ensures names { OnOk result (map (λ n. n.now) names.new.keys
         ≡ with_group_met (map (λ n. n.now) names.old.keys) (view value.now)) }
@@ -134,7 +134,7 @@ fn add_groups<'a>(
     values: &'a [Value],
     names: &mut IndexSet<&'a str>,
     groups: &mut Vec<Group>,
-) -> Result<(), BadConfig>
+) -> Result<(), DocumentError>
     ensures reads { Reads (elements_fault group_fault with_group_met (map (λ n. n.now) names.old.keys) 0
         (map view values.now)) tt result }
     ensures groups { OnOk result
@@ -147,7 +147,7 @@ fn add_groups<'a>(
 }
 
 /// The groups of a channel, of which no two have one name.
-pub(crate) fn read_groups(alloc: Global, values: &[Value]) -> Result<Items<Group>, BadConfig>
+pub(crate) fn read_groups(alloc: Global, values: &[Value]) -> Result<Items<Group>, DocumentError>
     ensures { Reads (elements_fault group_fault with_group_met [] 0 (map view values.now))
         (map group_of (map view values.now)) result }
 {

@@ -11,7 +11,7 @@ pub mod name;
 pub mod object;
 pub mod value;
 
-pub use fault::{BadConfig, ConfigFault, at_place, fault_at};
+pub use fault::{ConfigFault, DocumentError, at_place, fault_at};
 pub use given::{GivenInfo, GivenPolicy};
 pub use name::new_name;
 pub use object::Object;

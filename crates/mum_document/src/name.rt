@@ -5,7 +5,7 @@ ghost use Rattle.serde_json.specs.View.{view};
 ghost use Rattle.mum_document.specs.Object.{new_name_rows, rows_fault, text_at};
 ghost use Rattle.mum_document.specs.Reading.{Lends};
 
-use crate::fault::{BadConfig, ConfigFault};
+use crate::fault::{ConfigFault, DocumentError};
 use crate::object::Object;
 use indexmap::IndexSet;
 
@@ -14,7 +14,7 @@ use indexmap::IndexSet;
 pub fn new_name<'a>(
     object: &Object<'a>,
     names: &mut IndexSet<&'a str>,
-) -> Result<&'a str, BadConfig>
+) -> Result<&'a str, DocumentError>
     ensures reads { let value = view object.now.value.now in
         Lends (rows_fault object.now.dot.now
         (new_name_rows (map (λ n. n.now) names.old.keys) value))

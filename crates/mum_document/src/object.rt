@@ -14,7 +14,7 @@ ghost use Rattle.mum_document.specs.Object.{elements_at, has, number_at, opening
 ghost use Rattle.mum_document.specs.Reading.{Lends, Names, Reads, ReadsElements, ReadsValues};
 ghost use Rattle.mum_document.specs.Value.{digest_fault, digest_of, elements_of, flag_fault, flag_of, list_fault, name_fault, needed, number_fault, number_of, signed_fault, signed_of, text_fault, text_of, wanted};
 
-use crate::fault::{BadConfig, ConfigFault, fault_at, seen_from};
+use crate::fault::{ConfigFault, DocumentError, fault_at, seen_from};
 use crate::value::{
     read_digest, read_flag, read_list, read_name, read_number, read_signed, read_text,
 };
@@ -42,7 +42,7 @@ fn is_known(names: &[&str], key: &str) -> bool
 impl<'a> Object<'a> {
     /// Refuses what is no object (`WrongKind`), and then one that has other keys than these
     /// (`UnknownKey`, of the least of them).
-    pub fn open(&self, names: &[&str]) -> Result<(), BadConfig>
+    pub fn open(&self, names: &[&str]) -> Result<(), DocumentError>
         ensures { Reads (opening_fault self.now.dot.now (map (λ n. n.now) names.now)
             (view self.now.value.now)) tt result }
     {
@@ -53,7 +53,7 @@ impl<'a> Object<'a> {
     }
 
     /// Refuses an object that has other keys than these, for the least of them.
-    pub fn refuse_others(&self, names: &[&str]) -> Result<(), BadConfig>
+    pub fn refuse_others(&self, names: &[&str]) -> Result<(), DocumentError>
         ensures { Reads (unknown_fault self.now.dot.now (map (λ n. n.now) names.now)
             (view self.now.value.now)) tt result }
     {
@@ -69,7 +69,7 @@ impl<'a> Object<'a> {
     }
 
     /// The fault at a key.
-    fn fault(&self, name: &str, cause: ConfigFault) -> BadConfig
+    fn fault(&self, name: &str, cause: ConfigFault) -> DocumentError
         ensures { Names result (within (self.now.dot.now ++ name.now)
             (Some (record { cause = cause; key = [] }))) }
     {
@@ -77,7 +77,7 @@ impl<'a> Object<'a> {
     }
 
     /// An error of the value at a key.
-    pub fn seen(&self, name: &str, error: BadConfig) -> BadConfig
+    pub fn seen(&self, name: &str, error: DocumentError) -> DocumentError
         ensures { (fault : Option Fault) → Names error fault →
             Names result (within (self.now.dot.now ++ name.now) fault) }
     {
@@ -86,7 +86,11 @@ impl<'a> Object<'a> {
     }
 
     /// What was read of the value at a key.
-    pub fn at<T: Drop>(&self, name: &str, read: Result<T, BadConfig>) -> Result<T, BadConfig>
+    pub fn at<T: Drop>(
+        &self,
+        name: &str,
+        read: Result<T, DocumentError>,
+    ) -> Result<T, DocumentError>
         ensures reads { (fault : Option Fault) (value : T) → Reads fault value read →
             Reads (within (self.now.dot.now ++ name.now) fault) value result }
         ensures ok { IfOk result (λ value. read ≡ Ok value) }
@@ -98,7 +102,12 @@ impl<'a> Object<'a> {
     }
 
     /// Refuses the value at a key where something holds.
-    pub fn refuse_if(&self, holds: bool, name: &str, cause: ConfigFault) -> Result<(), BadConfig>
+    pub fn refuse_if(
+        &self,
+        holds: bool,
+        name: &str,
+        cause: ConfigFault,
+    ) -> Result<(), DocumentError>
         ensures { Reads (within (self.now.dot.now ++ name.now) (against cause holds)) tt result }
     {
         if holds {
@@ -115,7 +124,7 @@ impl<'a> Object<'a> {
     }
 
     /// A number from `low` to `high`.
-    pub fn number(&self, name: &str, low: u32, high: u32) -> Result<Option<u32>, BadConfig>
+    pub fn number(&self, name: &str, low: u32, high: u32) -> Result<Option<u32>, DocumentError>
         ensures { let found = get name.now (view self.now.value.now) in
             Reads (within (self.now.dot.now ++ name.now) (wanted (number_fault low high) found))
             (option_map number_of found) result }
@@ -130,7 +139,7 @@ impl<'a> Object<'a> {
     }
 
     /// A number from `low` to `high` that must be there.
-    pub fn needed_number(&self, name: &str, low: u32, high: u32) -> Result<u32, BadConfig>
+    pub fn needed_number(&self, name: &str, low: u32, high: u32) -> Result<u32, DocumentError>
         ensures { let object = view self.now.value.now in
             Reads (within (self.now.dot.now ++ name.now)
             (needed (number_fault low high) (get name.now object)))
@@ -143,7 +152,7 @@ impl<'a> Object<'a> {
     }
 
     /// A number of 32 bits with a sign.
-    pub fn signed(&self, name: &str) -> Result<Option<i32>, BadConfig>
+    pub fn signed(&self, name: &str) -> Result<Option<i32>, DocumentError>
         ensures { let found = get name.now (view self.now.value.now) in
             Reads (within (self.now.dot.now ++ name.now) (wanted signed_fault found))
             (option_map signed_of found) result }
@@ -158,7 +167,7 @@ impl<'a> Object<'a> {
     }
 
     /// True or false.
-    pub fn flag(&self, name: &str) -> Result<Option<bool>, BadConfig>
+    pub fn flag(&self, name: &str) -> Result<Option<bool>, DocumentError>
         ensures { let found = get name.now (view self.now.value.now) in
             Reads (within (self.now.dot.now ++ name.now) (wanted flag_fault found))
             (option_map flag_of found) result }
@@ -173,7 +182,7 @@ impl<'a> Object<'a> {
     }
 
     /// A text of at most so many bytes.
-    pub fn text(&self, name: &str, limit: usize) -> Result<Option<Text>, BadConfig>
+    pub fn text(&self, name: &str, limit: usize) -> Result<Option<Text>, DocumentError>
         ensures { let found = get name.now (view self.now.value.now) in
             Reads (within (self.now.dot.now ++ name.now) (wanted (text_fault limit) found))
             (option_map text_of found) result }
@@ -188,7 +197,7 @@ impl<'a> Object<'a> {
     }
 
     /// A name that must be there.
-    pub fn needed_name(&self, name: &str) -> Result<&'a str, BadConfig>
+    pub fn needed_name(&self, name: &str) -> Result<&'a str, DocumentError>
         ensures { let object = view self.now.value.now in
             Lends (within (self.now.dot.now ++ name.now)
             (needed name_fault (get name.now object))) (text_at name.now object) result }
@@ -203,7 +212,7 @@ impl<'a> Object<'a> {
     }
 
     /// A SHA-256 digest.
-    pub fn digest(&self, name: &str) -> Result<Option<[u8; 32]>, BadConfig>
+    pub fn digest(&self, name: &str) -> Result<Option<[u8; 32]>, DocumentError>
         ensures { let found = get name.now (view self.now.value.now) in
             Reads (within (self.now.dot.now ++ name.now) (wanted digest_fault found))
             (option_map digest_of found) result }
@@ -218,7 +227,7 @@ impl<'a> Object<'a> {
     }
 
     /// A SHA-256 digest that must be there.
-    pub fn needed_digest(&self, name: &str) -> Result<[u8; 32], BadConfig>
+    pub fn needed_digest(&self, name: &str) -> Result<[u8; 32], DocumentError>
         ensures { let found = get name.now (view self.now.value.now) in
             Reads (within (self.now.dot.now ++ name.now) (needed digest_fault found))
             (unwrap_or (option_map digest_of found) []) result }
@@ -230,7 +239,7 @@ impl<'a> Object<'a> {
     }
 
     /// The elements of a list of at most so many.
-    pub fn list(&self, name: &str, limit: usize) -> Result<Option<&'a [Value]>, BadConfig>
+    pub fn list(&self, name: &str, limit: usize) -> Result<Option<&'a [Value]>, DocumentError>
         ensures { let found = get name.now (view self.now.value.now) in
             ReadsElements (within (self.now.dot.now ++ name.now) (wanted (list_fault limit) found))
             (option_map elements_of found) result }
@@ -245,7 +254,7 @@ impl<'a> Object<'a> {
     }
 
     /// The elements of a list of at most so many; none where it is left out.
-    pub fn elements(&self, name: &str, limit: usize) -> Result<&'a [Value], BadConfig>
+    pub fn elements(&self, name: &str, limit: usize) -> Result<&'a [Value], DocumentError>
         ensures { let object = view self.now.value.now in
             ReadsValues (within (self.now.dot.now ++ name.now)
             (wanted (list_fault limit) (get name.now object))) (elements_at name.now object) result }

@@ -1,11 +1,11 @@
 -- What reading the document of a head answers.
 use Rattle.std.specs.Prelude.{◌≡◌, ℕ, List, None, Result, Ok, Err}
-use Rattle.mum_document.specs.Reading.{Names}
-use Rattle.mum_document.specs.declared.fault.BadConfig.{BadConfig}
+use Rattle.mum_config.specs.Refusal.{NamesByCode}
+use Rattle.mum_config.specs.declared.refusal.BadConfig.{BadConfig}
 use Rattle.mum_state.specs.declared.edit.Edit.{Edit}
 use Rattle.mum_opening.specs.Opening.{document_edits, document_fault}
 
 -- the edits of a document in which there is no fault, or its first fault; or memory ran out
 abbrev pub ReadsDocument : List ℕ → Result (List Edit) BadConfig → Type 0
 ReadsDocument document (Ok edits) = (document_fault document ≡ None) × (edits ≡ document_edits document)
-ReadsDocument document (Err error) = Names error (document_fault document)
+ReadsDocument document (Err error) = NamesByCode error (document_fault document)

@@ -9,7 +9,7 @@ use Rattle.mum_document.proofs.First.{first, later}
 use Rattle.mum_config.proofs.FewWorkers.{text_workers}
 use Rattle.mum_config.proofs.FitDocument.{text_fits, text_fits_limits}
 use Rattle.mum_config.proofs.FitSettings.{settings_fit_limits}
-use Rattle.mum_config.proofs.config.read_config.Goals as goal
+use Rattle.mum_config.proofs.config.read_text.Goals as goal
 
 pub returns-then-text-gt-DOCUMENT_LIMIT-clause-reads : goal.returns-then-text-gt-DOCUMENT_LIMIT-clause-reads
 unfolding fault_of

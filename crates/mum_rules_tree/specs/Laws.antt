@@ -8,6 +8,7 @@ use Rattle.mum_base.specs.declared.outcome.Reason.{Reason}
 use Rattle.mum_base.specs.declared.perm.Perm.{Perm}
 use Rattle.mum_base.specs.declared.perm.TheConstants.Perm.{WRITE}
 use Rattle.mum_base.specs.Codes.{deny_code, reason_code}
+use Rattle.mum_frame.specs.declared.frame.Frame.{Frame}
 use Rattle.mum_policy.specs.declared.policy.ChannelPolicy.{ChannelPolicy}
 use Rattle.mum_tree.specs.Refusals.{parent_of}
 use Rattle.mum_state.specs.declared.verdict.Verdict.{Verdict}
@@ -19,6 +20,7 @@ use Rattle.mum_state.specs.State.{StateValue}
 use Rattle.mum_rules_tree.specs.declared.message.TreeMessage.{TreeMessage}
 use Rattle.mum_rules_tree.specs.Asked.{command_of}
 use Rattle.mum_rules_tree.specs.Decision.{Case, Need, case_of, is_met, is_open, way}
+use Rattle.mum_rules_tree.specs.Denial.{denial}
 use Rattle.mum_rules_tree.specs.Limits.{limits}
 use Rattle.mum_rules_tree.specs.Needs.{needs}
 use Rattle.mum_rules_tree.specs.Reasons.{reasons}
@@ -95,6 +97,12 @@ RefusesForFirstLimit =
     → tree_verdict state actor message ≡ Refused kind
     → NoneStands (reasons state actor message) × AllMet state (needs_of state actor message)
     × ((limit : DenyType) × (kind ≡ deny_code limit) × IsFirstStanding (limits state (command_of message)) limit)
+
+-- a verdict that is reported as a denial is no edit: who is denied changes nothing
+abbrev pub DenialsAreNoEdits : Type 0
+DenialsAreNoEdits =
+    (session : Option SessionId) (verdict : Verdict) (frame : Frame) (edit : Edit)
+    → denial session verdict ≡ Some frame → verdict ≡ Accepted edit → ⊥
 
 -- a policy is set only for a session that has Write on the channel or on its parent
 abbrev pub WritersSetPolicies : Type 0

@@ -1,7 +1,7 @@
 //! What holds of every decision, as theorems. The functions do nothing: their contracts are what they
 //! say.
 
-ghost use Rattle.mum_rules_tree.specs.Laws.{AcceptsWhereNothingStands, GrantsWhereNothingStands, IgnoresForFirstReason, NamesFirstMissing, RefusesForFirstLimit, WritersSetPolicies};
+ghost use Rattle.mum_rules_tree.specs.Laws.{AcceptsWhereNothingStands, DenialsAreNoEdits, GrantsWhereNothingStands, IgnoresForFirstReason, NamesFirstMissing, RefusesForFirstLimit, WritersSetPolicies};
 
 /// A denial names the first permission that is missing, with its channel: all needs before it are met, and
 /// there is no reason to ignore the message.
@@ -28,6 +28,11 @@ pub fn ignores_for_first_reason()
 /// is met.
 pub fn refuses_for_first_limit()
     ensures { RefusesForFirstLimit }
+{}
+
+/// Whoever is denied a command or a login changes nothing: what is denied is no edit.
+pub fn denials_are_no_edits()
+    ensures { DenialsAreNoEdits }
 {}
 
 /// A message sets a channel's policy only where whoever sent it has Write there or on the parent.

@@ -2,6 +2,7 @@ pub mod Accepted
 pub mod Access
 pub mod Decided
 pub mod Firsts
+pub mod Complete
 pub mod InTurn
 pub mod Listened
 pub mod LoggedIn

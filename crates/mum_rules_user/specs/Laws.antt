@@ -1,9 +1,10 @@
 -- What a verdict says of the tables, in words of its own.
 use Rattle.std.specs.Prelude.{◌≡◌, ℕ, ◌||◌, true, false, List, Option, Some, None, IsTrue}
-use Rattle.mum_base.specs.Codes.{deny_code, reject_code}
+use Rattle.mum_base.specs.Codes.{deny_code, reason_code, reject_code}
 use Rattle.mum_base.specs.declared.number.ChannelId.{ChannelId}
 use Rattle.mum_base.specs.declared.number.SessionId.{SessionId}
 use Rattle.mum_base.specs.declared.outcome.DenyType.{DenyType}
+use Rattle.mum_base.specs.declared.outcome.Reason.{Reason}
 use Rattle.mum_base.specs.declared.outcome.RejectType.{RejectType}
 use Rattle.mum_base.specs.declared.perm.Perm.{Perm}
 use Rattle.mum_base.specs.declared.perm.TheConstants.Perm.{ENTER, MOVE, MUTE_DEAFEN}
@@ -12,10 +13,11 @@ use Rattle.mum_msg_state.specs.declared.user_remove.UserRemove.{UserRemove}
 use Rattle.mum_msg_state.specs.declared.user_state.UserState.{UserState}
 use Rattle.mum_state.specs.declared.account.Account.{Account}
 use Rattle.mum_state.specs.declared.edit.Edit.{Edit}
-use Rattle.mum_state.specs.declared.verdict.Verdict.TheVariants.{Accepted, Lacks, Refused, Rejected}
+use Rattle.mum_state.specs.declared.verdict.Verdict.TheVariants.{Accepted, Ignored, Lacks, Refused, Rejected}
+use Rattle.mum_state.specs.Proper.{IsProper}
 use Rattle.mum_state.specs.State.{StateValue, account_named}
 use Rattle.mum_rules_tree.specs.Decision.{Need, is_open, way}
-use Rattle.mum_rules_tree.specs.Laws.{AllMet, IsFirstMissing, IsFirstStanding, NoneStands}
+use Rattle.mum_rules_tree.specs.Laws.{AllMet, IsAcceptedOrAnswered, IsFirstMissing, IsFirstStanding, NoneStands}
 use Rattle.mum_rules_tree.specs.Verdict.{actor_named}
 use Rattle.mum_rules_user.specs.Asked.{channel_of, command_of, is_oneself, new_channel, rules_speech, session_or, sets_own}
 use Rattle.mum_rules_user.specs.Limits.{is_super_user, limits}
@@ -43,6 +45,21 @@ AcceptsWhereNothingStands =
     (state : StateValue) (actor : SessionId) (message : UserMessage) (edit : Edit)
     → user_verdict state (Some actor) message ≡ Accepted edit
     → NoneStands (reasons state (Some actor) message) × AllMet state (needs_of state actor message) × NoneStands (limits state actor (command_of actor message))
+
+-- a message of a session is accepted or answered where no reason, no need and no limit is against it
+abbrev pub GrantsWhereNothingStands : Type 0
+GrantsWhereNothingStands =
+    (state : StateValue) (actor : SessionId) (message : UserMessage) → IsProper state
+    → NoneStands (reasons state (Some actor) message) → AllMet state (needs_of state actor message)
+    → NoneStands (limits state actor (command_of actor message))
+    → IsAcceptedOrAnswered (user_verdict state (Some actor) message)
+
+-- a message, of a session or of nobody, is ignored for the first reason that applies
+abbrev pub IgnoresForFirstReason : Type 0
+IgnoresForFirstReason =
+    (state : StateValue) (actor : Option SessionId) (message : UserMessage) (why : ℕ) → IsProper state
+    → user_verdict state actor message ≡ Ignored why
+    → (reason : Reason) × (why ≡ reason_code reason) × IsFirstStanding (reasons state actor message) reason
 
 -- whoever has no session is let do nothing but log in, and that where no reason and no limit stands against it
 abbrev pub LogsInWhereNothingStands : Type 0

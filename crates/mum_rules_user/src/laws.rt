@@ -1,7 +1,7 @@
 //! What holds of every decision, as theorems. The functions do nothing: their contracts are what they
 //! say.
 
-ghost use Rattle.mum_rules_user.specs.Laws.{AcceptsWhereNothingStands, EntersWherePermitted, KeepsSuperUser, LeavesOwnToOthers, LogsInWhereNothingStands, MovesWherePermitted, NamesFirstMissing, OwnersAlone, RefusesForFirstLimit, RejectsForFirstLimit, RulesSpeechWherePermitted, SparesSuperUser};
+ghost use Rattle.mum_rules_user.specs.Laws.{AcceptsWhereNothingStands, EntersWherePermitted, GrantsWhereNothingStands, IgnoresForFirstReason, KeepsSuperUser, LeavesOwnToOthers, LogsInWhereNothingStands, MovesWherePermitted, NamesFirstMissing, OwnersAlone, RefusesForFirstLimit, RejectsForFirstLimit, RulesSpeechWherePermitted, SparesSuperUser};
 
 /// A denial names the first permission that is missing, with its channel: all needs before it are met, and
 /// there is no reason to ignore the message.
@@ -12,6 +12,16 @@ pub fn names_first_missing()
 /// What is accepted of a session has no reason, no need that is not met, and no limit against it.
 pub fn accepts_where_nothing_stands()
     ensures { AcceptsWhereNothingStands }
+{}
+
+/// A message of a session that no reason, no need and no limit is against is accepted or answered.
+pub fn grants_where_nothing_stands()
+    ensures { GrantsWhereNothingStands }
+{}
+
+/// A message is ignored for the first reason that applies, whatever else is against it.
+pub fn ignores_for_first_reason()
+    ensures { IgnoresForFirstReason }
 {}
 
 /// Whoever has no session is let do nothing but log in, and that only where no reason and no limit stands

@@ -3,5 +3,6 @@ pub mod Strangers
 pub mod Frames
 pub mod Replies
 pub mod Denials
+pub mod Entering
 pub mod Channels
 pub mod Framed

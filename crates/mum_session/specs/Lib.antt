@@ -3,3 +3,4 @@ pub mod Machine
 pub mod Action
 pub mod Verdict
 pub mod Reply
+pub mod Laws

@@ -15,6 +15,7 @@ ghost use Rattle.mum_state.specs.declared.edit.Edit.{Edit};
 ghost use Rattle.mum_state.specs.declared.verdict.Verdict.{Verdict};
 ghost use Rattle.mum_state.specs.declared.verdict.Verdict.TheVariants.{Accepted, Ignored, Rejected};
 ghost use Rattle.mum_session.specs.Action.{action, ignore, taken_before_login};
+ghost use Rattle.mum_session.specs.Laws.{EntersWherePermitted};
 ghost use Rattle.mum_session.specs.Machine.{Machine, is_rejected, session_of};
 ghost use Rattle.mum_session.specs.Reply.{JoinsAs, reply_end, wire};
 
@@ -51,8 +52,8 @@ pub fn denials_are_sent()
         → denial session verdict ≡ Some frame → wire session verdict ≡ frame_spelling frame }
 {}
 
-/// Whoever is denied a command or a login changes nothing: what is denied is no edit.
-pub fn denials_are_no_edits()
-    ensures { (session : Option SessionId) (verdict : Verdict) (frame : Frame) (edit : Edit)
-        → denial session verdict ≡ Some frame → verdict ≡ Accepted edit → ⊥ }
+/// A session enters a channel by a command of its own only where it has Enter or Move there; or it is
+/// the temporary channel that it makes, or the parent of one that it removes from around itself.
+pub fn enters_where_permitted()
+    ensures { EntersWherePermitted }
 {}

@@ -43,7 +43,7 @@ get_same (x ∷ xs) (suc i) d e within = get_same xs i d e (omega arith)
 pub key_is : (state : StateValue) (session : SessionId) (channel : ChannelId) (user : User) (place policy count : ℕ) → IsProper state
     → session_of state.roster session ≡ Some user → option_map (λ row. row.place) (row_of state.tree.channels channel) ≡ Some place
     → policy ≡ state.counts.policy → slice_get state.counts.slots user.slot.0 ≡ Some count
-    → IsKey state session channel (record { index = user.slot.0 * 2048 + place; policy = policy; count = count })
+    → IsKey state session channel (record { index = place * 512 + user.slot.0; policy = policy; count = count })
 key_is state session channel user place policy count proper found placed same counted =
     let (row, known, at) = shown (λ (one : Row). one.place) (row_of state.tree.channels channel) place placed in
     let low : user.slot.0 < 512 = slot_below state.roster session user proper.roster found in
@@ -137,13 +137,13 @@ module _ (state : StateValue) (session : SessionId) (channel : ChannelId) (key :
       let new = perm_entry state session channel value in
       let here = index_of state session channel in
       let near : here < 1048576 = index_within in
-      let low : place_of state channel < 2048 = is.place in
+      let low : slot_of state session < 512 = is.slot in
       elim (cases_eq (perm_index slot place) (index_of state session channel)) [
         | inl same ↦
             let at : perm_at (set entries here new) slot place ≡ new =
             ap (λ (i : ℕ). get_or (set entries here new) i no_perm) same ∙ get_or-set_same entries here new no_perm (omega (arith, room, near)) in
-            let slots : slot_of state session ≡ slot = omega (arith, same, inside, low) in
-            let places : place_of state channel ≡ place = omega (arith, same, inside, low) in
+            let slots : slot_of state session ≡ slot = omega (arith, same, within, low) in
+            let places : place_of state channel ≡ place = omega (arith, same, within, low) in
             subst (λ (one : PermEntry). PermSound state slot place one) (sym at)
             (subst (λ (s : ℕ). PermSound state s place new) slots
             (subst (λ (p : ℕ). PermSound state (slot_of state session) p new) places (own_sound value told)))

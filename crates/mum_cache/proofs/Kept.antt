@@ -77,8 +77,9 @@ module _ (state : StateValue) (speaker : User) (target : ℕ) (is : IsSpeaker st
             ap (λ (es : List RouteEntry). route_entry_at es slot other) now
             ∙ ap (λ (i : ℕ). get_or (set entries here entry) i no_route) same ∙ get_or-set_same entries here entry no_route (omega (arith, room, near)) in
             let own : route_index speaker.slot.0 target ≡ here = sym here_is in
-            let slots : speaker.slot.0 ≡ slot = omega (arith, same, own, inside, aimed) in
-            let targets : target ≡ other = omega (arith, same, own, inside, aimed) in
+            let low : speaker.slot.0 < 512 = is.slot in
+            let slots : speaker.slot.0 ≡ slot = omega (arith, same, own, within, low) in
+            let targets : target ≡ other = omega (arith, same, own, within, low) in
             subst (λ (one : RouteEntry). RouteSound state slot other one) (sym at)
             (subst (λ (s : ℕ). RouteSound state s other entry) slots
             (subst (λ (t : ℕ). RouteSound state speaker.slot.0 t entry) targets (own_sound entry so)))

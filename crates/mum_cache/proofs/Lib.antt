@@ -1,3 +1,4 @@
+pub mod Padded
 pub mod Staying
 pub mod Others
 pub mod Answered

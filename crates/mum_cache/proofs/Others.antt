@@ -19,7 +19,8 @@ use Rattle.mum_state.specs.Laws.{HasPlace, IsInSlot}
 use Rattle.mum_state.specs.Proper.{IsProper}
 use Rattle.mum_state.specs.State.{StateValue}
 use Rattle.mum_state.proofs.Each.{found_passes}
-use Rattle.mum_route.proofs.Known.{one_row, place_within, row_at}
+use Rattle.mum_route.proofs.Known.{one_row, row_at}
+use Rattle.mum_route.proofs.Slots.{slot_below}
 use Rattle.mum_cache.specs.Laws.{AnswersWhereItStands, OtherPermsStay, OtherRoutesStay}
 use Rattle.mum_cache.specs.Perms.{index_of, no_perm, perm_at, perm_index}
 use Rattle.mum_cache.specs.Places.{place_of, slot_of}
@@ -104,13 +105,13 @@ other_perms_stay_lem state entries session channel new slot place proper sound a
     let (row, known) = one_of (row_of state.tree.channels entry.channel) there.channel_there in
     let seat : user.slot.0 ≡ slot = right.seated user.slot (is_seated state entry.session user found) in
     let spot : row.place ≡ place = right.placed row.place (is_placed state entry.channel row known) in
-    let (own, here) = one_of (row_of state.tree.channels channel) asked.channel_there in
-    let near : own.place < 2048 = place_within state channel own.place proper (is_placed state channel own here) in
-    let placed : place_of state channel ≡ own.place = place_is state channel own here in
+    let (asker, known_too) = one_of (session_of state.roster session) asked.session_there in
+    let near : asker.slot.0 < 512 = slot_below state.roster session asker proper.roster known_too in
+    let placed : slot_of state session ≡ asker.slot.0 = slot_is state session asker known_too in
     elim (cases_eq (index_of state session channel) (perm_index slot place)) [
       | inl same ↦
-          let slots : slot_of state entry.session ≡ slot_of state session = slot_is state entry.session user found ∙ seat ∙ omega (arith, same, inside, near, placed) in
-          let places : place_of state entry.channel ≡ place_of state channel = place_is state entry.channel row known ∙ spot ∙ omega (arith, same, inside, near, placed) in
+          let slots : slot_of state entry.session ≡ slot_of state session = slot_is state entry.session user found ∙ seat ∙ omega (arith, same, within, near, placed) in
+          let places : place_of state entry.channel ≡ place_of state channel = place_is state entry.channel row known ∙ spot ∙ omega (arith, same, within, near, placed) in
           absurd (apart (one_session state entry.session session proper there.session_there asked.session_there slots)
           (one_channel state entry.channel channel proper there.channel_there asked.channel_there places))
       | inr off ↦ get_or-set_other entries (index_of state session channel) (perm_index slot place) new no_perm (λ is. off (sym is))
@@ -122,10 +123,13 @@ other_routes_stay_lem state entries speaker target new slot other proper sound a
     let right = sound slot other within inside used in
     let (user, found) = one_of (session_of state.roster entry.speaker) there in
     let seat : user.slot.0 ≡ slot = right.seated user.slot (is_seated state entry.speaker user found) in
+    let (own, here) = one_of (session_of state.roster speaker) asked in
+    let near : own.slot.0 < 512 = slot_below state.roster speaker own proper.roster here in
+    let placed : slot_of state speaker ≡ own.slot.0 = slot_is state speaker own here in
     elim (cases_eq (route_index_of state speaker target) (route_index slot other)) [
       | inl same ↦
-          let slots : slot_of state entry.speaker ≡ slot_of state speaker = slot_is state entry.speaker user found ∙ seat ∙ omega (arith, same, inside, aimed) in
-          absurd (apart (one_session state entry.speaker speaker proper there asked slots) (omega (arith, same, inside, aimed)))
+          let slots : slot_of state entry.speaker ≡ slot_of state speaker = slot_is state entry.speaker user found ∙ seat ∙ omega (arith, same, within, near, placed) in
+          absurd (apart (one_session state entry.speaker speaker proper there asked slots) (omega (arith, same, within, near, placed)))
       | inr off ↦ get_or-set_other entries (route_index_of state speaker target) (route_index slot other) new no_route (λ is. off (sym is))
     ]
 

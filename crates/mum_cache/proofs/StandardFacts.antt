@@ -1,5 +1,6 @@
 -- When what is kept of a permission is taken, worked out on small states.
-use Rattle.std.proofs.Common.{◌≡◌, ℕ, Bool, true, false, List, [], ◌∷◌, ◌++◌, codes, Option, Some, refl}
+use Rattle.std.proofs.Common.{◌≡◌, ℕ, ◌*◌, Bool, true, false, List, [], ◌∷◌, ◌++◌, codes, replicate, Option, Some, refl}
+use Rattle.mum_base.specs.declared.number.TheConstants.{SLOTS}
 use Rattle.mum_base.specs.declared.perm.TheConstants.Perm.{SPEAK}
 use Rattle.mum_policy.specs.Walk.{visits, visits_along}
 use Rattle.mum_policy.proofs.Scenes.{denies, everybody, one, only_here, plain, those_in}
@@ -17,12 +18,12 @@ read edits asked kept = visits_at (state edits) (session 1) (channel asked) kept
 abbrev is_taken : List Edit → ℕ → List PermEntry → Bool
 is_taken edits asked kept = answers (state edits) (session 1) (channel asked) (kept_at (state edits) (session 1) (channel asked) kept)
 
--- what is kept of the channels at places 0, 1 and 2, once session 1 in slot 0 was asked for at channel 1, or 2
+-- what is kept, once session 1 in slot 0 was asked for at channel 1, which is at place 1, or at 2, which is at place 2
 abbrev first_kept : List Edit → ℕ → List PermEntry
-first_kept edits value = no_perm ∷ perm_entry (state edits) (session 1) (channel 1) (record { 0 = value }) ∷ []
+first_kept edits value = replicate SLOTS no_perm ++ perm_entry (state edits) (session 1) (channel 1) (record { 0 = value }) ∷ []
 
 abbrev second_kept : List Edit → ℕ → List PermEntry
-second_kept edits value = no_perm ∷ no_perm ∷ perm_entry (state edits) (session 1) (channel 2) (record { 0 = value }) ∷ []
+second_kept edits value = replicate (2 * SLOTS) no_perm ++ perm_entry (state edits) (session 1) (channel 2) (record { 0 = value }) ∷ []
 
 abbrev denied : ℕ → List ℕ → Edit
 denied id name = set_policy id (one (only_here (denies (those_in name) SPEAK)))

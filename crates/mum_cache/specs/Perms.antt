@@ -23,9 +23,9 @@ no_perm = record { used = false; session = record { 0 = 0 }; channel = record { 
 unfoldable pub no_perms : List PermEntry
 no_perms = replicate (SLOTS * PLACES) no_perm
 
--- where an entry is
+-- where an entry is: those of one place for all slots, and behind them those of the next
 abbrev pub perm_index : ℕ → ℕ → ℕ
-perm_index slot place = slot * PLACES + place
+perm_index slot place = place * SLOTS + slot
 
 abbrev pub perm_at : List PermEntry → ℕ → ℕ → PermEntry
 perm_at entries slot place = slice_index_or entries (perm_index slot place) no_perm

@@ -22,9 +22,9 @@ no_route = record { used = false; speaker = record { 0 = 0 }; routing = 0; reach
 unfoldable pub no_routes : List RouteEntry
 no_routes = replicate (SLOTS * LOOPBACK) no_route
 
--- where an entry is
+-- where an entry is: those of one target for all slots, and behind them those of the next
 abbrev pub route_index : ℕ → ℕ → ℕ
-route_index slot target = slot * LOOPBACK + target
+route_index slot target = target * SLOTS + slot
 
 abbrev pub route_entry_at : List RouteEntry → ℕ → ℕ → RouteEntry
 route_entry_at entries slot target = slice_index_or entries (route_index slot target) no_route

@@ -27,7 +27,7 @@ pub struct Caches {
 }
 
 impl Caches {
-    /// Nothing is kept. All room is taken here, and no other call takes any.
+    /// Nothing is kept. All room is reserved here, and no other call takes any; it is resident as far as it was used.
     pub fn new(alloc: Global) -> Result<Caches, OutOfMemory>
         ensures perms { IfOk result (λ caches. caches.perms ≡ no_perms) }
         ensures routes { IfOk result (λ caches. caches.routes ≡ no_routes) }

@@ -8,6 +8,7 @@ ghost use Rattle.mum_state.specs.Permissions.{perm_of, visits_of};
 ghost use Rattle.mum_cache.specs.Perms.{ArePermsSound, IsThere, answers, index_of, kept_at, no_perm, no_perms, perm_entry, visits_at};
 ghost use Rattle.mum_cache.specs.Keys.{IsKey, answers_key};
 
+use crate::table::Table;
 use mum_base::{ChannelId, OutOfMemory, PLACES, Perm, SLOTS, SessionId, Steps};
 use mum_policy::Who;
 use mum_route::Rights;
@@ -23,16 +24,16 @@ pub(crate) struct PermEntry {
     pub(crate) used: bool,
     pub(crate) session: SessionId,
     pub(crate) channel: ChannelId,
+    pub(crate) value: Perm,
     pub(crate) policy: u64,
     /// The count of the session's slot.
     pub(crate) count: u64,
-    pub(crate) value: Perm,
 }
 
 /// Answers about permissions, kept by slot and by the place of a channel.
 #[derive(Drop)]
 pub struct PermCache {
-    entries: Vec<PermEntry>,
+    entries: Table<PermEntry>,
 }
 
 impl Model for PermCache {
@@ -42,9 +43,9 @@ impl Model for PermCache {
 
     ghost Value = { List PermEntry };
 
-    ghost view = { λ c. c.entries.items };
+    ghost view = { λ c. c.entries };
 
-    ghost invariant = { λ c. length c.entries.items ≡ SLOTS * PLACES };
+    ghost invariant = { λ c. length c.entries ≡ SLOTS * PLACES };
 }
 
 // Where the answer for a session and a channel is kept, and the counts that it is to have.
@@ -66,7 +67,7 @@ fn key_of(state: &State, session: SessionId, channel: ChannelId) -> Option<Key>
         return None;
     };
     Some(Key {
-        index: user.slot.0 as usize * PLACES + place as usize,
+        index: place as usize * SLOTS + user.slot.0 as usize,
         policy: state.stamps().policy,
         count: state.session_stamp(user.slot),
     })
@@ -104,28 +105,28 @@ fn walked<L: Ledger>(
 
 // What a session may do in a channel, where both are there: as it is kept, or else by a walk, which is kept.
 fn answer<L: Ledger>(
-    entries: &mut Vec<PermEntry>,
+    entries: &mut Table<PermEntry>,
     key: Key,
     state: &State,
     session: SessionId,
     channel: ChannelId,
     steps: &mut Steps<L>,
 ) -> Perm
-    requires room { length entries.old.items ≡ SLOTS * PLACES }
+    requires room { length entries.old ≡ SLOTS * PLACES }
     requires key { IsKey state.now session channel key }
-    requires sound { ArePermsSound state.now entries.old.items }
+    requires sound { ArePermsSound state.now entries.old }
     ensures value { perm_of state.now session channel ≡ Some result.0 }
-    ensures steps { steps.new ≡ steps.old + visits_at state.now session channel entries.old.items }
-    ensures kept { entries.new.items
-        ≡ set entries.old.items (index_of state.now session channel) (perm_entry state.now session channel result) }
-    ensures sound { ArePermsSound state.now entries.new.items }
+    ensures steps { steps.new ≡ steps.old + visits_at state.now session channel entries.old }
+    ensures kept { entries.new
+        ≡ set entries.old (index_of state.now session channel) (perm_entry state.now session channel result) }
+    ensures sound { ArePermsSound state.now entries.new }
 {
-    let entry = entries[key.index];
+    let entry = entries.at(key.index);
     if entry.answers(session, channel, &key) {
         return entry.value;
     }
     let value = walked(state, session, channel, steps);
-    entries[key.index] = PermEntry {
+    let entry = PermEntry {
         used: true,
         session,
         channel,
@@ -133,12 +134,14 @@ fn answer<L: Ledger>(
         count: key.count,
         value,
     };
+    entries.put(key.index, entry);
     value
 }
 
 impl PermCache {
-    /// Nothing is kept. The room is for each slot and each place that there may be: 32 bytes each, 33.5 MB in all,
-    /// which are written here and so are resident.
+    /// Nothing is kept. The room is for each slot and each place that there may be: 32 bytes each, 33.5 MB in all.
+    /// It is reserved here and not written: 16 KiB are resident for each place of a channel, up to the greatest one
+    /// in which a permission was asked.
     pub fn new(alloc: Global) -> Result<PermCache, OutOfMemory>
         ensures { IfOk result (λ cache. cache ≡ no_perms) }
     {
@@ -151,7 +154,7 @@ impl PermCache {
             value: Perm(0),
         };
         Ok(PermCache {
-            entries: vec![in alloc; none; SLOTS * PLACES]?,
+            entries: Table::new(alloc, SLOTS * PLACES, none)?,
         })
     }
 

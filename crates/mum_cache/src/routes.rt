@@ -12,6 +12,7 @@ ghost use Rattle.mum_cache.specs.Routes.{AreRoutesSound, IsRouteEntry, KeepsRout
 ghost use Rattle.mum_cache.specs.Asked.{IsSpeaker, answers_here};
 
 use crate::perms::PermCache;
+use crate::table::Table;
 use mum_base::{OutOfMemory, SLOTS, SessionId, Steps};
 use mum_route::{Audience, Context, LOOPBACK, hear_reached, reached, route_with};
 use mum_state::State;
@@ -34,7 +35,7 @@ pub(crate) struct RouteEntry {
 /// Routes, kept by slot and target. Loopback is not kept.
 #[derive(Drop)]
 pub struct RouteCache {
-    entries: Vec<RouteEntry>,
+    entries: Table<RouteEntry>,
 }
 
 impl Model for RouteCache {
@@ -45,9 +46,9 @@ impl Model for RouteCache {
 
     ghost Value = { List RouteEntry };
 
-    ghost view = { λ c. c.entries.items };
+    ghost view = { λ c. c.entries };
 
-    ghost invariant = { λ c. length c.entries.items ≡ SLOTS * LOOPBACK };
+    ghost invariant = { λ c. length c.entries ≡ SLOTS * LOOPBACK };
 }
 
 impl RouteEntry {
@@ -61,7 +62,7 @@ impl RouteEntry {
 
 // Has the route of a speaker that is there kept at its place: as it is, or else found and put there.
 fn keep<L: Ledger>(
-    entries: &mut Vec<RouteEntry>,
+    entries: &mut Table<RouteEntry>,
     index: usize,
     perms: &mut PermCache,
     state: &State,
@@ -70,34 +71,36 @@ fn keep<L: Ledger>(
     scratch: &mut Scratch,
     steps: &mut Steps<L>,
 )
-    requires room { length entries.old.items ≡ SLOTS * LOOPBACK }
+    requires room { length entries.old ≡ SLOTS * LOOPBACK }
     requires target { target < LOOPBACK }
     requires speaker { IsSpeaker state.now speaker.now }
     requires index { index ≡ route_index speaker.now.slot.0 target }
     requires perms { ArePermsSound state.now perms.old }
-    requires routes { AreRoutesSound state.now entries.old.items }
-    ensures steps { RouteAnswers state.now speaker.now.session target entries.old.items → steps.new ≡ steps.old }
-    ensures kept { KeepsRoute state.now speaker.now.session target entries.old.items entries.new.items }
+    requires routes { AreRoutesSound state.now entries.old }
+    ensures steps { RouteAnswers state.now speaker.now.session target entries.old → steps.new ≡ steps.old }
+    ensures kept { KeepsRoute state.now speaker.now.session target entries.old entries.new }
     ensures perms { ArePermsSound state.now perms.new }
-    ensures routes { AreRoutesSound state.now entries.new.items }
-    ensures room { length entries.new.items ≡ SLOTS * LOOPBACK }
+    ensures routes { AreRoutesSound state.now entries.new }
+    ensures room { length entries.new ≡ SLOTS * LOOPBACK }
 {
     let routing = state.stamps().routing;
-    if entries[index].answers(speaker.session, routing) {
+    if entries.at(index).answers(speaker.session, routing) {
         return;
     }
     let reached = reached(perms, state, speaker, target, scratch, steps);
-    entries[index] = RouteEntry {
+    let entry = RouteEntry {
         used: true,
         speaker: speaker.session,
         routing,
         reached,
     };
+    entries.put(index, entry);
 }
 
 impl RouteCache {
-    /// Nothing is kept. The room is for each slot and target that there may be: a byte for each slot, 8.4 MB in
-    /// all, which are written here and so are resident.
+    /// Nothing is kept. The room is for each slot and target that there may be: 1,040 bytes each, 16.5 MB in all.
+    /// It is reserved here and not written: 520 KiB are resident for each target, up to the greatest one to which a
+    /// packet went.
     pub fn new(alloc: Global) -> Result<RouteCache, OutOfMemory>
         ensures { IfOk result (λ cache. cache ≡ no_routes) }
     {
@@ -108,7 +111,7 @@ impl RouteCache {
             reached: [None; SLOTS],
         };
         Ok(RouteCache {
-            entries: vec![in alloc; none; SLOTS * LOOPBACK as usize]?,
+            entries: Table::new(alloc, SLOTS * LOOPBACK as usize, none)?,
         })
     }
 
@@ -148,7 +151,7 @@ impl RouteCache {
             route_with(perms, state, speaker, target, scratch, steps, audience);
             return;
         };
-        let index = user.slot.0 as usize * LOOPBACK as usize + target as usize;
+        let index = target as usize * SLOTS + user.slot.0 as usize;
         keep(
             &mut self.entries,
             index,
@@ -159,6 +162,6 @@ impl RouteCache {
             scratch,
             steps,
         );
-        hear_reached(state, user, &self.entries[index].reached, audience);
+        hear_reached(state, user, &self.entries.at(index).reached, audience);
     }
 }

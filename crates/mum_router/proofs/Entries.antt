@@ -28,6 +28,7 @@ use Rattle.mum_route.specs.declared.routes.TheConstants.{LOOPBACK}
 use Rattle.mum_cache.specs.declared.routes.RouteEntry.{RouteEntry}
 use Rattle.mum_cache.specs.Places.{slot_of}
 use Rattle.mum_cache.specs.Routes.{IsRouteEntry, KeepsAsked, no_route, route_entry_at, route_index, route_index_of, route_kept_at}
+use Rattle.mum_route.proofs.Slots.{slot_below}
 use Rattle.mum_cache.proofs.Others.{is_seated, one_session, slot_is}
 use Rattle.mum_cache.proofs.Staying.{one_of}
 use Rattle.mum_router.specs.declared.offering.Routed.{Routed}
@@ -122,11 +123,17 @@ other_stays state asked target old new proper keeps speaker other there aimed ap
     put : target < LOOPBACK → IsSome (session_of state.roster asked) → route_kept_at state speaker other new ≡ route_kept_at state speaker other old
     put within here =
         let (entry, is, now) = keeps.kept here within in
+        let (one, found) = one_of (session_of state.roster asked) here in
+        let (second, known) = one_of (session_of state.roster speaker) there in
+        let low : one.slot.0 < 512 = slot_below state.roster asked one proper.roster found in
+        let at : slot_of state asked ≡ one.slot.0 = slot_is state asked one found in
+        let low_too : second.slot.0 < 512 = slot_below state.roster speaker second proper.roster known in
+        let at_too : slot_of state speaker ≡ second.slot.0 = slot_is state speaker second known in
         ap (λ (es : List RouteEntry). get_or es (route_index (slot_of state speaker) other) no_route) now
         ∙ get_or-set_other old (route_index_of state asked target) (route_index (slot_of state speaker) other) entry no_route
         (λ same.
-        let slots : slot_of state asked ≡ slot_of state speaker = omega (arith, same, within, aimed) in
-        apart (one_session state asked speaker proper here there slots) (omega (arith, same, within, aimed)))
+        let slots : slot_of state asked ≡ slot_of state speaker = omega (arith, same, low, at, low_too, at_too) in
+        apart (one_session state asked speaker proper here there slots) (omega (arith, same, low, at, low_too, at_too)))
 
     by_session : target < LOOPBACK → (found : Option User) → session_of state.roster asked ≡ found
         → route_kept_at state speaker other new ≡ route_kept_at state speaker other old

@@ -2,7 +2,7 @@
 use Rattle.std.proofs.Common.{◌≡◌, Bool, false, refl, subst}
 use Rattle.std.specs.Prelude.{if◌then◌else◌}
 use Rattle.mum_outbox.specs.Calls.{Offers}
-use Rattle.mum_outbox.specs.declared.parcel.TheConstants.{VOICE_CAPACITY}
+use Rattle.mum_base.specs.declared.number.TheConstants.{VOICE_CAPACITY}
 use Rattle.mum_outbox.specs.declared.parcel.VoiceParcel.{VoiceParcel}
 use Rattle.mum_outbox.specs.declared.queue.Offered.{Offered}
 use Rattle.mum_outbox.specs.declared.queue.Offered.TheVariants.{Sent, Full}

@@ -3,7 +3,7 @@ use Rattle.std.specs.Prelude.{◌≡◌, ℕ, Bool, true, false, List, [], filte
 use Rattle.std.specs.List.{FoldsTo, sum_by}
 use Rattle.mum_base.specs.declared.number.SessionId.{SessionId}
 use Rattle.mum_outbox.specs.Calls.{Offers}
-use Rattle.mum_outbox.specs.declared.parcel.TheConstants.{VOICE_CAPACITY}
+use Rattle.mum_base.specs.declared.number.TheConstants.{VOICE_CAPACITY}
 use Rattle.mum_outbox.specs.declared.parcel.VoiceParcel.{VoiceParcel}
 use Rattle.mum_outbox.specs.declared.queue.Offered.{Offered}
 use Rattle.mum_outbox.specs.declared.queue.Offered.TheVariants.{Sent, Full}

@@ -2,7 +2,7 @@
 
 ghost use Rattle.std.specs.Prelude.{◌≡◌, ◌≤◌, length, min};
 ghost use Rattle.mum_outbox.specs.Calls.{Offers};
-ghost use Rattle.mum_outbox.specs.declared.parcel.TheConstants.{VOICE_CAPACITY};
+ghost use Rattle.mum_base.specs.declared.number.TheConstants.{VOICE_CAPACITY};
 ghost use Rattle.mum_outbox.specs.declared.parcel.VoiceParcel.{VoiceParcel};
 ghost use Rattle.mum_outbox.specs.declared.queue.Offered.{Offered};
 ghost use Rattle.mum_outbox.specs.declared.rule.TheConstants.{LAST};

@@ -7,12 +7,12 @@ use Rattle.mum_cache.proofs.perms.answer.Goals as goal
 pub returns-then-answers-clause-value : goal.returns-then-answers-clause-value
 returns-then-answers-clause-value g c =
     let state = c.args.state.now in
-    let entries : List PermEntry = c.args.entries.now.items in
-    let entry : PermEntry = c.index.result.now in
+    let entries : List PermEntry = c.args.entries.now in
+    let entry : PermEntry = c.at-entry.result.now in
     let key = c.requires.key in
     let near = index_within state c.args.session c.args.channel c.args.key key in
     let at : entry ≡ kept_at state c.args.session c.args.channel entries =
-    c.index.ensures ∙ ap (λ (i : ℕ). get_or entries i entry) key.index
+    c.at-entry.ensures ∙ ap (λ (i : ℕ). get_or entries i entry) key.index
     ∙ get_same entries (index_of state c.args.session c.args.channel) entry no_perm (omega (arith, near, c.requires.room)) in
     let so : answers state c.args.session c.args.channel entry ≡ true =
     sym (answers_is state c.args.session c.args.channel c.args.key key entry) ∙ sym c.answers.ensures ∙ c.if-answers.true in
@@ -23,12 +23,12 @@ returns-then-answers-clause-value g c =
 pub returns-then-answers-clause-kept : goal.returns-then-answers-clause-kept
 returns-then-answers-clause-kept g c =
     let state = c.args.state.now in
-    let entries : List PermEntry = c.args.entries.now.items in
-    let entry : PermEntry = c.index.result.now in
+    let entries : List PermEntry = c.args.entries.now in
+    let entry : PermEntry = c.at-entry.result.now in
     let key = c.requires.key in
     let near = index_within state c.args.session c.args.channel c.args.key key in
     let at : entry ≡ kept_at state c.args.session c.args.channel entries =
-    c.index.ensures ∙ ap (λ (i : ℕ). get_or entries i entry) key.index
+    c.at-entry.ensures ∙ ap (λ (i : ℕ). get_or entries i entry) key.index
     ∙ get_same entries (index_of state c.args.session c.args.channel) entry no_perm (omega (arith, near, c.requires.room)) in
     let so : answers state c.args.session c.args.channel entry ≡ true =
     sym (answers_is state c.args.session c.args.channel c.args.key key entry) ∙ sym c.answers.ensures ∙ c.if-answers.true in
@@ -36,11 +36,31 @@ returns-then-answers-clause-kept g c =
     (sym (entry_is state c.args.session c.args.channel c.args.key key entry so) ∙ at)
     ∙ set_itself entries (index_of state c.args.session c.args.channel) no_perm (omega (arith, near, c.requires.room)))
 
+put_kept : goal.returns-clause-kept
+put_kept g c =
+    let key = c.requires.key in
+    c.put.ensures
+    ∙ λ i. set c.args.entries.now (key.index i) (record { used = true; session = c.args.session; channel = c.args.channel; policy = key.policy i; count = key.count i; value = c.walked-value.result })
+
+pub returns-clause-kept : goal.returns-clause-kept
+returns-clause-kept g c = put_kept g c
+
 pub returns-clause-sound : goal.returns-clause-sound
 returns-clause-sound g c =
-    let state = c.args.state.now in
-    let entries : List PermEntry = c.args.entries.now.items in
+    subst (ArePermsSound c.args.state.now) (sym (put_kept g c))
+    (answered_sound c.args.state.now c.args.session c.args.channel c.args.key c.requires.key c.args.entries.now c.walked-value.result c.requires.room
+    c.walked-value.ensures.value c.requires.sound)
+
+pub at-entry-requires : goal.at-entry-requires
+at-entry-requires g c =
     let key = c.requires.key in
-    subst (ArePermsSound state)
-    (λ i. set entries (sym key.index i) (record { used = true; session = c.args.session; channel = c.args.channel; policy = sym key.policy i; count = sym key.count i; value = c.walked-value.result }))
-    (answered_sound state c.args.session c.args.channel c.args.key key entries c.walked-value.result c.requires.room c.walked-value.ensures.value c.requires.sound)
+    let near = index_within c.args.state.now c.args.session c.args.channel c.args.key key in
+    let index = key.index in
+    omega (arith, near, index, c.requires.room)
+
+pub put-requires : goal.put-requires
+put-requires g c =
+    let key = c.requires.key in
+    let near = index_within c.args.state.now c.args.session c.args.channel c.args.key key in
+    let index = key.index in
+    omega (arith, near, index, c.requires.room)

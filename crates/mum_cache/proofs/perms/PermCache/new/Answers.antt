@@ -1,6 +1,12 @@
-use Rattle.mum_cache.specs.Perms.{no_perms}
+use Rattle.std.proofs.Common.{◌∙◌, ◌*◌, ap, length}
+use Rattle.std.proofs.lemmas.List.{length-replicate}
+use Rattle.mum_base.specs.declared.number.TheConstants.{PLACES, SLOTS}
+use Rattle.mum_cache.specs.Perms.{no_perm, no_perms}
 use Rattle.mum_cache.proofs.perms.PermCache.new.Goals as goal
+
+pub invariant_of-result : goal.invariant_of-result
+invariant_of-result c = ap length c.in_ok-new.ensures ∙ length-replicate (SLOTS * PLACES) no_perm
 
 pub returns : goal.returns
 unfolding no_perms
-returns c = c.in_ok-vec.ensures.items_if_clones_equal (λ entry same. same)
+returns c = c.in_ok-new.ensures

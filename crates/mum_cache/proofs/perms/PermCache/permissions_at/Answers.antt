@@ -14,4 +14,4 @@ returns-clause-stands g c =
     let key : IsKey state c.args.session c.args.channel c.in-Some.key =
     subst (λ (o : Option Key). MatchOption o (perm_of state c.args.session c.args.channel ≡ None) (IsKey state c.args.session c.args.channel)) c.in-Some.is c.key_of.ensures in
     ap (λ (es : List PermEntry). answers state c.args.session c.args.channel (kept_at state c.args.session c.args.channel es)) c.answer.ensures.kept
-    ∙ answered_answers state c.args.session c.args.channel c.in-Some.key key c.self.inside.entries.items c.answer.result c.self.invariant
+    ∙ answered_answers state c.args.session c.args.channel c.in-Some.key key c.self.inside.entries c.answer.result c.self.invariant

@@ -3,4 +3,4 @@ use Rattle.mum_cache.proofs.routes.RouteCache.new.Goals as goal
 
 pub returns : goal.returns
 unfolding no_routes
-returns c = c.in_ok-vec.ensures.items_if_clones_equal (λ entry same. same)
+returns c = c.in_ok-new.ensures

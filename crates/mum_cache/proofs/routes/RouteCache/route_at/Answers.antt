@@ -22,8 +22,8 @@ keep-requires-clause-speaker g c =
     let is = is_speaker state c.args.speaker user c.roster.ensures.proper found in
     is
 
-pub index-requires : goal.index-requires
-index-requires g c =
+pub at-requires : goal.at-requires
+at-requires g c =
     let state = c.args.state.now in
     let user = c.in-Some.user.now in
     let found : session_of state.roster c.args.speaker ≡ Some user =
@@ -51,13 +51,13 @@ returns-clause-members g c =
     let is = is_speaker state c.args.speaker user c.roster.ensures.proper found in
     let aimed = aimed_below c.args.target c.requires.target c.if-target-eq-LOOPBACK.false in
     let number = number_is state c.args.speaker user found in
-    let later : List RouteEntry = c.keep.new.entries.items in
+    let later : List RouteEntry = c.keep.new.entries in
     let slot : user.slot.0 < 512 = is.slot in
-    let at : c.index.result.now ≡ get_or later (route_index user.slot.0 c.args.target) no_route =
-    c.index.ensures ∙ get_same later (route_index user.slot.0 c.args.target) c.index.result.now no_route (omega (arith, slot, aimed, c.keep.ensures.room)) in
-    let heard : members_by state.roster.sessions c.index.result.now.reached ≡ route state c.args.speaker c.args.target =
+    let at : c.at.result.now ≡ get_or later (route_index user.slot.0 c.args.target) no_route =
+    c.at.ensures ∙ get_same later (route_index user.slot.0 c.args.target) c.at.result.now no_route (omega (arith, slot, aimed, c.keep.ensures.room)) in
+    let heard : members_by state.roster.sessions c.at.result.now.reached ≡ route state c.args.speaker c.args.target =
     ap (λ (one : RouteEntry). members_by state.roster.sessions one.reached) at
-    ∙ heard_kept state user c.args.target is aimed c.self.inside.entries.items later c.self.invariant c.keep.ensures.kept
+    ∙ heard_kept state user c.args.target is aimed c.self.inside.entries later c.self.invariant c.keep.ensures.kept
     ∙ ap (λ (s : SessionId). route state s c.args.target) number in
     c.hear_reached.ensures.members ∙ heard
 
@@ -70,13 +70,13 @@ returns-clause-hearers g c =
     let is = is_speaker state c.args.speaker user c.roster.ensures.proper found in
     let aimed = aimed_below c.args.target c.requires.target c.if-target-eq-LOOPBACK.false in
     let number = number_is state c.args.speaker user found in
-    let later : List RouteEntry = c.keep.new.entries.items in
+    let later : List RouteEntry = c.keep.new.entries in
     let slot : user.slot.0 < 512 = is.slot in
-    let at : c.index.result.now ≡ get_or later (route_index user.slot.0 c.args.target) no_route =
-    c.index.ensures ∙ get_same later (route_index user.slot.0 c.args.target) c.index.result.now no_route (omega (arith, slot, aimed, c.keep.ensures.room)) in
-    let heard : members_by state.roster.sessions c.index.result.now.reached ≡ route state c.args.speaker c.args.target =
+    let at : c.at.result.now ≡ get_or later (route_index user.slot.0 c.args.target) no_route =
+    c.at.ensures ∙ get_same later (route_index user.slot.0 c.args.target) c.at.result.now no_route (omega (arith, slot, aimed, c.keep.ensures.room)) in
+    let heard : members_by state.roster.sessions c.at.result.now.reached ≡ route state c.args.speaker c.args.target =
     ap (λ (one : RouteEntry). members_by state.roster.sessions one.reached) at
-    ∙ heard_kept state user c.args.target is aimed c.self.inside.entries.items later c.self.invariant c.keep.ensures.kept
+    ∙ heard_kept state user c.args.target is aimed c.self.inside.entries later c.self.invariant c.keep.ensures.kept
     ∙ ap (λ (s : SessionId). route state s c.args.target) number in
     c.hear_reached.ensures.hearers
     ∙ ap (hearers_of state user.session) heard
@@ -92,7 +92,7 @@ returns-clause-steps g c =
     let number = number_is state c.args.speaker user found in
     λ stands.
     c.keep.ensures.steps
-    (subst (λ (s : SessionId). RouteAnswers state s c.args.target c.self.inside.entries.items) (sym number)
+    (subst (λ (s : SessionId). RouteAnswers state s c.args.target c.self.inside.entries) (sym number)
     (subst (λ (es : List RouteEntry). RouteAnswers state c.args.speaker c.args.target es) (sym c.self.view_is) stands))
 
 pub returns-clause-kept : goal.returns-clause-kept
@@ -104,8 +104,8 @@ returns-clause-kept g c =
     let is = is_speaker state c.args.speaker user c.roster.ensures.proper found in
     let number = number_is state c.args.speaker user found in
     λ there aimed.
-    subst (λ (es : List RouteEntry). KeepsRoute state c.args.speaker c.args.target es c.keep.new.entries.items) c.self.view_is
-    (subst (λ (s : SessionId). KeepsRoute state s c.args.target c.self.inside.entries.items c.keep.new.entries.items) number c.keep.ensures.kept)
+    subst (λ (es : List RouteEntry). KeepsRoute state c.args.speaker c.args.target es c.keep.new.entries) c.self.view_is
+    (subst (λ (s : SessionId). KeepsRoute state s c.args.target c.self.inside.entries c.keep.new.entries) number c.keep.ensures.kept)
 
 pub returns-clause-stands : goal.returns-clause-stands
 returns-clause-stands g c =
@@ -116,5 +116,5 @@ returns-clause-stands g c =
     let is = is_speaker state c.args.speaker user c.roster.ensures.proper found in
     let number = number_is state c.args.speaker user found in
     λ there aimed.
-    subst (λ (s : SessionId). IsRouteEntry state s c.args.target (route_kept_at state s c.args.target c.keep.new.entries.items)) number
-    (kept_stands state user c.args.target is aimed c.self.inside.entries.items c.keep.new.entries.items c.self.invariant c.keep.ensures.kept)
+    subst (λ (s : SessionId). IsRouteEntry state s c.args.target (route_kept_at state s c.args.target c.keep.new.entries)) number
+    (kept_stands state user c.args.target is aimed c.self.inside.entries c.keep.new.entries c.self.invariant c.keep.ensures.kept)

@@ -1,6 +1,5 @@
 -- Behind a command no frame is handled before a reply.
-use Rattle.std.proofs.Common.{◌≡◌, ◌≢◌, ℕ, Bool, true, false, ◌&&◌, IsTrue, List, [], ◌∷◌, ◌++◌, Option, Some, None, refl, sym, ap, subst, ◌∙◌, ◌⊎◌, inl, inr, true≢false, is_none, not}
-use Rattle.mum_base.specs.declared.number.Cause.{Cause}
+use Rattle.std.proofs.Common.{◌≡◌, ℕ, Bool, true, List, [], ◌∷◌, Option, Some, None, refl, sym, ap, ◌∙◌, inl, inr, true≢false, not}
 use Rattle.mum_base.specs.declared.number.SessionId.{SessionId}
 use Rattle.mum_frame.specs.declared.frame.Frame.{Frame}
 use Rattle.mum_io.specs.Counts.{Counts}
@@ -9,7 +8,7 @@ use Rattle.mum_session.specs.Machine.{Machine}
 use Rattle.mum_session.specs.declared.action.Action.{Action}
 use Rattle.mum_session.specs.declared.action.Action.TheVariants.{Ask, Voice, Echo, Keep, Ignore}
 use Rattle.mum_port.specs.Did.{PortDid, action_of, machine_after, port_after_put}
-use Rattle.mum_port.specs.Facts.{PortFacts, may_handle}
+use Rattle.mum_port.specs.Facts.{PortFacts}
 use Rattle.mum_port.specs.Life.{AreUnanswered, Event, Lives, Steps, and_frame, asked_item, frames_handled, lagged, replied, stepped}
 use Rattle.mum_port.specs.Stage.{is_live}
 use Rattle.mum_port.specs.declared.item.DeskItem.{DeskItem}

@@ -16,7 +16,7 @@ use Rattle.mum_port.specs.Steps.{PortChain, Settles}
 use Rattle.mum_port.specs.Turn.{ReadsInTurn, WritesInTurn}
 use Rattle.mum_port.specs.declared.item.DeskItem.{DeskItem}
 use Rattle.mum_port.specs.declared.port.Step.{Step}
-use Rattle.mum_port.proofs.Course.{closed_rests, Way, at_close, bytes_written, did_of, frame, goes_on, handle_part, lost, machine_read, out_read, port_put, post, post_part, read_part, remains, session_handle, session_post, took, unsent, voice, voice_part, way, write_part}
+use Rattle.mum_port.proofs.Course.{closed_rests, Way, at_close, bytes_written, did_of, frame, goes_on, handle_part, lost, machine_read, out_read, port_put, post, read_part, remains, session_handle, take_part, took, unsent, voice, way, write_part}
 use Rattle.mum_port.proofs.Links.{Appends-keeps, Consumes-keeps, Keeps-then_appends}
 use Rattle.mum_port.proofs.ReadPart.{Keeps-same, closes}
 
@@ -78,6 +78,11 @@ module _ {L : Type 0} (counts : L → Counts) (left written : L → Option (List
   settle-machine was_closed old closed new (inr now) =
       (ap (λ (p : PortFacts L). p.machine) now.closes.rest, ap (λ (p : PortFacts L). p.waiting) now.closes.rest, ap (λ (p : PortFacts L). p.passes) now.closes.rest)
 
+  pub settle-first : (was_closed : Bool) (old : PortFacts L) (closed : Option Cause) (new : PortFacts L) → Settles counts left written is_shut was_closed old closed new
+      → new.voice_first ≡ old.voice_first
+  settle-first was_closed old closed new (inl stays) = ap (λ (p : PortFacts L). p.voice_first) stays.same
+  settle-first was_closed old closed new (inr now) = ap (λ (p : PortFacts L). p.voice_first) now.closes.rest
+
   pub settle-link : (was_closed : Bool) (old : PortFacts L) (closed : Option Cause) (new : PortFacts L) → Settles counts left written is_shut was_closed old closed new
       → (counts new.link ≡ counts old.link) × Keeps (left old.link) (left new.link) × Keeps (written old.link) (written new.link)
   settle-link was_closed old closed new (inl stays) = (
@@ -96,8 +101,8 @@ module _ {L V : Type 0} {counts : L → Counts} {left written : L → Option (Li
   pub link_put : c.after_put.link ≡ old.link
   link_put = ap (λ (p : PortFacts L). p.link) (port_put c)
 
-  pub link_voice : c.after_voice.link ≡ c.after_read.link
-  link_voice = (voice_part c).link ∙ ((post_part c).link ∙ (handle_part c).link)
+  pub link_take : c.after_take.link ≡ c.after_read.link
+  link_take = (take_part c).link ∙ (handle_part c).link
 
   -- ---- what was read
 
@@ -105,7 +110,7 @@ module _ {L V : Type 0} {counts : L → Counts} {left written : L → Option (Li
   kept_put = ap (λ (p : PortFacts L). p.framer.kept) (port_put c)
 
   pub kept_write : c.after_write.framer.kept ≡ c.after_handle.framer.kept
-  kept_write = ap (λ (f : _). f.kept) ((write_part c).framer ∙ ((voice_part c).framer ∙ (post_part c).framer))
+  kept_write = ap (λ (f : _). f.kept) ((write_part c).framer ∙ (take_part c).framer)
 
   -- all that was kept and taken is the frame that was handled, and what remains
   pub all_read : old.framer.kept ++ took c ≡ bytes_of (frame c) ++ remains c
@@ -130,7 +135,7 @@ module _ {L V : Type 0} {counts : L → Counts} {left written : L → Option (Li
     allowed = λ some. subst (λ (p : PortFacts L). MayRead p) (port_put c) ((read_part c).allowed some);
     consumed = Consumes-keeps _ _ _ (took c)
         (subst (λ (l : L). Consumes (left l) (left c.after_read.link) (took c)) (link_put) (read_part c).consumed)
-        (Keeps-trans _ _ _ (subst (λ (l : L). Keeps (left l) (left c.after_write.link)) (link_voice) (write_part c).left_same) (settle-link counts left written is_shut _ _ _ _ c.settles).1);
+        (Keeps-trans _ _ _ (subst (λ (l : L). Keeps (left l) (left c.after_write.link)) (link_take) (write_part c).left_same) (settle-link counts left written is_shut _ _ _ _ c.settles).1);
   }
 
   -- ---- what was written
@@ -140,20 +145,16 @@ module _ {L V : Type 0} {counts : L → Counts} {left written : L → Option (Li
       ap (λ (l : List ℕ). l ++ echo_of (action_of old.machine (frame c))) (sym (out_read c))
       ∙ (ap (λ (m : Machine). c.after_read.out ++ echo_of (action_of m (frame c))) (sym (machine_read c)) ∙ (handle_part c).out)
 
-  pub out_post : c.after_post.out ≡ c.after_handle.out ++ post_bytes (session_of old.machine.stage) (post c)
-  out_post = (post_part c).out ∙ ap (λ (s : Option SessionId). c.after_handle.out ++ post_bytes s (post c)) (session_handle c)
-
-  out_voice : c.after_voice.out ≡ (c.after_handle.out ++ post_bytes (session_of old.machine.stage) (post c)) ++ voice_bytes (session_of old.machine.stage) (voice c)
-  out_voice =
-      (voice_part c).out
-      ∙ (ap (λ (s : Option SessionId). c.after_post.out ++ voice_bytes s (voice c)) (session_post c)
-      ∙ ap (λ (l : List ℕ). l ++ voice_bytes (session_of old.machine.stage) (voice c)) (out_post))
+  pub out_take : c.after_take.out ≡ (c.after_handle.out ++ post_bytes (session_of old.machine.stage) (post c)) ++ voice_bytes (session_of old.machine.stage) (voice c)
+  out_take =
+      (take_part c).out
+      ∙ ap (λ (s : Option SessionId). (c.after_handle.out ++ post_bytes s (post c)) ++ voice_bytes s (voice c)) (session_handle c)
 
   all_sent-on : closes c.handled ≡ None → old.out ++ queued old.machine (did_of c) ≡ bytes_written c ++ unsent c
   all_sent-on handles_on =
       let none : (handle_part c).dropped ≡ [] = (handle_part c).dropped_none handles_on in
       write_balance _ _ c.after_handle.out _ _ _ c.after_write.out
-      (echo_handle ∙ ap (λ (l : List ℕ). c.after_handle.out ++ l) none) (sym (out_voice) ∙ (write_part c).bytes)
+      (echo_handle ∙ ap (λ (l : List ℕ). c.after_handle.out ++ l) none) (sym (out_take) ∙ (write_part c).bytes)
       ∙ ap (λ (l : List ℕ). bytes_written c ++ (c.after_write.out ++ l)) (sym none)
 
   pub all_sent : old.out ++ queued old.machine (did_of c) ≡ bytes_written c ++ unsent c
@@ -182,8 +183,8 @@ module _ {L V : Type 0} {counts : L → Counts} {left written : L → Option (Li
     allowed = λ some. false_unless (is_closed old.stage) (λ closed. some (closed_rests c closed).no_write.1);
     appended = Appends-keeps _ _ _ (bytes_written c)
         (Keeps-then_appends _ _ _ (bytes_written c)
-        (subst (λ (l : L). Keeps (written l) (written c.after_voice.link)) (link_put)
-        (subst (λ (l : L). Keeps (written c.after_put.link) (written l)) (sym (link_voice)) (read_part c).written_same))
+        (subst (λ (l : L). Keeps (written l) (written c.after_take.link)) (link_put)
+        (subst (λ (l : L). Keeps (written c.after_put.link) (written l)) (sym (link_take)) (read_part c).written_same))
         (write_part c).appended)
         (settle-link counts left written is_shut _ _ _ _ c.settles).2;
   }

@@ -1,5 +1,5 @@
 -- What the takes from the boxes leave, by the parcels that were taken.
-use Rattle.std.proofs.Common.{◌≡◌, ◌≢◌, ℕ, Bool, true, false, ◌&&◌, List, [], ◌∷◌, ◌++◌, length, Option, Some, None, refl, sym, ap, subst, ◌∙◌, ◌⊎◌, inl, inr, arith, true≢false, ◌==◌}
+use Rattle.std.proofs.Common.{◌≡◌, ◌≢◌, ℕ, Bool, true, false, ◌&&◌, ◌||◌, not, List, [], ◌∷◌, ◌++◌, length, Option, Some, None, refl, sym, ap, subst, ◌∙◌, ◌⊎◌, inl, inr, arith, true≢false, ◌==◌}
 use Rattle.std.specs.Prelude.{slice_get, if◌then◌else◌}
 use Rattle.std.proofs.lemmas.List.{append-nil}
 use Rattle.std.proofs.lemmas.Bool.{eq-eqb, ne_eqb}
@@ -9,7 +9,7 @@ use Rattle.mum_frame.specs.Frame.{spelling_of}
 use Rattle.mum_outbox.specs.Calls.{Takes}
 use Rattle.mum_outbox.specs.Facts.{QueueFacts}
 use Rattle.mum_outbox.specs.declared.parcel.PostParcel.{PostParcel}
-use Rattle.mum_outbox.specs.declared.parcel.TheConstants.{POST_CAPACITY, VOICE_CAPACITY}
+use Rattle.mum_base.specs.declared.number.TheConstants.{POST_CAPACITY, VOICE_CAPACITY}
 use Rattle.mum_outbox.specs.declared.parcel.VoiceParcel.{VoiceParcel}
 use Rattle.mum_session.specs.Machine.{session_of}
 use Rattle.mum_port.specs.Did.{is_for, is_last, post_bytes, stray_posts, stray_voices, voice_bytes}
@@ -183,6 +183,7 @@ module _ {L : Type 0} (posts : List QueueFacts) where
     pub idle : has_taken took ≡ false → post ≡ None
     pub worked : has_taken took ≡ true → post ≢ None
     pub looked : LookedForPost old post new
+    pub first : new.voice_first ≡ (has_taken took || old.voice_first)
     pub link : new.link ≡ old.link
     pub machine : new.machine ≡ old.machine
     pub framer : new.framer ≡ old.framer
@@ -196,6 +197,7 @@ module _ {L : Type 0} (posts : List QueueFacts) where
     idle = λ is. refl;
     worked = λ is. absurd (true≢false (sym is ∙ ap has_taken nothing.so));
     looked = inl (refl, nothing.same, nothing.forbidden);
+    first = ap (λ (p : PortFacts L). p.voice_first) nothing.same ∙ ap (λ (t : Taking). has_taken t || old.voice_first) (sym nothing.so);
     link = ap (λ (p : PortFacts L). p.link) nothing.same;
     machine = ap (λ (p : PortFacts L). p.machine) nothing.same;
     framer = ap (λ (p : PortFacts L). p.framer) nothing.same;
@@ -212,6 +214,7 @@ module _ {L : Type 0} (posts : List QueueFacts) where
         idle = counts.idle;
         worked = counts.worked;
         looked = inr (one.session, one.allowed, both.1);
+        first = ap (λ (p : PortFacts L). p.voice_first) one.left;
         link = ap (λ (p : PortFacts L). p.link) one.left;
         machine = ap (λ (p : PortFacts L). p.machine) one.left;
         framer = ap (λ (p : PortFacts L). p.framer) one.left;
@@ -331,6 +334,7 @@ module _ {L : Type 0} (voices : List QueueFacts) where
     pub idle : has_taken took ≡ false → voice ≡ None
     pub worked : has_taken took ≡ true → voice ≢ None
     pub looked : LookedForVoice old voice new
+    pub first : new.voice_first ≡ (not (has_taken took) && old.voice_first)
     pub link : new.link ≡ old.link
     pub machine : new.machine ≡ old.machine
     pub framer : new.framer ≡ old.framer
@@ -344,6 +348,7 @@ module _ {L : Type 0} (voices : List QueueFacts) where
     idle = λ is. refl;
     worked = λ is. absurd (true≢false (sym is ∙ ap has_taken nothing.so));
     looked = inl (refl, nothing.same, nothing.forbidden);
+    first = ap (λ (p : PortFacts L). p.voice_first) nothing.same ∙ ap (λ (t : Taking). not (has_taken t) && old.voice_first) (sym nothing.so);
     link = ap (λ (p : PortFacts L). p.link) nothing.same;
     machine = ap (λ (p : PortFacts L). p.machine) nothing.same;
     framer = ap (λ (p : PortFacts L). p.framer) nothing.same;
@@ -360,6 +365,7 @@ module _ {L : Type 0} (voices : List QueueFacts) where
         idle = counts.idle;
         worked = counts.worked;
         looked = inr (one.session, one.allowed, both.1);
+        first = ap (λ (p : PortFacts L). p.voice_first) one.left;
         link = ap (λ (p : PortFacts L). p.link) one.left;
         machine = ap (λ (p : PortFacts L). p.machine) one.left;
         framer = ap (λ (p : PortFacts L). p.framer) one.left;

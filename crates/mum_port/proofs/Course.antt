@@ -20,12 +20,13 @@ use Rattle.mum_port.specs.declared.stage.Stage.{Stage}
 use Rattle.mum_port.specs.declared.stage.Stage.TheVariants.{Live, Ending, Closed}
 use Rattle.mum_port.specs.declared.stage.Went.{Went}
 use Rattle.mum_port.specs.declared.stage.Went.TheVariants.{NotDue, Stalled, Worked, Closes}
-use Rattle.mum_port.proofs.BoxParts.{PostLeaves, VoiceLeaves, post-leaves, post_of, taking-is, voice-leaves, voice_of}
+use Rattle.mum_port.proofs.BoxParts.{taking-is}
 use Rattle.mum_port.proofs.Closing.{Puts-live, settles-closed}
 use Rattle.mum_port.proofs.HandlePart.{HandleLeaves, HandleShows, handle-leaves, handled_of}
 use Rattle.mum_port.proofs.Machines.{stage-after_frame}
+use Rattle.mum_port.proofs.Parcels.{ParcelsLeave, parcels-leave, post_taken, voice_taken}
 use Rattle.mum_port.proofs.ReadPart.{ReadLeaves, ReadShows, closes, lost_of, put-port, put_of, read-leaves, read-shows, stage_by-open, took_of}
-use Rattle.mum_port.proofs.Resting.{handle-rests, read-rests, live-open, may-live, may_write-open, post-rests, stage_after_put-closed, voice-rests, write-rests}
+use Rattle.mum_port.proofs.Resting.{handle-rests, read-rests, live-open, may-live, may_write-open, stage_after_put-closed, takes-rest, write-rests}
 use Rattle.mum_port.proofs.WritePart.{WriteLeaves, WriteShows, write-leaves, wrote_of}
 
 pub closes-is : (went : Went) (cause : Cause) → closes went ≡ Some cause → went ≡ Closes cause
@@ -98,13 +99,13 @@ module _ {L V : Type 0} {counts : L → Counts} {left written : L → Option (Li
   frame = handled_of routed c.after_read router c.handled c.after_handle router_after c.handles
 
   abbrev pub post : Option PostParcel
-  post = post_of posts c.after_handle c.posted c.after_post c.collects
+  post = post_taken posts voices c.after_handle c.posted c.heard c.after_take c.takes
 
   abbrev pub voice : Option VoiceParcel
-  voice = voice_of voices c.after_post c.heard c.after_voice c.drains
+  voice = voice_taken posts voices c.after_handle c.posted c.heard c.after_take c.takes
 
   abbrev pub bytes_written : List ℕ
-  bytes_written = wrote_of counts left written is_shut c.after_voice c.wrote c.after_write c.writes
+  bytes_written = wrote_of counts left written is_shut c.after_take c.wrote c.after_write c.writes
 
   abbrev pub read_part : ReadLeaves counts left written is_shut c.after_put c.read c.after_read (took) (lost)
   read_part = read-leaves counts left written is_shut c.after_put c.read c.after_read c.reads
@@ -112,14 +113,11 @@ module _ {L V : Type 0} {counts : L → Counts} {left written : L → Option (Li
   abbrev pub handle_part : HandleLeaves routed c.after_read router c.handled c.after_handle router_after (frame)
   handle_part = handle-leaves routed c.after_read router c.handled c.after_handle router_after c.handles
 
-  abbrev pub post_part : PostLeaves posts c.after_handle c.posted c.after_post (post)
-  post_part = post-leaves posts c.after_handle c.posted c.after_post c.collects
+  abbrev pub take_part : ParcelsLeave posts voices c.after_handle c.posted c.heard c.after_take (post) (voice)
+  take_part = parcels-leave posts voices c.after_handle c.posted c.heard c.after_take c.takes
 
-  abbrev pub voice_part : VoiceLeaves voices c.after_post c.heard c.after_voice (voice)
-  voice_part = voice-leaves voices c.after_post c.heard c.after_voice c.drains
-
-  abbrev pub write_part : WriteLeaves counts left written is_shut c.after_voice c.wrote c.after_write (bytes_written)
-  write_part = write-leaves counts left written is_shut c.after_voice c.wrote c.after_write c.writes
+  abbrev pub write_part : WriteLeaves counts left written is_shut c.after_take c.wrote c.after_write (bytes_written)
+  write_part = write-leaves counts left written is_shut c.after_take c.wrote c.after_write c.writes
 
   -- the bytes that were taken and not handled, and those that were to be written and were not
   abbrev pub remains : List ℕ
@@ -155,17 +153,17 @@ module _ {L V : Type 0} {counts : L → Counts} {left written : L → Option (Li
   pub passes_handle : c.after_handle.passes ≡ old.passes
   passes_handle = (handle_part).passes ∙ ((read_part).passes ∙ ap (λ (p : PortFacts L). p.passes) (port_put))
 
+  pub first_handle : c.after_handle.voice_first ≡ old.voice_first
+  first_handle = (handle_part).first ∙ ((read_part).first ∙ ap (λ (p : PortFacts L). p.voice_first) (port_put))
+
   pub machine_handle : c.after_handle.machine ≡ machine_after old.machine (frame)
   machine_handle = (handle_part).machine ∙ ap (λ (m : Machine). machine_after m (frame)) (machine_read)
 
   pub session_handle : session_of c.after_handle.machine.stage ≡ session_of old.machine.stage
   session_handle = ap (λ (m : Machine). session_of m.stage) (machine_handle) ∙ ap session_of (stage-machine_after old.machine (frame))
 
-  pub session_post : session_of c.after_post.machine.stage ≡ session_of old.machine.stage
-  session_post = ap (λ (m : Machine). session_of m.stage) (post_part).machine ∙ session_handle
-
   pub machine_write : c.after_write.machine ≡ machine_after old.machine (frame)
-  machine_write = (write_part).machine ∙ ((voice_part).machine ∙ ((post_part).machine ∙ machine_handle))
+  machine_write = (write_part).machine ∙ ((take_part).machine ∙ machine_handle)
 
   -- ---- a port that met a cause rests
 
@@ -178,15 +176,13 @@ module _ {L V : Type 0} {counts : L → Counts} {left written : L → Option (Li
 
   pub rests : is_closed c.after_handle.stage ≡ true → Rests
   rests closed =
-      let posted = post-rests posts c.after_handle c.posted c.after_post c.collects closed in
-      let closed_post : is_closed c.after_post.stage ≡ true = ap (λ (p : PortFacts L). is_closed p.stage) posted.1 ∙ closed in
-      let heard = voice-rests voices c.after_post c.heard c.after_voice c.drains closed_post in
-      let closed_voice : is_closed c.after_voice.stage ≡ true = ap (λ (p : PortFacts L). is_closed p.stage) heard.1 ∙ closed_post in
-      let wrote = write-rests counts left written is_shut c.after_voice c.wrote c.after_write c.writes closed_voice in record {
-        no_post = posted.0;
-        no_voice = heard.0;
+      let taken = takes-rest posts voices c.after_handle c.posted c.heard c.after_take c.takes closed in
+      let closed_take : is_closed c.after_take.stage ≡ true = ap (λ (p : PortFacts L). is_closed p.stage) taken.2 ∙ closed in
+      let wrote = write-rests counts left written is_shut c.after_take c.wrote c.after_write c.writes closed_take in record {
+        no_post = taken.0;
+        no_voice = taken.1;
         no_write = (wrote.0, wrote.1);
-        same = wrote.2 ∙ (heard.1 ∙ posted.1);
+        same = wrote.2 ∙ taken.2;
       }
 
   -- it closes for the cause that it met
@@ -261,16 +257,16 @@ module _ {L V : Type 0} {counts : L → Counts} {left written : L → Option (Li
   stage_handle reads_on handles_on =
       (handle_part).stage ∙ (stage_by-open c.handled c.after_read.stage handles_on ∙ ((read_part).stage ∙ stage_by-open c.read c.after_put.stage reads_on))
 
-  pub stage_voice : closes c.read ≡ None → closes c.handled ≡ None → c.after_voice.stage ≡ stage_kept old (did_of)
-  stage_voice reads_on handles_on =
-      (voice_part).stage ∙ ((post_part).stage
+  pub stage_take : closes c.read ≡ None → closes c.handled ≡ None → c.after_take.stage ≡ stage_kept old (did_of)
+  stage_take reads_on handles_on =
+      (take_part).stage
       ∙ (ap (λ (s : Option SessionId). stage_after_post (is_last s (post)) c.after_handle.stage) (session_handle)
       ∙ ap (λ (s : Stage). stage_after_post (is_last (session_of old.machine.stage) (post)) s)
-      (stage_handle reads_on handles_on ∙ ap (λ (p : PortFacts L). p.stage) (port_put))))
+      (stage_handle reads_on handles_on ∙ ap (λ (p : PortFacts L). p.stage) (port_put)))
 
   pub stage_end : closes c.read ≡ None → closes c.handled ≡ None → closes c.wrote ≡ None → c.after_write.stage ≡ stage_kept old (did_of)
   stage_end reads_on handles_on writes_on =
-      (write_part).stage ∙ (stage_by-open c.wrote c.after_voice.stage writes_on ∙ stage_voice reads_on handles_on)
+      (write_part).stage ∙ (stage_by-open c.wrote c.after_take.stage writes_on ∙ stage_take reads_on handles_on)
 
   put-closed : is_closed c.after_put.stage ≡ is_closed old.stage
   put-closed = ap (λ (p : PortFacts L). is_closed p.stage) (port_put) ∙ stage_once_put-closed (item) old.waiting old.stage
@@ -285,28 +281,30 @@ module _ {L V : Type 0} {counts : L → Counts} {left written : L → Option (Li
       rests (ap (λ (p : PortFacts L). is_closed p.stage) handles.2 ∙ closed_read)
 
   -- it is as open as it was
-  pub as_open : closes c.read ≡ None → closes c.handled ≡ None → is_closed c.after_voice.stage ≡ is_closed old.stage
+  pub as_open : closes c.read ≡ None → closes c.handled ≡ None → is_closed c.after_take.stage ≡ is_closed old.stage
   as_open reads_on handles_on =
-      ap is_closed (voice_part).stage ∙ ⊎_elim
-      (λ unlooked. ap (λ (p : PortFacts L). is_closed p.stage) unlooked.1 ∙ (ap is_closed (stage_handle reads_on handles_on) ∙ put-closed))
+      ap is_closed (take_part).stage ∙ ⊎_elim
+      (λ unlooked.
+      ap (λ (p : Option PostParcel). is_closed (stage_after_post (is_last (session_of c.after_handle.machine.stage) p) c.after_handle.stage)) unlooked.0
+      ∙ (ap is_closed (stage_handle reads_on handles_on) ∙ put-closed))
       (λ looked.
       let live = (taking-is c.after_handle looked.0 looked.1).0 in
       let live_put : c.after_put.stage ≡ Live = sym (stage_handle reads_on handles_on) ∙ live in
-      ap is_closed (post_part).stage ∙ (parting-open (is_last (session_of c.after_handle.machine.stage) (post)) c.after_handle.stage live ∙ sym (was_open_live live_put)))
-      (post_part).looked
+      parting-open (is_last (session_of c.after_handle.machine.stage) (post)) c.after_handle.stage live ∙ sym (was_open_live live_put))
+      (take_part).looked
 
   pub record WriteCloses (cause : Cause) : Type 0 where
-    pub shown : WriteShows counts left written is_shut c.after_voice c.after_write (Closes cause) (bytes_written)
+    pub shown : WriteShows counts left written is_shut c.after_take c.after_write (Closes cause) (bytes_written)
     pub stage : c.after_write.stage ≡ closed_for cause
     pub was_open : is_closed old.stage ≡ false
     pub closed : c.closed ≡ Some cause
 
   pub write_closes : (cause : Cause) → closes c.read ≡ None → closes c.handled ≡ None → c.wrote ≡ Closes cause → WriteCloses cause
   write_closes cause reads_on handles_on is =
-      let shows = subst (λ (w : Went). WriteShows counts left written is_shut c.after_voice c.after_write w (bytes_written)) is (write_part).shows in
-      let opened = may_write-open c.after_voice (may_of_write counts left written is_shut c.after_voice c.after_write cause (bytes_written) shows) in
+      let shows = subst (λ (w : Went). WriteShows counts left written is_shut c.after_take c.after_write w (bytes_written)) is (write_part).shows in
+      let opened = may_write-open c.after_take (may_of_write counts left written is_shut c.after_take c.after_write cause (bytes_written) shows) in
       let stage : c.after_write.stage ≡ closed_for cause =
-      (write_part).stage ∙ (ap (λ (w : Went). stage_by w c.after_voice.stage) is ∙ stage_by-closes cause c.after_voice.stage opened) in
+      (write_part).stage ∙ (ap (λ (w : Went). stage_by w c.after_take.stage) is ∙ stage_by-closes cause c.after_take.stage opened) in
       let was_open : is_closed old.stage ≡ false = sym (as_open reads_on handles_on) ∙ opened in record {
         shown = shows;
         stage = stage;

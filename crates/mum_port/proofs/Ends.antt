@@ -23,7 +23,7 @@ use Rattle.mum_port.specs.declared.stage.Parting.{Parting}
 use Rattle.mum_port.specs.declared.stage.Parting.TheVariants as partings
 use Rattle.mum_port.specs.declared.stage.Stage.{Stage}
 use Rattle.mum_port.specs.declared.stage.Stage.TheVariants.{Live, Ending, Closed}
-use Rattle.mum_port.proofs.Balance.{all_read, link_put, link_voice, settle-link}
+use Rattle.mum_port.proofs.Balance.{all_read, link_put, link_take, settle-link}
 use Rattle.mum_port.proofs.Course.{GoesOn, HandleCloses, ReadCloses, Way, WriteCloses, as_open, at_close, did_of, frame, goes_on, handle_part, item, port_put, read_part, remains, stage_end, took, unsent, way, write_part}
 use Rattle.mum_port.proofs.ReadPart.{closes, stage_by-open}
 
@@ -60,7 +60,7 @@ module _ {L V : Type 0} {counts : L → Counts} {left written : L → Option (Li
   falls_settle = NoneFalls-same _ _ (settle-link counts left written is_shut _ _ _ _ c.settles).0
 
   falls_write : NoneFalls (counts c.after_read.link) (counts c.after_write.link)
-  falls_write = subst (λ (l : L). NoneFalls (counts l) (counts c.after_write.link)) (link_voice c) (write_part c).none_falls
+  falls_write = subst (λ (l : L). NoneFalls (counts l) (counts c.after_write.link)) (link_take c) (write_part c).none_falls
 
   pub falls_end : NoneFalls (counts c.after_read.link) (counts new.link)
   falls_end = NoneFalls-trans _ _ _ falls_write falls_settle
@@ -73,9 +73,9 @@ module _ {L V : Type 0} {counts : L → Counts} {left written : L → Option (Li
   rose_read of rises rose =
       Rose-later _ _ _ (subst (λ (l : L). Rose (of (counts l)) (of (counts c.after_read.link))) (link_put c) rose) (rises _ _ falls_end)
 
-  pub rose_write : (of : Counts → ℕ) → ((a b : Counts) → NoneFalls a b → of a ≤ of b) → Rose (of (counts c.after_voice.link)) (of (counts c.after_write.link)) → Rose (of (counts old.link)) (of (counts new.link))
+  pub rose_write : (of : Counts → ℕ) → ((a b : Counts) → NoneFalls a b → of a ≤ of b) → Rose (of (counts c.after_take.link)) (of (counts c.after_write.link)) → Rose (of (counts old.link)) (of (counts new.link))
   rose_write of rises rose =
-      Rose-later _ _ _ (Rose-earlier _ _ _ (rises _ _ falls_read) (subst (λ (l : L). Rose (of (counts l)) (of (counts c.after_write.link))) (link_voice c) rose)) (rises _ _ falls_settle)
+      Rose-later _ _ _ (Rose-earlier _ _ _ (rises _ _ falls_read) (subst (λ (l : L). Rose (of (counts l)) (of (counts c.after_write.link))) (link_take c) rose)) (rises _ _ falls_settle)
 
   -- ---- what a close drops
 
@@ -174,7 +174,7 @@ module _ {L V : Type 0} {counts : L → Counts} {left written : L → Option (Li
   shown_at_end cause (Closed before farewell) closed was_open on is by =
       let shut : is_closed c.after_write.stage ≡ true = ap is_closed is in
       let opened : is_closed c.after_write.stage ≡ false =
-      ap is_closed ((write_part c).stage ∙ stage_by-open c.wrote c.after_voice.stage on.writes_on) ∙ (as_open c on.reads_on on.handles_on ∙ was_open) in
+      ap is_closed ((write_part c).stage ∙ stage_by-open c.wrote c.after_take.stage on.writes_on) ∙ (as_open c on.reads_on on.handles_on ∙ was_open) in
       absurd (true≢false (sym shut ∙ opened))
 
   same_cause : (cause other : Cause) → c.closed ≡ Some cause → c.closed ≡ Some other → cause ≡ other
@@ -199,7 +199,7 @@ module _ {L V : Type 0} {counts : L → Counts} {left written : L → Option (Li
   ending_stays parting on same (inl was_closed) ending =
       let opened : is_closed c.after_write.stage ≡ false = ap is_closed (sym (ap (λ (p : PortFacts L). p.stage) same) ∙ ending) in
       let shut : is_closed c.after_write.stage ≡ true =
-      ap is_closed ((write_part c).stage ∙ stage_by-open c.wrote c.after_voice.stage on.writes_on) ∙ (as_open c on.reads_on on.handles_on ∙ was_closed) in
+      ap is_closed ((write_part c).stage ∙ stage_by-open c.wrote c.after_take.stage on.writes_on) ∙ (as_open c on.reads_on on.handles_on ∙ was_closed) in
       absurd (true≢false (sym shut ∙ opened))
   ending_stays parting on same (inr none) ending =
       let stage : c.after_write.stage ≡ Ending parting = sym (ap (λ (p : PortFacts L). p.stage) same) ∙ ending in
@@ -208,7 +208,7 @@ module _ {L V : Type 0} {counts : L → Counts} {left written : L → Option (Li
 
   shut_before : is_shut c.after_write.link ≡ is_shut old.link
   shut_before =
-      (write_part c).shut_same ∙ (ap is_shut (link_voice c) ∙ ((read_part c).shut_same ∙ ap is_shut (link_put c)))
+      (write_part c).shut_same ∙ (ap is_shut (link_take c) ∙ ((read_part c).shut_same ∙ ap is_shut (link_put c)))
 
   pub settled_in_turn : Settles counts left written is_shut (is_closed old.stage) c.after_write c.closed new → Settled counts left written is_shut old (did_of c) new c.closed
   settled_in_turn (inl stays) =

@@ -211,6 +211,7 @@ module _ {L V : Type 0} (routed : V → ℕ → SessionId → List ℕ → V →
     pub shows : HandledOrNot old frame went new
     pub link : new.link ≡ old.link
     pub passes : new.passes ≡ old.passes
+    pub first : new.voice_first ≡ old.voice_first
     pub stage : new.stage ≡ stage_by went old.stage
 
   pub handle-leaves : (old : PortFacts L) (router : V) (went : Went) (new : PortFacts L) (router_new : V) (handles : Handles routed old router went new router_new)
@@ -230,6 +231,7 @@ module _ {L V : Type 0} (routed : V → ℕ → SessionId → List ℕ → V →
     shows = inl (never.so, refl, never.same, never.forbidden);
     link = ap (λ (p : PortFacts L). p.link) never.same;
     passes = ap (λ (p : PortFacts L). p.passes) never.same;
+    first = ap (λ (p : PortFacts L). p.voice_first) never.same;
     stage = ap (λ (p : PortFacts L). p.stage) never.same ∙ ap (λ (w : Went). stage_by w old.stage) (sym never.so);
   }
   handle-leaves old router went new router_new (inr one) =
@@ -248,5 +250,6 @@ module _ {L V : Type 0} (routed : V → ℕ → SessionId → List ℕ → V →
         shows = inr (one.allowed, kept.shows);
         link = ap (λ (p : PortFacts L). p.link) one.left;
         passes = ap (λ (p : PortFacts L). p.passes) one.left;
+        first = ap (λ (p : PortFacts L). p.voice_first) one.left;
         stage = ap (λ (p : PortFacts L). p.stage) one.left;
       }

@@ -1,5 +1,5 @@
 -- A step that did nothing had to wait for all that it might have used, and one that worked did something.
-use Rattle.std.proofs.Common.{◌≡◌, ◌≢◌, ℕ, Bool, true, false, ◌&&◌, ◌||◌, IsTrue, List, [], ◌∷◌, ◌++◌, Option, Some, None, is_none, is_some, not, refl, sym, ap, subst, ◌∙◌, inl, inr, ⊎_elim, true≢false}
+use Rattle.std.proofs.Common.{◌≡◌, ◌≢◌, ℕ, Bool, true, false, ◌&&◌, ◌||◌, IsTrue, List, [], ◌∷◌, ◌++◌, Option, Some, None, is_none, is_some, not, refl, sym, ap, subst, ◌∙◌, inl, inr, true≢false}
 use Rattle.std.proofs.lemmas.List.{append-nil}
 use Rattle.std.specs.List.{list_any}
 use Rattle.mum_base.specs.declared.number.Cause.{Cause}
@@ -11,7 +11,6 @@ use Rattle.mum_frame.proofs.Headers.{HasNoFrame-above_limit}
 use Rattle.mum_io.specs.Counts.{Counts, Rose}
 use Rattle.mum_outbox.specs.Facts.{PassFacts, QueueFacts}
 use Rattle.mum_outbox.specs.declared.parcel.PostParcel.{PostParcel}
-use Rattle.mum_outbox.specs.declared.parcel.TheConstants.{POST_CAPACITY, VOICE_CAPACITY}
 use Rattle.mum_outbox.specs.declared.parcel.VoiceParcel.{VoiceParcel}
 use Rattle.mum_session.specs.Machine.{session_of}
 use Rattle.mum_port.specs.Did.{PortDid, action_of, bytes_of, desk_after_put, echo_of, is_last, machine_after, port_after_put, post_bytes, voice_bytes, waiting_after}
@@ -19,18 +18,18 @@ use Rattle.mum_port.specs.Facts.{MayRead, PortFacts, due_item, may_handle, may_w
 use Rattle.mum_port.specs.Stage.{has_worked, is_live}
 use Rattle.mum_port.specs.Steps.{PortChain, Reads}
 use Rattle.mum_port.specs.Taking.{has_taken, stage_after_post}
-use Rattle.mum_port.specs.Turn.{FindBoxesEmpty, FindsNothing, IsIdle, did_nothing}
+use Rattle.mum_port.specs.Turn.{FindBoxesEmpty, IsIdle, did_nothing, voice_first_after}
 use Rattle.mum_port.specs.declared.item.DeskItem.{DeskItem}
 use Rattle.mum_port.specs.declared.port.Step.{Step}
 use Rattle.mum_port.specs.declared.passes.Passes.{Passes}
 use Rattle.mum_port.specs.declared.stage.Went.{Went}
 use Rattle.mum_port.specs.declared.stage.Went.TheVariants.{NotDue, Stalled, Worked, Closes}
-use Rattle.mum_port.proofs.Balance.{at_close-none, echo_handle, kept_put, kept_write, out_post, settle-same}
-use Rattle.mum_port.proofs.BoxParts.{PassesAfterPost, PassesAfterVoice}
+use Rattle.mum_port.proofs.Balance.{at_close-none, echo_handle, kept_put, kept_write, out_take, settle-same}
 use Rattle.mum_port.proofs.Closing.{and-left}
-use Rattle.mum_port.proofs.Course.{at_close, bytes_written, did_of, frame, goes_on, handle_closes, handle_part, item, machine_read, machine_write, out_read, port_put, post, post_part, read_part, remains, passes_handle, session_handle, session_post, took, unsent, voice, voice_part, write_part}
+use Rattle.mum_port.proofs.Course.{at_close, bytes_written, did_of, first_handle, frame, goes_on, handle_closes, handle_part, item, machine_read, machine_write, out_read, port_put, post, read_part, remains, passes_handle, session_handle, take_part, took, unsent, voice, write_part}
 use Rattle.mum_port.proofs.Ends.{may_same, rose_read, rose_write}
 use Rattle.mum_port.proofs.HandlePart.{HandleShows, HandledOrNot}
+use Rattle.mum_port.proofs.Parcels.{taking_same}
 use Rattle.mum_port.proofs.ReadPart.{ReadShows, closes, put-due, put-pass, put-some, put-worked, read-shows, stage_by-open}
 use Rattle.mum_port.proofs.Resting.{may-live}
 use Rattle.mum_port.proofs.WritePart.{WriteShows}
@@ -111,26 +110,10 @@ module _ {L V : Type 0} (routed : V → ℕ → SessionId → List ℕ → V →
   handle_worked old frame went new (inl never) on none = ap has_worked never.0
   handle_worked old frame went new (inr due) on none = shows_worked routed old.framer.kept frame went due.1 on none
 
-boxes_empty : (posts voices : List QueueFacts) (passes mid after : Option Passes) → PassesAfterPost posts passes None mid → PassesAfterVoice voices mid None after → FindBoxesEmpty posts voices passes after
-boxes_empty posts voices None None None posted heard = refl
-boxes_empty posts voices None None (Some after) posted heard = absurd heard
-boxes_empty posts voices None (Some mid) after posted heard = absurd posted
-boxes_empty posts voices (Some passes) None after posted heard = absurd posted
-boxes_empty posts voices (Some passes) (Some mid) None posted heard = absurd heard
-boxes_empty posts voices (Some passes) (Some mid) (Some after) posted heard = (
-  subst (λ (p : PassFacts PostParcel). FindsNothing POST_CAPACITY posts passes.slot.0 passes.post p) (sym heard.1) (posted.3 refl),
-  subst (λ (n : ℕ). FindsNothing VOICE_CAPACITY voices n passes.voice after.voice) (ap (λ (s : _). s.0) posted.0)
-      (subst (λ (p : PassFacts VoiceParcel). FindsNothing VOICE_CAPACITY voices mid.slot.0 p after.voice) posted.1 (heard.3 refl)),
-)
-
 -- a port whose parts are those of another, but for its link, its framer and its passes
-port_same : {L : Type 0} (new old : PortFacts L) → new.machine ≡ old.machine → new.waiting ≡ old.waiting → new.out ≡ old.out → new.stage ≡ old.stage
+port_same : {L : Type 0} (new old : PortFacts L) → new.machine ≡ old.machine → new.waiting ≡ old.waiting → new.out ≡ old.out → new.voice_first ≡ old.voice_first → new.stage ≡ old.stage
     → new ≡ record old { link = new.link; framer = new.framer; passes = new.passes }
-port_same new old machine waiting out stage = rw (sym machine, sym waiting, sym out, sym stage) refl
-
-taking_same : {L : Type 0} (later port : PortFacts L) → later.stage ≡ port.stage → later.out ≡ port.out → session_of later.machine.stage ≡ session_of port.machine.stage
-    → taking_session later ≡ taking_session port
-taking_same later port stage out session = rw (stage, out, session) refl
+port_same new old machine waiting out first stage = rw (sym machine, sym waiting, sym out, sym first, sym stage) refl
 
 did_same : (put : Option DeskItem) (took lost : List ℕ) (handled : Option Frame) (post : Option PostParcel) (voice : Option VoiceParcel) (wrote unsaid : List ℕ) (closed : Option Cause)
     → put ≡ None → took ≡ [] → lost ≡ [] → handled ≡ None → post ≡ None → voice ≡ None → wrote ≡ [] → unsaid ≡ [] → closed ≡ None
@@ -217,14 +200,14 @@ module _ {L V : Type 0} {counts : L → Counts} {left written : L → Option (Li
   handle_so : (idle : AllIdle) → (frame c ≡ None) × (IsTrue (may_handle c.after_read) → HasNoFrame c.after_read.framer.kept × ¬ TooLong c.after_read.framer.kept)
   handle_so idle = handle_idle routed c.after_read (frame c) c.handled c.after_handle idle.handled_idle (handle_part c).shows
 
-  write_so : (idle : AllIdle) → (bytes_written c ≡ []) × (IsTrue (may_write c.after_voice) → Rose (counts c.after_voice.link).stalls (counts c.after_write.link).stalls)
-  write_so idle = write_idle counts left written is_shut c.after_voice c.after_write c.wrote (bytes_written c) idle.wrote_idle (write_part c).shows
+  write_so : (idle : AllIdle) → (bytes_written c ≡ []) × (IsTrue (may_write c.after_take) → Rose (counts c.after_take.link).stalls (counts c.after_write.link).stalls)
+  write_so idle = write_idle counts left written is_shut c.after_take c.after_write c.wrote (bytes_written c) idle.wrote_idle (write_part c).shows
 
   none_post : AllIdle → post c ≡ None
-  none_post idle = (post_part c).idle idle.posted_idle
+  none_post idle = (take_part c).post_idle idle.posted_idle
 
   none_voice : AllIdle → voice c ≡ None
-  none_voice idle = (voice_part c).idle idle.heard_idle
+  none_voice idle = (take_part c).voice_idle idle.heard_idle
 
   pub nothing_done : AllIdle → did_of c ≡ did_nothing
   nothing_done idle =
@@ -258,19 +241,21 @@ module _ {L V : Type 0} {counts : L → Counts} {left written : L → Option (Li
       ∙ (sym (echo_handle c)
       ∙ (ap (λ (f : Option Frame). old.out ++ echo_of (action_of old.machine f)) (handle_so idle).0 ∙ append-nil old.out)))
 
-  out_posted : AllIdle → c.after_post.out ≡ old.out
-  out_posted idle =
-      out_post c ∙ (ap (λ (p : Option PostParcel). c.after_handle.out ++ post_bytes (session_of old.machine.stage) p) (none_post idle)
-      ∙ (append-nil c.after_handle.out ∙ out_idle idle))
+  out_taken : AllIdle → c.after_take.out ≡ old.out
+  out_taken idle =
+      out_take c ∙ (ap (λ (v : Option VoiceParcel). (c.after_handle.out ++ post_bytes (session_of old.machine.stage) (post c)) ++ voice_bytes (session_of old.machine.stage) v) (none_voice idle)
+      ∙ (append-nil (c.after_handle.out ++ post_bytes (session_of old.machine.stage) (post c))
+      ∙ (ap (λ (p : Option PostParcel). c.after_handle.out ++ post_bytes (session_of old.machine.stage) p) (none_post idle)
+      ∙ (append-nil c.after_handle.out ∙ out_idle idle))))
 
-  out_heard : AllIdle → c.after_voice.out ≡ old.out
-  out_heard idle =
-      (voice_part c).out ∙ (ap (λ (v : Option VoiceParcel). c.after_post.out ++ voice_bytes (session_of c.after_post.machine.stage) v) (none_voice idle)
-      ∙ (append-nil c.after_post.out ∙ out_posted idle))
+  stage_taken : AllIdle → c.after_take.stage ≡ old.stage
+  stage_taken idle =
+      (take_part c).stage ∙ (ap (λ (p : Option PostParcel). stage_after_post (is_last (session_of c.after_handle.machine.stage) p) c.after_handle.stage) (none_post idle) ∙ stage_idle idle)
 
-  stage_posted : AllIdle → c.after_post.stage ≡ old.stage
-  stage_posted idle =
-      (post_part c).stage ∙ (ap (λ (p : Option PostParcel). stage_after_post (is_last (session_of c.after_handle.machine.stage) p) c.after_handle.stage) (none_post idle) ∙ stage_idle idle)
+  first_taken : AllIdle → c.after_take.voice_first ≡ old.voice_first
+  first_taken idle =
+      (take_part c).next ∙ (ap (λ (v : Option VoiceParcel). voice_first_after (post c) v c.after_handle.voice_first) (none_voice idle)
+      ∙ (ap (λ (p : Option PostParcel). voice_first_after p None c.after_handle.voice_first) (none_post idle) ∙ first_handle c))
 
   machine_idle : AllIdle → c.after_write.machine ≡ old.machine
   machine_idle idle = machine_write c ∙ ap (λ (f : Option Frame). machine_after old.machine f) (handle_so idle).0
@@ -278,41 +263,30 @@ module _ {L V : Type 0} {counts : L → Counts} {left written : L → Option (Li
   may_idle : (idle : AllIdle) → may_handle c.after_read ≡ may_handle old
   may_idle idle = may_same old c.after_read (stage_read idle) (machine_read c) (waiting_read idle) (out_read c)
 
-  empty_idle : (idle : AllIdle) (session : SessionId) → taking_session old ≡ Some session → FindBoxesEmpty posts voices old.passes c.after_voice.passes
+  empty_idle : (idle : AllIdle) (session : SessionId) → taking_session old ≡ Some session → FindBoxesEmpty posts voices old.passes c.after_take.passes
   empty_idle idle session looks =
-      let first : taking_session c.after_handle ≡ Some session =
-      taking_same c.after_handle old (stage_idle idle) (out_idle idle) (session_handle c) ∙ looks in
-      let second : taking_session c.after_post ≡ Some session =
-      taking_same c.after_post old (stage_posted idle) (out_posted idle) (session_post c) ∙ looks in
-      let posted : PassesAfterPost posts c.after_handle.passes (post c) c.after_post.passes =
-      ⊎_elim (λ unlooked. absurd (cc (sym unlooked.2 ∙ first))) (λ looked. looked.2) (post_part c).looked in
-      let heard : PassesAfterVoice voices c.after_post.passes (voice c) c.after_voice.passes =
-      ⊎_elim (λ unheard. absurd (cc (sym unheard.2 ∙ second))) (λ looked. looked.2) (voice_part c).looked in
-      boxes_empty posts voices old.passes c.after_post.passes c.after_voice.passes
-      (subst (λ (s : Option Passes). PassesAfterPost posts s None c.after_post.passes) (passes_handle c)
-      (subst (λ (p : Option PostParcel). PassesAfterPost posts c.after_handle.passes p c.after_post.passes) (none_post idle) posted))
-      (subst (λ (v : Option VoiceParcel). PassesAfterVoice voices c.after_post.passes v c.after_voice.passes) (none_voice idle) heard)
+      subst (λ (s : Option Passes). FindBoxesEmpty posts voices s c.after_take.passes) (passes_handle c)
+      ((take_part c).empty session (taking_same c.after_handle old (stage_idle idle) (out_idle idle) (session_handle c) ∙ looks) (none_post idle) (none_voice idle))
 
   pub is_idle : step.worked ≡ false → IsIdle counts left written is_shut posts voices old desk (did_of c) new desk_after
   is_idle worked =
       let idle = all_idle worked in
       let same = settle-same counts left written is_shut _ _ _ _ c.settles idle.open_still in
       let put = put_same (none_put idle) in
-      let stage_voiced : c.after_voice.stage ≡ old.stage = (voice_part c).stage ∙ stage_posted idle in
       let waiting_end : c.after_write.waiting ≡ old.waiting =
-      (write_part c).waiting ∙ ((voice_part c).waiting ∙ ((post_part c).waiting ∙ ((handle_part c).waiting
-      ∙ (ap (λ (f : Option Frame). waiting_after (action_of c.after_read.machine f) c.after_read.waiting) (handle_so idle).0 ∙ waiting_read idle)))) in
+      (write_part c).waiting ∙ ((take_part c).waiting ∙ ((handle_part c).waiting
+      ∙ (ap (λ (f : Option Frame). waiting_after (action_of c.after_read.machine f) c.after_read.waiting) (handle_so idle).0 ∙ waiting_read idle))) in
       let out_end : c.after_write.out ≡ old.out =
-      ap (λ (l : List ℕ). l ++ c.after_write.out) (sym (write_so idle).0) ∙ (sym (write_part c).bytes ∙ out_heard idle) in
+      ap (λ (l : List ℕ). l ++ c.after_write.out) (sym (write_so idle).0) ∙ (sym (write_part c).bytes ∙ out_taken idle) in
       let stage_last : c.after_write.stage ≡ old.stage =
-      (write_part c).stage ∙ (stage_by-open c.wrote c.after_voice.stage (worked-closes c.wrote idle.wrote_idle) ∙ stage_voiced) in record {
+      (write_part c).stage ∙ (stage_by-open c.wrote c.after_take.stage (worked-closes c.wrote idle.wrote_idle) ∙ stage_taken idle) in record {
         nothing = nothing_done idle;
         full = put-pass old desk c.put c.after_put desk_after c.puts ∙ ap (λ (i : Option DeskItem). desk_after_put i (due_item old) desk) (none_put idle);
         no_frame = λ may.
             subst (λ (l : List ℕ). HasNoFrame l × ¬ TooLong l) (kept_read idle) ((handle_so idle).1 (may_idle idle ∙ may));
         read_stalled = λ may. rose_read c (λ (k : Counts). k.stalls) (λ a b falls. falls.stalls) ((read_so idle).1 (subst (λ (p : PortFacts L). MayRead p) (sym put) may));
         write_stalled = λ may. rose_write c (λ (k : Counts). k.stalls) (λ a b falls. falls.stalls)
-            ((write_so idle).1 (may_write_same c.after_voice old stage_voiced (out_heard idle) ∙ may));
+            ((write_so idle).1 (may_write_same c.after_take old (stage_taken idle) (out_taken idle) ∙ may));
         boxes_empty = λ session looks. subst (λ (p : PortFacts L). FindBoxesEmpty posts voices old.passes p.passes) (sym same)
             (subst (FindBoxesEmpty posts voices old.passes) (sym (write_part c).passes) (empty_idle idle session looks));
         kept = ap (λ (p : PortFacts L). p.framer.kept) same ∙ (kept_write c ∙ (sym ((handle_part c).unhandled_kept (worked-closes c.handled idle.handled_idle))
@@ -321,6 +295,7 @@ module _ {L V : Type 0} {counts : L → Counts} {left written : L → Option (Li
             (ap (λ (p : PortFacts L). p.machine) same ∙ machine_idle idle)
             (ap (λ (p : PortFacts L). p.waiting) same ∙ waiting_end)
             (ap (λ (p : PortFacts L). p.out) same ∙ out_end)
+            (ap (λ (p : PortFacts L). p.voice_first) same ∙ ((write_part c).first ∙ first_taken idle))
             (ap (λ (p : PortFacts L). p.stage) same ∙ stage_last);
       }
 
@@ -332,9 +307,9 @@ module _ {L V : Type 0} {counts : L → Counts} {left written : L → Option (Li
       let put = took_none c.put (λ is. put-some old desk c.put c.after_put desk_after c.puts is (ap (λ (d : PortDid). d.put) none)) in
       let read = read_worked counts left written is_shut c.after_put c.after_read c.read (took c) (read-shows counts left written is_shut c.after_put c.read c.after_read c.reads) on.reads_on (ap (λ (d : PortDid). d.took) none) in
       let handled = handle_worked routed c.after_read (frame c) c.handled c.after_handle (handle_part c).shows on.handles_on (ap (λ (d : PortDid). d.handled) none) in
-      let wrote = write_worked counts left written is_shut c.after_voice c.after_write c.wrote (bytes_written c) (write_part c).shows on.writes_on (ap (λ (d : PortDid). d.wrote) none) in
-      let posted = took_none (has_taken c.posted) (λ is. (post_part c).worked is (ap (λ (d : PortDid). d.post) none)) in
-      let heard = took_none (has_taken c.heard) (λ is. (voice_part c).worked is (ap (λ (d : PortDid). d.voice) none)) in
+      let wrote = write_worked counts left written is_shut c.after_take c.after_write c.wrote (bytes_written c) (write_part c).shows on.writes_on (ap (λ (d : PortDid). d.wrote) none) in
+      let posted = took_none (has_taken c.posted) (λ is. (take_part c).post_worked is (ap (λ (d : PortDid). d.post) none)) in
+      let heard = took_none (has_taken c.heard) (λ is. (take_part c).voice_worked is (ap (λ (d : PortDid). d.voice) none)) in
       let closed = ap (λ (d : PortDid). d.closed) none in
       ap (λ (s : Step). s.worked) c.came_to ∙ all_false c.put (has_worked c.read) (has_worked c.handled) (has_worked c.wrote) (has_taken c.posted) (has_taken c.heard) (is_some c.closed)
       put read handled wrote posted heard (ap (λ (x : Option Cause). is_some x) closed)

@@ -13,6 +13,7 @@ pub mod Living
 pub mod Machines
 pub mod ReadPart
 pub mod Resting
+pub mod Parcels
 pub mod PassTakes
 pub mod PassesKept
 pub mod Speaking

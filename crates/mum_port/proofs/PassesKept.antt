@@ -1,13 +1,13 @@
 -- What the parts of a step leave of a port's passes, and of the passes in it.
-use Rattle.std.proofs.Common.{◌≡◌, ℕ, Bool, List, Option, Some, None, refl, sym, ap, subst, ◌∙◌, inl, inr}
+use Rattle.std.proofs.Common.{◌≡◌, ℕ, Bool, true, false, List, Option, Some, None, refl, sym, ap, subst, ◌∙◌, inl, inr}
 use Rattle.mum_base.specs.declared.number.Cause.{Cause}
 use Rattle.mum_base.specs.declared.number.SessionId.{SessionId}
 use Rattle.mum_io.specs.Counts.{Counts}
 use Rattle.mum_outbox.specs.Calls.{Takes}
 use Rattle.mum_outbox.specs.Facts.{PassFacts, QueueFacts}
 use Rattle.mum_port.specs.Facts.{PortFacts, due_item}
-use Rattle.mum_port.specs.Steps.{CollectsPost, DrainsVoice, Handles, Puts, Reads, Settles, Writes, desk_refused}
-use Rattle.mum_port.specs.Taking.{Collects, Drains, IsPassOfPost, IsPassOfVoice, IsPosted, IsVoiced, PassesCollect, PassesDrain}
+use Rattle.mum_port.specs.Steps.{CollectsBehind, CollectsPost, DrainsVoice, Handles, Puts, Reads, Settles, TakesParcels, Writes, desk_refused}
+use Rattle.mum_port.specs.Taking.{Collects, Drains, IsPassOfPost, IsPassOfVoice, IsPosted, IsVoiced, PassesCollect, PassesDrain, has_taken}
 use Rattle.mum_port.specs.declared.item.DeskItem.{DeskItem}
 use Rattle.mum_port.specs.declared.outbound.Taking.{Taking}
 use Rattle.mum_port.specs.declared.passes.Passes.{Passes}
@@ -112,6 +112,30 @@ module _ {L : Type 0} where
   DrainsVoice-voiced voices boxes old took new (inl nothing) known = subst (IsVoiced boxes) (sym (ap (λ (p : PortFacts L). p.passes) nothing.same)) known
   DrainsVoice-voiced voices boxes old took new (inr one) known =
       Drains-voiced voices boxes one.session old.passes took new.passes new.out one.taken known
+
+  behind-posted : (posts boxes : List QueueFacts) (taken : Bool) (old : PortFacts L) (took : Taking) (new : PortFacts L)
+      → CollectsBehind posts taken old took new → IsPosted boxes old.passes → IsPosted boxes new.passes
+  behind-posted posts boxes true old took new collects known = subst (λ (p : PortFacts L). IsPosted boxes p.passes) (sym collects.1) known
+  behind-posted posts boxes false old took new collects known = CollectsPost-posted posts boxes old took new collects known
+
+  behind-voiced : (posts boxes : List QueueFacts) (taken : Bool) (old : PortFacts L) (took : Taking) (new : PortFacts L)
+      → CollectsBehind posts taken old took new → IsVoiced boxes old.passes → IsVoiced boxes new.passes
+  behind-voiced posts boxes true old took new collects known = subst (λ (p : PortFacts L). IsVoiced boxes p.passes) (sym collects.1) known
+  behind-voiced posts boxes false old took new collects known = CollectsPost-voiced posts boxes old took new collects known
+
+  pub TakesParcels-posted : (posts voices boxes : List QueueFacts) (old : PortFacts L) (posted heard : Taking) (new : PortFacts L)
+      → TakesParcels posts voices old posted heard new → IsPosted boxes old.passes → IsPosted boxes new.passes
+  TakesParcels-posted posts voices boxes old posted heard new (inl first) known =
+      DrainsVoice-posted voices boxes first.mid heard new first.drains (CollectsPost-posted posts boxes old posted first.mid first.collects known)
+  TakesParcels-posted posts voices boxes old posted heard new (inr first) known =
+      behind-posted posts boxes (has_taken heard) first.mid posted new first.collects (DrainsVoice-posted voices boxes old heard first.mid first.drains known)
+
+  pub TakesParcels-voiced : (posts voices boxes : List QueueFacts) (old : PortFacts L) (posted heard : Taking) (new : PortFacts L)
+      → TakesParcels posts voices old posted heard new → IsVoiced boxes old.passes → IsVoiced boxes new.passes
+  TakesParcels-voiced posts voices boxes old posted heard new (inl first) known =
+      DrainsVoice-voiced voices boxes first.mid heard new first.drains (CollectsPost-voiced posts boxes old posted first.mid first.collects known)
+  TakesParcels-voiced posts voices boxes old posted heard new (inr first) known =
+      behind-voiced posts boxes (has_taken heard) first.mid posted new first.collects (DrainsVoice-voiced voices boxes old heard first.mid first.drains known)
 
 module _ {L : Type 0} (counts : L → Counts) (left written : L → Option (List ℕ)) (is_shut : L → Bool) where
   pub Reads-passes : (old : PortFacts L) (went : Went) (new : PortFacts L) → Reads counts left written is_shut old went new → new.passes ≡ old.passes

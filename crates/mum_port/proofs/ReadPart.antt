@@ -103,6 +103,7 @@ module _ {L : Type 0} (counts : L → Counts) (left written : L → Option (List
     pub waiting : new.waiting ≡ old.waiting
     pub out : new.out ≡ old.out
     pub passes : new.passes ≡ old.passes
+    pub first : new.voice_first ≡ old.voice_first
     pub stage : new.stage ≡ stage_by went old.stage
     pub allowed : took ≢ [] → MayRead old
 
@@ -119,6 +120,7 @@ module _ {L : Type 0} (counts : L → Counts) (left written : L → Option (List
     waiting = ap (λ (p : PortFacts L). p.waiting) never.same;
     out = ap (λ (p : PortFacts L). p.out) never.same;
     passes = ap (λ (p : PortFacts L). p.passes) never.same;
+    first = ap (λ (p : PortFacts L). p.voice_first) never.same;
     stage = ap (λ (p : PortFacts L). p.stage) never.same ∙ ap (λ (w : Went). stage_by w old.stage) (sym never.so);
     allowed = λ some. absurd (some refl);
   }
@@ -133,6 +135,7 @@ module _ {L : Type 0} (counts : L → Counts) (left written : L → Option (List
     waiting = ap (λ (p : PortFacts L). p.waiting) once.rest;
     out = ap (λ (p : PortFacts L). p.out) once.rest;
     passes = ap (λ (p : PortFacts L). p.passes) once.rest;
+    first = ap (λ (p : PortFacts L). p.voice_first) once.rest;
     stage = ap (λ (p : PortFacts L). p.stage) once.rest;
     allowed = λ some. once.allowed;
   }

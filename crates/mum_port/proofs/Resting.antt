@@ -5,7 +5,8 @@ use Rattle.mum_io.specs.Counts.{Counts}
 use Rattle.mum_outbox.specs.Facts.{QueueFacts}
 use Rattle.mum_port.specs.Facts.{PortFacts, may_handle, may_write, stage_after_put}
 use Rattle.mum_port.specs.Stage.{is_closed, is_live}
-use Rattle.mum_port.specs.Steps.{CollectsPost, DrainsVoice, Handles, Reads, Writes}
+use Rattle.mum_port.specs.Steps.{CollectsBehind, CollectsPost, DrainsVoice, Handles, Reads, TakesParcels, Writes}
+use Rattle.mum_port.specs.Taking.{has_taken}
 use Rattle.mum_port.specs.declared.item.DeskItem.{DeskItem}
 use Rattle.mum_port.specs.declared.outbound.Taking.{Taking}
 use Rattle.mum_port.specs.declared.stage.Stage.{Stage}
@@ -15,6 +16,7 @@ use Rattle.mum_port.specs.declared.stage.Went.TheVariants.{NotDue}
 use Rattle.mum_port.proofs.BoxParts.{post_of, taking-is, voice_of}
 use Rattle.mum_port.proofs.Closing.{and-left, live-is}
 use Rattle.mum_port.proofs.HandlePart.{handled_of}
+use Rattle.mum_port.proofs.Parcels.{post_behind, post_taken, voice_taken}
 use Rattle.mum_port.proofs.WritePart.{wrote_of}
 
 -- a live port is open
@@ -34,15 +36,31 @@ module _ {L : Type 0} where
   handle-rests routed old router went new router_after (inl never) closed = (never.0.so, refl, never.0.same)
   handle-rests routed old router went new router_after (inr one) closed = closed_live old closed (may-live old one.allowed)
 
-  pub post-rests : (posts : List QueueFacts) (old : PortFacts L) (took : Taking) (new : PortFacts L) (collects : CollectsPost posts old took new)
+  post-rests : (posts : List QueueFacts) (old : PortFacts L) (took : Taking) (new : PortFacts L) (collects : CollectsPost posts old took new)
       → is_closed old.stage ≡ true → (post_of posts old took new collects ≡ None) × (new ≡ old)
   post-rests posts old took new (inl nothing) closed = (refl, nothing.same)
   post-rests posts old took new (inr one) closed = closed_live old closed (taking-is old one.session one.allowed).0
 
-  pub voice-rests : (voices : List QueueFacts) (old : PortFacts L) (took : Taking) (new : PortFacts L) (drains : DrainsVoice voices old took new)
+  voice-rests : (voices : List QueueFacts) (old : PortFacts L) (took : Taking) (new : PortFacts L) (drains : DrainsVoice voices old took new)
       → is_closed old.stage ≡ true → (voice_of voices old took new drains ≡ None) × (new ≡ old)
   voice-rests voices old took new (inl nothing) closed = (refl, nothing.same)
   voice-rests voices old took new (inr one) closed = closed_live old closed (taking-is old one.session one.allowed).0
+
+  behind-rests : (posts : List QueueFacts) (taken : Bool) (old : PortFacts L) (took : Taking) (new : PortFacts L) (collects : CollectsBehind posts taken old took new)
+      → is_closed old.stage ≡ true → (post_behind posts taken old took new collects ≡ None) × (new ≡ old)
+  behind-rests posts true old took new collects closed = (refl, collects.1)
+  behind-rests posts false old took new collects closed = post-rests posts old took new collects closed
+
+  pub takes-rest : (posts voices : List QueueFacts) (old : PortFacts L) (posted heard : Taking) (new : PortFacts L) (takes : TakesParcels posts voices old posted heard new)
+      → is_closed old.stage ≡ true → (post_taken posts voices old posted heard new takes ≡ None) × (voice_taken posts voices old posted heard new takes ≡ None) × (new ≡ old)
+  takes-rest posts voices old posted heard new (inl first) closed =
+      let one = post-rests posts old posted first.mid first.collects closed in
+      let two = voice-rests voices first.mid heard new first.drains (ap (λ (p : PortFacts L). is_closed p.stage) one.1 ∙ closed) in
+      (one.0, two.0, two.1 ∙ one.1)
+  takes-rest posts voices old posted heard new (inr first) closed =
+      let one = voice-rests voices old heard first.mid first.drains closed in
+      let two = behind-rests posts (has_taken heard) first.mid posted new first.collects (ap (λ (p : PortFacts L). is_closed p.stage) one.1 ∙ closed) in
+      (two.0, one.0, two.1 ∙ one.1)
 
   pub may_write-open : (port : PortFacts L) → IsTrue (may_write port) → is_closed port.stage ≡ false
   may_write-open port may = opened (is_closed port.stage) (and-left (not (is_closed port.stage)) (not (length port.out == 0)) may)

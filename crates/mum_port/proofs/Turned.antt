@@ -18,12 +18,12 @@ use Rattle.mum_port.specs.declared.port.Step.{Step}
 use Rattle.mum_port.specs.declared.port.TheConstants.{UNWRITTEN_LIMIT}
 use Rattle.mum_port.proofs.Balance.{reads_in_turn, settle-machine, writes_in_turn}
 use Rattle.mum_port.proofs.BoxParts.{taking-is}
-use Rattle.mum_port.proofs.Course.{Way, did_of, frame, handle_part, machine_read, machine_write, port_put, post_part, read_part, voice_part, way, write_part}
+use Rattle.mum_port.proofs.Course.{Way, did_of, frame, handle_part, machine_read, machine_write, port_put, read_part, take_part, way, write_part}
 use Rattle.mum_port.proofs.Ends.{falls_all, may_before, settled_in_turn}
 use Rattle.mum_port.proofs.HandlePart.{RoutesOf}
 use Rattle.mum_port.proofs.Idle.{and-right, did_something, is_idle, too_long}
 use Rattle.mum_port.proofs.ReadPart.{closes, put-due, put-pass}
-use Rattle.mum_port.proofs.PassTakes.{looks_where_it_may, takes_in_turn}
+use Rattle.mum_port.proofs.PassTakes.{looks_where_it_may, takes_by_turns, takes_in_turn}
 use Rattle.mum_port.proofs.Speaking.{routes_packet}
 
 -- ---- the bound on what is kept
@@ -92,10 +92,10 @@ module _ {L V : Type 0} {counts : L → Counts} {left written : L → Option (Li
   puts_in_turn = record {
     due = put-due old desk c.put c.after_put desk_after c.puts;
     pass = put-pass old desk c.put c.after_put desk_after c.puts;
-    waiting = (settle-machine counts left written is_shut _ _ _ _ c.settles).1 ∙ ((write_part c).waiting ∙ ((voice_part c).waiting ∙ ((post_part c).waiting ∙ ((handle_part c).waiting
+    waiting = (settle-machine counts left written is_shut _ _ _ _ c.settles).1 ∙ ((write_part c).waiting ∙ ((take_part c).waiting ∙ ((handle_part c).waiting
         ∙ (ap (λ (m : Machine). waiting_after (action_of m (frame c)) c.after_read.waiting) (machine_read c)
         ∙ ap (λ (w : Option DeskItem). waiting_after (action_of old.machine (frame c)) w)
-        ((read_part c).waiting ∙ ap (λ (p : PortFacts L). p.waiting) (port_put c)))))));
+        ((read_part c).waiting ∙ ap (λ (p : PortFacts L). p.waiting) (port_put c))))));
   }
 
   pub ends_in_turn : EndsInTurn counts left written is_shut old (did_of c) step new
@@ -113,6 +113,7 @@ module _ {L V : Type 0} {counts : L → Counts} {left written : L → Option (Li
     routes = routes_in_turn;
     puts = puts_in_turn;
     takes = takes_in_turn c;
+    by_turns = takes_by_turns c;
     writes = writes_in_turn c;
     within = keeps_within counts left written is_shut old new (did_of c) handles_in_turn (looks_where_it_may c) (writes_in_turn c);
     ends = ends_in_turn;

@@ -59,6 +59,7 @@ module _ {L : Type 0} (counts : L → Counts) (left written : L → Option (List
     pub framer : new.framer ≡ old.framer
     pub waiting : new.waiting ≡ old.waiting
     pub passes : new.passes ≡ old.passes
+    pub first : new.voice_first ≡ old.voice_first
     pub stage : new.stage ≡ stage_by went old.stage
 
   pub write-leaves : (old : PortFacts L) (went : Went) (new : PortFacts L) (writes : Writes counts left written is_shut old went new)
@@ -74,6 +75,7 @@ module _ {L : Type 0} (counts : L → Counts) (left written : L → Option (List
     framer = ap (λ (p : PortFacts L). p.framer) never.same;
     waiting = ap (λ (p : PortFacts L). p.waiting) never.same;
     passes = ap (λ (p : PortFacts L). p.passes) never.same;
+    first = ap (λ (p : PortFacts L). p.voice_first) never.same;
     stage = ap (λ (p : PortFacts L). p.stage) never.same ∙ ap (λ (w : Went). stage_by w old.stage) (sym never.so);
   }
   write-leaves old went new (inr once) = record {
@@ -87,5 +89,6 @@ module _ {L : Type 0} (counts : L → Counts) (left written : L → Option (List
     framer = ap (λ (p : PortFacts L). p.framer) once.rest;
     waiting = ap (λ (p : PortFacts L). p.waiting) once.rest;
     passes = ap (λ (p : PortFacts L). p.passes) once.rest;
+    first = ap (λ (p : PortFacts L). p.voice_first) once.rest;
     stage = ap (λ (p : PortFacts L). p.stage) once.rest;
   }

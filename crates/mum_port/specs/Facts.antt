@@ -1,5 +1,5 @@
 -- What contracts see of a port, and what it may do.
-use Rattle.std.specs.Prelude.{◌==◌, ℕ, Bool, ◌&&◌, not, nat_le, is_none, IsTrue, List, [], length, Option, Some, None, if◌then◌else◌}
+use Rattle.std.specs.Prelude.{◌==◌, ℕ, Bool, false, ◌&&◌, not, nat_le, is_none, IsTrue, List, [], length, Option, Some, None, if◌then◌else◌}
 use Rattle.mum_base.specs.declared.number.SessionId.{SessionId}
 use Rattle.mum_frame.specs.Frame.{HasNoFrame, TooLong}
 use Rattle.mum_frame.specs.Stream.{FramerState}
@@ -24,6 +24,8 @@ pub record PortFacts (L : Type 0) : Type 0 where
   -- the bytes that are to be written
   pub out : List ℕ
   pub passes : Option Passes
+  -- it looks at its voice box before its post box: what it took last was a notice
+  pub voice_first : Bool
   pub stage : Stage
 
 -- a framer that keeps nothing and has no room
@@ -39,6 +41,7 @@ new_port connection worker link = record {
   waiting = None;
   out = [];
   passes = None;
+  voice_first = false;
   stage = Live;
 }
 

@@ -1,5 +1,5 @@
 -- What each part of a port's step does, and the whole step as a chain of them.
-use Rattle.std.specs.Prelude.{◌≡◌, ◌⊎◌, ◌==◌, ◌||◌, ◌+◌, ℕ, Bool, true, false, IsTrue, is_some, List, [], ◌∷◌, length, Option, Some, None}
+use Rattle.std.specs.Prelude.{◌≡◌, ◌⊎◌, ◌==◌, ◌||◌, ◌&&◌, ◌+◌, ℕ, Bool, true, false, not, IsTrue, is_some, List, [], ◌∷◌, length, Option, Some, None}
 use Rattle.std.specs.List.{list_any}
 use Rattle.mum_base.specs.declared.number.Cause.{Cause}
 use Rattle.mum_base.specs.declared.number.SessionId.{SessionId}
@@ -63,25 +63,47 @@ module _ {L : Type 0} where
     pub so : took ≡ taking.NotDue
     pub same : new ≡ old
 
-  -- one take from the post box
+  -- one take from the post box; behind a notice the voice box comes first
   pub record CollectsOne (posts : List QueueFacts) (old : PortFacts L) (took : Taking) (new : PortFacts L) : Type 0 where
     pub session : SessionId
     pub allowed : taking_session old ≡ Some session
     pub taken : Collects posts session old.passes old.stage took new.passes new.out new.stage
-    pub left : new ≡ record old { passes = new.passes; out = new.out; stage = new.stage }
+    pub left : new ≡ record old { passes = new.passes; out = new.out; stage = new.stage; voice_first = has_taken took || old.voice_first }
 
   abbrev pub CollectsPost : List QueueFacts → PortFacts L → Taking → PortFacts L → Type 0
   CollectsPost posts old took new = TakesNothing old took new ⊎ CollectsOne posts old took new
 
-  -- one take from the voice box
+  -- one take from the voice box; behind a voice packet the post box comes first
   pub record DrainsOne (voices : List QueueFacts) (old : PortFacts L) (took : Taking) (new : PortFacts L) : Type 0 where
     pub session : SessionId
     pub allowed : taking_session old ≡ Some session
     pub taken : Drains voices session old.passes took new.passes new.out
-    pub left : new ≡ record old { passes = new.passes; out = new.out }
+    pub left : new ≡ record old { passes = new.passes; out = new.out; voice_first = not (has_taken took) && old.voice_first }
 
   abbrev pub DrainsVoice : List QueueFacts → PortFacts L → Taking → PortFacts L → Type 0
   DrainsVoice voices old took new = TakesNothing old took new ⊎ DrainsOne voices old took new
+
+  -- its post box comes first, and then its voice box, where it still might look at it
+  pub record TakesPostFirst (posts voices : List QueueFacts) (old : PortFacts L) (posted heard : Taking) (new : PortFacts L) : Type 0 where
+    pub turn : old.voice_first ≡ false
+    pub mid : PortFacts L
+    pub collects : CollectsPost posts old posted mid
+    pub drains : DrainsVoice voices mid heard new
+
+  -- behind a voice packet of the same step the post box is not looked at
+  abbrev pub CollectsBehind : List QueueFacts → Bool → PortFacts L → Taking → PortFacts L → Type 0
+  CollectsBehind posts true old took new = (took ≡ taking.NotDue) × (new ≡ old)
+  CollectsBehind posts false old took new = CollectsPost posts old took new
+
+  -- its voice box comes first, and where that gave nothing its post box
+  pub record TakesVoiceFirst (posts voices : List QueueFacts) (old : PortFacts L) (posted heard : Taking) (new : PortFacts L) : Type 0 where
+    pub turn : old.voice_first ≡ true
+    pub mid : PortFacts L
+    pub drains : DrainsVoice voices old heard mid
+    pub collects : CollectsBehind posts (has_taken heard) mid posted new
+
+  abbrev pub TakesParcels : List QueueFacts → List QueueFacts → PortFacts L → Taking → Taking → PortFacts L → Type 0
+  TakesParcels posts voices old posted heard new = TakesPostFirst posts voices old posted heard new ⊎ TakesVoiceFirst posts voices old posted heard new
 
   -- a frame was looked for, where one might be handled
   pub record HandlesOne {V : Type 0} (routed : V → ℕ → SessionId → List ℕ → V → Type 0) (old : PortFacts L) (router : V) (went : Went) (new : PortFacts L) (router_after : V) : Type 0 where
@@ -156,14 +178,12 @@ module _ {L V : Type 0} (counts : L → Counts) (left written : L → Option (Li
     pub after_put : PortFacts L
     pub after_read : PortFacts L
     pub after_handle : PortFacts L
-    pub after_post : PortFacts L
-    pub after_voice : PortFacts L
+    pub after_take : PortFacts L
     pub after_write : PortFacts L
     pub puts : Puts old desk put after_put desk_after
     pub reads : Reads counts left written is_shut after_put read after_read
     pub handles : Handles routed after_read router handled after_handle router_after
-    pub collects : CollectsPost posts after_handle posted after_post
-    pub drains : DrainsVoice voices after_post heard after_voice
-    pub writes : Writes counts left written is_shut after_voice wrote after_write
+    pub takes : TakesParcels posts voices after_handle posted heard after_take
+    pub writes : Writes counts left written is_shut after_take wrote after_write
     pub settles : Settles counts left written is_shut (is_closed old.stage) after_write closed new
     pub came_to : step ≡ step_of put (read ∷ handled ∷ wrote ∷ []) posted heard closed

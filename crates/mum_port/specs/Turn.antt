@@ -9,7 +9,9 @@ use Rattle.mum_io.specs.Counts.{Counts, NoneFalls, Rose}
 use Rattle.mum_io.specs.Link.{Appends, Consumes, IsAtEnd}
 use Rattle.mum_outbox.specs.Calls.{Takes}
 use Rattle.mum_outbox.specs.Facts.{PassFacts, QueueFacts}
-use Rattle.mum_outbox.specs.declared.parcel.TheConstants.{POST_CAPACITY, VOICE_CAPACITY}
+use Rattle.mum_outbox.specs.declared.parcel.PostParcel.{PostParcel}
+use Rattle.mum_outbox.specs.declared.parcel.VoiceParcel.{VoiceParcel}
+use Rattle.mum_base.specs.declared.number.TheConstants.{POST_CAPACITY, VOICE_CAPACITY}
 use Rattle.mum_session.specs.Machine.{session_of}
 use Rattle.mum_session.specs.declared.action.Action.{Action}
 use Rattle.mum_session.specs.declared.action.Action.TheVariants.{Ask, Voice, Echo, Keep, Ignore}
@@ -95,14 +97,40 @@ module _ {L : Type 0} where
   KeepsWithin old did new = (frame_limit : ℕ) → length (queued old.machine did) ≤ frame_limit
       → length old.out ≤ UNWRITTEN_LIMIT + frame_limit → length new.out ≤ UNWRITTEN_LIMIT + frame_limit
 
--- ---- a step that did nothing
-
-abbrev pub did_nothing : PortDid
-did_nothing = record { put = None; took = []; lost = []; handled = None; post = None; voice = None; wrote = []; unsaid = []; closed = None }
+-- ---- the order of the boxes
 
 -- the box of the passes had nothing, if there is one
 abbrev pub FindsNothing : {I : Type 0} → ℕ → List QueueFacts → ℕ → PassFacts I → PassFacts I → Type 0
 FindsNothing capacity boxes slot pass after = (queue : QueueFacts) → slice_get boxes slot ≡ Some queue → Takes capacity pass None after
+
+abbrev pub FindsPostEmpty : List QueueFacts → Option Passes → Option Passes → Type 0
+FindsPostEmpty posts None after = after ≡ None
+FindsPostEmpty posts (Some passes) None = ⊥
+FindsPostEmpty posts (Some passes) (Some after) = FindsNothing POST_CAPACITY posts passes.slot.0 passes.post after.post
+
+abbrev pub FindsVoiceEmpty : List QueueFacts → Option Passes → Option Passes → Type 0
+FindsVoiceEmpty voices None after = after ≡ None
+FindsVoiceEmpty voices (Some passes) None = ⊥
+FindsVoiceEmpty voices (Some passes) (Some after) = FindsNothing VOICE_CAPACITY voices passes.slot.0 passes.voice after.voice
+
+-- the voice box comes first behind a notice, and the post box behind a voice packet
+abbrev pub voice_first_after : Option PostParcel → Option VoiceParcel → Bool → Bool
+voice_first_after post (Some voice) before = false
+voice_first_after (Some post) None before = true
+voice_first_after None None before = before
+
+module _ {L : Type 0} where
+  -- neither box waits for the other: behind a notice the next is taken only where the voice box had nothing, and behind a voice
+  -- packet the next is taken only where the post box had nothing, or gave something before it in the same step
+  pub record TakesByTurns (posts voices : List QueueFacts) (old : PortFacts L) (did : PortDid) (new : PortFacts L) : Type 0 where
+    pub notice_behind_notice : old.voice_first ≡ true → did.post ≢ None → (did.voice ≡ None) × FindsVoiceEmpty voices old.passes new.passes
+    pub voice_behind_voice : old.voice_first ≡ false → did.voice ≢ None → did.post ≡ None → FindsPostEmpty posts old.passes new.passes
+    pub next : new.voice_first ≡ voice_first_after did.post did.voice old.voice_first
+
+-- ---- a step that did nothing
+
+abbrev pub did_nothing : PortDid
+did_nothing = record { put = None; took = []; lost = []; handled = None; post = None; voice = None; wrote = []; unsaid = []; closed = None }
 
 abbrev pub FindBoxesEmpty : List QueueFacts → List QueueFacts → Option Passes → Option Passes → Type 0
 FindBoxesEmpty posts voices None after = after ≡ None
@@ -188,6 +216,7 @@ module _ {L : Type 0} (counts : L → Counts) (left written : L → Option (List
     pub routes : RoutesPacket routed old.machine.connection (session_of old.machine.stage) (action_of old.machine did.handled) router router_after
     pub puts : PutsInTurn old desk did new desk_after
     pub takes : TakesInTurn old did step new
+    pub by_turns : TakesByTurns posts voices old did new
     pub writes : WritesInTurn old did new
     pub within : KeepsWithin old did new
     pub ends : EndsInTurn old did step new

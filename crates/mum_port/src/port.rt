@@ -1,11 +1,11 @@
 //! A connection of a worker.
 
-ghost use Rattle.std.specs.Prelude.{◌≡◌, ◌<◌, ◌==◌, ◌↔◌, IsTrue, [], length};
+ghost use Rattle.std.specs.Prelude.{◌≡◌, ◌<◌, ◌==◌, ◌↔◌, true, IsTrue, [], length};
 ghost use Rattle.mum_port.specs.Did.{PortDid};
 ghost use Rattle.mum_port.specs.Facts.{MayRead, PortFacts, may_handle, new_port, next_word, taking_session};
 ghost use Rattle.mum_port.specs.Stage.{is_closed, is_gone};
 ghost use Rattle.mum_port.specs.Replies.{Answers, Lags, passes_after};
-ghost use Rattle.mum_port.specs.Steps.{ClosesFor, CollectsPost, DrainsVoice, Handles, PortChain, Puts, Reads, Settles, Writes, step_of};
+ghost use Rattle.mum_port.specs.Steps.{ClosesFor, CollectsPost, DrainsVoice, Handles, PortChain, Puts, Reads, Settles, TakesParcels, TakesVoiceFirst, Writes, step_of};
 ghost use Rattle.mum_port.specs.Taking.{IsPosted, IsVoiced};
 ghost use Rattle.mum_port.specs.Turn.{PortTurn};
 ghost use Rattle.mum_session.specs.Machine.{session_of};
@@ -52,6 +52,8 @@ pub struct Port<L: Link> {
     waiting: Option<DeskItem>,
     out: Outgoing,
     passes: Option<Passes>,
+    /// What it took last was a notice: its voice box comes before its post box.
+    voice_first: bool,
     stage: Stage,
 }
 
@@ -68,6 +70,7 @@ impl<L: Link> Model for Port<L> {
       waiting = p.waiting;
       out = p.out;
       passes = p.passes;
+      voice_first = p.voice_first;
       stage = p.stage;
     } };
 }
@@ -84,6 +87,7 @@ impl<L: Link> Port<L> {
             waiting: None,
             out: Outgoing::new(alloc),
             passes: None,
+            voice_first: false,
             stage: Stage::Live,
         }
     }
@@ -206,14 +210,16 @@ impl<L: Link> Port<L> {
         let Some(session) = self.taking_session() else {
             return Taking::NotDue;
         };
-        collect(
+        let took = collect(
             rt,
             posts,
             session,
             &mut self.passes,
             &mut self.out,
             &mut self.stage,
-        )
+        );
+        self.voice_first = took.took() || self.voice_first;
+        took
     }
 
     // Takes from its voice box, where it may.
@@ -224,7 +230,44 @@ impl<L: Link> Port<L> {
         let Some(session) = self.taking_session() else {
             return Taking::NotDue;
         };
-        drain(rt, voices, session, &mut self.passes, &mut self.out)
+        let took = drain(rt, voices, session, &mut self.passes, &mut self.out);
+        self.voice_first = !took.took() && self.voice_first;
+        took
+    }
+
+    // Takes from its voice box, and where that gave nothing from its post box.
+    fn take_voice_first<R: Wait>(
+        &mut self,
+        rt: &R,
+        posts: &[PostBox],
+        voices: &[VoiceBox],
+    ) -> (Taking, Taking)
+        requires turn { self.old.voice_first ≡ true }
+        requires posts { IsPosted posts.now self.old.passes }
+        requires voices { IsVoiced voices.now self.old.passes }
+        ensures { TakesVoiceFirst posts.now voices.now self.old result.0 result.1 self.new }
+    {
+        let heard = self.drain(rt, voices);
+        if heard.took() {
+            return (Taking::NotDue, heard);
+        }
+        let posted = self.collect(rt, posts);
+        (posted, heard)
+    }
+
+    // Takes from its boxes, where it may: by turns, so that neither waits for the other. What its post box
+    // gave comes first in the answer.
+    fn take<R: Wait>(&mut self, rt: &R, posts: &[PostBox], voices: &[VoiceBox]) -> (Taking, Taking)
+        requires posts { IsPosted posts.now self.old.passes }
+        requires voices { IsVoiced voices.now self.old.passes }
+        ensures { TakesParcels posts.now voices.now self.old result.0 result.1 self.new }
+    {
+        if self.voice_first {
+            return self.take_voice_first(rt, posts, voices);
+        }
+        let posted = self.collect(rt, posts);
+        let heard = self.drain(rt, voices);
+        (posted, heard)
     }
 
     // Its session, where it may look at its boxes.
@@ -318,7 +361,8 @@ impl<L: Link> Port<L> {
 
     /// One step: it puts on the desk what waits, or the next word of its farewell; reads; handles a frame that
     /// it keeps; takes from the post box and from the voice box of its slot; writes; and closes, where it is to.
-    /// It does each at most once, and where it may.
+    /// It does each at most once, and where it may. It looks at its boxes only where it keeps nothing to write:
+    /// behind a notice at its voice box first, so that voice does not wait for notices, nor they for voice.
     pub fn step<V: VoiceRouter, R: Wait>(
         &mut self,
         rt: &R,
@@ -348,8 +392,7 @@ impl<L: Link> Port<L> {
         let put = self.put(rt, desk, pass);
         let read = self.read(buf);
         let handled = self.handle(alloc, router);
-        let posted = self.collect(rt, posts);
-        let heard = self.drain(rt, voices);
+        let (posted, heard) = self.take(rt, posts, voices);
         let wrote = self.write();
         let closed = self.settle(alloc, was_closed);
         Step::of(put, [read, handled, wrote], posted, heard, closed)

@@ -5,11 +5,11 @@ ghost use Rattle.mum_base.specs.declared.number.TheConstants.{SLOTS as slots};
 ghost use Rattle.mum_published.specs.Calls.{latest};
 
 use crate::opening::{begin, boxes_of};
-use mum_base::{Mark, Octets, OutOfMemory, SessionId, Slot, Text};
+use mum_base::{Mark, Octets, OutOfMemory, POST_CAPACITY, SessionId, Slot, Text};
 use mum_control::{Control, Posted};
 use mum_fields::Message;
 use mum_msg_state::Authenticate;
-use mum_outbox::{Offered, POST_CAPACITY, PostBox, PostParcel};
+use mum_outbox::{Offered, PostBox, PostParcel};
 use mum_published::{Naming, Publisher};
 use mum_rules_user::UserMessage;
 use mum_session::{Asked, Command};

@@ -1,45 +1,42 @@
 use Rattle.std.proofs.Common.{Bool, ◌∙◌, subst, sym}
 use Rattle.mum_port.specs.Steps.{Settles}
 use Rattle.mum_port.specs.Taking.{IsPosted, IsVoiced}
-use Rattle.mum_port.proofs.PassesKept.{CollectsPost-posted, CollectsPost-voiced, DrainsVoice-posted, DrainsVoice-voiced, Handles-passes, Puts-queue, Puts-passes, Reads-passes, Settles-passes, Writes-passes}
+use Rattle.mum_port.proofs.PassesKept.{Handles-passes, Puts-queue, Puts-passes, Reads-passes, Settles-passes, TakesParcels-posted, TakesParcels-voiced, Writes-passes}
 use Rattle.mum_port.proofs.Turned.{did_turn}
 use Rattle.mum_port.proofs.port.Port.step.Goals as goal
 
-pub collect-posted-requires : goal.collect-posted-requires
-collect-posted-requires g c =
+pub take-posted-requires-clause-posts : goal.take-posted-requires-clause-posts
+take-posted-requires-clause-posts g c =
     let at_put = Puts-passes _ _ _ _ _ c.put-put.ensures in
     let at_read = Reads-passes _ _ _ _ _ _ _ c.read-read.ensures in
     let at_handle = Handles-passes _ _ _ _ _ _ c.handle-handled.ensures in
     subst (IsPosted c.args.posts.now) (sym (at_handle ∙ at_read ∙ at_put)) c.requires.posts
 
-pub drain-heard-requires : goal.drain-heard-requires
-drain-heard-requires g c =
+pub take-posted-requires-clause-voices : goal.take-posted-requires-clause-voices
+take-posted-requires-clause-voices g c =
     let at_put = Puts-passes _ _ _ _ _ c.put-put.ensures in
     let at_read = Reads-passes _ _ _ _ _ _ _ c.read-read.ensures in
     let at_handle = Handles-passes _ _ _ _ _ _ c.handle-handled.ensures in
-    CollectsPost-voiced _ _ _ _ _ c.collect-posted.ensures
-    (subst (IsVoiced c.args.voices.now) (sym (at_handle ∙ at_read ∙ at_put)) c.requires.voices)
+    subst (IsVoiced c.args.voices.now) (sym (at_handle ∙ at_read ∙ at_put)) c.requires.voices
 
 pub returns-clause-chain : goal.returns-clause-chain
 returns-clause-chain g c = record {
   put = c.put-put.result;
   read = c.read-read.result;
   handled = c.handle-handled.result;
-  posted = c.collect-posted.result;
-  heard = c.drain-heard.result;
+  posted = c.take-posted.result.0;
+  heard = c.take-posted.result.1;
   wrote = c.write-wrote.result;
   closed = c.settle-closed.result;
   after_put = c.put-put.new.self;
   after_read = c.read-read.new.self;
   after_handle = c.handle-handled.new.self;
-  after_post = c.collect-posted.new.self;
-  after_voice = c.drain-heard.new.self;
+  after_take = c.take-posted.new.self;
   after_write = c.write-wrote.new.self;
   puts = c.put-put.ensures;
   reads = c.read-read.ensures;
   handles = c.handle-handled.ensures;
-  collects = c.collect-posted.ensures;
-  drains = c.drain-heard.ensures;
+  takes = c.take-posted.ensures;
   writes = c.write-wrote.ensures;
   settles =
       subst (λ (b : Bool). Settles g.L.Link.counts g.L.Link.left g.L.Link.written g.L.Link.is_shut b c.write-wrote.new.self c.settle-closed.result c.settle-closed.new.self)
@@ -61,9 +58,8 @@ returns-clause-posts g c =
     let at_write = Writes-passes _ _ _ _ _ _ _ c.write-wrote.ensures in
     let at_end = Settles-passes _ _ _ _ _ _ _ _ c.settle-closed.ensures in
     subst (IsPosted c.args.posts.now) (sym (at_end ∙ at_write))
-    (DrainsVoice-posted _ _ _ _ _ c.drain-heard.ensures
-    (CollectsPost-posted _ _ _ _ _ c.collect-posted.ensures
-    (subst (IsPosted c.args.posts.now) (sym (at_handle ∙ at_read ∙ at_put)) c.requires.posts)))
+    (TakesParcels-posted _ _ _ _ _ _ _ c.take-posted.ensures
+    (subst (IsPosted c.args.posts.now) (sym (at_handle ∙ at_read ∙ at_put)) c.requires.posts))
 
 pub returns-clause-voices : goal.returns-clause-voices
 returns-clause-voices g c =
@@ -73,6 +69,5 @@ returns-clause-voices g c =
     let at_write = Writes-passes _ _ _ _ _ _ _ c.write-wrote.ensures in
     let at_end = Settles-passes _ _ _ _ _ _ _ _ c.settle-closed.ensures in
     subst (IsVoiced c.args.voices.now) (sym (at_end ∙ at_write))
-    (DrainsVoice-voiced _ _ _ _ _ c.drain-heard.ensures
-    (CollectsPost-voiced _ _ _ _ _ c.collect-posted.ensures
-    (subst (IsVoiced c.args.voices.now) (sym (at_handle ∙ at_read ∙ at_put)) c.requires.voices)))
+    (TakesParcels-voiced _ _ _ _ _ _ _ c.take-posted.ensures
+    (subst (IsVoiced c.args.voices.now) (sym (at_handle ∙ at_read ∙ at_put)) c.requires.voices))

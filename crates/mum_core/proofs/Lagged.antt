@@ -3,7 +3,7 @@ use Rattle.std.proofs.Common.{◌≡◌, ◌∙◌, ◌++◌, ◌∷◌, [], ℕ
 use Rattle.std.specs.Prelude.{if◌then◌else◌, is_none, length, nat_lt, slice_get, slice_index_or}
 use Rattle.mum_notify.specs.declared.notice.Notice.{Notice}
 use Rattle.mum_core.specs.declared.connection.Connection.{Connection}
-use Rattle.mum_core.specs.declared.post.TheConstants.{POST_CAPACITY}
+use Rattle.mum_base.specs.declared.number.TheConstants.{POST_CAPACITY}
 use Rattle.mum_core.specs.Case.{first_that_stands}
 use Rattle.mum_core.specs.Connection.{is_of, lagging}
 use Rattle.mum_core.specs.Core.{CoreState, at_posts, at_session, up}

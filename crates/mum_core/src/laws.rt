@@ -25,13 +25,7 @@ ghost use Rattle.mum_core.specs.Step.{does, illegal};
 ghost use Rattle.mum_core.specs.Worker.{HeldPacket};
 ghost use Rattle.mum_core.specs.steps.Look.{copy_to};
 
-use crate::outbox::OUTBOX_CAPACITY;
 use mum_base::SLOTS;
-
-/// The number for which the limit stands: copies of an outbox.
-pub fn limits()
-    ensures outbox { OUTBOX_CAPACITY ≡ 128 }
-{}
 
 /// Accepted edits are only added to, at their end, and the opening stays. Each of them fits where
 /// it stands. No more is published than was accepted, and never less than before.

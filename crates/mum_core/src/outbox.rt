@@ -4,14 +4,11 @@ ghost use Rattle.std.specs.Prelude.{◌≡◌, ◌≤◌, ◌<◌, [], ◌∷◌
 ghost use Rattle.mum_core.specs.Lists.{changed_at};
 ghost use Rattle.std.specs.Option.{option_copied};
 
-use mum_base::{Octets, OutOfMemory, SessionId};
+use mum_base::{Octets, OutOfMemory, SessionId, VOICE_CAPACITY};
 use mum_voice::COPY_LIMIT;
 use std::alloc::Global;
 use std::collections::VecDeque;
 use std::marker::Model;
-
-/// How many copies an outbox holds.
-pub const OUTBOX_CAPACITY: usize = 128;
 
 /// The bytes of a copy: a voice packet as its recipient takes it, of at most 1,025 bytes.
 #[derive(Drop)]
@@ -65,13 +62,13 @@ impl Model for Outbox {
     ghost use Rattle.std.specs.Prelude.{List, ◌≤◌, length};
     ghost use Rattle.std.specs.VecDeque.{deque_capacity};
     ghost use Rattle.mum_core.specs.declared.outbox.Parcel.{Parcel};
-    ghost use Rattle.mum_core.specs.declared.outbox.TheConstants.{OUTBOX_CAPACITY};
+    ghost use Rattle.mum_base.specs.declared.number.TheConstants.{VOICE_CAPACITY};
 
     ghost Value = { List Parcel };
 
     ghost view = { λ o. o.parcels.items };
 
-    ghost invariant = { λ o. OUTBOX_CAPACITY ≤ deque_capacity o.parcels };
+    ghost invariant = { λ o. VOICE_CAPACITY ≤ deque_capacity o.parcels };
 }
 
 impl Outbox {
@@ -80,19 +77,19 @@ impl Outbox {
         ensures { IfOk result (λ outbox. outbox ≡ []) }
     {
         Ok(Outbox {
-            parcels: VecDeque::with_capacity(alloc, OUTBOX_CAPACITY)?,
+            parcels: VecDeque::with_capacity(alloc, VOICE_CAPACITY)?,
         })
     }
 
     pub fn has_room(&self) -> bool
-        ensures { result ≡ nat_lt (length self.now) OUTBOX_CAPACITY }
+        ensures { result ≡ nat_lt (length self.now) VOICE_CAPACITY }
     {
-        self.parcels.len() < OUTBOX_CAPACITY
+        self.parcels.len() < VOICE_CAPACITY
     }
 
     /// Puts a parcel at the back, where there is room. It takes no memory.
     pub fn put(&mut self, parcel: Parcel)
-        requires { length self.old < OUTBOX_CAPACITY }
+        requires { length self.old < VOICE_CAPACITY }
         ensures { self.new ≡ self.old ++ parcel ∷ [] }
     {
         self.parcels.push_back_reserved(parcel);
@@ -116,7 +113,7 @@ impl Outbox {
 
 /// Puts a parcel at the back of the outbox at a place, which has room for it.
 pub fn put_at(outboxes: &mut Vec<Outbox>, place: usize, parcel: Parcel)
-    requires { length (slice_index_or outboxes.old.items place []) < OUTBOX_CAPACITY }
+    requires { length (slice_index_or outboxes.old.items place []) < VOICE_CAPACITY }
     ensures { outboxes.new.items ≡ changed_at place (λ parcels. parcels ++ parcel ∷ []) outboxes.old.items }
 {
     if let Some(outbox) = outboxes.get_mut(place) {

@@ -4,12 +4,9 @@ ghost use Rattle.std.specs.Prelude.{◌≡◌, [], ◌∷◌, ◌++◌, length, 
 ghost use Rattle.mum_core.specs.Lists.{changed_at};
 ghost use Rattle.mum_base.specs.declared.number.TheConstants.{SLOTS as slots};
 
-use mum_base::{OutOfMemory, SLOTS};
+use mum_base::{OutOfMemory, POST_CAPACITY, SLOTS};
 use mum_notify::{Notice, NoticeQueue};
 use std::alloc::Global;
-
-/// How many notices the posts of a slot hold.
-pub const POST_CAPACITY: usize = 8192;
 
 /// Posts for each slot.
 pub fn empty_posts(alloc: Global) -> Result<Vec<NoticeQueue>, OutOfMemory>

@@ -7,6 +7,7 @@ ghost use Rattle.mum_route.specs.Route.{route};
 ghost use Rattle.mum_route.specs.declared.routes.TheConstants.{LOOPBACK};
 ghost use Rattle.mum_cache.specs.Caches.{AreSound};
 ghost use Rattle.mum_cache.specs.Routes.{KeepsAsked};
+ghost use Rattle.mum_voice.specs.Packet.{IsPacket, plain_parts};
 ghost use Rattle.mum_core.specs.Caches.{KeepsFor};
 ghost use Rattle.mum_core.specs.Route.{in_its_slot, members, share_context};
 ghost use Rattle.mum_core.specs.steps.Look.{audience, copies, copy_to};
@@ -19,6 +20,7 @@ use mum_cache::Caches;
 use mum_route::Audience;
 use mum_state::State;
 use mum_tree::Scratch;
+use mum_voice::Packet;
 use std::alloc::Global;
 use std::collections::VecDeque;
 use std::marker::{Brand, Model};
@@ -153,23 +155,6 @@ fn members(
     Ok(members)
 }
 
-/// Who hears a packet that a worker holds.
-fn audience(
-    alloc: Global,
-    state: &State,
-    held: &Held,
-    caches: &mut Caches,
-    scratch: &mut Scratch,
-) -> Result<Vec<Member>, OutOfMemory>
-    requires { AreSound state.now caches.old }
-    ensures members { IfOk result (λ members. members.items ≡ audience state.now (Some held.now)) }
-    ensures asked { KeepsFor state.now (Some held.now) caches.old.routes caches.new.routes }
-    ensures sound { AreSound state.now caches.new }
-{
-    let target = held.packet().target;
-    members(alloc, state, held.speaker(), target, caches, scratch)
-}
-
 /// Whether two sessions are in the same context of their plugins.
 fn share_context(state: &State, one: SessionId, other: SessionId) -> bool
     ensures { result ≡ share_context state.now one other }
@@ -187,16 +172,15 @@ fn share_context(state: &State, one: SessionId, other: SessionId) -> bool
 fn copy_for(
     alloc: Global,
     state: &State,
-    held: &Held,
+    speaker: SessionId,
+    packet: &Packet<'_>,
     member: &Member,
 ) -> Result<Outgoing, OutOfMemory>
-    ensures { IfOk result (λ copy. copy ≡ copy_to state.now held.now member.now) }
+    requires { IsPacket (plain_parts packet.now) }
+    ensures { IfOk result (λ copy. copy ≡ copy_to state.now (record { speaker = speaker; parts = plain_parts packet.now }) member.now) }
 {
-    let speaker = held.speaker();
     let with_position = share_context(state, speaker, member.session);
-    let bytes = held
-        .packet()
-        .copy_for(speaker, member.context.number(), with_position);
+    let bytes = packet.copy_for(speaker, member.context.number(), with_position);
     Ok(Outgoing {
         to: member.session,
         slot: member.slot,
@@ -209,19 +193,22 @@ fn copy_for(
 fn copies(
     alloc: Global,
     state: &State,
-    held: &Held,
+    speaker: SessionId,
+    packet: &Packet<'_>,
     members: &[Member],
 ) -> Result<VecDeque<Outgoing>, OutOfMemory>
-    ensures { IfOk result (λ copies. copies.items ≡ map (copy_to state.now held.now) members.now) }
+    requires { IsPacket (plain_parts packet.now) }
+    ensures { IfOk result (λ copies. copies.items
+        ≡ map (copy_to state.now (record { speaker = speaker; parts = plain_parts packet.now })) members.now) }
 {
     let mut copies = Vec::with_capacity(alloc, members.len())?;
     for member in members {
-        copies.push(copy_for(alloc, state, held, member)?)?;
+        copies.push(copy_for(alloc, state, speaker, packet, member)?)?;
     }
     Ok(VecDeque::from_vec(copies))
 }
 
-/// Who hears a packet that a worker holds, and the copies for them.
+/// Who hears a packet that a worker holds, and the copies for them. It is parsed once.
 pub(crate) fn heard(
     alloc: Global,
     state: &State,
@@ -235,7 +222,9 @@ pub(crate) fn heard(
     ensures asked { KeepsFor state.now (Some held.now) caches.old.routes caches.new.routes }
     ensures sound { AreSound state.now caches.new }
 {
-    let members = audience(alloc, state, held, caches, scratch)?;
-    let copies = copies(alloc, state, held, &members)?;
+    let speaker = held.speaker();
+    let packet = held.packet();
+    let members = members(alloc, state, speaker, packet.target, caches, scratch)?;
+    let copies = copies(alloc, state, speaker, &packet, &members)?;
     Ok((members, copies))
 }

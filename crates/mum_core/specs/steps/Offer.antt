@@ -1,6 +1,6 @@
 -- A worker offers its next copy to the outbox of its slot, where that has room.
 use Rattle.std.specs.Prelude.{ℕ, Bool, List, [], ◌∷◌, ◌++◌, length, drop, Option, Some, None, is_none, nat_lt, slice_get, codes, decimal, if◌then◌else◌}
-use Rattle.mum_core.specs.declared.outbox.TheConstants.{OUTBOX_CAPACITY}
+use Rattle.mum_base.specs.declared.number.TheConstants.{VOICE_CAPACITY}
 use Rattle.mum_core.specs.declared.worker.Outgoing.{Outgoing}
 use Rattle.mum_core.specs.Case.{Case, no_worker}
 use Rattle.mum_core.specs.Core.{CoreState, worker_at, outbox_at, at_worker, at_outbox, up}
@@ -13,7 +13,7 @@ abbrev pub forbids : CoreState → ℕ → List Case
 forbids core w = no_worker core w ∷ record { stands = is_none (next_copy core w); given = w; against = 0 } ∷ []
 
 abbrev pub has_room : CoreState → ℕ → Bool
-has_room core slot = nat_lt (length (outbox_at core slot)) OUTBOX_CAPACITY
+has_room core slot = nat_lt (length (outbox_at core slot)) VOICE_CAPACITY
 
 -- the copy goes to the back of the outbox and is counted, or is counted as one that found it full
 abbrev pub puts : CoreState → Option Outgoing → CoreState

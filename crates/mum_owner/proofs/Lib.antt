@@ -3,6 +3,7 @@ mod Telling
 mod Opening
 mod Desks
 mod Counting
+mod Deciding
 mod Lagging
 mod Steps
 mod Once

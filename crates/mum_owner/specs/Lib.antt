@@ -6,6 +6,7 @@ pub mod Doors
 pub mod Ringing
 pub mod Waiting
 pub mod Written
+pub mod Decided
 pub mod Offering
 pub mod Serving
 pub mod Turned

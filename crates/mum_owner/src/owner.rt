@@ -7,6 +7,7 @@ ghost use Rattle.mum_io.specs.Counts.{NoneFalls, Rose};
 ghost use Rattle.mum_published.specs.Calls.{appended};
 ghost use Rattle.mum_outbox.specs.Calls.{IsNewPass};
 ghost use Rattle.mum_record.specs.Journal.{Each, IsWritableControl};
+ghost use Rattle.mum_owner.specs.Decided.{HasWritten};
 ghost use Rattle.mum_owner.specs.Doors.{NoMoreCome, given_after_all};
 ghost use Rattle.mum_owner.specs.Guests.{entered, has_room, joined_by, lagging, no_guests};
 ghost use Rattle.mum_owner.specs.Opened.{IsOpened, opening_of};
@@ -88,6 +89,7 @@ pub struct Owner<'a, D: Entrance, N: Serving, R: Wait + Copy> {
 
 impl<'a, D: Entrance, N: Serving, R: Wait + Copy> Model for Owner<'a, D, N, R> {
     ghost use Rattle.mum_owner.specs.Counted.{HasCounted, HasGiven};
+    ghost use Rattle.mum_owner.specs.Decided.{HasWritten};
     ghost use Rattle.mum_owner.specs.Facts.{OwnerFacts};
 
     ghost Value = { OwnerFacts D };
@@ -104,7 +106,8 @@ impl<'a, D: Entrance, N: Serving, R: Wait + Copy> Model for Owner<'a, D, N, R> {
       is_ending = o.is_ending;
     } };
 
-    ghost invariant = { λ o. HasCounted o.control o.scribe × HasGiven N.door.given o.guests (D.given o.doorway.door) };
+    ghost invariant = { λ o. HasCounted o.control o.scribe × HasGiven N.door.given o.guests (D.given o.doorway.door)
+        × HasWritten o.control o.scribe };
 }
 
 // What an owner keeps room in.
@@ -596,6 +599,8 @@ impl<'a, D: Entrance, N: Serving, R: Wait + Copy> Owner<'a, D, N, R> {
         ensures state { result.state ≡ current self.entry.control }
         ensures opening { self.entry.control.publisher.opening ≡ N.opening }
         ensures entries { result.entries.items ≡ self.entry.scribe.entries }
+        // They are all commands that were decided, in order, and what they accepted is all that was appended.
+        ensures decided { HasWritten self.entry.control self.entry.scribe }
         // Each has a line in a journal.
         ensures writable { Each IsWritableControl result.entries.items }
         ensures no_memory { result.no_memory ≡ self.entry.scribe.no_memory }

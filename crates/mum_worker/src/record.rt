@@ -1,6 +1,7 @@
 //! What a worker keeps of what it did: its journal, where one is kept, and what it counts.
 
 ghost use Rattle.std.specs.Prelude.{◌≡◌, ◌≤◌, [], IfOk, IsTrue, OnOk, length, vec_capacity, vec_len};
+ghost use Rattle.mum_record.specs.Journal.{Each, IsWritableEntry};
 ghost use Rattle.mum_worker.specs.Record.{after_close, after_step, first_record, may_take_in, taking_in, without_room};
 ghost use Rattle.mum_worker.specs.Routing.{RoutesPacket};
 
@@ -36,6 +37,7 @@ pub(crate) struct Record {
 impl Model for Record {
     ghost use Rattle.std.specs.Prelude.{◌≡◌, ◌+◌, ◌≤◌, ◌||◌, [], IsTrue, not, vec_capacity, vec_len};
     ghost use Rattle.mum_base.specs.declared.number.TheConstants.{SLOTS};
+    ghost use Rattle.mum_record.specs.Journal.{Each, IsWritableEntry};
     ghost use Rattle.mum_worker.specs.Record.{RecordFacts, count_of};
 
     ghost Value = { RecordFacts };
@@ -52,7 +54,7 @@ impl Model for Record {
 
     ghost invariant = { λ r. (vec_len r.entries + (r.owed + count_of r.voice_room) ≤ vec_capacity r.entries)
         × (r.marks.items ≡ []) × (vec_len r.marks ≡ 0)
-        × (IsTrue r.voice_room → SLOTS ≤ vec_capacity r.marks) };
+        × (IsTrue r.voice_room → SLOTS ≤ vec_capacity r.marks) × Each IsWritableEntry r.entries.items };
 }
 
 // The marks as a list of their own: an exact copy where there is memory for it, and else in the room that was
@@ -190,7 +192,8 @@ impl Record {
 
     /// The entries of the journal, in order.
     pub(crate) fn into_entries(self) -> Vec<WorkerEntry>
-        ensures { result.items ≡ self.entries }
+        ensures entries { result.items ≡ self.entries }
+        ensures writable { Each IsWritableEntry result.items }
     {
         self.entries
     }

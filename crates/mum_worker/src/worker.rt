@@ -2,6 +2,7 @@
 
 ghost use Rattle.std.specs.Prelude.{◌≡◌, ◌<◌, [], IfOk, IsSome, length};
 ghost use Rattle.mum_base.specs.declared.number.TheConstants.{SLOTS};
+ghost use Rattle.mum_record.specs.Journal.{Each, IsWritableEntry};
 ghost use Rattle.mum_router.specs.Offering.{copies_of, full_of};
 ghost use Rattle.mum_router.specs.Picking.{looks_of};
 ghost use Rattle.mum_state.specs.Proper.{IsProper};
@@ -317,6 +318,8 @@ impl<L: Link, G: Gate, N: Naming, R: Wait + Copy> Worker<L, G, N, R> {
         ensures full { result.full ≡ full_of self.common.router.outs }
         ensures stale { result.stale ≡ self.common.kept.stale }
         ensures entries { result.entries.items ≡ self.common.kept.entries }
+        // Each has a line in a journal.
+        ensures writable { Each IsWritableEntry result.entries.items }
         ensures no_memory { result.no_memory ≡ self.common.kept.no_memory }
     {
         let Worker { common, .. } = self;

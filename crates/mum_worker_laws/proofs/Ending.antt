@@ -88,7 +88,7 @@ module _ {L : Type 0} (counts : L → Counts) (left written : L → Option (List
   taken_new (Some (Lagging session)) old new hears = tt
   taken_new (Some NoMore) old new hears = tt
 
-  ports_new : (old : WorkerFacts L) (turns : List Turn) (new : WorkerFacts L) (all : TurnsTo counts left written is_shut opening old turns new) → Each IsNew (ports_taken counts left written is_shut opening old turns new all)
+  pub ports_new : (old : WorkerFacts L) (turns : List Turn) (new : WorkerFacts L) (all : TurnsTo counts left written is_shut opening old turns new) → Each IsNew (ports_taken counts left written is_shut opening old turns new all)
   ports_new old [] new all = tt
   ports_new old (turn ∷ turns) new (mid, turned, rest) =
       each-append IsNew (taken_in counts left written is_shut turned.hears.ring (record old { bell = turned.hears.bell }) turned.between turned.hears.hears) (ports_taken counts left written is_shut opening mid turns new rest)

@@ -13,7 +13,7 @@ use Rattle.mum_crew.specs.declared.role.Turn.{Turn}
 use Rattle.mum_io.specs.Counts.{Counts}
 use Rattle.mum_outbox.specs.Calls.{Offers}
 use Rattle.mum_outbox.specs.Facts.{PassFacts as BoxFacts}
-use Rattle.mum_outbox.specs.declared.parcel.TheConstants.{VOICE_CAPACITY}
+use Rattle.mum_base.specs.declared.number.TheConstants.{VOICE_CAPACITY}
 use Rattle.mum_outbox.specs.declared.parcel.VoiceParcel.{VoiceParcel}
 use Rattle.mum_outbox.specs.declared.queue.Offered.{Offered}
 use Rattle.mum_outbox.specs.declared.queue.Offered.TheVariants.{Sent, Full}

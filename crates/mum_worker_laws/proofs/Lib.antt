@@ -1,5 +1,6 @@
 mod Causing
 mod Changing
+mod Closings
 mod Counts
 mod Ending
 mod Going
@@ -9,3 +10,4 @@ mod LinkEnds
 mod Own
 mod Speaking
 mod Waiting
+mod Voices

@@ -1,3 +1,5 @@
 pub mod Causes
 pub mod Laws
 pub mod Lives
+pub mod Closings
+pub mod Voices

@@ -1,8 +1,8 @@
 //! What holds of a worker whatever its turns are, from its opening on, over any links and any gate. These
 //! functions do nothing: each contract is a theorem.
 
-ghost use Rattle.std.specs.Prelude.{◌≡◌, ◌++◌, ℕ, Bool, List, Option, map};
-ghost use Rattle.std.specs.List.{All, AllPairs, flat_map};
+ghost use Rattle.std.specs.Prelude.{◌≡◌, ◌++◌, ℕ, Bool, List, Option, Some, map};
+ghost use Rattle.std.specs.List.{All, AllPairs, filter_map, flat_map};
 ghost use Rattle.mum_crew.specs.declared.role.Turn.{Turn};
 ghost use Rattle.mum_published.specs.Facts.{Opening, PassFacts};
 ghost use Rattle.mum_router.specs.Laws.{HaveEntries};
@@ -11,6 +11,7 @@ ghost use Rattle.mum_worker.specs.Facts.{WorkerFacts};
 ghost use Rattle.mum_worker.specs.Opening.{HasOpened};
 ghost use Rattle.mum_worker.specs.Turning.{Turned};
 ghost use Rattle.mum_worker_laws.specs.Laws.{Follows, SeesFrom, TurnsTo, ask_made, copies_at, copies_made, history, looks_in, moments_of, packets_in};
+ghost use Rattle.mum_worker_laws.specs.Voices.{talk_in, talk_made};
 
 use mum_io::Link;
 
@@ -22,6 +23,16 @@ pub fn looks_are_asks<L: Link>()
         (all : TurnsTo L.counts L.left L.written L.is_shut opening opened turns worker) →
         worker.common.router.pass.asks
         ≡ pass.asks ++ map ask_made (looks_in (history L.counts L.left L.written L.is_shut opening opened turns worker all)) }
+{}
+
+/// Where a journal is kept, it has an entry for each packet that was routed, in order, and no other voice entry: of its
+/// connection, at the revision of its look, with bytes that are this packet, and what became of each copy.
+pub fn voice_entries_are_the_looks<L: Link>()
+    ensures { (opening : Opening) (number : ℕ) (pass : PassFacts) (room : ℕ)
+        (opened worker : WorkerFacts L) (turns : List Turn) → HasOpened number pass (Some room) opened →
+        (all : TurnsTo L.counts L.left L.written L.is_shut opening opened turns worker) →
+        filter_map talk_in worker.common.kept.entries
+        ≡ map talk_made (looks_in (history L.counts L.left L.written L.is_shut opening opened turns worker all)) }
 {}
 
 /// What a look saw and what a reply told is never lost: each later packet is routed at a list of edits that begins

@@ -13,6 +13,7 @@ ghost use Rattle.mum_session.specs.Machine.{Machine};
 ghost use Rattle.mum_worker.specs.Facts.{WorkerFacts, is_of};
 ghost use Rattle.mum_worker.specs.Opening.{HasOpened};
 ghost use Rattle.mum_worker.specs.Routing.{RoutesPacket};
+ghost use Rattle.mum_worker_laws.specs.Closings.{is_closing_of, is_open_of};
 ghost use Rattle.mum_worker_laws.specs.Laws.{TurnsTo, history};
 ghost use Rattle.mum_worker_laws.specs.Lives.{AwaitsReply, HaveLived, IsNoPacketOf, IsNoReplyTo};
 ghost use Rattle.mum_worker_laws.specs.Lives.{IsOfAnother, IsOrderly, count, is_closed_of, ports_taken};
@@ -26,6 +27,16 @@ pub fn each_connection_closes_once<L: Link>()
         (opened worker : WorkerFacts L) (turns : List Turn) (connection : ℕ) → HasOpened number pass journal opened →
         (all : TurnsTo L.counts L.left L.written L.is_shut opening opened turns worker) →
         count (is_closed_of connection) worker.desk.offered + count (is_of connection) worker.ports
+        ≡ count (is_of connection) (ports_taken L.counts L.left L.written L.is_shut opening opened turns worker all) }
+{}
+
+/// Where a journal is kept, each connection that was taken in has one closing entry once its port closed, and none while
+/// it is open: those that are there and the open ports are together as many as were taken in.
+pub fn each_connection_has_one_closing_entry<L: Link>()
+    ensures { (opening : Opening) (number : ℕ) (pass : PassFacts) (room : ℕ)
+        (opened worker : WorkerFacts L) (turns : List Turn) (connection : ℕ) → HasOpened number pass (Some room) opened →
+        (all : TurnsTo L.counts L.left L.written L.is_shut opening opened turns worker) →
+        count (is_closing_of connection) worker.common.kept.entries + count (is_open_of connection) worker.ports
         ≡ count (is_of connection) (ports_taken L.counts L.left L.written L.is_shut opening opened turns worker all) }
 {}
 

@@ -1,7 +1,8 @@
-use Rattle.std.proofs.Common.{ap}
+use Rattle.std.proofs.Common.{ap, refl}
 use Rattle.mum_control.specs.Facts.{ReplyFacts}
 use Rattle.mum_owner.specs.Facts.{ScribeFacts}
 use Rattle.mum_owner.proofs.Counting.{given_count, seated_count}
+use Rattle.mum_owner.proofs.Deciding.{given_written}
 use Rattle.mum_owner.proofs.owner.Owner.give.Goals as goal
 
 pub invariant_of-self : goal.invariant_of-self
@@ -12,4 +13,8 @@ invariant_of-self g c =
     given_count c.self.inside.control c.args.command reply c.command-reply.new.self c.self.inside.scribe c.prepare.new.self c.settle.new.self c.mark-mark.result
     c.args.command.connection r.no_memory c.self.invariant.0 c.command-reply.ensures (ap (λ (s : ScribeFacts). s.accepted) c.in-Ok.ensures.ok) c.mark-mark.ensures c.settle.ensures
     in
-    (edits, seated_count r.end c.args.command.connection c.self.inside.guests c.seat.new.guests g.N.Serving.door.given _ c.self.invariant.1 c.seat.ensures)
+    let written =
+    given_written c.self.inside.control c.args.command reply c.command-reply.new.self c.self.inside.scribe c.prepare.new.self c.settle.new.self c.mark-mark.result
+    c.args.command.connection r.no_memory c.self.invariant.2 c.command-reply.ensures c.in-Ok.ensures.ok c.mark-mark.ensures refl c.settle.ensures
+    in
+    (edits, seated_count r.end c.args.command.connection c.self.inside.guests c.seat.new.guests g.N.Serving.door.given _ c.self.invariant.1 c.seat.ensures, written)

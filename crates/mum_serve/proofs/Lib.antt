@@ -2,3 +2,4 @@ mod Leading
 mod Ended
 mod Limited
 mod Refused
+mod Judged

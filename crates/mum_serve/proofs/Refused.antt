@@ -1,17 +1,18 @@
 -- Runs that end before anything is opened.
 use Rattle.std.proofs.Common.{◌≡◌, ◌∙◌, ℕ, ◌<◌, ◌⊎◌, true, false, List, [], ◌∷◌, ◌++◌, length, Option, None, Some, Result, Ok, Err, IfSome, inl, inr, length-append, refl, sym, ap, subst, arith}
+use Rattle.std.specs.Option.{option_map}
 use Rattle.std.specs.Prelude.{codes, nat_lt}
 use Rattle.std.proofs.lemmas.Bool.Decides.{nat_tests}
-use Rattle.mum_config.specs.Document.{ReadsText, config_in, fault_of}
+use Rattle.mum_config.specs.Document.{ReadsConfig, config_in, fault_of}
+use Rattle.mum_config.specs.Refusal.{told_fault}
 use Rattle.mum_config.specs.declared.config.Config.{Config}
 use Rattle.mum_crew.specs.Crew.{CrewCounts}
 use Rattle.mum_document.specs.Fault.{Fault, or_else}
-use Rattle.mum_document.specs.Reading.{Names}
-use Rattle.mum_document.specs.declared.fault.BadConfig.{BadConfig}
-use Rattle.mum_document.specs.declared.fault.BadConfig.TheVariants as errors
+use Rattle.mum_config.specs.declared.refusal.BadConfig.{BadConfig}
+use Rattle.mum_config.specs.declared.refusal.BadConfig.TheVariants as errors
 use Rattle.mum_document.specs.declared.fault.ConfigFault.TheVariants.{Limit}
 use Rattle.mum_io.specs.Outside.{IsAllOrLonger, Keeps}
-use Rattle.mum_serve.specs.Program.{Describes, IsRefusal, NamesFault, ReadsCounted, RunsInCrew, WritesCounted, document_of, refusal}
+use Rattle.mum_serve.specs.Program.{Describes, DescribesConfig, IsInput, IsRefusal, NamesFault, ReadsCounted, RunsInCrew, WritesCounted, document_of, refusal}
 use Rattle.mum_serve.specs.declared.program.ServerEnd.{ServerEnd}
 use Rattle.mum_serve.specs.declared.program.ServerEnd.TheVariants as ends
 
@@ -30,12 +31,11 @@ too_long [] long = absurd (omega (arith, long))
 too_long (byte ∷ bytes) long = long_fault (byte ∷ bytes) long
 
 -- the document of some bytes is read as the bytes say
-pub read_as : (bytes document : List ℕ) (config : Config) → document ≡ document_of bytes → ReadsText document (Ok config) → Describes bytes (Ok config)
+pub read_as : (bytes document : List ℕ) (config : Config) → document ≡ document_of bytes → ReadsConfig document (Ok config) → Describes bytes (Ok config)
 read_as bytes document config is reads = subst (λ (d : List ℕ). (fault_of d ≡ None) × (config_in d ≡ Some config)) is reads
 
-pub refused_as : (bytes document : List ℕ) (error : BadConfig) → document ≡ document_of bytes → ReadsText document (Err error) → Describes bytes (Err (refusal error))
-unfolding Names
-refused_as bytes document (errors.Fault cause key) is reads = subst (λ (d : List ℕ). fault_of d ≡ Some (record { cause = cause; key = key })) is reads
+pub refused_as : (bytes document : List ℕ) (error : BadConfig) → document ≡ document_of bytes → ReadsConfig document (Err error) → Describes bytes (Err (refusal error))
+refused_as bytes document (errors.Fault code key) is reads = subst (λ (d : List ℕ). option_map told_fault (fault_of d) ≡ Some (code, key)) is reads
 refused_as bytes document errors.OutOfMemory is reads = tt
 
 -- bytes that are too long say the same as all that follow them
@@ -50,12 +50,19 @@ all_say None bytes r read describes = tt
 all_say (Some all) bytes r (inl same) describes = subst (λ (b : List ℕ). Describes b r) same describes
 all_say (Some all) bytes r (inr longer) describes = subst (λ (b : List ℕ). Describes b r) (sym longer.1) (longer_so bytes longer.0 r longer.2 describes)
 
+-- bytes that describe a configuration are the whole input
+pub is_input : (left : Option (List ℕ)) (bytes : List ℕ) (config : Config) → IfSome left (λ all. IsAllOrLonger 65536 all bytes) → DescribesConfig bytes config
+    → IsInput left (record { config = config; document = bytes })
+is_input None bytes config read describes = record { whole = tt; describes = describes }
+is_input (Some all) bytes config (inl same) describes = record { whole = same; describes = describes }
+is_input (Some all) bytes config (inr longer) describes = absurd (let is = too_long bytes longer.2 in let none = describes.0 in cc (is, none))
+
 pub refusal_reads : (error : BadConfig) (faults : ℕ) → ReadsCounted (refusal error) faults faults
-refusal_reads (errors.Fault cause key) faults = refl
+refusal_reads (errors.Fault code key) faults = refl
 refusal_reads errors.OutOfMemory faults = refl
 
 pub is_refusal : (error : BadConfig) → IsRefusal (refusal error)
-is_refusal (errors.Fault cause key) = tt
+is_refusal (errors.Fault code key) = tt
 is_refusal errors.OutOfMemory = tt
 
 -- what was written is what was written
@@ -65,19 +72,21 @@ keeps_same (Some bytes) = refl
 
 -- a run that ends so runs nothing and writes nothing
 pub refusal_runs : (end : ServerEnd) (counts : CrewCounts) → IsRefusal end → RunsInCrew end counts counts
-refusal_runs (ends.BadConfig cause key) counts is = tt
+refusal_runs (ends.BadConfig code key) counts is = tt
 refusal_runs ends.ReadFault counts is = tt
 refusal_runs ends.OutOfMemory counts is = tt
 refusal_runs ends.Finished counts is = absurd is
 refusal_runs ends.WriteFault counts is = absurd is
 refusal_runs ends.DoorFault counts is = absurd is
 refusal_runs ends.CrewFault counts is = absurd is
+refusal_runs (ends.AuditWrong line given defined) counts is = absurd is
 
 pub refusal_writes : (end : ServerEnd) (faults : ℕ) → IsRefusal end → WritesCounted end faults faults
-refusal_writes (ends.BadConfig cause key) faults is = refl
+refusal_writes (ends.BadConfig code key) faults is = refl
 refusal_writes ends.ReadFault faults is = refl
 refusal_writes ends.OutOfMemory faults is = refl
 refusal_writes ends.Finished faults is = absurd is
 refusal_writes ends.WriteFault faults is = absurd is
 refusal_writes ends.DoorFault faults is = absurd is
 refusal_writes ends.CrewFault faults is = absurd is
+refusal_writes (ends.AuditWrong line given defined) faults is = absurd is

@@ -1,5 +1,6 @@
 pub mod Queues
 pub mod Totals
+pub mod Journals
 pub mod Roles
 pub mod Opening
 pub mod Serving

@@ -1,19 +1,28 @@
 -- A run of the program that serves: what it reads, what it writes, and how it ends.
+use Rattle.std.specs.Option.{option_map}
 use Rattle.std.specs.Prelude.{◌≡◌, ⊤, ◌⊎◌, ℕ, Bool, true, false, List, [], ◌∷◌, ◌++◌, codes, decimal, IfSome, Option, Some, None, is_some, Result, Ok, Err}
 use Rattle.mum_config.specs.Document.{config_in, fault_of}
 use Rattle.mum_config.specs.declared.config.Config.{Config}
 use Rattle.mum_crew.specs.Crew.{CrewCounts}
 use Rattle.mum_document.specs.Fault.{Fault}
-use Rattle.mum_document.specs.declared.fault.BadConfig.{BadConfig as DocumentError}
-use Rattle.mum_document.specs.declared.fault.BadConfig.TheVariants as errors
+use Rattle.mum_config.specs.Refusal.{told_fault}
+use Rattle.mum_config.specs.declared.refusal.BadConfig.{BadConfig as DocumentError}
+use Rattle.mum_config.specs.declared.refusal.BadConfig.TheVariants as errors
 use Rattle.mum_io.specs.Counts.{Counts, Rose}
 use Rattle.mum_io.specs.Outside.{Appends, AppendsFront, Keeps}
 use Rattle.mum_record.specs.Words.{line_of_words}
 use Rattle.mum_state.specs.After.{after}
+use Rattle.mum_audit.specs.Audit.{audited}
+use Rattle.mum_audit.specs.Legal.{IsLegal}
+use Rattle.mum_audit.specs.declared.audited.Audited.TheVariants.{Wrong}
+use Rattle.mum_record.specs.declared.journal.Journal.{Journal}
+use Rattle.mum_serve.specs.Journals.{journal_of, journal_text, where_asked}
 use Rattle.mum_serve.specs.Opening.{opening_edits}
 use Rattle.mum_serve.specs.Serving.{ServesOver}
+use Rattle.mum_serve.specs.declared.entries.Entries.{Entries}
+use Rattle.mum_serve.specs.declared.program.Input.{Input}
 use Rattle.mum_serve.specs.declared.program.ServerEnd.{ServerEnd}
-use Rattle.mum_serve.specs.declared.program.ServerEnd.TheVariants.{Finished, BadConfig, ReadFault, WriteFault, DoorFault, CrewFault, OutOfMemory}
+use Rattle.mum_serve.specs.declared.program.ServerEnd.TheVariants.{Finished, BadConfig, ReadFault, WriteFault, DoorFault, CrewFault, AuditWrong, OutOfMemory}
 use Rattle.mum_serve.specs.declared.server.Served.TheVariants.{Whole, DoorFault as DoorStaysShut}
 use Rattle.mum_serve.specs.declared.totals.Totals.{Totals}
 
@@ -26,27 +35,41 @@ document_of (byte ∷ bytes) = byte ∷ bytes
 
 -- the end names this fault, if there is one; the input may fail before it is known, and memory may run out
 abbrev pub NamesFault : ServerEnd → Option Fault → Type 0
-NamesFault (BadConfig cause key) fault = fault ≡ Some (record { cause = cause; key = key })
+NamesFault (BadConfig code key) fault = option_map told_fault fault ≡ Some (code, key)
 NamesFault ReadFault fault = ⊤
 NamesFault OutOfMemory fault = ⊤
 NamesFault others fault = ⊥
 
 -- how a run ends whose document was not read
 abbrev pub refusal : DocumentError → ServerEnd
-refusal (errors.Fault cause key) = BadConfig cause key
+refusal (errors.Fault code key) = BadConfig code key
 refusal errors.OutOfMemory = OutOfMemory
 
 -- the run ends before anything is opened or written
 abbrev pub IsRefusal : ServerEnd → Type 0
-IsRefusal (BadConfig cause key) = ⊤
+IsRefusal (BadConfig code key) = ⊤
 IsRefusal ReadFault = ⊤
 IsRefusal OutOfMemory = ⊤
 IsRefusal others = ⊥
 
+-- the bytes describe a configuration
+abbrev pub DescribesConfig : List ℕ → Config → Type 0
+DescribesConfig bytes config = (fault_of (document_of bytes) ≡ None) × (config_in (document_of bytes) ≡ Some config)
+
 -- the bytes describe a configuration, or are no such document
 abbrev pub Describes : List ℕ → Result Config ServerEnd → Type 0
-Describes bytes (Ok config) = (fault_of (document_of bytes) ≡ None) × (config_in (document_of bytes) ≡ Some config)
+Describes bytes (Ok config) = DescribesConfig bytes config
 Describes bytes (Err end) = NamesFault end (fault_of (document_of bytes))
+
+-- what an input says: its bytes, all of them where they are known, and the configuration that they describe
+pub record IsInput (left : Option (List ℕ)) (input : Input) : Type 0 where
+  pub whole : IfSome left (λ bytes. input.document ≡ bytes)
+  pub describes : DescribesConfig input.document input.config
+
+-- the input says that, or its bytes are no such document
+abbrev pub Says : Option (List ℕ) → Result Input ServerEnd → Type 0
+Says left (Ok input) = IsInput left input
+Says left (Err end) = IfSome left (λ bytes. NamesFault end (fault_of (document_of bytes)))
 
 -- ---- what is counted
 
@@ -63,6 +86,7 @@ WritesCounted others old new = new ≡ old
 -- a run that came to its end was one of the crew, and a crew that did not start counted that
 abbrev pub RunsInCrew : ServerEnd → CrewCounts → CrewCounts → Type 0
 RunsInCrew Finished old new = Rose old.runs new.runs
+RunsInCrew (AuditWrong line given defined) old new = Rose old.runs new.runs
 RunsInCrew CrewFault old new = Rose old.refused new.refused
 RunsInCrew others old new = ⊤
 
@@ -78,44 +102,71 @@ served_line totals = line_of_words (codes "served"
     ∷ codes "full" ∷ decimal totals.full
     ∷ codes "stale" ∷ decimal totals.stale ∷ []) ++ 10 ∷ []
 
--- the line is written whole; or the output failed in it, or memory ran out before it. Memory that ran out on the way
--- counts before a door that failed
-abbrev pub WritesTotals : Totals → Bool → Bool → ServerEnd → Option (List ℕ) → Option (List ℕ) → Type 0
-WritesTotals totals no_memory door_failed Finished old new = (no_memory ≡ false) × (door_failed ≡ false) × Appends old new (served_line totals)
-WritesTotals totals no_memory door_failed DoorFault old new = (no_memory ≡ false) × (door_failed ≡ true) × Appends old new (served_line totals)
-WritesTotals totals no_memory door_failed WriteFault old new = AppendsFront old new (served_line totals)
-WritesTotals totals no_memory door_failed OutOfMemory old new =
-    Keeps old new ⊎ ((no_memory ≡ true) × Appends old new (served_line totals))
-WritesTotals totals no_memory door_failed others old new = ⊥
+-- how a run ends whose text is written. Memory that ran out on the way counts before a door that failed
+abbrev pub written : Bool → Bool → ServerEnd
+written true door_failed = OutOfMemory
+written false true = DoorFault
+written false false = Finished
+
+-- the text is written whole; or the output failed in it, or memory ran out before it
+abbrev pub WritesText : List ℕ → Bool → Bool → ServerEnd → Option (List ℕ) → Option (List ℕ) → Type 0
+WritesText text no_memory door_failed Finished old new = (no_memory ≡ false) × (door_failed ≡ false) × Appends old new text
+WritesText text no_memory door_failed DoorFault old new = (no_memory ≡ false) × (door_failed ≡ true) × Appends old new text
+WritesText text no_memory door_failed WriteFault old new = AppendsFront old new text
+WritesText text no_memory door_failed OutOfMemory old new = Keeps old new ⊎ ((no_memory ≡ true) × Appends old new text)
+WritesText text no_memory door_failed others old new = ⊥
+
+-- the text of a legal journal that was made, or the first wrong line of another, or memory ran out
+abbrev pub GivesText : Journal → Result (List ℕ) ServerEnd → Type 0
+GivesText journal (Ok text) = IsLegal journal × (text ≡ journal_text journal)
+GivesText journal (Err (AuditWrong line given defined)) = audited journal ≡ Wrong line given defined
+GivesText journal (Err OutOfMemory) = ⊤
+GivesText journal (Err others) = ⊥
+
+-- a journal is written whole where it is legal, and then the line of the totals; of another its first wrong line is
+-- named, and nothing is written
+abbrev pub WritesJournal : Journal → Totals → Bool → Bool → ServerEnd → Option (List ℕ) → Option (List ℕ) → Type 0
+WritesJournal journal totals no_memory door_failed (AuditWrong line given defined) old new =
+    (audited journal ≡ Wrong line given defined) × Keeps old new
+WritesJournal journal totals no_memory door_failed OutOfMemory old new =
+    Keeps old new ⊎ (IsLegal journal × (no_memory ≡ true) × Appends old new (journal_text journal ++ served_line totals))
+WritesJournal journal totals no_memory door_failed end old new =
+    IsLegal journal × WritesText (journal_text journal ++ served_line totals) no_memory door_failed end old new
+
+-- the journal, where one was made, and the line of the totals
+abbrev pub WritesAll : Option Journal → Totals → Bool → Bool → ServerEnd → Option (List ℕ) → Option (List ℕ) → Type 0
+WritesAll (Some journal) totals no_memory door_failed end old new = WritesJournal journal totals no_memory door_failed end old new
+WritesAll None totals no_memory door_failed end old new = WritesText (served_line totals) no_memory door_failed end old new
 
 -- ---- how it ends
 
 module _ {D : Type 0} (L : Type 0) (counts : D → Counts) (given : D → ℕ) (opened_at : D → Option (List ℕ)) where
   -- all were served, from the state that the configuration describes, and this is what was written of it
-  pub record HasServed (address : List ℕ) (connections : ℕ) (config : Config) (end : ServerEnd) (door left : Option D) (old new : Option (List ℕ)) : Type 0 where
+  pub record HasServed (address : List ℕ) (journal : Bool) (connections : ℕ) (input : Input) (end : ServerEnd) (door left : Option D) (old new : Option (List ℕ)) : Type 0 where
     pub totals : Totals
+    pub entries : Entries
     pub no_memory : Bool
     pub door_failed : Bool
-    pub serves : ServesOver L counts given opened_at address (after (opening_edits config.edits)) connections config.workers door (Whole totals no_memory door_failed) left
-    pub writes : WritesTotals totals no_memory door_failed end old new
+    pub serves : ServesOver L counts given opened_at address (after (opening_edits input.config.edits)) journal connections input.config.workers door (Whole totals entries no_memory door_failed) left
+    pub writes : WritesAll (where_asked journal (journal_of input.config.workers input.document entries)) totals no_memory door_failed end old new
 
   -- the door did not open
-  abbrev pub StaysShut : List ℕ → ℕ → Config → Option D → Option D → Type 0
-  StaysShut address connections config door left =
-      ServesOver L counts given opened_at address (after (opening_edits config.edits)) connections config.workers door DoorStaysShut left
+  abbrev pub StaysShut : List ℕ → Bool → ℕ → Input → Option D → Option D → Type 0
+  StaysShut address journal connections input door left =
+      ServesOver L counts given opened_at address (after (opening_edits input.config.edits)) journal connections input.config.workers door DoorStaysShut left
 
   -- all were served; or the door did not open, the crew did not start, or memory ran out, and nothing is written
-  abbrev pub EndsWith : List ℕ → ℕ → Config → ServerEnd → Option D → Option D → Option (List ℕ) → Option (List ℕ) → Type 0
-  EndsWith address connections config DoorFault door left old new =
-      HasServed address connections config DoorFault door left old new ⊎ (StaysShut address connections config door left × Keeps old new)
-  EndsWith address connections config CrewFault door left old new = (is_some left ≡ true) × Keeps old new
-  EndsWith address connections config OutOfMemory door left old new =
-      HasServed address connections config OutOfMemory door left old new ⊎ ((is_some left ≡ true) × Keeps old new)
-  EndsWith address connections config end door left old new = HasServed address connections config end door left old new
+  abbrev pub EndsWith : List ℕ → Bool → ℕ → Input → ServerEnd → Option D → Option D → Option (List ℕ) → Option (List ℕ) → Type 0
+  EndsWith address journal connections input DoorFault door left old new =
+      HasServed address journal connections input DoorFault door left old new ⊎ (StaysShut address journal connections input door left × Keeps old new)
+  EndsWith address journal connections input CrewFault door left old new = (is_some left ≡ true) × Keeps old new
+  EndsWith address journal connections input OutOfMemory door left old new =
+      HasServed address journal connections input OutOfMemory door left old new ⊎ ((is_some left ≡ true) × Keeps old new)
+  EndsWith address journal connections input end door left old new = HasServed address journal connections input end door left old new
 
   -- the input describes a configuration, and the run ends with it; or it names a fault, the input failed or memory ran
   -- out, and nothing else happened
-  abbrev pub EndsAt : List ℕ → ℕ → Option (List ℕ) → ServerEnd → Option D → Option D → Option (List ℕ) → Option (List ℕ) → Type 0
-  EndsAt address connections input end door left old new =
-      ((config : Config) × IfSome input (λ bytes. Describes bytes (Ok config)) × EndsWith address connections config end door left old new)
-      ⊎ (IsRefusal end × IfSome input (λ bytes. NamesFault end (fault_of (document_of bytes))) × (left ≡ door) × Keeps old new)
+  abbrev pub EndsAt : List ℕ → Bool → ℕ → Option (List ℕ) → ServerEnd → Option D → Option D → Option (List ℕ) → Option (List ℕ) → Type 0
+  EndsAt address journal connections bytes end door left old new =
+      ((input : Input) × IsInput bytes input × EndsWith address journal connections input end door left old new)
+      ⊎ (IsRefusal end × IfSome bytes (λ all. NamesFault end (fault_of (document_of all))) × (left ≡ door) × Keeps old new)

@@ -2,6 +2,7 @@
 use Rattle.std.specs.Prelude.{◌≡◌, ⊤, ℕ, zero, suc, ◌+◌, ◌||◌, Bool, true, false, List, [], ◌∷◌, length, map, Option}
 use Rattle.std.specs.List.{AllByRecursion}
 use Rattle.mum_io.specs.Counts.{Counts, NoneFalls, Rose}
+use Rattle.mum_owner.specs.Decided.{HasWritten}
 use Rattle.mum_owner.specs.Doors.{NoMoreCome, given_after_all}
 use Rattle.mum_owner.specs.Facts.{OwnerFacts}
 use Rattle.mum_owner.specs.Opened.{opening_of as owner_opening}
@@ -11,7 +12,9 @@ use Rattle.mum_published.specs.Calls.{appended}
 use Rattle.mum_state.specs.State.{StateValue}
 use Rattle.mum_worker.specs.Facts.{WorkerFacts, is_done}
 use Rattle.mum_worker.specs.declared.role.WorkerOpening.{WorkerOpening}
+use Rattle.mum_serve.specs.Journals.{AreWritable, entries_of}
 use Rattle.mum_serve.specs.Totals.{nothing, totals_of, with_worker}
+use Rattle.mum_serve.specs.declared.entries.Entries.{Entries}
 use Rattle.mum_serve.specs.declared.roles.RoleOpening.{RoleOpening}
 use Rattle.mum_serve.specs.declared.roles.RoleOpening.TheVariants as openings
 use Rattle.mum_serve.specs.declared.roles.Roles.{Roles}
@@ -21,16 +24,17 @@ use Rattle.mum_serve.specs.declared.totals.WorkerTotals.{WorkerTotals}
 
 -- ---- how they begin
 
--- so many workers, numbered from this one on, none of which keeps a journal
-abbrev pub worker_openings : ℕ → ℕ → List WorkerOpening
-worker_openings number zero = []
-worker_openings number (suc count) = record { number = number; journal = false } ∷ worker_openings (number + 1) count
+-- so many workers, numbered from this one on, all of which keep a journal or none
+abbrev pub worker_openings : Bool → ℕ → ℕ → List WorkerOpening
+worker_openings journal number zero = []
+worker_openings journal number (suc count) =
+    record { number = number; journal = journal } ∷ worker_openings journal (number + 1) count
 
 -- the owner of this many connections, and so many workers behind it: from a state on, over a door that had counted this,
--- and without a journal
-abbrev pub role_openings : StateValue → DoorOpening → ℕ → ℕ → List RoleOpening
-role_openings state door connections workers =
-    openings.Owner (owner_opening state door connections false) ∷ map openings.Worker (worker_openings 0 workers)
+-- with a journal or without one
+abbrev pub role_openings : StateValue → DoorOpening → Bool → ℕ → ℕ → List RoleOpening
+role_openings state door journal connections workers =
+    openings.Owner (owner_opening state door connections journal) ∷ map openings.Worker (worker_openings journal 0 workers)
 
 abbrev pub worker_opening : {L : Type 0} → WorkerFacts L → WorkerOpening
 worker_opening worker = record { number = worker.number; journal = worker.common.kept.journal }
@@ -73,11 +77,16 @@ with_workers [] totals = totals
 with_workers (worker ∷ others) totals = with_workers others (with_worker worker totals)
 
 module _ {D L : Type 0} (counts : D → Counts) (given : D → ℕ) (opened_at : D → Option (List ℕ)) where
-  -- what a server of this owner and these workers came to: its totals, whether memory ran out in a role, whether the door
-  -- failed, which it counted, and the door, at the address at which it was opened. Where the owner has ended, as many
-  -- connections were given as there were to be, or the door ended or failed
-  pub record CameTo (state : StateValue) (opening : DoorOpening) (owner : OwnerFacts D) (workers : List (WorkerFacts L)) (totals : Totals) (no_memory door_failed : Bool) (door : D) : Type 0 where
+  -- what a server of this owner and these workers came to: its totals, what was written down, whether memory ran out in
+  -- a role, whether the door failed, which it counted, and the door, at the address at which it was opened. Where a
+  -- journal was asked for, the control entries are the commands that were decided, and what they accepted is all that was
+  -- appended. Where the owner has ended, as many connections were given as there were to be, or the door ended or failed
+  pub record CameTo (state : StateValue) (opening : DoorOpening) (owner : OwnerFacts D) (workers : List (WorkerFacts L)) (totals : Totals) (entries : Entries) (no_memory door_failed : Bool) (door : D) : Type 0 where
     pub began : owner.control.publisher.opening.state ≡ state
+    pub controls : entries.controls ≡ owner.scribe.entries
+    pub decided : HasWritten owner.control owner.scribe
+    pub by_worker : entries.by_worker ≡ map entries_of workers
+    pub writable : AreWritable entries
     pub sums : totals ≡ totals_of owner.guests.given (length (appended owner.control.publisher)) (with_workers workers nothing)
     pub memory : no_memory ≡ (owner.scribe.no_memory || (with_workers workers nothing).no_memory)
     pub counted : NoneFalls opening.counts (counts door)
@@ -88,9 +97,9 @@ module _ {D L : Type 0} (counts : D → Counts) (given : D → ℕ) (opened_at :
 
 module _ {D G N R L : Type 0} (counts : D → Counts) (given : D → ℕ) (opened_at : D → Option (List ℕ)) where
   -- the roles are an owner and workers, and this is what they came to
-  pub record Collects (state : StateValue) (opening : DoorOpening) (all : List (Roles D G N R L)) (totals : Totals) (no_memory door_failed : Bool) (door : D) : Type 0 where
+  pub record Collects (state : StateValue) (opening : DoorOpening) (all : List (Roles D G N R L)) (totals : Totals) (entries : Entries) (no_memory door_failed : Bool) (door : D) : Type 0 where
     pub owner : OwnerFacts D
     pub others : List (Roles D G N R L)
     pub are : all ≡ roles.Owner owner ∷ others
     pub workers : AreWorkers others
-    pub came : CameTo counts given opened_at state opening owner (workers_in others) totals no_memory door_failed door
+    pub came : CameTo counts given opened_at state opening owner (workers_in others) totals entries no_memory door_failed door

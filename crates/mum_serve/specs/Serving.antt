@@ -10,6 +10,7 @@ use Rattle.mum_owner.specs.declared.serving.DoorOpening.{DoorOpening}
 use Rattle.mum_state.specs.State.{StateValue}
 use Rattle.mum_worker.specs.Facts.{WorkerFacts, is_done}
 use Rattle.mum_serve.specs.Roles.{CameTo, worker_opening, worker_openings}
+use Rattle.mum_serve.specs.declared.entries.Entries.{Entries}
 use Rattle.mum_serve.specs.declared.server.Served.{Served}
 use Rattle.mum_serve.specs.declared.server.Served.TheVariants.{Whole, DoorFault, CrewFault, OutOfMemory}
 use Rattle.mum_serve.specs.declared.totals.Totals.{Totals}
@@ -20,49 +21,50 @@ opening_at counts given opened_at door = record { counts = counts door; given = 
 
 -- where all were served, the crew counted a run, and where it did not start, that; nothing else changes its counts
 abbrev pub RunsCounted : Served → CrewCounts → CrewCounts → Type 0
-RunsCounted (Whole totals no_memory door_failed) old new = RunCounts Ran old new
+RunsCounted (Whole totals entries no_memory door_failed) old new = RunCounts Ran old new
 RunsCounted DoorFault old new = new ≡ old
 RunsCounted CrewFault old new = RunCounts Refused old new
 RunsCounted OutOfMemory old new = new ≡ old
 
 module _ {D : Type 0} (L : Type 0) (counts : D → Counts) (given : D → ℕ) (opened_at : D → Option (List ℕ)) where
-  -- an owner and workers were opened from this state, without a journal; each has ended, and this is what they came to
-  pub record HasRun (state : StateValue) (opening : DoorOpening) (connections workers : ℕ) (totals : Totals) (no_memory door_failed : Bool) (door : D) : Type 0 where
+  -- an owner and workers were opened from this state, with a journal or without one; each has ended, and this is what
+  -- they came to
+  pub record HasRun (state : StateValue) (opening : DoorOpening) (journal : Bool) (connections workers : ℕ) (totals : Totals) (entries : Entries) (no_memory door_failed : Bool) (door : D) : Type 0 where
     pub owner : OwnerFacts D
     pub crew : List (WorkerFacts L)
     pub limit : owner.guests.limit ≡ connections
-    pub no_journal : owner.scribe.is_asked ≡ false
-    pub numbers : map worker_opening crew ≡ worker_openings 0 workers
+    pub journal_is : owner.scribe.is_asked ≡ journal
+    pub numbers : map worker_opening crew ≡ worker_openings journal 0 workers
     pub owner_ended : owner_has_ended owner ≡ true
     pub crew_ended : AllByRecursion (λ worker. is_done worker ≡ true) crew
-    pub came : CameTo counts given opened_at state opening owner crew totals no_memory door_failed door
+    pub came : CameTo counts given opened_at state opening owner crew totals entries no_memory door_failed door
 
   -- where all were served, the roles have run
-  abbrev pub Runs : StateValue → DoorOpening → ℕ → ℕ → Served → D → Type 0
-  Runs state opening connections workers (Whole totals no_memory door_failed) door =
-      HasRun state opening connections workers totals no_memory door_failed door
-  Runs state opening connections workers DoorFault door = ⊥
-  Runs state opening connections workers others door = ⊤
+  abbrev pub Runs : StateValue → DoorOpening → Bool → ℕ → ℕ → Served → D → Type 0
+  Runs state opening journal connections workers (Whole totals entries no_memory door_failed) door =
+      HasRun state opening journal connections workers totals entries no_memory door_failed door
+  Runs state opening journal connections workers DoorFault door = ⊥
+  Runs state opening journal connections workers others door = ⊤
 
   -- the door was opened at this address, and the roles have run over it
-  pub record OpensAndRuns (address : List ℕ) (state : StateValue) (connections workers : ℕ) (door : D) (totals : Totals) (no_memory door_failed : Bool) (left : D) : Type 0 where
+  pub record OpensAndRuns (address : List ℕ) (state : StateValue) (journal : Bool) (connections workers : ℕ) (door : D) (totals : Totals) (entries : Entries) (no_memory door_failed : Bool) (left : D) : Type 0 where
     pub opened : D
     pub counted : counts opened ≡ counts door
     pub gave : given opened ≡ given door
     pub at : IfSome (opened_at opened) (λ known. known ≡ address)
-    pub run : HasRun state (opening_at counts given opened_at opened) connections workers totals no_memory door_failed left
+    pub run : HasRun state (opening_at counts given opened_at opened) journal connections workers totals entries no_memory door_failed left
 
   -- where all were served, the door was opened and the roles have run over it; a door that did not open counted that
-  abbrev pub Serves : List ℕ → StateValue → ℕ → ℕ → D → Served → D → Type 0
-  Serves address state connections workers door (Whole totals no_memory door_failed) left =
-      OpensAndRuns address state connections workers door totals no_memory door_failed left
-  Serves address state connections workers door DoorFault left = Rose (counts door).faults (counts left).faults
-  Serves address state connections workers door others left = ⊤
+  abbrev pub Serves : List ℕ → StateValue → Bool → ℕ → ℕ → D → Served → D → Type 0
+  Serves address state journal connections workers door (Whole totals entries no_memory door_failed) left =
+      OpensAndRuns address state journal connections workers door totals entries no_memory door_failed left
+  Serves address state journal connections workers door DoorFault left = Rose (counts door).faults (counts left).faults
+  Serves address state journal connections workers door others left = ⊤
 
   -- the door is there, before and after
-  pub record ServesOver (address : List ℕ) (state : StateValue) (connections workers : ℕ) (old : Option D) (served : Served) (new : Option D) : Type 0 where
+  pub record ServesOver (address : List ℕ) (state : StateValue) (journal : Bool) (connections workers : ℕ) (old : Option D) (served : Served) (new : Option D) : Type 0 where
     pub door : D
     pub left : D
     pub was : old ≡ Some door
     pub is : new ≡ Some left
-    pub serves : Serves address state connections workers door served left
+    pub serves : Serves address state journal connections workers door served left

@@ -1,28 +1,38 @@
 //! A run of the program that serves: from the configuration that the input is to the line of the totals.
 
-ghost use Rattle.std.specs.Prelude.{◌≡◌, ◌<◌, ◌≤◌, ℕ, IfErr, IfOk, IfSome, IsTrue, is_some, string_bytes, true};
+ghost use Rattle.std.specs.Prelude.{◌≡◌, ◌<◌, ◌≤◌, ◌++◌, ℕ, IfErr, IfOk, IfSome, IsTrue, None, is_some, length, string_bytes, true};
+ghost use Rattle.mum_audit.specs.Audit.{IsAuditable};
+ghost use Rattle.mum_config.specs.Document.{fault_of};
+ghost use Rattle.mum_serve.specs.Journals.{AreWritable, journal_of, where_asked};
 ghost use Rattle.mum_serve.specs.Opening.{opening_edits};
-ghost use Rattle.mum_serve.specs.Program.{Describes, EndsAt, EndsWith, IsRefusal, ReadsCounted, RunsInCrew, WritesCounted, WritesTotals, document_of, refusal, served_line};
+ghost use Rattle.mum_serve.specs.Program.{Describes, EndsAt, EndsWith, IsRefusal, ReadsCounted, RunsInCrew, Says, WritesAll, WritesCounted, WritesJournal, WritesText, document_of, refusal, served_line, written};
 ghost use Rattle.mum_state.specs.After.{all_fit};
 ghost use Rattle.mum_state.specs.State.{empty_state};
 
+use crate::entries::{Entries, journal_of};
+use crate::judge::legal_text;
 use crate::server::{Served, serve};
 use crate::totals::Totals;
-use mum_base::{OutOfMemory, Text};
-use mum_config::{BadConfig, Config, ConfigFault, DOCUMENT_LIMIT, read_config};
+use mum_base::{Octets, OutOfMemory, Text};
+use mum_config::{BadConfig, Config, DOCUMENT_LIMIT, read_config};
 use mum_crew::Crew;
 use mum_io::{Door, ReadFault, Sink, Source, read_up_to, write_all};
-use mum_record::{Word, push_line};
+use mum_record::{Journal, Word, push_line};
 use std::alloc::Global;
+use std::mem::drop;
 use std::sync::Wait;
 
 /// How a run that serves ends.
 #[derive(Drop)]
 pub enum ServerEnd {
-    /// All connections were served to their ends, and the line of the totals is written.
+    /// All connections were served to their ends. The journal, where one was asked for, and the line of the totals
+    /// are written.
     Finished,
-    /// The configuration has this first fault. Nothing was opened or written.
-    BadConfig { cause: ConfigFault, key: Text },
+    /// The configuration has this first fault, by its number. Nothing was opened or written.
+    BadConfig {
+        code: u8,
+        key: Text,
+    },
     /// The input failed. Nothing was opened or written.
     ReadFault,
     /// The output failed.
@@ -31,8 +41,22 @@ pub enum ServerEnd {
     DoorFault,
     /// The crew did not start.
     CrewFault,
+    /// The journal has this first wrong line: what it says, and what it had to say. Nothing is written.
+    AuditWrong {
+        line: u64,
+        given: Text,
+        defined: Text,
+    },
     /// Memory ran out: before the run, or on the way, where the line of the totals is written.
     OutOfMemory,
+}
+
+/// What the input says.
+#[derive(Drop)]
+pub struct Input {
+    pub config: Config,
+    /// Its bytes.
+    pub document: Octets,
 }
 
 /// The document of a server whose input is empty.
@@ -54,7 +78,7 @@ fn refusal(error: BadConfig) -> ServerEnd
     ensures { result ≡ refusal error }
 {
     match error {
-        BadConfig::Fault { cause, key } => ServerEnd::BadConfig { cause, key },
+        BadConfig::Fault { code, key } => ServerEnd::BadConfig { code, key },
         BadConfig::OutOfMemory => ServerEnd::OutOfMemory,
     }
 }
@@ -73,17 +97,23 @@ fn described(alloc: Global, bytes: &[u8]) -> Result<Config, ServerEnd>
     }
 }
 
-// The configuration that the input is.
-fn config_in<I: Source>(alloc: Global, input: &mut I) -> Result<Config, ServerEnd>
-    ensures describes { IfSome (I.left input.old) (λ bytes. Describes bytes result) }
-    ensures fits { IfOk result (λ config. IsTrue (all_fit empty_state (opening_edits config.edits))) }
-    ensures workers { IfOk result (λ config. (1 ≤ config.workers) × (config.workers ≤ 8)) }
+// The configuration that the input is, and its bytes.
+fn input_in<I: Source>(alloc: Global, input: &mut I) -> Result<Input, ServerEnd>
+    ensures says { Says (I.left input.old) result }
+    ensures fits { IfOk result (λ said. IsTrue (all_fit empty_state (opening_edits said.config.edits))) }
+    ensures workers { IfOk result (λ said. (1 ≤ said.config.workers) × (said.config.workers ≤ 8)) }
     ensures refuses { IfErr result IsRefusal }
     ensures read { IfOk result (λ _. I.faults input.new ≡ I.faults input.old) }
     ensures not_read { IfErr result (λ end. ReadsCounted end (I.faults input.old) (I.faults input.new)) }
 {
     match read_up_to(alloc, input, DOCUMENT_LIMIT) {
-        Ok(bytes) => described(alloc, &bytes),
+        Ok(bytes) => match described(alloc, &bytes) {
+            Ok(config) => {
+                let document = Octets::from_vec(bytes);
+                Ok(Input { config, document })
+            }
+            Err(end) => Err(end),
+        },
         Err(ReadFault::Failed) => Err(ServerEnd::ReadFault),
         Err(ReadFault::OutOfMemory) => Err(ServerEnd::OutOfMemory),
     }
@@ -114,7 +144,20 @@ fn totals_line(alloc: Global, totals: Totals) -> Result<String, OutOfMemory>
     Ok(line)
 }
 
-// Writes the line of the totals. Memory that ran out on the way counts before a door that failed.
+// How a run ends whose text is written. Memory that ran out on the way counts before a door that failed.
+fn written(no_memory: bool, door_failed: bool) -> ServerEnd
+    ensures { result ≡ written no_memory door_failed }
+{
+    if no_memory {
+        ServerEnd::OutOfMemory
+    } else if door_failed {
+        ServerEnd::DoorFault
+    } else {
+        ServerEnd::Finished
+    }
+}
+
+// Writes the line of the totals.
 fn write_totals<O: Sink>(
     alloc: Global,
     totals: Totals,
@@ -122,7 +165,7 @@ fn write_totals<O: Sink>(
     door_failed: bool,
     output: &mut O,
 ) -> ServerEnd
-    ensures writes { WritesTotals totals no_memory door_failed result (O.written output.old) (O.written output.new) }
+    ensures writes { WritesText (served_line totals) no_memory door_failed result (O.written output.old) (O.written output.new) }
     ensures counts { WritesCounted result (O.faults output.old) (O.faults output.new) }
 {
     let Ok(line) = totals_line(alloc, totals) else {
@@ -131,53 +174,152 @@ fn write_totals<O: Sink>(
     if write_all(output, line.as_bytes()).is_err() {
         return ServerEnd::WriteFault;
     }
-    if no_memory {
-        return ServerEnd::OutOfMemory;
-    }
-    if door_failed {
-        return ServerEnd::DoorFault;
-    }
-    ServerEnd::Finished
+    written(no_memory, door_failed)
 }
 
-// Serves a configuration, and writes the line of the totals.
-fn serve_config<R: Wait + Copy + Send, O: Sink, D: Door + Send, C: Crew>(
+// Writes a text, and the line of the totals behind it.
+fn write_behind<O: Sink>(
+    text: &[u8],
+    line: &[u8],
+    no_memory: bool,
+    door_failed: bool,
+    output: &mut O,
+) -> ServerEnd
+    ensures writes { WritesText (text.now ++ line.now) no_memory door_failed result (O.written output.old) (O.written output.new) }
+    ensures counts { WritesCounted result (O.faults output.old) (O.faults output.new) }
+{
+    if write_all(output, text).is_err() {
+        return ServerEnd::WriteFault;
+    }
+    if write_all(output, line).is_err() {
+        return ServerEnd::WriteFault;
+    }
+    written(no_memory, door_failed)
+}
+
+// Writes a journal that its audit finds legal, and the line of the totals. All text is made before any is written.
+fn write_journal_and_totals<O: Sink>(
+    alloc: Global,
+    journal: &Journal,
+    totals: Totals,
+    no_memory: bool,
+    door_failed: bool,
+    output: &mut O,
+) -> ServerEnd
+    requires { IsAuditable journal.now }
+    ensures writes { WritesJournal journal.now totals no_memory door_failed result (O.written output.old) (O.written output.new) }
+    ensures counts { WritesCounted result (O.faults output.old) (O.faults output.new) }
+{
+    let text = match legal_text(alloc, journal) {
+        Ok(text) => text,
+        Err(end) => return end,
+    };
+    let Ok(line) = totals_line(alloc, totals) else {
+        return ServerEnd::OutOfMemory;
+    };
+    write_behind(
+        text.as_slice(),
+        line.as_bytes(),
+        no_memory,
+        door_failed,
+        output,
+    )
+}
+
+// The journal, where one was asked for.
+fn journal_asked(journal: bool, workers: u8, document: Octets, entries: Entries) -> Option<Journal>
+    requires workers { (1 ≤ workers) × (workers ≤ 8) }
+    requires lists { length entries.by_worker ≡ workers }
+    requires writable { AreWritable entries }
+    requires faultless { fault_of (document_of document) ≡ None }
+    ensures journal { result ≡ where_asked journal (journal_of workers document entries) }
+    ensures auditable { IfSome result IsAuditable }
+{
+    if journal {
+        return Some(journal_of(workers, document, entries));
+    }
+    drop(document);
+    drop(entries);
+    None
+}
+
+// Writes the journal, where one was asked for, and the line of the totals.
+fn write_out<O: Sink>(
+    alloc: Global,
+    journal: Option<Journal>,
+    totals: Totals,
+    no_memory: bool,
+    door_failed: bool,
+    output: &mut O,
+) -> ServerEnd
+    requires { IfSome journal IsAuditable }
+    ensures writes { WritesAll journal totals no_memory door_failed result (O.written output.old) (O.written output.new) }
+    ensures counts { WritesCounted result (O.faults output.old) (O.faults output.new) }
+{
+    match journal {
+        Some(journal) => {
+            write_journal_and_totals(alloc, &journal, totals, no_memory, door_failed, output)
+        }
+        None => write_totals(alloc, totals, no_memory, door_failed, output),
+    }
+}
+
+// Serves a configuration, and writes what came of it.
+fn serve_input<R: Wait + Copy + Send, O: Sink, D: Door + Send, C: Crew>(
     rt: &R,
     alloc: Global,
-    config: &Config,
+    said: Input,
     address: &str,
+    journal: bool,
     connections: u32,
     output: &mut O,
     door: &mut Option<D>,
     crew: &mut C,
 ) -> ServerEnd
-    requires fits { IsTrue (all_fit empty_state (opening_edits config.now.edits)) }
-    requires workers { (1 ≤ config.now.workers) × (config.now.workers ≤ 8) }
+    requires fits { IsTrue (all_fit empty_state (opening_edits said.config.edits)) }
+    requires workers { (1 ≤ said.config.workers) × (said.config.workers ≤ 8) }
+    requires faultless { fault_of (document_of said.document) ≡ None }
     requires door { is_some door.old ≡ true }
     requires connections { 0 < connections }
-    ensures ends { EndsWith D.Conn D.counts D.given D.opened_at address.now connections config.now
+    ensures ends { EndsWith D.Conn D.counts D.given D.opened_at address.now journal connections said
         result door.old door.new (O.written output.old) (O.written output.new) }
     ensures runs { RunsInCrew result (C.counts crew.old) (C.counts crew.new) }
     ensures writes { WritesCounted result (O.faults output.old) (O.faults output.new) }
 {
-    match serve(rt, alloc, config, address, connections, door, crew) {
+    let Input { config, document } = said;
+    match serve(
+        rt,
+        alloc,
+        &config,
+        address,
+        journal,
+        connections,
+        door,
+        crew,
+    ) {
         Served::Whole {
             totals,
+            entries,
             no_memory,
             door_failed,
-        } => write_totals(alloc, totals, no_memory, door_failed, output),
+        } => {
+            let journal = journal_asked(journal, config.workers, document, entries);
+            write_out(alloc, journal, totals, no_memory, door_failed, output)
+        }
         Served::DoorFault => ServerEnd::DoorFault,
         Served::CrewFault => ServerEnd::CrewFault,
         Served::OutOfMemory => ServerEnd::OutOfMemory,
     }
 }
 
-/// Serves this many connections at an address, from the configuration that the input is, and writes the line of
-/// the totals. The door is back at every return.
+/// Serves this many connections at an address, from the configuration that the input is, and writes the journal,
+/// where one is asked for, and the line of the totals. The journal holds each command and each packet, from the
+/// first connection on, in memory until all have closed. The door is back at every return.
 pub fn run_server<R: Wait + Copy + Send, I: Source, O: Sink, D: Door + Send, C: Crew>(
     rt: &R,
     alloc: Global,
     address: &str,
+    journal: bool,
     connections: u32,
     input: &mut I,
     output: &mut O,
@@ -186,14 +328,24 @@ pub fn run_server<R: Wait + Copy + Send, I: Source, O: Sink, D: Door + Send, C: 
 ) -> ServerEnd
     requires door { is_some door.old ≡ true }
     requires connections { 0 < connections }
-    ensures ends { EndsAt D.Conn D.counts D.given D.opened_at address.now connections (I.left input.old)
+    ensures ends { EndsAt D.Conn D.counts D.given D.opened_at address.now journal connections (I.left input.old)
         result door.old door.new (O.written output.old) (O.written output.new) }
     ensures runs { RunsInCrew result (C.counts crew.old) (C.counts crew.new) }
     ensures reads { ReadsCounted result (I.faults input.old) (I.faults input.new) }
     ensures writes { WritesCounted result (O.faults output.old) (O.faults output.new) }
 {
-    match config_in(alloc, input) {
-        Ok(config) => serve_config(rt, alloc, &config, address, connections, output, door, crew),
+    match input_in(alloc, input) {
+        Ok(said) => serve_input(
+            rt,
+            alloc,
+            said,
+            address,
+            journal,
+            connections,
+            output,
+            door,
+            crew,
+        ),
         Err(end) => end,
     }
 }

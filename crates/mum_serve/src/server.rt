@@ -13,7 +13,8 @@ ghost use Rattle.mum_state.specs.State.{empty_state};
 ghost use Rattle.mum_state.specs.declared.edit.Edit.TheVariants.{SetLimits};
 
 use crate::collect::{Collected, collect};
-use crate::start::roles;
+use crate::entries::Entries;
+use crate::start::{Started, roles};
 use crate::totals::Totals;
 use mum_base::{OutOfMemory, PLACES, SLOTS};
 use mum_config::Config;
@@ -29,11 +30,12 @@ use std::mem::drop;
 use std::sync::Wait;
 
 /// What a server came to.
-#[derive(Clone, Copy, Debug)]
+#[derive(Drop)]
 pub enum Served {
     /// All connections were served to their ends.
     Whole {
         totals: Totals,
+        entries: Entries,
         /// Memory ran out on the way.
         no_memory: bool,
         /// The door failed on the way.
@@ -57,6 +59,7 @@ fn run<N: Serving + Send, R: Wait + Copy + Send, D: Door + Send, C: Crew>(
     passes: Vec<Pass>,
     door: D,
     crew: &mut C,
+    journal: bool,
     connections: u32,
 ) -> (Served, D)
     requires opening { publisher.old.opening ≡ N.opening }
@@ -70,9 +73,9 @@ fn run<N: Serving + Send, R: Wait + Copy + Send, D: Door + Send, C: Crew>(
     requires door { record { counts = D.counts door; given = D.given door; opened_at = D.opened_at door } ≡ N.door }
     requires connections { 0 < connections }
     ensures counts { RunsCounted result.0 (C.counts crew.old) (C.counts crew.new) }
-    ensures runs { Runs D.Conn D.counts D.given D.opened_at N.opening.state N.door connections workers result.0 result.1 }
+    ensures runs { Runs D.Conn D.counts D.given D.opened_at N.opening.state N.door journal connections workers result.0 result.1 }
 {
-    let roles = match roles::<D, N, R>(
+    let Started { roles, room } = match roles::<D, N, R>(
         rt,
         alloc,
         publisher,
@@ -80,27 +83,38 @@ fn run<N: Serving + Send, R: Wait + Copy + Send, D: Door + Send, C: Crew>(
         workers,
         passes,
         door,
+        journal,
         connections,
     ) {
-        Ok(roles) => roles,
+        Ok(started) => started,
         Err(door) => return (Served::OutOfMemory, door),
     };
     let run = crew.run(alloc, roles);
     let Collected {
         door,
         totals,
+        entries,
         no_memory,
         door_failed,
-    } = collect(run.roles);
-    let whole = Served::Whole {
-        totals,
-        no_memory,
-        door_failed,
-    };
+    } = collect(run.roles, room);
     match run.end {
-        CrewEnd::Ran => (whole, door),
-        CrewEnd::Refused => (Served::CrewFault, door),
-        CrewEnd::NoMemory => (Served::OutOfMemory, door),
+        CrewEnd::Ran => {
+            let whole = Served::Whole {
+                totals,
+                entries,
+                no_memory,
+                door_failed,
+            };
+            (whole, door)
+        }
+        CrewEnd::Refused => {
+            drop(entries);
+            (Served::CrewFault, door)
+        }
+        CrewEnd::NoMemory => {
+            drop(entries);
+            (Served::OutOfMemory, door)
+        }
     }
 }
 
@@ -149,6 +163,7 @@ fn run_opened<R: Wait + Copy + Send, D: Door + Send, C: Crew>(
     passes: Vec<Pass>,
     door: D,
     crew: &mut C,
+    journal: bool,
     connections: u32,
 ) -> (Served, D)
     requires state { state ≡ latest publisher.old }
@@ -161,7 +176,7 @@ fn run_opened<R: Wait + Copy + Send, D: Door + Send, C: Crew>(
     requires connections { 0 < connections }
     ensures counts { RunsCounted result.0 (C.counts crew.old) (C.counts crew.new) }
     ensures runs { Runs D.Conn D.counts D.given D.opened_at publisher.old.opening.state
-        (opening_at D.counts D.given D.opened_at door) connections workers result.0 result.1 }
+        (opening_at D.counts D.given D.opened_at door) journal connections workers result.0 result.1 }
 {
     run::<Brand, R, D, C>(
         rt,
@@ -172,6 +187,7 @@ fn run_opened<R: Wait + Copy + Send, D: Door + Send, C: Crew>(
         passes,
         door,
         crew,
+        journal,
         connections,
     )
 }
@@ -187,6 +203,7 @@ fn serve_at<R: Wait + Copy + Send, D: Door + Send, C: Crew>(
     address: &str,
     door: D,
     crew: &mut C,
+    journal: bool,
     connections: u32,
 ) -> (Served, D)
     requires state { state ≡ latest publisher.old }
@@ -198,7 +215,7 @@ fn serve_at<R: Wait + Copy + Send, D: Door + Send, C: Crew>(
     requires some { 0 < workers }
     requires connections { 0 < connections }
     ensures counts { RunsCounted result.0 (C.counts crew.old) (C.counts crew.new) }
-    ensures serves { Serves D.Conn D.counts D.given D.opened_at address.now publisher.old.opening.state connections workers
+    ensures serves { Serves D.Conn D.counts D.given D.opened_at address.now publisher.old.opening.state journal connections workers
         door result.0 result.1 }
 {
     let mut door = door;
@@ -216,6 +233,7 @@ fn serve_at<R: Wait + Copy + Send, D: Door + Send, C: Crew>(
         passes,
         door,
         crew,
+        journal,
         connections,
     )
 }
@@ -226,6 +244,7 @@ fn serve_over<R: Wait + Copy + Send, D: Door + Send, C: Crew>(
     alloc: Global,
     config: &Config,
     address: &str,
+    journal: bool,
     connections: u32,
     door: D,
     crew: &mut C,
@@ -234,7 +253,7 @@ fn serve_over<R: Wait + Copy + Send, D: Door + Send, C: Crew>(
     requires workers { (0 < config.now.workers) × (config.now.workers ≤ 10) }
     requires connections { 0 < connections }
     ensures counts { RunsCounted result.0 (C.counts crew.old) (C.counts crew.new) }
-    ensures serves { Serves D.Conn D.counts D.given D.opened_at address.now (after (opening_edits config.now.edits)) connections config.now.workers
+    ensures serves { Serves D.Conn D.counts D.given D.opened_at address.now (after (opening_edits config.now.edits)) journal connections config.now.workers
         door result.0 result.1 }
 {
     let Ok((state, copy)) = states(alloc, config.edits.as_slice()) else {
@@ -257,6 +276,7 @@ fn serve_over<R: Wait + Copy + Send, D: Door + Send, C: Crew>(
         address,
         door,
         crew,
+        journal,
         connections,
     );
     publisher.finish(rt);
@@ -265,12 +285,14 @@ fn serve_over<R: Wait + Copy + Send, D: Door + Send, C: Crew>(
 
 /// Serves the connections that come to a door: this many, or fewer where the door ends or fails. It returns when
 /// all are closed. The door is back at every return. A server has room for 512 sessions and 2,048 channels; these
-/// limits are set before what the configuration describes.
+/// limits are set before what the configuration describes. Where a journal is asked for, the roles write down what
+/// they do, and keep it in memory.
 pub fn serve<R: Wait + Copy + Send, D: Door + Send, C: Crew>(
     rt: &R,
     alloc: Global,
     config: &Config,
     address: &str,
+    journal: bool,
     connections: u32,
     door: &mut Option<D>,
     crew: &mut C,
@@ -280,13 +302,22 @@ pub fn serve<R: Wait + Copy + Send, D: Door + Send, C: Crew>(
     requires door { is_some door.old ≡ true }
     requires connections { 0 < connections }
     ensures counts { RunsCounted result (C.counts crew.old) (C.counts crew.new) }
-    ensures serves { ServesOver D.Conn D.counts D.given D.opened_at address.now (after (opening_edits config.now.edits)) connections
+    ensures serves { ServesOver D.Conn D.counts D.given D.opened_at address.now (after (opening_edits config.now.edits)) journal connections
         config.now.workers door.old result door.new }
 {
     let Some(taken) = door.take() else {
         unreachable!()
     };
-    let (served, back) = serve_over(rt, alloc, config, address, connections, taken, crew);
+    let (served, back) = serve_over(
+        rt,
+        alloc,
+        config,
+        address,
+        journal,
+        connections,
+        taken,
+        crew,
+    );
     *door = Some(back);
     served
 }

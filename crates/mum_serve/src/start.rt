@@ -1,6 +1,6 @@
 //! The roles of a server before their first turn.
 
-ghost use Rattle.std.specs.Prelude.{◌≡◌, ◌<◌, ◌++◌, ◌∷◌, [], IfOk, OnOk, false, length, map, vec_capacity};
+ghost use Rattle.std.specs.Prelude.{◌≡◌, ◌<◌, ◌≤◌, ◌++◌, ◌∷◌, [], IfOk, OnOk, is_some, length, map, vec_capacity};
 ghost use Rattle.std.specs.List.{All};
 ghost use Rattle.mum_published.specs.Calls.{IsFresh, appended, latest};
 ghost use Rattle.mum_serve.specs.Queues.{HasBoxes};
@@ -8,23 +8,33 @@ ghost use Rattle.mum_serve.specs.Roles.{AreLed, opening_of, role_openings, worke
 ghost use Rattle.mum_serve.specs.declared.roles.RoleOpening.TheVariants as openings;
 ghost use Rattle.mum_state.specs.Proper.{IsProper};
 
-use crate::collect::{Collected, collect};
+use crate::collect::door_of;
+use crate::entries::closing_room;
 use crate::queues::Queues;
 use crate::roles::Roles;
-use mum_base::OutOfMemory;
+use mum_base::{Items, OutOfMemory};
 use mum_control::Control;
 use mum_crew::FreeGate;
 use mum_io::Door;
 use mum_outbox::{Bell, Desk};
 use mum_owner::{Owner, Serving};
 use mum_published::{BellItem, Pass, Publisher};
+use mum_record::WorkerEntry;
 use mum_state::State;
 use mum_worker::{DeskItem, Shared, Worker};
 use std::alloc::Global;
 use std::mem::drop;
 use std::sync::Wait;
 
-// The control owner, the queues of the other roles, and room for all roles.
+/// The roles, and room for what each worker will have written down.
+#[derive(Drop)]
+pub(crate) struct Started<'a, D: Door + Send, N: Serving, R: Wait + Copy + Send> {
+    pub(crate) roles: Vec<Roles<'a, D, FreeGate, N, R>>,
+    pub(crate) room: Vec<Items<WorkerEntry>>,
+}
+
+// The control owner, the queues of the other roles, room for all roles, and room for what each worker will have written
+// down.
 #[derive(Drop)]
 struct Parts<'a, D: Door + Send, N: Serving, R: Wait + Copy + Send> {
     control: Control<'a, N>,
@@ -32,6 +42,7 @@ struct Parts<'a, D: Door + Send, N: Serving, R: Wait + Copy + Send> {
     bells: Vec<Bell<BellItem<D::Conn, N>>>,
     shared: Vec<Shared<D::Conn, N>>,
     roles: Vec<Roles<'a, D, FreeGate, N, R>>,
+    room: Vec<Items<WorkerEntry>>,
 }
 
 fn make_parts<'a, D: Door + Send, N: Serving, R: Wait + Copy + Send>(
@@ -49,8 +60,10 @@ fn make_parts<'a, D: Door + Send, N: Serving, R: Wait + Copy + Send>(
     ensures boxes { IfOk result (λ parts. All HasBoxes parts.shared.items) }
     ensures nobody { IfOk result (λ parts. parts.roles.items ≡ []) }
     ensures room { IfOk result (λ parts. 0 < vec_capacity parts.roles) }
+    ensures entries { IfOk result (λ parts. (parts.room.items ≡ []) × (workers ≤ vec_capacity parts.room)) }
 {
     let roles = Vec::with_capacity(alloc, workers.saturating_add(1))?;
+    let room = Vec::with_capacity(alloc, workers)?;
     let Queues {
         posts,
         desk,
@@ -64,6 +77,7 @@ fn make_parts<'a, D: Door + Send, N: Serving, R: Wait + Copy + Send>(
         bells,
         shared,
         roles,
+        room,
     })
 }
 
@@ -76,6 +90,7 @@ fn lead<'a, D: Door + Send, N: Serving, R: Wait + Copy + Send>(
     desk: Desk<DeskItem>,
     bells: Vec<Bell<BellItem<D::Conn, N>>>,
     door: D,
+    journal: bool,
     connections: u32,
     roles: &mut Vec<Roles<'a, D, FreeGate, N, R>>,
 ) -> Result<(), D>
@@ -88,20 +103,21 @@ fn lead<'a, D: Door + Send, N: Serving, R: Wait + Copy + Send>(
     requires room { 0 < vec_capacity roles.old }
     ensures led { OnOk result (AreLed roles.new.items) }
     ensures openings { OnOk result (map (opening_of N.opening.state N.door) roles.new.items
-        ≡ role_openings N.opening.state N.door connections 0) }
+        ≡ role_openings N.opening.state N.door journal connections 0) }
 {
-    let owner = Owner::open(*rt, alloc, control, desk, bells, door, connections, false)?;
+    let owner = Owner::open(*rt, alloc, control, desk, bells, door, connections, journal)?;
     roles.push_reserved(Roles::Owner(owner));
     Ok(())
 }
 
-// One worker more, of this number.
+// One worker more, of this number. Where a journal is asked for, it takes the room of so many closing entries.
 fn push_worker<'a, D: Door + Send, N: Serving, R: Wait + Copy + Send>(
     rt: &R,
     alloc: Global,
     number: u8,
     pass: Pass,
     ends: Shared<D::Conn, N>,
+    closings: Option<u32>,
     roles: &mut Vec<Roles<'a, D, FreeGate, N, R>>,
 ) -> Result<(), OutOfMemory>
     requires proper { IsProper N.opening.state }
@@ -110,9 +126,9 @@ fn push_worker<'a, D: Door + Send, N: Serving, R: Wait + Copy + Send>(
     requires led { AreLed roles.old.items }
     ensures led { AreLed roles.new.items }
     ensures pushed { OnOk result (map (opening_of N.opening.state N.door) roles.new.items
-        ≡ map (opening_of N.opening.state N.door) roles.old.items ++ openings.Worker (record { number = number; journal = false }) ∷ []) }
+        ≡ map (opening_of N.opening.state N.door) roles.old.items ++ openings.Worker (record { number = number; journal = is_some closings }) ∷ []) }
 {
-    let worker = Worker::open(*rt, alloc, number, pass, ends, FreeGate, None)?;
+    let worker = Worker::open(*rt, alloc, number, pass, ends, FreeGate, closings)?;
     roles.push(Roles::Worker(worker))?;
     Ok(())
 }
@@ -124,6 +140,7 @@ fn push_workers<'a, D: Door + Send, N: Serving, R: Wait + Copy + Send>(
     workers: u8,
     passes: Vec<Pass>,
     shared: Vec<Shared<D::Conn, N>>,
+    closings: Option<u32>,
     roles: &mut Vec<Roles<'a, D, FreeGate, N, R>>,
 ) -> Result<(), OutOfMemory>
     requires proper { IsProper N.opening.state }
@@ -134,7 +151,7 @@ fn push_workers<'a, D: Door + Send, N: Serving, R: Wait + Copy + Send>(
     requires led { AreLed roles.old.items }
     ensures led { AreLed roles.new.items }
     ensures pushed { OnOk result (map (opening_of N.opening.state N.door) roles.new.items
-        ≡ map (opening_of N.opening.state N.door) roles.old.items ++ map openings.Worker (worker_openings 0 workers)) }
+        ≡ map (opening_of N.opening.state N.door) roles.old.items ++ map openings.Worker (worker_openings (is_some closings) 0 workers)) }
 {
     let mut passes = passes.into_iter();
     let mut shared = shared.into_iter();
@@ -142,13 +159,14 @@ fn push_workers<'a, D: Door + Send, N: Serving, R: Wait + Copy + Send>(
         let (Some(pass), Some(ends)) = (passes.next(), shared.next()) else {
             unreachable!()
         };
-        push_worker::<D, N, R>(rt, alloc, number, pass, ends, roles)?;
+        push_worker::<D, N, R>(rt, alloc, number, pass, ends, closings, roles)?;
     }
     Ok(())
 }
 
 /// All roles of a server over a publisher and the passes of its workers: the owner first, and then the workers in
-/// the order of their numbers. Where memory runs out, the door comes back.
+/// the order of their numbers. Where a journal is asked for, there is room for one closing entry of each connection
+/// that a worker may get. Where memory runs out, the door comes back.
 pub(crate) fn roles<'a, D: Door + Send, N: Serving, R: Wait + Copy + Send>(
     rt: &R,
     alloc: Global,
@@ -157,8 +175,9 @@ pub(crate) fn roles<'a, D: Door + Send, N: Serving, R: Wait + Copy + Send>(
     workers: u8,
     passes: Vec<Pass>,
     door: D,
+    journal: bool,
     connections: u32,
-) -> Result<Vec<Roles<'a, D, FreeGate, N, R>>, D>
+) -> Result<Started<'a, D, N, R>, D>
     requires opening { publisher.old.opening ≡ N.opening }
     requires state { state ≡ latest publisher.old }
     requires fresh { appended publisher.old ≡ [] }
@@ -169,9 +188,10 @@ pub(crate) fn roles<'a, D: Door + Send, N: Serving, R: Wait + Copy + Send>(
     requires some { 0 < workers }
     requires door { record { counts = D.counts door; given = D.given door; opened_at = D.opened_at door } ≡ N.door }
     requires connections { 0 < connections }
-    ensures led { IfOk result (λ roles. AreLed roles.items) }
-    ensures openings { IfOk result (λ roles. map (opening_of N.opening.state N.door) roles.items
-        ≡ role_openings N.opening.state N.door connections workers) }
+    ensures led { IfOk result (λ started. AreLed started.roles.items) }
+    ensures openings { IfOk result (λ started. map (opening_of N.opening.state N.door) started.roles.items
+        ≡ role_openings N.opening.state N.door journal connections workers) }
+    ensures room { IfOk result (λ started. (started.room.items ≡ []) × (workers ≤ vec_capacity started.room)) }
 {
     let Ok(parts) = make_parts::<D, N, R>(alloc, publisher, state, usize::from(workers)) else {
         drop(passes);
@@ -183,6 +203,7 @@ pub(crate) fn roles<'a, D: Door + Send, N: Serving, R: Wait + Copy + Send>(
         bells,
         shared,
         mut roles,
+        room,
     } = parts;
     lead(
         rt,
@@ -191,14 +212,13 @@ pub(crate) fn roles<'a, D: Door + Send, N: Serving, R: Wait + Copy + Send>(
         desk,
         bells,
         door,
+        journal,
         connections,
         &mut roles,
     )?;
-    match push_workers::<D, N, R>(rt, alloc, workers, passes, shared, &mut roles) {
-        Ok(()) => Ok(roles),
-        Err(_) => {
-            let Collected { door, .. } = collect(roles);
-            Err(door)
-        }
+    let closings = closing_room(journal, connections, workers);
+    match push_workers::<D, N, R>(rt, alloc, workers, passes, shared, closings, &mut roles) {
+        Ok(()) => Ok(Started { roles, room }),
+        Err(_) => Err(door_of(roles)),
     }
 }

@@ -1,11 +1,15 @@
 //! What the roles of a server came to.
 
 ghost use Rattle.std.specs.Prelude.{◌≡◌};
+ghost use Rattle.mum_record.specs.Journal.{Each, IsWritableEntry};
+ghost use Rattle.mum_serve.specs.Journals.{entries_of};
 ghost use Rattle.mum_serve.specs.Totals.{nothing, totals_of, with_worker};
 
+use mum_base::Items;
 use mum_crew::Gate;
 use mum_io::Link;
 use mum_published::Naming;
+use mum_record::WorkerEntry;
 use mum_worker::{Worker, WorkerEnd};
 use std::sync::Wait;
 
@@ -51,26 +55,29 @@ impl WorkerTotals {
         }
     }
 
-    /// Ends a worker, and adds what it came to.
+    /// Ends a worker, and adds what it came to. Its entries are handed on.
     pub(crate) fn add<L: Link, G: Gate, N: Naming, R: Wait + Copy>(
         &mut self,
         worker: Worker<L, G, N, R>,
-    )
-        ensures { self.new ≡ with_worker worker self.old }
+    ) -> Items<WorkerEntry>
+        ensures totals { self.new ≡ with_worker worker self.old }
+        ensures entries { result ≡ entries_of worker }
+        ensures writable { Each IsWritableEntry result }
     {
         let WorkerEnd {
             looks,
             copies,
             full,
             stale,
+            entries,
             no_memory,
-            ..
         } = worker.finish();
         self.looks = self.looks.saturating_add(looks);
         self.copies = self.copies.saturating_add(copies);
         self.full = self.full.saturating_add(full);
         self.stale = self.stale.saturating_add(stale);
         self.no_memory = self.no_memory || no_memory;
+        Items::from_vec(entries)
     }
 }
 

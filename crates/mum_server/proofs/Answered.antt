@@ -1,12 +1,8 @@
 -- What a line of the configuration, and what a line of a step, is answered by.
 use Rattle.std.proofs.Common.{◌≡◌, ℕ, List, [], ◌∷◌, ◌++◌, Option, Some, None, Result, Ok, Err, Bool, true, false, refl, sym, ap, ◌∙◌}
-use Rattle.std.specs.Option.{option_map_or}
-use Rattle.mum_config.specs.Document.{ReadsText}
-use Rattle.mum_document.specs.Fault.{Fault}
-use Rattle.mum_document.specs.Reading.{Names as ConfigNames}
-use Rattle.mum_config.specs.declared.config.Config.{Config as Configuration}
-use Rattle.mum_document.specs.declared.fault.BadConfig.TheVariants as bad
-use Rattle.mum_document.specs.declared.fault.ConfigFault.{ConfigFault}
+use Rattle.std.specs.Option.{option_map}
+use Rattle.mum_document.specs.Fault.{Fault, fault_code}
+use Rattle.mum_config.specs.Refusal.{told_fault}
 use Rattle.mum_record.specs.declared.step.Step.{Step}
 use Rattle.mum_record.specs.declared.step.Step.TheVariants as words
 use Rattle.mum_record.specs.Head.{config_of, version_with}
@@ -23,20 +19,9 @@ use Rattle.mum_server.specs.declared.replay.Phase.TheVariants.{Running, Over}
 use Rattle.mum_server.specs.declared.end.LineFault.TheVariants.{TooLong, BadRecording, BadJournal, BadConfig, IllegalStep, AuditWrong}
 use Rattle.mum_server.specs.declared.end.End.{End}
 use Rattle.mum_server.specs.declared.end.End.TheVariants.{Finished, Faulty, ReadFault, WriteFault, OutOfMemory}
-use Rattle.mum_server.specs.Opening.{document_edits, document_fault, limits_edits, opening}
+use Rattle.mum_opening.specs.Opening.{document_edits, document_fault, limits_edits, opening}
 use Rattle.mum_server.specs.Replay.{Goes, Stops, answer, config_answer, opening_answer, phase_after, step_answer}
 use Rattle.mum_server.specs.Runs.{Begins, Describes, LineAnswers, Names, Opens, is_end}
-
--- what is read of a document that has bytes is what the recording says of it
-pub described : (n : ℕ) (document : List ℕ) (config : Configuration) → (document ≡ [] → ⊥) → ReadsText document (Ok config) → Describes n document (Ok config.edits)
-described n [] config filled reads = absurd (filled refl)
-described n (byte ∷ bytes) config filled reads = (reads.0, sym (ap (λ (found : Option Configuration). option_map_or (λ c. c.edits) found []) reads.1))
-
-pub undescribed : (n : ℕ) (document : List ℕ) (cause : ConfigFault) (key : List ℕ) → (document ≡ [] → ⊥) → ReadsText document (Err (bad.Fault cause key))
-    → Describes n document (Err (Faulty n (BadConfig cause key)))
-unfolding ConfigNames
-undescribed n [] cause key filled reads = absurd (filled refl)
-undescribed n (byte ∷ bytes) cause key filled reads = (reads, refl)
 
 -- a document without a fault opens at what it describes, once the limits are set
 pub config_opens : (w : ℕ) (limits : Option (ℕ × ℕ)) (document : List ℕ) (edits : List Edit) (version : Version) (state : StateValue) (core : CoreState) → document_fault document ≡ None
@@ -51,13 +36,26 @@ config_opens w limits document edits version state core good are of leads is =
     ∙ sym is)
 
 -- one with a fault stops there
-pub config_stops : (w : ℕ) (limits : Option (ℕ × ℕ)) (document : List ℕ) (fault : Fault) → document_fault document ≡ Some fault → config_answer w limits (Some document) ≡ Stops (BadConfig fault.cause fault.key)
+pub config_stops : (w : ℕ) (limits : Option (ℕ × ℕ)) (document : List ℕ) (fault : Fault) → document_fault document ≡ Some fault → config_answer w limits (Some document) ≡ Stops (BadConfig (fault_code fault.cause) fault.key)
 config_stops w limits document fault bad =
     ap (λ (f : Option Fault). opening_answer f (Running (start (version_with limits) (opening limits document) w))) bad
 
+told_same : (one other : ℕ × List ℕ) → Some one ≡ Some other → one ≡ other
+told_same one other same = cc
+
+-- and is told by its number
+told_stops : (w : ℕ) (limits : Option (ℕ × ℕ)) (document : List ℕ) (found : Option Fault) (code : ℕ) (key : List ℕ) → document_fault document ≡ found
+    → option_map told_fault found ≡ Some (code, key) → config_answer w limits (Some document) ≡ Stops (BadConfig code key)
+told_stops w limits document None code key is told = absurd (cc)
+told_stops w limits document (Some fault) code key is told =
+    let same : told_fault fault ≡ (code, key) = told_same (told_fault fault) (code, key) told in
+    let numbered : fault_code fault.cause ≡ code = ap (λ (both : ℕ × List ℕ). both.0) same in
+    let placed : fault.key ≡ key = ap (λ (both : ℕ × List ℕ). both.1) same in
+    config_stops w limits document fault is ∙ ap (λ (c : ℕ). Stops (BadConfig c fault.key)) numbered ∙ ap (λ (k : List ℕ). Stops (BadConfig code k)) placed
+
 -- where no edits are described, nothing is opened
 pub opens_not : (n w : ℕ) (limits : Option (ℕ × ℕ)) (document : List ℕ) (end : End) → Describes n document (Err end) → Opens n w limits document (Err end)
-opens_not n w limits document (Faulty m (BadConfig cause key)) h = (config_stops w limits document (record { cause = cause; key = key }) h.0, h.1)
+opens_not n w limits document (Faulty m (BadConfig code key)) h = (told_stops w limits document (document_fault document) code key refl h.0, h.1)
 opens_not n w limits document (Faulty m TooLong) h = absurd h
 opens_not n w limits document (Faulty m BadRecording) h = absurd h
 opens_not n w limits document (Faulty m BadJournal) h = absurd h

@@ -3,11 +3,6 @@ use Rattle.std.proofs.Common.{◌≡◌, ℕ, List, Option, Some, None, Ok, Err,
 use Rattle.std.specs.Prelude.{IfSome}
 use Rattle.mum_io.specs.Outside.{AppendsFront}
 use Rattle.mum_io.proofs.OutsideLemmas.{Appends-nil}
-use Rattle.mum_document.specs.Reading.{Names}
-use Rattle.mum_document.specs.declared.fault.BadConfig.TheVariants as bad
-use Rattle.mum_document.specs.declared.fault.ConfigFault.{ConfigFault}
-use Rattle.mum_opening.specs.Opening.{document_fault}
-use Rattle.mum_opening.specs.Reading.{ReadsDocument}
 use Rattle.mum_record.specs.declared.journal.Journal.{Journal}
 use Rattle.mum_server.specs.declared.end.End.{End}
 use Rattle.mum_server.specs.declared.end.End.TheVariants.{Finished, Faulty, ReadFault, WriteFault, OutOfMemory}
@@ -15,11 +10,6 @@ use Rattle.mum_server.specs.Audit.{IsFaultOf, answered, audit_of, judged}
 use Rattle.mum_server.specs.JournalText.{ReadsInput, journal_read}
 use Rattle.mum_server.specs.Program.{Ends, ReadsCounted}
 use Rattle.mum_server.specs.Replay.{Outcome, stops_at}
-
--- the first fault of a document that was read
-pub config_fault : (document : List ℕ) (cause : ConfigFault) (key : List ℕ) → ReadsDocument document (Err (bad.Fault cause key)) → document_fault document ≡ Some (record { cause = cause; key = key })
-unfolding Names
-config_fault document cause key reads = reads
 
 -- nothing is a front of anything
 nothing : (old : Option (List ℕ)) (text : List ℕ) → AppendsFront old old text

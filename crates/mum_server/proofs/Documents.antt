@@ -18,7 +18,7 @@ use Rattle.serde_json.specs.Read.{number_of}
 use Rattle.mum_record.specs.declared.head.Version.TheVariants.{One}
 use Rattle.mum_core.specs.Core.{CoreState, start}
 use Rattle.mum_server.specs.Exercise.{document}
-use Rattle.mum_server.specs.Opening.{document_fault, opening}
+use Rattle.mum_opening.specs.Opening.{document_fault, opening}
 use Rattle.mum_server.specs.Replay.{Goes, config_answer, opening_answer}
 use Rattle.mum_server.specs.declared.exercise.TheConstants.{WORKERS}
 use Rattle.mum_server.specs.declared.replay.Phase.TheVariants.{Running}

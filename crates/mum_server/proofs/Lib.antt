@@ -3,7 +3,6 @@ pub mod Answered
 pub mod Asked
 pub mod Told
 pub mod Reported
-pub mod Limited
 pub mod TooLong
 pub mod Underway
 pub mod Gathering

@@ -1,5 +1,5 @@
 -- The state at which the steps of a recording begin is proper.
-use Rattle.std.proofs.Common.{◌≡◌, ℕ, List, [], ◌∷◌, Option, Some, None, true, refl, ap, arith}
+use Rattle.std.proofs.Common.{◌≡◌, ℕ, List, [], ◌∷◌, Option, Some, None, true, leb, refl, ap, arith}
 use Rattle.std.specs.Option.{option_map, option_map_or}
 use Rattle.serde_json.specs.Data.{Data}
 use Rattle.mum_config.proofs.Bare.{empty_bare}
@@ -8,18 +8,28 @@ use Rattle.mum_config.specs.Limits.{FitAfterLimits}
 use Rattle.mum_config.specs.Document.{config_of, fault_of, value_of}
 use Rattle.mum_config.specs.declared.config.Config.{Config}
 use Rattle.std.specs.Prelude.{IfSome, Ok}
-use Rattle.std.proofs.lemmas.Bool.{and_from}
+use Rattle.std.proofs.lemmas.Bool.{and_from, le-leb}
+use Rattle.mum_base.specs.declared.number.TheConstants.{PLACES, SLOTS}
 use Rattle.mum_record.specs.Head.{AreLimits}
 use Rattle.mum_state.specs.Applied.{applied}
 use Rattle.mum_state.specs.Fits.{fits}
 use Rattle.mum_state.specs.declared.edit.Edit.TheVariants.{SetLimits}
+use Rattle.mum_state.proofs.Fitting.{fit_from}
 use Rattle.mum_state.proofs.Keeping.{keeps_proper_lem}
 use Rattle.mum_state.specs.After.{all_fit}
 use Rattle.mum_state.specs.Proper.{IsProper}
 use Rattle.mum_state.specs.State.{empty_state}
 use Rattle.mum_state.specs.declared.edit.Edit.{Edit}
-use Rattle.mum_server.specs.Opening.{document_edits, document_fault, opening, opening_edits}
-use Rattle.mum_server.proofs.Limited.{limited_fits}
+use Rattle.mum_opening.specs.Opening.{document_edits, document_fault, opening, opening_edits}
+
+-- the limits that a recording may name are set in the empty server
+limited_fits : (limits : ℕ × ℕ) → AreLimits limits → fits empty_state (SetLimits limits.0 limits.1) ≡ true
+limited_fits limits are = fit_from empty_state (SetLimits limits.0 limits.1) (record {
+  named = refl;
+  numbers = and_from (leb 128 limits.0) (leb 1024 limits.1) (le-leb 128 limits.0 are.0) (le-leb 1024 limits.1 are.2);
+  sets = and_from (leb limits.0 SLOTS) (leb limits.1 PLACES) (le-leb limits.0 SLOTS are.1) (le-leb limits.1 PLACES are.3);
+  countable = refl;
+})
 
 abbrev pub edits_in : Option Data → List Edit
 edits_in found = option_map_or (λ (config : Config). config.edits) (option_map config_of found) []

@@ -67,7 +67,7 @@ fault_says : (fault : LineFault) (end : End) → said (fault_status fault) end �
 fault_says TooLong end = refl
 fault_says BadRecording end = refl
 fault_says BadJournal end = refl
-fault_says (BadConfig cause key) end = refl
+fault_says (BadConfig code key) end = refl
 fault_says (IllegalStep given against) end = refl
 fault_says (AuditWrong given defined) end = refl
 
@@ -164,7 +164,7 @@ fault_is_known : (fault : LineFault) → fault_status fault ≡ 70 → ⊥
 fault_is_known TooLong is = cc
 fault_is_known BadRecording is = cc
 fault_is_known BadJournal is = cc
-fault_is_known (BadConfig cause key) is = cc
+fault_is_known (BadConfig code key) is = cc
 fault_is_known (IllegalStep given against) is = cc
 fault_is_known (AuditWrong given defined) is = cc
 

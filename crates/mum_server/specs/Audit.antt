@@ -1,6 +1,8 @@
 -- What the program makes of a journal: the line of its counts, or the first fault.
 use Rattle.std.specs.Prelude.{◌≡◌, ℕ, ◌-◌, List, [], ◌∷◌, ◌++◌, Option, Some, None, Result, Ok, Err, ⊤, codes, decimal}
-use Rattle.mum_document.specs.Fault.{Fault}
+use Rattle.std.specs.Option.{option_map}
+use Rattle.mum_config.specs.Refusal.{told_fault}
+use Rattle.mum_document.specs.Fault.{Fault, fault_code}
 use Rattle.mum_opening.specs.Opening.{document_fault}
 use Rattle.mum_record.specs.Head.{first_step_line, version_with}
 use Rattle.mum_record.specs.Words.{line_of_words}
@@ -33,7 +35,7 @@ config_line limits = first_step_line (version_with limits) - 1
 
 -- the configuration is tested before the entries
 abbrev pub judged_with : Option Fault → Journal → Outcome
-judged_with (Some fault) journal = stops_at (config_line journal.limits) (BadConfig fault.cause fault.key)
+judged_with (Some fault) journal = stops_at (config_line journal.limits) (BadConfig (fault_code fault.cause) fault.key)
 judged_with None journal = found (audited journal)
 
 abbrev pub judged : Journal → Outcome
@@ -65,7 +67,7 @@ Judges bytes outcome (Err end) = IsFaultOf outcome end
 -- the document of a journal has no fault, or this is its first
 abbrev pub FindsFault : Journal → Result ⊤ End → Type 0
 FindsFault journal (Ok done) = document_fault journal.config ≡ None
-FindsFault journal (Err (Faulty n (BadConfig cause key))) =
-    (document_fault journal.config ≡ Some (record { cause = cause; key = key })) × (n ≡ config_line journal.limits)
+FindsFault journal (Err (Faulty n (BadConfig code key))) =
+    (option_map told_fault (document_fault journal.config) ≡ Some (code, key)) × (n ≡ config_line journal.limits)
 FindsFault journal (Err OutOfMemory) = Unit {0}
 FindsFault journal (Err others) = ⊥

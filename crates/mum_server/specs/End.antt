@@ -1,7 +1,6 @@
 -- The status and the line of each way in which the program ends.
 use Rattle.std.specs.Prelude.{ℕ, ◌==◌, List, [], ◌∷◌, ◌++◌, codes, decimal, if◌then◌else◌}
 use Rattle.mum_record.specs.Words.{line_of_words}
-use Rattle.mum_document.specs.Fault.{fault_code}
 use Rattle.mum_server.specs.declared.end.End.{End}
 use Rattle.mum_server.specs.declared.end.End.TheVariants.{Finished, Faulty, ReadFault, WriteFault, OutOfMemory}
 use Rattle.mum_server.specs.declared.end.LineFault.{LineFault}
@@ -11,7 +10,7 @@ abbrev pub fault_status : LineFault → ℕ
 fault_status TooLong = 10
 fault_status BadRecording = 2
 fault_status BadJournal = 2
-fault_status (BadConfig cause key) = 6
+fault_status (BadConfig code key) = 6
 fault_status (IllegalStep given against) = 7
 fault_status (AuditWrong given defined) = 5
 
@@ -30,14 +29,14 @@ abbrev pub fault_name : LineFault → List ℕ
 fault_name TooLong = codes "TooLong"
 fault_name BadRecording = codes "BadRecording"
 fault_name BadJournal = codes "BadJournal"
-fault_name (BadConfig cause key) = codes "BadConfig"
+fault_name (BadConfig code key) = codes "BadConfig"
 fault_name (IllegalStep given against) = codes "IllegalStep"
 fault_name (AuditWrong given defined) = codes "AuditWrong"
 
 -- what a fault of line n tells beside its name: where it is, and what it is about. A configuration has one line, so
 -- its fault names the key and no line
 abbrev pub details : ℕ → LineFault → List (List ℕ)
-details n (BadConfig cause key) = decimal (fault_code cause) ∷ key ∷ []
+details n (BadConfig code key) = decimal code ∷ key ∷ []
 details n (IllegalStep given against) = codes "line" ∷ decimal n ∷ codes "given" ∷ decimal given ∷ codes "against" ∷ decimal against ∷ []
 details n (AuditWrong given defined) = codes "line" ∷ decimal n ∷ codes "given" ∷ given ∷ codes "defined" ∷ defined ∷ []
 details n others = codes "line" ∷ decimal n ∷ []

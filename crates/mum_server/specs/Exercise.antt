@@ -17,7 +17,7 @@ use Rattle.mum_core.specs.declared.machine.Totals.{Totals}
 use Rattle.mum_core.specs.declared.worker.Outgoing.{Outgoing}
 use Rattle.mum_server.specs.Acts.{aiming, channel_frame, entering, linking, listening, login_frame, self_muting, target_frame, user_frame, voice_frame}
 use Rattle.mum_server.specs.Draws.{drawn_round, seeded}
-use Rattle.mum_server.specs.Opening.{opening}
+use Rattle.mum_opening.specs.Opening.{opening}
 use Rattle.mum_server.specs.Replay.{Outcome}
 use Rattle.mum_server.specs.declared.draws.Act.{Act}
 use Rattle.mum_server.specs.declared.draws.Act.TheVariants.{Talk, Enter, Link, SetSelfMute, Listen, Aim}

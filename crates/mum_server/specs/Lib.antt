@@ -1,5 +1,4 @@
 pub mod Command
-pub mod Opening
 pub mod End
 pub mod Replay
 pub mod Runs

@@ -9,14 +9,14 @@ use Rattle.mum_record.specs.declared.head.Version.TheVariants.{One, Two}
 use Rattle.mum_record.specs.Reading.{step_of}
 use Rattle.mum_record.specs.Lines.{is_line_feed}
 use Rattle.mum_record.specs.declared.split.TheConstants.{LINE_LIMIT, INPUT_LIMIT}
-use Rattle.mum_document.specs.Fault.{Fault}
+use Rattle.mum_document.specs.Fault.{Fault, fault_code}
 use Rattle.mum_server.specs.declared.{end.End.End, end.End.TheVariants.Finished, end.End.TheVariants.Faulty, end.LineFault.LineFault, replay.Phase.Phase}
 use Rattle.mum_server.specs.declared.end.LineFault.TheVariants.{TooLong, BadRecording, BadConfig, IllegalStep}
 use Rattle.mum_server.specs.declared.replay.Phase.TheVariants.{Head, Workers, Limits, Config, LimitedConfig, Running, Over}
 use Rattle.mum_core.specs.Core.{CoreState, start}
 use Rattle.mum_core.specs.Line.{text_of}
 use Rattle.mum_core.specs.Step.{does, illegal, lines}
-use Rattle.mum_server.specs.Opening.{document_fault, opening}
+use Rattle.mum_opening.specs.Opening.{document_fault, opening}
 
 -- ---- one line
 
@@ -56,7 +56,7 @@ limits_answer workers (Some limits) = Goes (LimitedConfig workers limits) []
 
 -- a document is refused for its first fault; where it has none, the steps begin at what it describes
 abbrev pub opening_answer : Option Fault → Phase → Answer
-opening_answer (Some fault) phase = Stops (BadConfig fault.cause fault.key)
+opening_answer (Some fault) phase = Stops (BadConfig (fault_code fault.cause) fault.key)
 opening_answer None phase = Goes phase []
 
 abbrev pub config_answer : ℕ → Option (ℕ × ℕ) → Option (List ℕ) → Answer

@@ -1,5 +1,7 @@
 -- What the code that runs over a recording answers, in the words of its definition.
 use Rattle.std.specs.Prelude.{◌≡◌, ◌+◌, ℕ, Bool, true, false, List, [], ◌++◌, Option, Some, None, Result, Ok, Err, ⊤, string_bytes}
+use Rattle.std.specs.Option.{option_map}
+use Rattle.mum_config.specs.Refusal.{told_fault}
 use Rattle.mum_record.specs.Head.{config_of}
 use Rattle.mum_record.specs.declared.step.Step.{Step}
 use Rattle.mum_record.specs.declared.step.Step.TheVariants as words
@@ -8,7 +10,7 @@ use Rattle.mum_core.specs.Core.{CoreState}
 use Rattle.mum_core.specs.Line.{text_of}
 use Rattle.mum_core.specs.Step.{does, lines}
 use Rattle.mum_state.specs.declared.edit.Edit.{Edit}
-use Rattle.mum_server.specs.Opening.{document_edits, document_fault}
+use Rattle.mum_opening.specs.Opening.{document_edits, document_fault}
 use Rattle.mum_server.specs.Replay.{Answer, Goes, Stops, answer, config_answer, step_answer, phase_after}
 
 -- line n was taken, with these bytes told; or it is where the run ends
@@ -35,7 +37,7 @@ Names n named (Err others) = ⊥
 -- the edits of a document of line n, or its first fault
 abbrev pub Describes : ℕ → List ℕ → Result (List Edit) End → Type 0
 Describes n document (Ok edits) = (document_fault document ≡ None) × (edits ≡ document_edits document)
-Describes n document (Err (Faulty m (BadConfig cause key))) = (document_fault document ≡ Some (record { cause = cause; key = key })) × (m ≡ n)
+Describes n document (Err (Faulty m (BadConfig code key))) = (option_map told_fault (document_fault document) ≡ Some (code, key)) × (m ≡ n)
 Describes n document (Err OutOfMemory) = Unit {0}
 Describes n document (Err others) = ⊥
 

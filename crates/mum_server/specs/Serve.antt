@@ -1,5 +1,5 @@
 -- What a run that serves answers and says.
-use Rattle.std.specs.Prelude.{◌≡◌, ⊤, ℕ, List, [], ◌∷◌, ◌++◌, codes, Option, Some, None}
+use Rattle.std.specs.Prelude.{◌≡◌, ⊤, ℕ, Bool, List, [], ◌∷◌, ◌++◌, codes, Option, Some, None}
 use Rattle.mum_crew.specs.Crew.{CrewCounts}
 use Rattle.mum_io.specs.Counts.{Counts, Rose}
 use Rattle.mum_serve.specs.Program.{EndsAt, ReadsCounted, RunsInCrew, WritesCounted}
@@ -9,7 +9,7 @@ use Rattle.mum_server.specs.Plain.{InputFacts, SinkFacts}
 use Rattle.mum_server.specs.Program.{Reports, Tells}
 use Rattle.mum_server.specs.declared.end.End.{End}
 use Rattle.mum_server.specs.declared.end.End.TheVariants.{Finished, Faulty, ReadFault, WriteFault, OutOfMemory}
-use Rattle.mum_server.specs.declared.end.LineFault.TheVariants.{BadConfig}
+use Rattle.mum_server.specs.declared.end.LineFault.TheVariants.{BadConfig, AuditWrong}
 
 abbrev pub door_fault_line : List ℕ
 door_fault_line = codes "murmur: 8 DoorFault" ++ 10 ∷ []
@@ -20,10 +20,11 @@ crew_fault_line = codes "murmur: 9 CrewFault" ++ 10 ∷ []
 -- the status and the line are those of the end
 abbrev pub ServerReports : ServerEnd → ℕ → Option (List ℕ) → Option (List ℕ) → Type 0 → Type 0
 ServerReports ends.Finished status old new failed = Reports Finished status old new failed
-ServerReports (ends.BadConfig cause key) status old new failed = Reports (Faulty 1 (BadConfig cause key)) status old new failed
+ServerReports (ends.BadConfig code key) status old new failed = Reports (Faulty 1 (BadConfig code key)) status old new failed
 ServerReports ends.ReadFault status old new failed = Reports ReadFault status old new failed
 ServerReports ends.WriteFault status old new failed = Reports WriteFault status old new failed
 ServerReports ends.DoorFault status old new failed = (status ≡ 8) × Tells door_fault_line old new failed
+ServerReports (ends.AuditWrong line given defined) status old new failed = Reports (Faulty line (AuditWrong given defined)) status old new failed
 ServerReports ends.CrewFault status old new failed = (status ≡ 9) × Tells crew_fault_line old new failed
 ServerReports ends.OutOfMemory status old new failed = Reports OutOfMemory status old new failed
 
@@ -33,10 +34,11 @@ DoorFailed counts (Some door) (Some left) = Rose (counts door).faults (counts le
 DoorFailed counts door left = ⊥
 
 module _ {D : Type 0} (L : Type 0) (counts : D → Counts) (given : D → ℕ) (opened_at : D → Option (List ℕ)) where
-  -- a server was run at this address for this many connections: how it ended, and what was answered and said of that
-  pub record RunsServer (address : List ℕ) (connections : ℕ) (input input_after : InputFacts) (output output_after errors errors_after : SinkFacts) (door left : Option D) (crew crew_after : CrewCounts) (status : ℕ) : Type 0 where
+  -- a server was run at this address for this many connections, with a journal or without one: how it ended, and what was
+  -- answered and said of that
+  pub record RunsServer (address : List ℕ) (connections : ℕ) (journal : Bool) (input input_after : InputFacts) (output output_after errors errors_after : SinkFacts) (door left : Option D) (crew crew_after : CrewCounts) (status : ℕ) : Type 0 where
     pub end : ServerEnd
-    pub ends : EndsAt L counts given opened_at address connections input.left end door left output.written output_after.written
+    pub ends : EndsAt L counts given opened_at address journal connections input.left end door left output.written output_after.written
     pub runs : RunsInCrew end crew crew_after
     pub reads : ReadsCounted end input.faults input_after.faults
     pub writes : WritesCounted end output.faults output_after.faults

@@ -65,9 +65,9 @@ fn test_config(alloc: Global, journal: &Journal) -> Result<(), End>
             drop(edits);
             Ok(())
         }
-        Err(BadConfig::Fault { cause, key }) => Err(End::faulty(
+        Err(BadConfig::Fault { code, key }) => Err(End::faulty(
             config_line(journal.limits),
-            LineFault::BadConfig { cause, key },
+            LineFault::BadConfig { code, key },
         )),
         Err(BadConfig::OutOfMemory) => Err(End::OutOfMemory),
     }

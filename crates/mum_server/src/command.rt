@@ -1,7 +1,7 @@
 //! What the words of the command line ask for.
 
-ghost use Rattle.std.specs.Prelude.{◌≡◌, ◌↔◌, ◌<◌, ◌∷◌, [], ℕ, IfSome, IsTrue, List, MatchOption, codes, map, string_bytes};
-ghost use Rattle.mum_server.specs.Command.{Asks, AsksServe, BeginsWithServe, IsExercise, IsServe, audit_words, replay_words};
+ghost use Rattle.std.specs.Prelude.{◌≡◌, ◌↔◌, ◌<◌, ℕ, IfSome, IsTrue, List, MatchOption, codes, map, string_bytes};
+ghost use Rattle.mum_server.specs.Command.{Asks, AsksRun, AsksServe, BeginsWithServe, IsExercise, RunsAs, audit_words, replay_words};
 
 use mum_record::number_within;
 
@@ -20,6 +20,16 @@ pub enum Command {
     Audit,
     /// Run the exercise of a seed, of so many rounds, and write a line of what came of it.
     Exercise { seed: u64, rounds: u32 },
+}
+
+/// What a run that serves is asked for.
+#[derive(Clone, Copy)]
+pub(crate) struct ServeCommand<'a> {
+    pub(crate) address: &'a str,
+    /// How many connections there are in all.
+    pub(crate) connections: u32,
+    /// Whether a journal is written.
+    pub(crate) journal: bool,
 }
 
 fn is_word(word: &str, name: &str) -> bool
@@ -104,16 +114,35 @@ fn serve_of<'a>(name: &str, address: &'a str, number: &str) -> Option<(&'a str, 
     Some((address, connections as u32))
 }
 
-/// The address and the number of connections of a run that serves, where the words ask for one.
-pub(crate) fn serve_in(words: &[String]) -> Option<(&str, u32)>
-    ensures asked { MatchOption result
-        ((address : List ℕ) → (connections : ℕ) →
-        IsServe (map string_bytes words.now) address connections → ⊥)
-        (λ asked. IsServe (map string_bytes words.now) asked.0.now asked.1) }
-    ensures some { IfSome result (λ asked. 0 < asked.1) }
+// The run that these words ask for, if they do, with a journal or without one.
+fn run_of<'a>(name: &str, address: &'a str, number: &str, journal: bool) -> Option<ServeCommand<'a>>
+    ensures run { RunsAs name.now address.now number.now journal result }
+    ensures some { IfSome result (λ run. 0 < run.connections) }
 {
-    let [name, address, number] = words else {
-        return None;
-    };
-    serve_of(name.as_str(), address.as_str(), number.as_str())
+    let (address, connections) = serve_of(name, address, number)?;
+    Some(ServeCommand {
+        address,
+        connections,
+        journal,
+    })
+}
+
+/// What a run that serves is asked for, where the words ask for one.
+pub(crate) fn serve_in(words: &[String]) -> Option<ServeCommand<'_>>
+    ensures asked { AsksRun (map string_bytes words.now) result }
+    ensures some { IfSome result (λ run. 0 < run.connections) }
+{
+    match words {
+        [name, address, number] => {
+            run_of(name.as_str(), address.as_str(), number.as_str(), false)
+        }
+        [name, address, number, last] => {
+            if is_word(last.as_str(), "journal") {
+                run_of(name.as_str(), address.as_str(), number.as_str(), true)
+            } else {
+                None
+            }
+        }
+        _ => None,
+    }
 }

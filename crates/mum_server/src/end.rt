@@ -8,7 +8,6 @@ ghost use Rattle.mum_server.specs.declared.end.End.TheVariants.{Faulty};
 ghost use Rattle.mum_server.specs.declared.end.LineFault.TheVariants as faults;
 
 use mum_base::{OutOfMemory, Text};
-use mum_config::ConfigFault;
 use mum_record::{Word, push_line, push_words};
 use std::alloc::{AllocError, Global};
 
@@ -21,8 +20,8 @@ pub enum LineFault {
     BadRecording,
     /// It is not in the grammar of journals.
     BadJournal,
-    /// It names a document that is no configuration: the first fault of it, and the key at which that is.
-    BadConfig { cause: ConfigFault, key: Text },
+    /// It names a document that is no configuration: the number of its first fault, and the key at which that is.
+    BadConfig { code: u8, key: Text },
     /// Its step is not allowed: what the step gave, against what stands.
     IllegalStep { given: u64, against: u64 },
     /// Its entry of a journal is wrong: what it says, and what it had to say.
@@ -73,13 +72,13 @@ pub(crate) const MEMORY_LINE: &str = "murmur: 70 OutOfMemory\n";
 fn push_config_fault(
     alloc: Global,
     text: &mut String,
-    cause: ConfigFault,
+    code: u8,
     key: &str,
 ) -> Result<(), OutOfMemory>
     ensures { IfOk result (λ _. string_bytes text.new ≡ string_bytes text.old
-        ++ flat_map behind_word (details 0 (faults.BadConfig cause key.now))) }
+        ++ flat_map behind_word (details 0 (faults.BadConfig code key.now))) }
 {
-    let words = [Word::Number(u64::from(cause.code())), Word::Name(key)];
+    let words = [Word::Number(u64::from(code)), Word::Name(key)];
     push_words(alloc, text, &words)
 }
 
@@ -171,8 +170,8 @@ impl LineFault {
             LineFault::TooLong => push_place(alloc, text, n),
             LineFault::BadRecording => push_place(alloc, text, n),
             LineFault::BadJournal => push_place(alloc, text, n),
-            LineFault::BadConfig { cause, key } => {
-                push_config_fault(alloc, text, *cause, key.as_str())
+            LineFault::BadConfig { code, key } => {
+                push_config_fault(alloc, text, *code, key.as_str())
             }
             LineFault::IllegalStep { given, against } => {
                 push_numbers(alloc, text, n, *given, *against)

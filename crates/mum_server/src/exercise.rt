@@ -11,7 +11,7 @@ ghost use Rattle.mum_record.specs.declared.head.Version.TheVariants.{One};
 ghost use Rattle.mum_record.specs.declared.step.Step.TheVariants.{Collect, Drain, Frame, Offer, Post};
 ghost use Rattle.mum_core.specs.Core.{start, worker_at};
 ghost use Rattle.mum_server.specs.Exercise.{IsAlike, account, all_taken, answered, begun, commanded, delivered, document, exercised, informed, joined, joins, note, numbers_words, played, progress, spoken, taken, worker_of};
-ghost use Rattle.mum_server.specs.Opening.{document_fault, opening};
+ghost use Rattle.mum_opening.specs.Opening.{document_fault, opening};
 ghost use Rattle.mum_server.specs.declared.draws.Act.TheVariants.{Talk};
 
 use crate::acts::{
@@ -29,6 +29,12 @@ use std::mem::{drop, replace};
 
 /// The workers of an exercise.
 pub const WORKERS: u8 = 4;
+
+/// The numbers that the definition of an exercise names. This does nothing: its contract is what they are.
+pub fn numbers()
+    ensures workers { WORKERS ≡ 4 }
+    ensures users { USERS ≡ 16 }
+{}
 
 /// The line of a recording that names the configuration.
 const CONFIG_LINE: u64 = 3;

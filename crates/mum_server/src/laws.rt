@@ -6,7 +6,6 @@ ghost use Rattle.mum_state.specs.Proper.{IsProper};
 ghost use Rattle.mum_record.specs.Head.{AreLimits};
 ghost use Rattle.mum_record.specs.declared.head.Version.TheVariants.{One};
 ghost use Rattle.mum_record.specs.declared.journal.Journal.{Journal};
-ghost use Rattle.mum_opening.specs.Opening as head;
 ghost use Rattle.mum_audit.specs.Legal.{IsLegal};
 ghost use Rattle.mum_core.specs.Core.{start};
 ghost use Rattle.mum_core.specs.Laws.{IsRun, ran};
@@ -14,7 +13,7 @@ ghost use Rattle.mum_server.specs.Audit.{audit_of};
 ghost use Rattle.mum_server.specs.Exercise.{document, exercised};
 ghost use Rattle.mum_server.specs.JournalText.{journal_read};
 ghost use Rattle.mum_server.specs.declared.end.End.TheVariants.{Finished};
-ghost use Rattle.mum_server.specs.Opening.{document_fault, opening};
+ghost use Rattle.mum_opening.specs.Opening.{document_fault, opening};
 ghost use Rattle.mum_server.specs.declared.exercise.TheConstants.{WORKERS};
 
 /// The steps of a recording begin at a proper state, whatever its limits and its configuration: so what the core's laws
@@ -26,7 +25,7 @@ pub fn recordings_open_properly()
 /// A journal whose configuration has no fault passes its audit exactly where it is legal: only then the program ends
 /// well.
 pub fn legal_journals_pass()
-    ensures { (bytes : List ℕ) (journal : Journal) → journal_read bytes ≡ Ok journal → head.document_fault journal.config ≡ None
+    ensures { (bytes : List ℕ) (journal : Journal) → journal_read bytes ≡ Ok journal → document_fault journal.config ≡ None
         → ((audit_of bytes).ending ≡ Finished) ↔ IsLegal journal }
 {}
 

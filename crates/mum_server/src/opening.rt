@@ -1,20 +1,19 @@
 //! The limits and the configuration of a recording, and the core at which its steps begin.
 
-ghost use Rattle.std.specs.Prelude.{◌≡◌, ◌++◌, IfOk, IsTrue};
-ghost use Rattle.mum_record.specs.Head.{config_of, version_with};
+ghost use Rattle.std.specs.Prelude.{◌≡◌, IfOk, IfSome, IsTrue};
+ghost use Rattle.mum_record.specs.Head.{AreLimits, config_of, version_with};
 ghost use Rattle.mum_config.specs.Limits.{FitAfterLimits};
-ghost use Rattle.mum_state.specs.After.{after, all_fit};
+ghost use Rattle.mum_state.specs.After.{all_fit};
 ghost use Rattle.mum_state.specs.State.{empty_state};
-ghost use Rattle.mum_server.specs.Opening.{limits_edits};
 ghost use Rattle.mum_server.specs.Runs.{Begins, Describes, Names, Opens};
 
 use crate::end::{End, LineFault};
-use mum_base::{Items, Octets, OutOfMemory};
-use mum_config::{BadConfig, Config, read_config};
+use mum_base::{Items, Octets};
+use mum_config::BadConfig;
 use mum_core::PlainCore;
-use mum_history::{state_after, state_from};
+use mum_opening::{document_edits, opening_state};
 use mum_record::{Version, read_config_line, read_limits};
-use mum_state::{Edit, State};
+use mum_state::Edit;
 use std::alloc::Global;
 use std::marker::Model;
 
@@ -40,11 +39,8 @@ impl Model for Limits {
 }
 
 impl Limits {
-    ghost use Rattle.std.specs.Prelude.{◌≡◌, IsTrue};
-    ghost use Rattle.mum_record.specs.Head.{limits_of};
-    ghost use Rattle.mum_state.specs.declared.edit.Edit.TheVariants.{SetLimits};
-    ghost use Rattle.mum_state.specs.Fits.{fits};
-    ghost use Rattle.mum_state.specs.State.{empty_state};
+    ghost use Rattle.std.specs.Prelude.{◌≡◌};
+    ghost use Rattle.mum_record.specs.Head.{AreLimits, limits_of};
 
     /// The limits that a line names.
     pub(crate) fn read(line: &[u8]) -> Option<Limits>
@@ -54,15 +50,12 @@ impl Limits {
         Some(Limits { sessions, channels })
     }
 
-    /// The edit that sets them. It fits the empty state.
-    fn edit(self) -> Edit
-        ensures edit { result ≡ SetLimits self.0 self.1 }
-        ensures fits { IsTrue (fits empty_state (SetLimits self.0 self.1)) }
+    // The two numbers.
+    fn numbers(self) -> (u16, u32)
+        ensures numbers { result ≡ self }
+        ensures are { AreLimits result }
     {
-        Edit::SetLimits {
-            sessions: self.sessions,
-            channels: self.channels,
-        }
+        (self.sessions, self.channels)
     }
 }
 
@@ -83,34 +76,24 @@ fn edits_of(alloc: Global, n: u64, document: &[u8]) -> Result<Items<Edit>, End>
     ensures fit { IfOk result (λ edits. IsTrue (all_fit empty_state edits)) }
     ensures limited { IfOk result FitAfterLimits }
 {
-    if document.is_empty() {
-        return Ok(Items::new(alloc));
-    }
-    match read_config(alloc, document) {
-        Ok(Config { edits, .. }) => Ok(edits),
-        Err(BadConfig::Fault { cause, key }) => {
-            Err(End::faulty(n, LineFault::BadConfig { cause, key }))
+    match document_edits(alloc, document) {
+        Ok(edits) => Ok(edits),
+        Err(BadConfig::Fault { code, key }) => {
+            Err(End::faulty(n, LineFault::BadConfig { code, key }))
         }
         Err(BadConfig::OutOfMemory) => Err(End::OutOfMemory),
     }
 }
 
-/// The state at which the steps begin: limits, where there are any, are set before what the document
-/// describes.
-fn opening_state(
-    alloc: Global,
-    limits: Option<Limits>,
-    edits: &[Edit],
-) -> Result<State, OutOfMemory>
-    requires fit { IsTrue (all_fit empty_state edits.now) }
-    requires limited { FitAfterLimits edits.now }
-    ensures { IfOk result (λ state. state ≡ after (limits_edits limits ++ edits.now)) }
+// The two numbers of limits, where there are any.
+fn numbers_of(limits: Option<Limits>) -> Option<(u16, u32)>
+    ensures numbers { result ≡ limits }
+    ensures are { IfSome result AreLimits }
 {
-    let Some(limits) = limits else {
-        return state_after(alloc, edits);
-    };
-    let limited = state_after(alloc, &[limits.edit()])?;
-    state_from(limited, edits)
+    match limits {
+        Some(limits) => Some(limits.numbers()),
+        None => None,
+    }
 }
 
 /// The version of a recording with these limits, or without any.
@@ -136,7 +119,7 @@ pub(crate) fn open_core(
     ensures { Opens n workers limits document.now result }
 {
     let edits = edits_of(alloc, n, document)?;
-    let opening = opening_state(alloc, limits, edits.as_slice())?;
+    let opening = opening_state(alloc, numbers_of(limits), edits.as_slice())?;
     Ok(PlainCore::begin(alloc, version_with(limits), workers, opening)?)
 }
 

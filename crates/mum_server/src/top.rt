@@ -1,13 +1,13 @@
 //! The program's call with all its words.
 
-ghost use Rattle.std.specs.Prelude.{◌≡◌, ◌⊎◌, ℕ, List, is_some, map, string_bytes, true};
-ghost use Rattle.mum_io.specs.Outside.{Rose};
+ghost use Rattle.std.specs.Prelude.{◌≡◌, ◌⊎◌, ℕ, Bool, List, is_some, map, string_bytes, true};
+ghost use Rattle.mum_io.specs.Outside.{Keeps, Rose};
 ghost use Rattle.mum_server.specs.Command.{BeginsWithServe, IsServe};
 ghost use Rattle.mum_server.specs.Plain.{RunsPlainly};
 ghost use Rattle.mum_server.specs.Program.{Reports, Tells, usage_line};
 ghost use Rattle.mum_server.specs.Serve.{DoorFailed, RunsServer, ServerReports};
 
-use crate::command::{begins_with_serve, serve_in};
+use crate::command::{ServeCommand, begins_with_serve, serve_in};
 use crate::end::{End, LineFault};
 use crate::program::{USAGE_LINE, report, run_plain, say};
 use mum_crew::Crew;
@@ -38,21 +38,30 @@ fn report_server<E: Sink>(alloc: Global, end: ServerEnd, errors: &mut E) -> u8
 {
     match end {
         ServerEnd::Finished => report(alloc, &End::Finished, errors),
-        ServerEnd::BadConfig { cause, key } => {
-            let end = End::faulty(CONFIG_LINE, LineFault::BadConfig { cause, key });
+        ServerEnd::BadConfig { code, key } => {
+            let end = End::faulty(CONFIG_LINE, LineFault::BadConfig { code, key });
             report(alloc, &end, errors)
         }
         ServerEnd::ReadFault => report(alloc, &End::ReadFault, errors),
         ServerEnd::WriteFault => report(alloc, &End::WriteFault, errors),
         ServerEnd::DoorFault => say_status(errors, DOOR_FAULT_LINE, 8),
         ServerEnd::CrewFault => say_status(errors, CREW_FAULT_LINE, 9),
+        ServerEnd::AuditWrong {
+            line,
+            given,
+            defined,
+        } => {
+            let end = End::faulty(line, LineFault::AuditWrong { given, defined });
+            report(alloc, &end, errors)
+        }
         ServerEnd::OutOfMemory => report(alloc, &End::OutOfMemory, errors),
     }
 }
 
 /// The program. `serve ADDRESS SESSIONS` reads a configuration from the input, opens the door at the address,
-/// serves that many connections, and writes a line of totals when all are closed. Other words are those of
-/// `run_plain`. The door is back at every return.
+/// serves that many connections, and writes a line of totals when all are closed. `serve ADDRESS SESSIONS journal`
+/// writes a journal before it, if its audit finds it legal. Other words are those of `run_plain`. The door is back
+/// at every return.
 pub fn murmur<R: Wait + Copy + Send, I: Source, O: Sink, E: Sink, D: Door + Send, C: Crew>(
     rt: &R,
     alloc: Global,
@@ -73,9 +82,10 @@ pub fn murmur<R: Wait + Copy + Send, I: Source, O: Sink, E: Sink, D: Door + Send
         (record { written = E.written errors.old; faults = E.faults errors.old })
         (record { written = E.written errors.new; faults = E.faults errors.new })
         (input.new ≡ input.old) (output.new ≡ output.old) result × (door.new ≡ door.old) × (crew.new ≡ crew.old) }
-    // `serve` with an address and a number of connections runs a server.
-    ensures serves { (address : List ℕ) → (connections : ℕ) → IsServe (map string_bytes words.now) address connections →
-        RunsServer D.Conn D.counts D.given D.opened_at address connections
+    // `serve` with an address and a number of connections runs a server, which keeps a journal where that is asked for.
+    ensures serves { (address : List ℕ) → (connections : ℕ) → (journal : Bool) →
+        IsServe (map string_bytes words.now) address connections journal →
+        RunsServer D.Conn D.counts D.given D.opened_at address connections journal
         (record { left = I.left input.old; faults = I.faults input.old })
         (record { left = I.left input.new; faults = I.faults input.new })
         (record { written = O.written output.old; faults = O.faults output.old })
@@ -85,7 +95,8 @@ pub fn murmur<R: Wait + Copy + Send, I: Source, O: Sink, E: Sink, D: Door + Send
         door.old door.new (C.counts crew.old) (C.counts crew.new) result }
     // Other words that begin with `serve` are no command.
     ensures usage { BeginsWithServe (map string_bytes words.now) →
-        ((address : List ℕ) → (connections : ℕ) → IsServe (map string_bytes words.now) address connections → ⊥) →
+        ((address : List ℕ) → (connections : ℕ) → (journal : Bool) →
+        IsServe (map string_bytes words.now) address connections journal → ⊥) →
         (result ≡ 1) × (input.new ≡ input.old) × (output.new ≡ output.old) × (door.new ≡ door.old) × (crew.new ≡ crew.old)
         × Tells usage_line (E.written errors.old) (E.written errors.new) (Rose (E.faults errors.old) (E.faults errors.new)) }
     // The door is back.
@@ -95,6 +106,9 @@ pub fn murmur<R: Wait + Copy + Send, I: Source, O: Sink, E: Sink, D: Door + Send
     ensures write_fault { result ≡ 4 → Rose (O.faults output.old) (O.faults output.new) }
     ensures door_fault { result ≡ 8 → DoorFailed D.counts door.old door.new }
     ensures crew_fault { result ≡ 9 → Rose (C.counts crew.old).refused (C.counts crew.new).refused }
+    // A journal that is named wrong is that of a server that the crew ran, and nothing is written.
+    ensures audit_fault { result ≡ 5 → (BeginsWithServe (map string_bytes words.now) → ⊥)
+        ⊎ (Rose (C.counts crew.old).runs (C.counts crew.new).runs × Keeps (O.written output.old) (O.written output.new)) }
     // A server that ended well was run by the crew.
     ensures served { result ≡ 0 → (BeginsWithServe (map string_bytes words.now) → ⊥)
         ⊎ Rose (C.counts crew.old).runs (C.counts crew.new).runs }
@@ -102,10 +116,27 @@ pub fn murmur<R: Wait + Copy + Send, I: Source, O: Sink, E: Sink, D: Door + Send
     if !begins_with_serve(words) {
         return run_plain(alloc, words, input, output, errors);
     }
-    let Some((address, connections)) = serve_in(words) else {
+    let Some(
+        ServeCommand {
+            address,
+            connections,
+            journal,
+        },
+    ) = serve_in(words)
+    else {
         say(errors, USAGE_LINE);
         return 1;
     };
-    let end = run_server(rt, alloc, address, connections, input, output, door, crew);
+    let end = run_server(
+        rt,
+        alloc,
+        address,
+        journal,
+        connections,
+        input,
+        output,
+        door,
+        crew,
+    );
     report_server(alloc, end, errors)
 }

@@ -7,6 +7,8 @@ mod client;
 #[cfg(test)]
 mod ear;
 #[cfg(test)]
+mod journals;
+#[cfg(test)]
 mod kicks;
 #[cfg(test)]
 mod lags;

@@ -39,13 +39,13 @@ impl<D: Drop> Outcome<D> {
     }
 }
 
-/// The words of a run that serves this many connections.
-fn words(alloc: Global, connections: &str) -> Result<Vec<String>, AllocError> {
-    let mut words = Vec::new(alloc);
-    for word in ["serve", "x", connections] {
-        words.push(String::from_str(alloc, word)?)?;
+/// A list of words.
+fn owned(alloc: Global, words: &[&str]) -> Result<Vec<String>, AllocError> {
+    let mut list = Vec::new(alloc);
+    for word in words {
+        list.push(String::from_str(alloc, word)?)?;
     }
-    Ok(words)
+    Ok(list)
 }
 
 /// Serves this many connections that come to a door, with this configuration.
@@ -57,10 +57,24 @@ pub fn ran<R: Wait + Copy + Send, D: Door + Send, C: Crew>(
     door: D,
     crew: &mut C,
 ) -> Result<Outcome<D>, Fail> {
-    let words = words(alloc, connections)?;
-    let bytes = Octets::of(alloc, configuration.as_bytes())?;
+    let words = ["serve", "x", connections];
+    ran_with(rt, alloc, &words, configuration, &[], door, crew)
+}
+
+/// Runs these words with this input and a door. The writes of these numbers fail.
+pub fn ran_with<R: Wait + Copy + Send, D: Door + Send, C: Crew>(
+    rt: &R,
+    alloc: Global,
+    words: &[&str],
+    input: &str,
+    failing: &[u64],
+    door: D,
+    crew: &mut C,
+) -> Result<Outcome<D>, Fail> {
+    let words = owned(alloc, words)?;
+    let bytes = Octets::of(alloc, input.as_bytes())?;
     let mut input = MemSource::new(bytes, Vec::new(alloc));
-    let mut output = MemSink::new(alloc, Vec::new(alloc));
+    let mut output = MemSink::new(alloc, Vec::from_slice(alloc, failing)?);
     let mut errors = MemSink::new(alloc, Vec::new(alloc));
     let mut door = Some(door);
     let status = murmur(

@@ -1,14 +1,22 @@
 -- What the crew gives back is what it was given, and has run where the crew did.
-use Rattle.std.proofs.Common.{◌∙◌, subst}
+use Rattle.std.proofs.Common.{◌∙◌, subst, arith}
 use Rattle.mum_crew.specs.Crew.{RunCounts}
 use Rattle.mum_crew.specs.declared.crew.CrewEnd.{CrewEnd}
-use Rattle.mum_serve.proofs.Ended.{has_run, led_back}
+use Rattle.mum_serve.proofs.Ended.{as_many_back, as_many_opened, has_run, led_back}
 use Rattle.mum_serve.proofs.server.run.Goals as goal
 
-pub collect-door-requires-after_bounds : goal.collect-door-requires-after_bounds
-collect-door-requires-after_bounds g c κs within =
+pub collect-door-requires-clause-led : goal.collect-door-requires-clause-led
+collect-door-requires-clause-led g c κs within =
     let run = c.run-run in
-    led_back g.N.Naming.opening.state g.N.Serving.door run.result.end run.result.roles.items c.in-Ok.roles.items run.ensures.openings run.ensures.refused run.ensures.no_memory c.in-Ok.ensures.led
+    led_back g.N.Naming.opening.state g.N.Serving.door run.result.end run.result.roles.items c.in-Ok.started.roles.items run.ensures.openings run.ensures.refused run.ensures.no_memory c.in-Ok.ensures.led
+
+pub collect-door-requires-clause-room : goal.collect-door-requires-clause-room
+collect-door-requires-clause-room g c κs within =
+    let run = c.run-run in
+    let back = as_many_back g.N.Naming.opening.state g.N.Serving.door run.result.end run.result.roles.items c.in-Ok.started.roles.items run.ensures.openings run.ensures.refused run.ensures.no_memory in
+    let all = as_many_opened g.N.Naming.opening.state g.N.Serving.door c.args.journal c.args.connections c.args.workers c.in-Ok.started.roles.items c.in-Ok.ensures.openings in
+    let room = c.in-Ok.ensures.room.1 in
+    omega (arith, back, all, room)
 
 pub returns-in-Ran-clause-counts : goal.returns-in-Ran-clause-counts
 returns-in-Ran-clause-counts g c =
@@ -25,5 +33,5 @@ returns-in-NoMemory-clause-counts g c =
 pub returns-in-Ran-clause-runs : goal.returns-in-Ran-clause-runs
 returns-in-Ran-clause-runs g c =
     let run = c.run-run in
-    has_run g.D.Door.counts g.D.Door.given g.D.Door.opened_at g.N.Naming.opening.state g.N.Serving.door c.args.connections c.args.workers run.result.roles.items _ _ _ _
+    has_run g.D.Door.counts g.D.Door.given g.D.Door.opened_at g.N.Naming.opening.state g.N.Serving.door c.args.journal c.args.connections c.args.workers run.result.roles.items _ _ _ _ _
     (run.ensures.openings c.in-Ran.is ∙ c.in-Ok.ensures.openings) (run.ensures.ended c.in-Ran.is) c.collect-door.ensures

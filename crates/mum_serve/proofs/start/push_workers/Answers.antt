@@ -1,5 +1,5 @@
 -- One worker more takes the next pass and the next ends.
-use Rattle.std.proofs.Common.{◌≡◌, ◌+◌, ◌∷◌, List, length, ap, subst, map, arith}
+use Rattle.std.proofs.Common.{◌≡◌, ◌+◌, ◌∷◌, List, length, ap, subst, map, is_some, arith}
 use Rattle.std.specs.List.{All}
 use Rattle.std.specs.Vec.Iter.{into_iter_items}
 use Rattle.std.proofs.lemmas.List.Elements.{All-head, All-rest}
@@ -40,5 +40,5 @@ workers-preserved g c =
       All-rest (IsFresh g.N.Naming.opening) c.in-Some-Some.pass (into_iter_items c.next.new.self) (into_iter_items c.workers.passes) passes.0 was.4,
       All-rest HasBoxes c.in-Some-Some.ends (into_iter_items c.next-in-workers.new.self) (into_iter_items c.workers.shared) ends.0 was.5,
       c.push_worker.ensures.led,
-      goes_on (view c.args.roles.now.items) (view c.workers.roles.items) (view c.push_worker.new.roles.items) c.workers.number was.7 c.in_ok-push_worker.ensures.pushed,
+      goes_on (is_some c.args.closings) (view c.args.roles.now.items) (view c.workers.roles.items) (view c.push_worker.new.roles.items) c.workers.number was.7 c.in_ok-push_worker.ensures.pushed,
     )

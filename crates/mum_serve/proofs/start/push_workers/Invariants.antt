@@ -1,4 +1,4 @@
-use Rattle.std.proofs.Common.{◌≡◌, ◌+◌, ◌++◌, length, map}
+use Rattle.std.proofs.Common.{◌≡◌, ◌+◌, ◌++◌, is_some, length, map}
 use Rattle.std.specs.List.{All}
 use Rattle.std.specs.Vec.Iter.{into_iter_items, into_iter_len}
 use Rattle.mum_published.specs.Calls.{IsFresh}
@@ -17,4 +17,4 @@ invariant-workers g l =
     × All HasBoxes (into_iter_items l.shared)
     × AreLed l.roles.items
     × (map (opening_of g.N.Naming.opening.state g.N.Serving.door) l.roles.items
-    ≡ map (opening_of g.N.Naming.opening.state g.N.Serving.door) l.fn.roles.items ++ map openings.Worker (worker_openings 0 l.number))
+    ≡ map (opening_of g.N.Naming.opening.state g.N.Serving.door) l.fn.roles.items ++ map openings.Worker (worker_openings (is_some l.fn.closings) 0 l.number))

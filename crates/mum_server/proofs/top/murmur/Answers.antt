@@ -1,5 +1,6 @@
 -- What is answered of a run without `serve` is what such a run answers.
 use Rattle.std.proofs.Common.{refl}
+use Rattle.mum_server.proofs.ServeWords.{asked_once}
 use Rattle.mum_server.proofs.top.murmur.Goals as goal
 
 pub returns-then-not-begins_with_serve-clause-plain : goal.returns-then-not-begins_with_serve-clause-plain
@@ -28,4 +29,17 @@ returns-then-not-begins_with_serve-clause-plain g c = λ never.
     )
 
 pub returns-in_default-clause-serves : goal.returns-in_default-clause-serves
-returns-in_default-clause-serves g c = λ address connections asks. absurd (c.in_default.ensures.asked address connections asks)
+returns-in_default-clause-serves g c = λ address connections journal asks. absurd (c.in_default.ensures.asked address connections journal asks)
+
+pub returns-clause-serves : goal.returns-clause-serves
+returns-clause-serves g c = λ address connections journal asks.
+    let asked = c.in-Some.field-0 in
+    let same = asked_once _ address asked.address.now connections asked.connections journal asked.journal asks c.in-Some.ensures.asked in
+    rw (same.0, same.1, same.2) (record {
+      end = c.run_server-end.result;
+      ends = c.run_server-end.ensures.ends;
+      runs = c.run_server-end.ensures.runs;
+      reads = c.run_server-end.ensures.reads;
+      writes = c.run_server-end.ensures.writes;
+      reports = c.report_server.ensures;
+    })

@@ -1,0 +1,142 @@
+-- What is written of a run that came to its end, with a journal or without one.
+use Rattle.std.proofs.Common.{◌≡◌, ◌∙◌, ℕ, ◌≤◌, Bool, true, false, List, [], ◌∷◌, ◌++◌, length, map, Option, None, Some, Result, Ok, Err, OnOk, OnErr, is_err, inl, inr, refl, sym, ap, subst, arith}
+use Rattle.std.proofs.lemmas.List.{length-map}
+use Rattle.mum_audit.specs.Audit.{IsAuditable, answer, audited, counts_of, findings, first_line, first_wrong}
+use Rattle.mum_audit.specs.Legal.{IsLegal}
+use Rattle.mum_audit.specs.declared.audited.Audited.{Audited}
+use Rattle.mum_audit.specs.declared.audited.Audited.TheVariants.{Legal, Wrong}
+use Rattle.mum_config.specs.Document.{fault_of}
+use Rattle.mum_crew.specs.Crew.{CrewCounts, RunCounts}
+use Rattle.mum_crew.specs.declared.crew.CrewEnd.TheVariants.{Ran}
+use Rattle.mum_io.specs.Counts.{Rose}
+use Rattle.mum_io.specs.Outside.{Appends, AppendsFront, Keeps}
+use Rattle.mum_io.proofs.OutsideLemmas.{AppendsFront-behind, AppendsFront-longer}
+use Rattle.mum_opening.specs.Opening.{document_fault}
+use Rattle.mum_record.specs.declared.journal.Journal.{Journal}
+use Rattle.mum_serve.specs.Journals.{AreWritable, journal_of, journal_text}
+use Rattle.mum_serve.specs.Program.{GivesText, RunsInCrew, WritesAll, WritesCounted, WritesJournal, WritesText, document_of, served_line, written}
+use Rattle.mum_serve.specs.declared.entries.Entries.{Entries}
+use Rattle.mum_serve.specs.declared.program.ServerEnd.{ServerEnd}
+use Rattle.mum_serve.specs.declared.program.ServerEnd.TheVariants as ends
+use Rattle.mum_serve.specs.declared.totals.Totals.{Totals}
+
+-- ---- the journal
+
+no_fault : (document : List ℕ) → fault_of (document_of document) ≡ None → document_fault document ≡ None
+no_fault [] none = refl
+no_fault (byte ∷ bytes) none = none
+
+-- the journal of a server may be audited
+pub is_auditable : (workers : ℕ) (document : List ℕ) (entries : Entries) → 1 ≤ workers → workers ≤ 8 → length entries.by_worker ≡ workers → AreWritable entries → fault_of (document_of document) ≡ None
+    → IsAuditable (journal_of workers document entries)
+is_auditable workers document entries least greatest lists writable none = record {
+  writable = record {
+    least = least;
+    greatest = greatest;
+    lists = lists;
+    limits = (omega arith, omega arith, omega arith, omega arith);
+    controls = writable.controls;
+    entries = writable.by_worker;
+  };
+  faultless = no_fault document none;
+}
+
+-- ---- its audit
+
+answers_counts : (journal : Journal) (found : Option (ℕ × _)) (controls voices copies full : ℕ) → Legal controls voices copies full ≡ answer journal found → answer journal found ≡ counts_of journal
+answers_counts journal None controls voices copies full is = refl
+answers_counts journal (Some (line, finding)) controls voices copies full is = absurd (cc)
+
+-- an audit that finds nothing wrong answers the counts
+pub found_legal : (journal : Journal) (found : Audited) (controls voices copies full : ℕ) → found ≡ audited journal → found ≡ Legal controls voices copies full → found ≡ counts_of journal
+unfolding audited
+found_legal journal found controls voices copies full is legal =
+    is ∙ answers_counts journal (first_wrong (first_line journal) (findings journal)) controls voices copies full (sym legal ∙ is)
+
+-- ---- what is written
+
+-- what an answer says that is no error, or one
+pub ok_of : {X E : Type 0} {A : Type 0} (answer : Result X E) → is_err answer ≡ false → OnOk answer A → A
+ok_of (Ok x) no_error so = so
+ok_of (Err error) no_error so = absurd (cc)
+
+pub err_of : {X E : Type 0} {A : Type 0} (answer : Result X E) → is_err answer ≡ true → OnErr answer A → A
+err_of (Ok x) is_error so = absurd (cc)
+err_of (Err error) is_error so = so
+
+-- the text was written whole
+pub all_written : (text : List ℕ) (no_memory door_failed : Bool) (end : ServerEnd) (old new : Option (List ℕ)) → end ≡ written no_memory door_failed → Appends old new text → WritesText text no_memory door_failed end old new
+all_written text true door_failed end old new is whole = rw is (inr (refl, whole))
+all_written text false true end old new is whole = rw is (refl, refl, whole)
+all_written text false false end old new is whole = rw is (refl, refl, whole)
+
+pub no_more_writes : (no_memory door_failed : Bool) (end : ServerEnd) (old new : ℕ) → end ≡ written no_memory door_failed → new ≡ old → WritesCounted end old new
+no_more_writes true door_failed end old new is same = rw is same
+no_more_writes false true end old new is same = rw is same
+no_more_writes false false end old new is same = rw is same
+
+legal_written : (journal : Journal) (totals : Totals) (no_memory door_failed : Bool) (end : ServerEnd) (old new : Option (List ℕ)) → IsLegal journal
+    → WritesText (journal_text journal ++ served_line totals) no_memory door_failed end old new → WritesJournal journal totals no_memory door_failed end old new
+legal_written journal totals no_memory door_failed ends.Finished old new legal writes = (legal, writes)
+legal_written journal totals no_memory door_failed (ends.BadConfig code key) old new legal writes = (legal, writes)
+legal_written journal totals no_memory door_failed ends.ReadFault old new legal writes = (legal, writes)
+legal_written journal totals no_memory door_failed ends.WriteFault old new legal writes = (legal, writes)
+legal_written journal totals no_memory door_failed ends.DoorFault old new legal writes = (legal, writes)
+legal_written journal totals no_memory door_failed ends.CrewFault old new legal writes = (legal, writes)
+legal_written journal totals no_memory door_failed (ends.AuditWrong line given defined) old new legal writes = absurd writes
+legal_written journal totals no_memory door_failed ends.OutOfMemory old new legal (inl none) = inl none
+legal_written journal totals no_memory door_failed ends.OutOfMemory old new legal (inr all) = inr (legal, all.0, all.1)
+
+-- a legal journal, and the line behind it
+pub journal_written : (journal : Journal) (totals : Totals) (text line : List ℕ) (no_memory door_failed : Bool) (end : ServerEnd) (old new : Option (List ℕ)) → GivesText journal (Ok text) → line ≡ served_line totals
+    → WritesText (text ++ line) no_memory door_failed end old new → WritesJournal journal totals no_memory door_failed end old new
+journal_written journal totals text line no_memory door_failed end old new gives is writes =
+    legal_written journal totals no_memory door_failed end old new gives.0
+    (subst (λ (all : List ℕ). WritesText all no_memory door_failed end old new) (ap (λ (t : List ℕ). t ++ line) gives.1 ∙ ap (λ (l : List ℕ). journal_text journal ++ l) is) writes)
+
+-- a journal that is not written
+pub not_written : (journal : Journal) (totals : Totals) (no_memory door_failed : Bool) (end : ServerEnd) (old : Option (List ℕ)) → GivesText journal (Err end) → Keeps old old → WritesJournal journal totals no_memory door_failed end old old
+not_written journal totals no_memory door_failed (ends.AuditWrong line given defined) old gives kept = (gives, kept)
+not_written journal totals no_memory door_failed ends.OutOfMemory old gives kept = inl kept
+not_written journal totals no_memory door_failed ends.Finished old gives kept = absurd gives
+not_written journal totals no_memory door_failed (ends.BadConfig code key) old gives kept = absurd gives
+not_written journal totals no_memory door_failed ends.ReadFault old gives kept = absurd gives
+not_written journal totals no_memory door_failed ends.WriteFault old gives kept = absurd gives
+not_written journal totals no_memory door_failed ends.DoorFault old gives kept = absurd gives
+not_written journal totals no_memory door_failed ends.CrewFault old gives kept = absurd gives
+
+pub not_counted : (journal : Journal) (end : ServerEnd) (faults : ℕ) → GivesText journal (Err end) → WritesCounted end faults faults
+not_counted journal (ends.AuditWrong line given defined) faults gives = refl
+not_counted journal ends.OutOfMemory faults gives = refl
+not_counted journal ends.Finished faults gives = absurd gives
+not_counted journal (ends.BadConfig code key) faults gives = absurd gives
+not_counted journal ends.ReadFault faults gives = absurd gives
+not_counted journal ends.WriteFault faults gives = absurd gives
+not_counted journal ends.DoorFault faults gives = absurd gives
+not_counted journal ends.CrewFault faults gives = absurd gives
+
+-- ---- how such a run ends
+
+text_runs : (text : List ℕ) (no_memory door_failed : Bool) (end : ServerEnd) (old new : Option (List ℕ)) (before after : CrewCounts) → WritesText text no_memory door_failed end old new → Rose before.runs after.runs
+    → RunsInCrew end before after
+text_runs text no_memory door_failed ends.Finished old new before after writes rose = rose
+text_runs text no_memory door_failed (ends.AuditWrong line given defined) old new before after writes rose = rose
+text_runs text no_memory door_failed ends.CrewFault old new before after writes rose = absurd writes
+text_runs text no_memory door_failed (ends.BadConfig code key) old new before after writes rose = tt
+text_runs text no_memory door_failed ends.ReadFault old new before after writes rose = tt
+text_runs text no_memory door_failed ends.WriteFault old new before after writes rose = tt
+text_runs text no_memory door_failed ends.DoorFault old new before after writes rose = tt
+text_runs text no_memory door_failed ends.OutOfMemory old new before after writes rose = tt
+
+-- the roles have run
+pub all_run : (journal : Option Journal) (totals : Totals) (no_memory door_failed : Bool) (end : ServerEnd) (old new : Option (List ℕ)) (before after : CrewCounts) → WritesAll journal totals no_memory door_failed end old new
+    → Rose before.runs after.runs → RunsInCrew end before after
+all_run None totals no_memory door_failed end old new before after writes rose = text_runs (served_line totals) no_memory door_failed end old new before after writes rose
+all_run (Some journal) totals no_memory door_failed ends.Finished old new before after writes rose = rose
+all_run (Some journal) totals no_memory door_failed (ends.AuditWrong line given defined) old new before after writes rose = rose
+all_run (Some journal) totals no_memory door_failed ends.CrewFault old new before after writes rose = absurd writes.1
+all_run (Some journal) totals no_memory door_failed (ends.BadConfig code key) old new before after writes rose = tt
+all_run (Some journal) totals no_memory door_failed ends.ReadFault old new before after writes rose = tt
+all_run (Some journal) totals no_memory door_failed ends.WriteFault old new before after writes rose = tt
+all_run (Some journal) totals no_memory door_failed ends.DoorFault old new before after writes rose = tt
+all_run (Some journal) totals no_memory door_failed ends.OutOfMemory old new before after writes rose = tt

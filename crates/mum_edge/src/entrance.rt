@@ -8,7 +8,7 @@ use crate::life::Life;
 use crate::link::SocketLink;
 use crate::listener::Listener;
 use crate::long::Reservation;
-use crate::pace::{Meter, Pace};
+use crate::pace::{HangUp, Meter, Pace};
 use crate::proxy::{HEADER_LIMIT, Header, header_of};
 use crate::stream::Stream;
 use crate::wire::{KEPT_LIMIT, Wire};
@@ -388,11 +388,13 @@ impl<X: Net + Files + Eprint + Copy> Entrance<X> {
             registry,
             slot,
             meter: Meter::new(self.pace, opened),
+            hang_up: HangUp::new(),
             reservation,
             kept,
             sent: 0,
             batch: 0,
             is_broken: false,
+            has_ended: false,
             awaits_room: false,
             bytes_read: 0,
             bytes_written: 0,

@@ -4,6 +4,8 @@
 
 ghost use Rattle.std.specs.Prelude.{◌<◌, ◌≤◌, length};
 
+use crate::long::SHORT_LIMIT;
+
 /// Frames a second in the long run, and how many at once.
 #[derive(Clone, Copy, Debug, PartialEq, Eq)]
 pub struct Rate {
@@ -12,7 +14,8 @@ pub struct Rate {
 }
 
 /// How fast the client of one connection may send. A Ping counts as nothing, a frame of voice as one, and a message as one
-/// for each thousand of its bytes that is begun, those of its header among them.
+/// for each thousand of its bytes that is begun, those of its header among them; behind the 128 KiB of a short frame, as
+/// one for each 64 KiB.
 #[derive(Clone, Copy, Debug, PartialEq, Eq)]
 pub enum Pace {
     /// As fast as its line takes it.
@@ -31,8 +34,11 @@ const HEADER_LENGTH: usize = 6;
 /// What one frame takes of a rate, which is counted in thousandths.
 const FRAME: u64 = 1000;
 
-/// So many bytes of a message count as one frame.
-const THOUSAND: u64 = 1000;
+/// So many bytes at the front of a message count as one frame.
+const PIECE: u64 = 1000;
+
+/// So many bytes behind the length of a short frame do: what is left of a long one whose client is gone is soon read.
+const LONG_PIECE: u64 = 0x1_0000;
 
 impl Pace {
     /// What applies unless something else is asked for. Clients send 50 to 100 frames of voice a second.
@@ -109,7 +115,21 @@ impl Used {
     }
 }
 
-// What the bytes at the front of a piece are, of a payload or a header: how many, and what begins in them.
+// How many pieces begin in so many bytes at the front of a message.
+fn pieces_in(bytes: u64) -> u64 {
+    let short = bytes.min(SHORT_LIMIT).div_ceil(PIECE);
+    let long = bytes.saturating_sub(SHORT_LIMIT).div_ceil(LONG_PIECE);
+    short.saturating_add(long)
+}
+
+// The most bytes at the front of a message in which no more pieces begin than these.
+fn bytes_within(pieces: u64) -> u64 {
+    let behind = pieces.saturating_sub(SHORT_LIMIT.div_ceil(PIECE));
+    let short = pieces.saturating_mul(PIECE).min(SHORT_LIMIT);
+    short.saturating_add(behind.saturating_mul(LONG_PIECE))
+}
+
+// What the bytes at the front of what was read are, of a payload or a header: how many, and what begins in them.
 #[derive(Clone, Copy)]
 struct Front {
     length: usize,
@@ -122,19 +142,19 @@ enum Begins {
     Nothing,
     // A frame of this type, whose header they end.
     Frame(u16),
-    // So many thousands of bytes of a message's payload, that are not counted yet.
-    Thousands(u64),
+    // So many pieces of a message.
+    Pieces(u64),
 }
 
 // Where a client is in the frames that it sends: how much of the next header has come; of the payload under way the
-// length, how many bytes are to come, and how many of these are counted already.
+// length, how many bytes are to come, and whether they are a message's.
 #[derive(Clone, Copy)]
 struct Frames {
     header: [u8; HEADER_LENGTH],
     gathered: usize,
     payload: u64,
     payload_left: u64,
-    counted: u64,
+    is_message: bool,
     ghost begun: { gathered < 6 },
 }
 
@@ -145,19 +165,19 @@ impl Frames {
             gathered: 0,
             payload: 0,
             payload_left: 0,
-            counted: 0,
+            is_message: false,
         }
     }
 
-    // Goes past the front of a piece.
-    fn pass_front(&mut self, piece: &[u8]) -> Front
-        ensures { result.length ≤ length piece.now }
+    // Goes past the front of what was read.
+    fn pass_front(&mut self, read: &[u8]) -> Front
+        ensures { result.length ≤ length read.now }
     {
         if self.payload_left > 0 {
-            return self.pass_payload(piece.len());
+            return self.pass_payload(read.len());
         }
-        let length = piece.len().min(HEADER_LENGTH - self.gathered);
-        self.header[self.gathered..self.gathered + length].copy_from_slice(&piece[..length]);
+        let length = read.len().min(HEADER_LENGTH - self.gathered);
+        self.header[self.gathered..self.gathered + length].copy_from_slice(&read[..length]);
         if self.gathered + length < HEADER_LENGTH {
             self.gathered += length;
             return Front {
@@ -178,10 +198,7 @@ impl Frames {
         let kind = u16::from_be_bytes([a, b]);
         self.payload = u64::from(u32::from_be_bytes([c, d, e, f]));
         self.payload_left = self.payload;
-        self.counted = match kind {
-            VOICE | PING => self.payload,
-            _ => THOUSAND - HEADER_LENGTH as u64,
-        };
+        self.is_message = !matches!(kind, VOICE | PING);
         kind
     }
 
@@ -189,41 +206,68 @@ impl Frames {
         ensures { result.length ≤ most }
     {
         let length = most.min(usize::try_from(self.payload_left).unwrap_or(usize::MAX));
+        let pieces = self.pieces_to_come(length as u64);
         self.payload_left = self.payload_left.saturating_sub(length as u64);
         Front {
             length,
-            begins: Begins::Thousands(self.count_bytes(length as u64)),
+            begins: Begins::Pieces(pieces),
         }
     }
 
-    // Counts so many bytes of a payload. How many thousands begin in them.
-    fn count_bytes(&mut self, bytes: u64) -> u64 {
-        let thousands = self.thousands_in(bytes);
-        let counted = self
-            .counted
-            .saturating_add(thousands.saturating_mul(THOUSAND));
-        self.counted = counted.saturating_sub(bytes);
-        thousands
+    // How many bytes of the frame under way have come.
+    fn passed(&self) -> u64 {
+        let come = self.payload.saturating_sub(self.payload_left);
+        come.saturating_add(HEADER_LENGTH as u64)
     }
 
-    // How many thousands begin in the next bytes of a payload.
-    fn thousands_in(&self, bytes: u64) -> u64 {
-        bytes.saturating_sub(self.counted).div_ceil(THOUSAND)
+    // How many pieces begin in the next bytes of the payload under way.
+    fn pieces_to_come(&self, bytes: u64) -> u64 {
+        if !self.is_message {
+            return 0;
+        }
+        let passed = self.passed();
+        pieces_in(passed.saturating_add(bytes)).saturating_sub(pieces_in(passed))
     }
 
-    // The least length of what takes up this much room: of the payload under way, as far as its thousands find room, and
-    // of frames behind it.
+    // The least length of what takes up this much room: of the payload under way, as far as its pieces find room, and of
+    // frames behind it.
     fn length_within(&self, messages: u64, voice: u64) -> usize {
-        let thousands = self.thousands_in(self.payload_left);
-        let length = if thousands > messages {
-            self.counted
-                .saturating_add(messages.saturating_mul(THOUSAND))
+        let pieces = self.pieces_to_come(self.payload_left);
+        let length = if pieces > messages {
+            let passed = self.passed();
+            bytes_within(pieces_in(passed).saturating_add(messages)).saturating_sub(passed)
         } else {
-            let frames = messages.saturating_sub(thousands).min(voice);
+            let frames = messages.saturating_sub(pieces).min(voice);
             self.payload_left
                 .saturating_add(frames.saturating_mul(HEADER_LENGTH as u64))
         };
         usize::try_from(length).unwrap_or(usize::MAX)
+    }
+}
+
+/// How long a link that has to wait is still read once its client has hung up, in milliseconds.
+pub const LEFT_BEHIND_LIMIT: u64 = 10_000;
+
+/// Since when a client has hung up, as far as its link had to wait since.
+#[derive(Clone, Copy)]
+pub struct HangUp {
+    since: Option<u64>,
+}
+
+impl HangUp {
+    /// It has not.
+    pub fn new() -> HangUp {
+        HangUp { since: None }
+    }
+
+    /// The link has to wait at this time. Whether it has waited long enough for a client that has hung up.
+    pub fn is_over(&mut self, has_hung_up: bool, milliseconds: u64) -> bool {
+        if !has_hung_up {
+            return false;
+        }
+        let since = self.since.unwrap_or(milliseconds);
+        self.since = Some(since);
+        milliseconds.saturating_sub(since) >= LEFT_BEHIND_LIMIT
     }
 }
 
@@ -257,7 +301,7 @@ impl Meter {
         }
     }
 
-    /// How many bytes may be read at this time, so that no more frames and thousands of bytes begin in them than there is
+    /// How many bytes may be read at this time, so that no more frames and pieces of messages begin in them than there is
     /// room for.
     pub fn allowance(&mut self, milliseconds: u64) -> usize {
         if !self.is_limited {
@@ -294,7 +338,7 @@ impl Meter {
                     begun = begun.saturating_add(1);
                     self.count_frame(kind);
                 }
-                Begins::Thousands(thousands) => self.messages.add_frames(thousands),
+                Begins::Pieces(pieces) => self.messages.add_frames(pieces),
             }
             rest = &rest[front.length..];
         }

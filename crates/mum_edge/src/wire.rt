@@ -1,13 +1,13 @@
 //! How a link reads and writes its stream: it asks the system only where the stream may be ready, and keeps what is
 //! written in batches where more is coming.
 
-ghost use Rattle.std.specs.Prelude.{◌<◌, length, None};
+ghost use Rattle.std.specs.Prelude.{◌<◌, ℕ, List, length, None};
 ghost use Rattle.mum_io.specs.Link.{PollReadLeaves, PollWriteLeaves};
 
 use crate::board::Board;
 use crate::hub::{HUNG_UP, Hub, READABLE, WRITABLE};
 use crate::long::Reservation;
-use crate::pace::Meter;
+use crate::pace::{HangUp, Meter};
 use crate::stream::Stream;
 use mio::Registry;
 use mum_io::{PollRead, PollWrite};
@@ -31,11 +31,13 @@ pub struct Wire {
     pub registry: Arc<Registry>,
     pub slot: usize,
     pub meter: Meter,
+    pub hang_up: HangUp,
     pub reservation: Reservation,
     pub kept: Vec<u8>,
     pub sent: usize,
     pub batch: u64,
     pub is_broken: bool,
+    pub has_ended: bool,
     pub awaits_room: bool,
     pub bytes_read: u64,
     pub bytes_written: u64,
@@ -55,30 +57,37 @@ impl Wire {
         if self.is_broken {
             return PollRead::Failed;
         }
+        if self.has_ended {
+            return PollRead::End;
+        }
         if !self.hub.has(self.slot, READABLE) {
             return PollRead::NotYet;
         }
-        let allowance = self.allowance();
-        if self.is_broken {
-            return PollRead::Failed;
-        }
-        if allowance == 0 {
-            self.board.slow_down();
-            return PollRead::NotYet;
+        let allowance = self.meter.allowance(self.board.milliseconds());
+        if allowance == 0 || !self.reservation.covers(self.meter.payload()) {
+            return self.wait();
         }
         let length = buf.len().min(allowance);
         self.read_stream(&mut buf[..length])
     }
 
-    // How many bytes may be read now. Where none may, by the pace or because a long frame finds no room beside those of
-    // other links, nobody waits for a client that has hung up: else it would keep its slot.
-    fn allowance(&mut self) -> usize {
-        let allowance = self.meter.allowance(self.board.milliseconds());
-        if allowance > 0 && self.reservation.covers(self.meter.payload()) {
-            return allowance;
+    // No byte may be read now, by the pace or because a long frame finds no room beside those of other links. What a
+    // client that has hung up left behind is not waited for for long: else it would keep its slot.
+    fn wait(&mut self) -> PollRead
+        ensures { (buf : List ℕ) → PollReadLeaves result None None buf }
+    {
+        let has_hung_up = self.hub.has(self.slot, HUNG_UP);
+        if !self.hang_up.is_over(has_hung_up, self.board.milliseconds()) {
+            self.board.slow_down();
+            return PollRead::NotYet;
         }
-        self.is_broken = self.hub.has(self.slot, HUNG_UP);
-        0
+        self.has_ended = self.stream.was_closed();
+        self.is_broken = !self.has_ended;
+        if self.is_broken {
+            PollRead::Failed
+        } else {
+            PollRead::End
+        }
     }
 
     // The flag is left where there may be more: the system reports no change of that.

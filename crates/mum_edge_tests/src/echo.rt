@@ -15,6 +15,8 @@ pub enum Manner {
     EchoForOne,
     /// Answers the first bytes by `no`, and closes.
     Dismiss,
+    /// Sends nothing back.
+    Hear,
 }
 
 /// How many bytes a guest is asked for at once.
@@ -25,6 +27,8 @@ const PIECE: usize = 60;
 pub struct Heard {
     pub address: [u8; 16],
     pub bytes: usize,
+    /// Its link failed, and did not end.
+    pub has_failed: bool,
 }
 
 type Bell<L> = Arc<ArrayQueue<Option<L>>>;
@@ -35,6 +39,7 @@ pub struct Guest<L> {
     bytes: usize,
     unsent: Vec<u8>,
     sent: usize,
+    has_failed: bool,
 }
 
 #[derive(Drop)]
@@ -87,8 +92,14 @@ impl<L: Link> Guest<L> {
         match self.link.poll_read(&mut buf) {
             PollRead::Got(count) => self.hear(&buf[..count], manner),
             PollRead::NotYet => Visit::Idle,
-            PollRead::End | PollRead::Failed => Visit::Over,
+            PollRead::End => Visit::Over,
+            PollRead::Failed => self.fail(),
         }
+    }
+
+    fn fail(&mut self) -> Visit {
+        self.has_failed = true;
+        Visit::Over
     }
 
     fn hear(&mut self, bytes: &[u8], manner: Manner) -> Visit {
@@ -96,6 +107,9 @@ impl<L: Link> Guest<L> {
         if manner == Manner::Dismiss {
             let _took = self.link.poll_write(b"no");
             return Visit::Over;
+        }
+        if manner == Manner::Hear {
+            return Visit::Busy;
         }
         self.unsent.clear();
         self.sent = 0;
@@ -117,7 +131,7 @@ impl<L: Link> Guest<L> {
                 Visit::Busy
             }
             PollWrite::NotYet => Visit::Idle,
-            PollWrite::Failed => Visit::Over,
+            PollWrite::Failed => self.fail(),
         }
     }
 }
@@ -132,6 +146,7 @@ impl<L: Link, X> Worker<L, X> {
                     bytes: 0,
                     unsent: Vec::new(self.alloc),
                     sent: 0,
+                    has_failed: false,
                 };
                 let _no_memory = self.guests.push(guest);
                 true
@@ -194,11 +209,16 @@ impl<L: Link, X> Worker<L, X> {
         let Guest {
             mut link,
             bytes,
+            has_failed,
             ..
         } = guest;
         link.shut();
-        let address = link.address();
-        let _no_memory = self.heard.push(Heard { address, bytes });
+        let heard = Heard {
+            address: link.address(),
+            bytes,
+            has_failed,
+        };
+        let _no_memory = self.heard.push(heard);
     }
 }
 

@@ -6,6 +6,8 @@ mod addresses;
 #[cfg(test)]
 mod echo;
 #[cfg(test)]
+mod hang_ups;
+#[cfg(test)]
 mod lines;
 #[cfg(test)]
 mod long_frames;

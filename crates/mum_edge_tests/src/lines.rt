@@ -74,8 +74,27 @@ fn a_crew_of_threads_sends_back_what_comes(rt: HostRuntime) -> Result<(), Fail> 
     Ok(())
 }
 
+/// One frame a second, of messages and of voice, and so many at once.
+pub fn slow_pace(at_once: u32) -> Pace {
+    let rate = Rate {
+        each_second: 1,
+        at_once,
+    };
+    Pace::Limited {
+        messages: rate,
+        voice: rate,
+    }
+}
+
+/// Of how many bytes of a connection the least and the most were read.
+fn least_and_most(all: &[Heard]) -> (usize, usize) {
+    let least = all.iter().map(|heard| heard.bytes).min().unwrap_or(0);
+    let most = all.iter().map(|heard| heard.bytes).max().unwrap_or(0);
+    (least, most)
+}
+
 /// Sends frames without a payload, of the type that stands in their second byte.
-fn flood(stream: &mut TcpStream, kind: u8, frames: usize) -> io::Result<()> {
+pub fn flood<S: Write>(stream: &mut S, kind: u8, frames: usize) -> io::Result<()> {
     for _ in 0..frames {
         stream.write_all(&[0, kind, 0, 0, 0, 0])?;
     }
@@ -85,15 +104,7 @@ fn flood(stream: &mut TcpStream, kind: u8, frames: usize) -> io::Result<()> {
 #[test]
 fn who_floods_is_held_up_and_others_are_not(rt: HostRuntime) -> Result<(), Fail> {
     let alloc: Global = rt.alloc();
-    let rate = Rate {
-        each_second: 1,
-        at_once: 200,
-    };
-    let pace = Pace::Limited {
-        messages: rate,
-        voice: rate,
-    };
-    let (machine, address) = open(rt, 2, pace)?;
+    let (machine, address) = open(rt, 2, slow_pace(200))?;
     let Machine { mut crew, door, .. } = machine;
     let roles = parts(rt, alloc, door, 2, 1, Manner::EchoForOne)?;
     let clients = thread::spawn(&rt, move || {
@@ -110,8 +121,7 @@ fn who_floods_is_held_up_and_others_are_not(rt: HostRuntime) -> Result<(), Fail>
     assert!(rt; clients.join(&rt)?);
     assert_eq!(rt; run.end, CrewEnd::Ran);
     let all: Vec<Heard> = all_heard(alloc, &run.roles)?;
-    let most = all.iter().map(|heard| heard.bytes).max().unwrap_or(0);
-    let least = all.iter().map(|heard| heard.bytes).min().unwrap_or(0);
+    let (least, most) = least_and_most(&all);
     assert_eq!(rt; (all.len(), most), (2, 3000));
     // 200 frames at once, and a few for the seconds that passed
     assert!(rt; (1200..1800).contains(&least), "{least} bytes");
@@ -121,15 +131,7 @@ fn who_floods_is_held_up_and_others_are_not(rt: HostRuntime) -> Result<(), Fail>
 #[test]
 fn the_bytes_of_a_message_are_held_up_too(rt: HostRuntime) -> Result<(), Fail> {
     let alloc: Global = rt.alloc();
-    let rate = Rate {
-        each_second: 1,
-        at_once: 5,
-    };
-    let pace = Pace::Limited {
-        messages: rate,
-        voice: rate,
-    };
-    let (machine, address) = open(rt, 2, pace)?;
+    let (machine, address) = open(rt, 2, slow_pace(5))?;
     let Machine { mut crew, door, .. } = machine;
     let roles = parts(rt, alloc, door, 2, 1, Manner::EchoForOne)?;
     let client = thread::spawn(&rt, move || {
@@ -146,7 +148,7 @@ fn the_bytes_of_a_message_are_held_up_too(rt: HostRuntime) -> Result<(), Fail> {
     assert!(rt; client.join(&rt)?);
     assert_eq!(rt; run.end, CrewEnd::Ran);
     let all: Vec<Heard> = all_heard(alloc, &run.roles)?;
-    let most = all.iter().map(|heard| heard.bytes).max().unwrap_or(0);
+    let (_, most) = least_and_most(&all);
     assert!(rt;
         all.len() == 2 && (6000..12_000).contains(&most),
         "{most} bytes"

@@ -92,7 +92,7 @@ fn use_up<X: AllocGlobal + Net>(rt: &X, address: SocketAddr) -> io::Result<Vec<X
     Ok(streams)
 }
 
-/// Whether one who hung up was closed at once, and one who waited was read once another had gone.
+/// Whether one who hung up was closed, and one who waited was read once another had gone.
 fn wait_for_room<X: AllocGlobal + Net>(rt: &X, address: SocketAddr) -> io::Result<bool> {
     let mut streams = use_up(rt, address)?;
     let mut waiting = announce(rt, address)?;

@@ -1,6 +1,6 @@
 //! How much of what a client sends may be read at a time.
 
-use mum_edge::pace::{Meter, Pace, Rate};
+use mum_edge::pace::{HangUp, LEFT_BEHIND_LIMIT, Meter, Pace, Rate};
 use std::test::Fail;
 
 /// Frames without a payload: a message, one of voice, a Ping.
@@ -12,6 +12,9 @@ const PING: [u8; 6] = [0, 3, 0, 0, 0, 0];
 
 /// The header of a message with a payload of 5,000 bytes.
 const LONG_TEXT: [u8; 6] = [0, 11, 0, 0, 0x13, 0x88];
+
+/// The header of the longest message.
+const LONGEST_TEXT: [u8; 6] = [0, 11, 0, 0x7f, 0xff, 0xff];
 
 /// A meter at a time of 1,000 milliseconds.
 fn meter() -> Meter {
@@ -83,6 +86,32 @@ fn each_thousand_bytes_of_a_message_counts_as_a_frame(rt: HostRuntime) -> Result
     assert_eq!(rt; meter.allowance(1149), 1999);
     assert_eq!(rt; meter.allowance(1150), 2005);
     assert_eq!(rt; meter.allowance(9000), 2005 + 6);
+    Ok(())
+}
+
+#[test]
+fn behind_the_length_of_a_short_frame_fewer_bytes_are_counted(rt: HostRuntime) -> Result<(), Fail> {
+    let mut meter = Meter::new(Pace::usual(), 0);
+    assert_eq!(rt; meter.count(&LONGEST_TEXT), 1);
+    // 132 for the first 128 KiB, and 68 for 64 KiB each
+    assert_eq!(rt; meter.allowance(0), 0x2_0000 + 68 * 0x1_0000 - 6);
+    for _ in 0..0x2_0000u32 / 0x4000 {
+        assert_eq!(rt; meter.count(&[7; 0x4000]), 0);
+    }
+    // six bytes of the first 64 KiB behind are counted
+    assert_eq!(rt; meter.allowance(0), 68 * 0x1_0000 - 6);
+    assert_eq!(rt; meter.allowance(50), 69 * 0x1_0000 - 6);
+    Ok(())
+}
+
+#[test]
+fn a_client_that_has_hung_up_is_waited_for_for_a_while(rt: HostRuntime) -> Result<(), Fail> {
+    let mut hang_up = HangUp::new();
+    assert!(rt; !hang_up.is_over(false, 0));
+    assert!(rt; !hang_up.is_over(false, LEFT_BEHIND_LIMIT));
+    assert!(rt; !hang_up.is_over(true, 90_000));
+    assert!(rt; !hang_up.is_over(true, 90_000 + LEFT_BEHIND_LIMIT - 1));
+    assert!(rt; hang_up.is_over(true, 90_000 + LEFT_BEHIND_LIMIT));
     Ok(())
 }
 

@@ -14,7 +14,7 @@ use Rattle.mum_record.proofs.ConfigLaws.{config_of-found, config_of-line}
 use Rattle.mum_record.proofs.HeadLemmas.{limits_of-found, limits_of-line, workers_of-found, workers_of-line}
 use Rattle.mum_record.proofs.Laws.{chosen}
 use Rattle.mum_core.specs.Core.{CoreState, start}
-use Rattle.mum_server.specs.Opening.{document_fault, opening}
+use Rattle.mum_opening.specs.Opening.{document_fault, opening}
 use Rattle.mum_server.specs.Replay.{Answer, Goes, Outcome, Stops as StopsAt, answer, config_answer, goes_on, is_too_long, limits_answer, opening_answer, outcome_from, phase_behind_workers, replayed, version_answer, workers_answer}
 use Rattle.mum_server.specs.declared.{end.End.TheVariants.Faulty, replay.Phase.Phase}
 use Rattle.mum_server.specs.declared.end.LineFault.TheVariants.{TooLong, BadRecording}

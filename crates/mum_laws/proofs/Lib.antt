@@ -1,3 +1,5 @@
+mod Bringing
+mod Coming
 mod Counting
 mod Deciding
 mod Draining
@@ -5,7 +7,13 @@ mod Finding
 mod Heading
 mod Offering
 mod Rejecting
+mod Requesting
+mod Resting
+mod Seating
+mod Speaking
 mod Staying
 mod Taking
 mod Transcribing
 mod Voicing
+mod Whole
+mod Wording

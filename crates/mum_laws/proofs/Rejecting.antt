@@ -86,7 +86,7 @@ tree_unrejected r = tree_holds (Unrejected r) (record {
   ruled = λ channel actor policy. refl;
 })
 
-unrejected : (r : ℕ) (state : StateValue) (session : SessionId) (command : Asked) → Unrejected r (verdict state (Some session) command)
+pub unrejected : (r : ℕ) (state : StateValue) (session : SessionId) (command : Asked) → Unrejected r (verdict state (Some session) command)
 unfolding verdict
 unrejected r state session (commands.Tree message) = tree_unrejected r state session message
 unrejected r state session (commands.User message) = user_unrejected r state session message

@@ -3,7 +3,6 @@ use Rattle.std.proofs.Common.{◌≡◌, ℕ, ◌<◌, max, Bool, true, false, c
 use Rattle.std.specs.Prelude.{◌==◌, ◌⊎◌, is_none, option_to_list, replicate, slice_index_or}
 use Rattle.std.proofs.lemmas.Bool.{eqb-false, eqb-true}
 use Rattle.std.proofs.lemmas.List.{append-nil, length-replicate}
-use Rattle.mum_voice.specs.Packet.{packet}
 use Rattle.mum_state.specs.State.{StateValue}
 use Rattle.mum_session.specs.declared.action.Action.{Action}
 use Rattle.mum_session.specs.declared.action.Action.TheVariants.{Ask, Voice, Echo, Keep, Ignore}
@@ -202,7 +201,7 @@ goes w core End legal within = goes_same w core End (refl, refl) refl
 
 -- ---- a run
 
-still_there : (core : CoreState) (step : Step) (w : ℕ) → w < length core.workers → w < length (does core step).workers
+pub still_there : (core : CoreState) (step : Step) (w : ℕ) → w < length core.workers → w < length (does core step).workers
 still_there core step w within = let same = as_many core step in omega (arith, within, same)
 
 looked_on : (w : ℕ) (core : CoreState) (run : List Step) → IsRun core run → w < length core.workers

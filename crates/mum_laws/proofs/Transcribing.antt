@@ -16,7 +16,7 @@ use Rattle.mum_core.specs.Laws.{gathered, ran}
 use Rattle.mum_core.specs.Line.{text_of}
 use Rattle.mum_core.specs.Step.{does, illegal, lines}
 use Rattle.mum_server.specs.Replay.{Outcome, Stops as StopsAt, allowed_answer, answer, behind, goes_on, is_too_long, outcome_from, phase_after, step_answer, stops_at}
-use Rattle.mum_server.specs.declared.{end.End.End, end.End.TheVariants.Faulty, replay.Phase.Phase}
+use Rattle.mum_server.specs.declared.{end.End.TheVariants.Faulty, replay.Phase.Phase}
 use Rattle.mum_server.specs.declared.end.LineFault.TheVariants.{TooLong, BadRecording, IllegalStep}
 use Rattle.mum_server.specs.declared.replay.Phase.TheVariants.{Over, Running}
 use Rattle.mum_laws.specs.Recordings.{EndsAt, IsLong, IsRunFrom, IsShort, NoneIsBehindTheEnd, is_end, is_over}

@@ -1,6 +1,7 @@
 pub mod Copies
 pub mod Drains
 pub mod Edits
+pub mod Exercises
 pub mod Offers
 pub mod Packets
 pub mod Recordings

@@ -12,7 +12,7 @@ use Rattle.mum_core.specs.Core.{CoreState, start}
 use Rattle.mum_core.specs.Laws.{IsRun, gathered, ran}
 use Rattle.mum_core.specs.Line.{text_of}
 use Rattle.mum_core.specs.Step.{illegal, lines}
-use Rattle.mum_server.specs.Opening.{document_fault, opening}
+use Rattle.mum_opening.specs.Opening.{document_fault, opening}
 use Rattle.mum_server.specs.Replay.{Outcome}
 use Rattle.mum_server.specs.declared.{end.End.End, end.End.TheVariants.Finished, end.End.TheVariants.Faulty, end.LineFault.LineFault}
 use Rattle.mum_server.specs.declared.end.LineFault.TheVariants.{TooLong, BadRecording, BadConfig, IllegalStep}
@@ -122,7 +122,7 @@ pub record IsTranscript (bytes : List ℕ) (outcome : Outcome) : Type 0 where
 abbrev pub IsFaultOfHead : End → Type 0
 IsFaultOfHead (Faulty n TooLong) = n ≤ 4
 IsFaultOfHead (Faulty n BadRecording) = n ≤ 4
-IsFaultOfHead (Faulty n (BadConfig cause key)) = n ≤ 4
+IsFaultOfHead (Faulty n (BadConfig code key)) = n ≤ 4
 IsFaultOfHead others = ⊥
 
 -- nothing is told, and a line of the head is at fault

@@ -12,7 +12,7 @@ _murmur() {
     local -a answers=()
 
     if [ "$count" = 2 ]; then
-        mapfile -t answers < <(compgen -W "replay exercise serve" -- "$word")
+        mapfile -t answers < <(compgen -W "replay audit exercise serve" -- "$word")
     elif [ "$count" = 3 ] && [ "${words[1]}" = serve ]; then
         case $word in
         unix:* | proxy:unix:*)
@@ -29,6 +29,8 @@ _murmur() {
         case ${answers[*]} in *: | */) compopt -o nospace 2> /dev/null ;; esac
     elif [ "$count" = 4 ] && [ "${words[1]}" = serve ]; then
         mapfile -t answers < <(compgen -W "1000 100000" -- "$word")
+    elif [ "$count" = 5 ] && [ "${words[1]}" = serve ]; then
+        mapfile -t answers < <(compgen -W "journal" -- "$word")
     fi
 
     # bash replaces only what stands behind the last ':'

@@ -1,7 +1,11 @@
 -- One prefix of a group name more is read.
-use Rattle.std.proofs.Common.{◌≡◌, ◌≢◌, ℕ, Bool, true, List, [], ◌∷◌, length, refl, arith}
+use Rattle.std.proofs.Common.{◌≡◌, ◌≢◌, ◌∙◌, ℕ, Bool, true, List, [], ◌∷◌, codes, length, refl, ap, arith}
+use Rattle.std.specs.Str.{bytes_eq}
 use Rattle.std.proofs.lemmas.Bool.{ne_eqb}
-use Rattle.mum_policy.specs.Name.{Understood, asked_by, understood_after}
+use Rattle.std.proofs.lemmas.Slice.Eq.{bytes_eq-Decides}
+use Rattle.mum_base.specs.declared.number.ChannelId.{ChannelId}
+use Rattle.mum_policy.specs.Member.{Actor, PolicyMap, meets, member}
+use Rattle.mum_policy.specs.Name.{Understood, asked_by, meaning, understood_after}
 
 abbrev pub read : Bool → Bool → List ℕ → Understood
 read negated at_acl name = record { negated = negated; at_acl = at_acl; asks = asked_by name }
@@ -25,3 +29,14 @@ pub read_end : (negated at_acl : Bool) (name : List ℕ) → length name ≡ 0 �
 unfolding understood_after
 read_end negated at_acl [] e = refl
 read_end negated at_acl (byte ∷ rest) e = absurd (omega arith)
+
+-- ---- a name without a prefix that everybody is in
+
+all_is_everybody : (policies : PolicyMap) (path : List ChannelId) (acl_at : ℕ) (who : Actor) → member policies path acl_at (codes "all") who ≡ true
+unfolding member meets understood_after asked_by meaning
+all_is_everybody policies path acl_at who = refl
+
+pub everybody_is_member : (policies : PolicyMap) (path : List ChannelId) (acl_at : ℕ) (name : List ℕ) (who : Actor) → bytes_eq name (codes "all") ≡ true
+    → member policies path acl_at name who ≡ true
+everybody_is_member policies path acl_at name who is =
+    ap (λ (bytes : List ℕ). member policies path acl_at bytes who) ((bytes_eq-Decides name (codes "all")).0 is) ∙ all_is_everybody policies path acl_at who

@@ -1,8 +1,8 @@
 //! Which sessions are in a group.
 
-ghost use Rattle.std.specs.Prelude.{◌≡◌, ◌<◌, None, length, map, reverse, slice_index_or, true, false, if◌then◌else◌};
+ghost use Rattle.std.specs.Prelude.{◌≡◌, ◌<◌, None, codes, length, map, reverse, slice_index_or, true, false, if◌then◌else◌};
 ghost use Rattle.std.specs.Option.{option_copied};
-ghost use Rattle.std.specs.Str.{str_eq_ignore_ascii_case};
+ghost use Rattle.std.specs.Str.{bytes_eq, str_eq_ignore_ascii_case};
 ghost use Rattle.mum_policy.specs.Name.{asks_of};
 ghost use Rattle.mum_policy.specs.Member.{IsFound, actor_of, definition, definitions, has_token, is_in, is_listed, lists, meets, member, upwards};
 
@@ -121,7 +121,15 @@ pub fn is_member<P: Policies>(
     member_of(policies, &[], path, acl_at, name, who)
 }
 
-/// The same, where these are the policies of the first channels of the path.
+// Whether a name is `all` without a prefix, which is what most entries name.
+fn is_everybody(name: &[u8]) -> bool
+    ensures { result ≡ bytes_eq name.now (codes "all") }
+{
+    name == b"all".as_slice()
+}
+
+/// The same, where these are the policies of the first channels of the path. A name that is `all` is not read
+/// further.
 #[tactic(auto, unfolding(crate::specs::Member::member))]
 pub(crate) fn member_of<'a, P: Policies>(
     policies: &'a P,
@@ -135,7 +143,11 @@ pub(crate) fn member_of<'a, P: Policies>(
     requires found { IsFound (P.policy_of policies.now) path.now (map option_copied found.now) }
     ensures { result ≡ member (P.policy_of policies.now) path.now acl_at name.now (actor_of who.now) }
 {
-    let name = understand(name.as_bytes());
+    let name = name.as_bytes();
+    if is_everybody(name) {
+        return true;
+    }
+    let name = understand(name);
     name.negated != meets_asked(policies, found, path, acl_at, name.at_acl, who, name.asked)
 }
 

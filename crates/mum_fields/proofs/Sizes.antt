@@ -1,12 +1,13 @@
 -- How long spellings are, as far as 64 bits tell it.
-use Rattle.std.proofs.Common.{◌≡◌, ℕ, zero, suc, ◌+◌, ◌-◌, ◌*◌, ◌/◌, ◌%◌, ◌^◌, ◌<◌, ◌≤◌, Bool, true, false, cond, ltb, List, [], ◌∷◌, ◌++◌, length, min, refl, ap, ◌∙◌, arith}
+use Rattle.std.proofs.Common.{◌≡◌, ℕ, zero, suc, ◌+◌, ◌-◌, ◌*◌, ◌/◌, ◌%◌, ◌^◌, ◌<◌, ◌≤◌, Bool, true, false, cond, ltb, List, [], ◌∷◌, ◌++◌, get_or, length, map, min, take, refl, sym, ap, ◌∙◌, arith}
 use Rattle.std.proofs.lemmas.Bool.{ltb-true, ltb-false}
-use Rattle.std.proofs.lemmas.List.{length-append}
+use Rattle.std.proofs.lemmas.List.{length-append, map-append, map_more}
 use Rattle.std.proofs.lemmas.List.Concat.{flat_map-append}
 use Rattle.mum_fields.specs.Field.{wire_type}
 use Rattle.mum_fields.specs.Varint.{shortest_with, shortest}
 use Rattle.mum_fields.specs.Written.{Item, spelling, written, value_bytes, varint_item, block_item}
 use Rattle.mum_fields.specs.Survey.{cut, size}
+use Rattle.mum_fields.specs.Table.{Layout, Nothing, Field, Blocks, Values, row_items, each_message, items}
 use Rattle.mum_fields.proofs.Spellings.{Rest, shortest_with-last}
 
 -- ---- lengths of spellings
@@ -88,3 +89,49 @@ rest-last n m out low r = omega (arith, length-append out (shortest_with r.more 
 -- one more size is added to those before
 pub sum-more : (total one others all more both : ℕ) → more ≡ min (total + one) (2 ^ 64 - 1) → both ≡ min (one + others) (2 ^ 64 - 1) → min (total + both) (2 ^ 64 - 1) ≡ all → min (more + others) (2 ^ 64 - 1) ≡ all
 sum-more total one others all more both is_more is_both h = omega arith
+
+-- ---- lengths that are added up
+
+-- the items so far, and one more
+size-next : (xs ys : List Item) (x : Item) (start total one more : ℕ) → ys ≡ xs ++ x ∷ [] → total ≡ cut (start + size xs) → one ≡ size (x ∷ []) → more ≡ cut (total + one) → more ≡ cut (start + size ys)
+size-next xs ys x start total one more is before own adds =
+    let both = ap size is ∙ size-append xs (x ∷ []) in
+    omega (arith, both)
+
+-- an item for each of a list
+pub size-more : {X : Type 0} (item : X → Item) (xs : List X) (i : ℕ) (x : X) (start total one more : ℕ) → i < length xs → x ≡ get_or xs i x → total ≡ cut (start + size (map item (take i xs))) → one ≡ size (item x ∷ []) → more ≡ cut (total + one) → more ≡ cut (start + size (map item (take (i + 1) xs)))
+size-more item xs i x start total one more within is before own adds =
+    let next = map_more item xs i x within ∙ ap (λ y. map item (take i xs) ++ item y ∷ []) (sym is) in
+    size-next (map item (take i xs)) (map item (take (i + 1) xs)) (item x) start total one more next before own adds
+
+-- an item for the values of each
+pub size-more-values : {X Y : Type 0} (view : X → Y) (item : Y → Item) (xs : List X) (i : ℕ) (x : X) (start total one more : ℕ) → i < length xs → x ≡ get_or xs i x → total ≡ cut (start + size (map item (map view (take i xs)))) → one ≡ size (item (view x) ∷ []) → more ≡ cut (total + one) → more ≡ cut (start + size (map item (map view (take (i + 1) xs))))
+size-more-values view item xs i x start total one more within is before own adds =
+    let next = map_more view xs i x within ∙ ap (λ y. map view (take i xs) ++ view y ∷ []) (sym is) in
+    let items = ap (λ ys. map item ys) next ∙ map-append item (map view (take i xs)) (view x ∷ []) in
+    size-next (map item (map view (take i xs))) (map item (map view (take (i + 1) xs))) (item (view x)) start total one more items before own adds
+
+-- P of the length at last, given for each field the length behind it
+abbrev pub Counting : (form : Layout) → Values form → ℕ → (ℕ → Type 0) → Type 0
+Counting Nothing values now P = P now
+Counting (Field label kind number others) values now P = (next : ℕ) → next ≡ cut (now + size (row_items label kind number values.0)) → Counting others values.1 next P
+Counting (Blocks inside number others) values now P = (next : ℕ) → next ≡ cut (now + size (each_message (items inside) number values.0)) → Counting others values.1 next P
+
+both-counted : (own others : List Item) (now next last : ℕ) → next ≡ cut (now + size own) → last ≡ cut (next + size others) → last ≡ cut (now + size (own ++ others))
+both-counted own others now next last first h =
+    let whole = size-append own others in
+    omega (arith, whole)
+
+counting : (form : Layout) (values : Values form) (now : ℕ) (P : ℕ → Type 0) → now ≤ 2 ^ 64 - 1 → ((last : ℕ) → last ≡ cut (now + size (items form values)) → P last) → Counting form values now P
+counting Nothing values now P few then = then now (omega arith)
+counting (Field label kind number others) values now P few then =
+    λ next is. counting others values.1 next P (omega (arith, is)) (λ last h. then last (both-counted (row_items label kind number values.0) (items others values.1) now next last is h))
+counting (Blocks inside number others) values now P few then =
+    λ next is. counting others values.1 next P (omega (arith, is)) (λ last h. then last (both-counted (each_message (items inside) number values.0) (items others values.1) now next last is h))
+
+-- fields that are counted in their order are the length of the message
+pub fields-counted : (form : Layout) (values : Values form) (start : ℕ) → start ≡ 0 → Counting form values start (λ last. last ≡ size (items form values))
+fields-counted form values start none = counting form values start (λ last. last ≡ size (items form values)) (omega (arith, none)) (λ last h. whole last h)
+  where
+    whole : (last : ℕ) → last ≡ cut (start + size (items form values)) → last ≡ size (items form values)
+    whole last h = omega (arith, none, h)

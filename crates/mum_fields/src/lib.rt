@@ -1,12 +1,13 @@
 //! Fields of a Protocol Buffers payload, read and written: the one place where the bytes of a
 //! message are taken apart. A `Message` tells its fields by a table, and gathers itself from the fields
-//! that `Reader` gives; `Writer` puts a payload together.
+//! that `Reader` gives; `Writer` puts a payload together, and `Length` tells how long it would be.
 #![tactic(auto)]
 
 mod cursor;
 mod fault;
 mod field;
 mod laws;
+mod length;
 mod message;
 mod number;
 mod packed;
@@ -23,6 +24,7 @@ mod writer;
 pub use fault::{FaultKind, FieldFault};
 pub use field::{Field, Placed, Value};
 pub use laws::{fields_are_the_grammar, shortest_is_least, varint_faults, written_is_read};
+pub use length::Length;
 pub use message::{Message, MessageFault, add_message};
 pub use number::VarintType;
 pub use packed::Packed;

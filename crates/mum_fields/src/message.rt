@@ -1,13 +1,13 @@
 //! What all messages share: why a payload is none, what is missing, and how they are read and
 //! written.
 
-ghost use Rattle.std.specs.Prelude.{◌≡◌, ◌∷◌, [], ◌++◌, map, OnOk, OnErr, IfOk, IfErr, None, true};
+ghost use Rattle.std.specs.Prelude.{◌≡◌, ◌∷◌, [], ◌++◌, map, OnOk, OnErr, IsOk, IfOk, IfErr, Ok, None, true};
 ghost use Rattle.mum_fields.specs.Field.{entry_of};
 ghost use Rattle.mum_fields.specs.Payload.{fields};
 ghost use Rattle.mum_fields.specs.Message.{Decodes, Gathers, longer, message, messages_of, only, entry_fault, IsFaultOf};
 ghost use Rattle.mum_fields.specs.Written.{written};
 ghost use Rattle.mum_fields.specs.Table.{Table, ReadsAs, layout, parts, items, rising, rules, no_values, values_after, gathered, lesser, missing, decoded, spelled};
-ghost use Rattle.mum_fields.specs.Survey.{surveyed};
+ghost use Rattle.mum_fields.specs.Survey.{size, surveyed};
 ghost use Rattle.mum_fields.specs.Typed.{AreTyped};
 ghost use Rattle.mum_fields.specs.declared.message.MessageFault.TheVariants.{Field, OutOfMemory};
 
@@ -88,6 +88,11 @@ pub trait Message: Drop {
             ≡ writer ++ written (items (layout rows) (parts rows self.now))) }
         ensures typed { OnOk result (AreTyped (layout rows) (parts rows self.now)) };
 
+    /// How many bytes this message has as this server spells it, or 2^64 - 1 where they are more.
+    /// It takes no memory.
+    fn length(&self) -> u64
+        ensures { result ≡ size (items (layout rows) (parts rows self.now)) };
+
     /// How many bytes the message of a payload has as this server spells it, or 2^64 - 1 where they
     /// are more; or why the payload is no message. It takes no memory, and copies nothing.
     fn survey(payload: &[u8]) -> Result<u64, MessageFault>
@@ -106,7 +111,21 @@ pub trait Message: Drop {
         ensures { Decodes (parts rows) result (decoded rows payload.now) }
     {
         Self::survey(payload)?;
-        gather::<Self>(alloc, Reader::new(payload))
+        Ok(Self::decode_surveyed(alloc, payload)?)
+    }
+
+    /// The message of a payload in which `survey` found no fault. It is not surveyed again, and
+    /// nothing is left to fail but memory.
+    final fn decode_surveyed(alloc: Global, payload: &[u8]) -> Result<Self, OutOfMemory>
+        requires { IsOk (surveyed rows payload.now) }
+        ensures { IfOk result (λ message. decoded rows payload.now ≡ Ok (parts rows message)) }
+    {
+        match gather::<Self>(alloc, Reader::new(payload)) {
+            Ok(message) => Ok(message),
+            Err(MessageFault::Field(_)) => unreachable!(),
+            Err(MessageFault::MissingField { .. }) => unreachable!(),
+            Err(MessageFault::OutOfMemory) => Err(AllocError),
+        }
     }
 
     /// The payload of this message: each field that is set, in the order of the numbers, each

@@ -31,7 +31,7 @@ fn varint_size(number: u64) -> u64
 }
 
 /// The size of a number with its key.
-fn number_size(number: u32, value: u64) -> u64
+pub fn number_size(number: u32, value: u64) -> u64
     requires { number ≤ last_number }
     ensures { result ≡ size (varint_item number value ∷ []) }
 {
@@ -49,7 +49,7 @@ pub fn block_size(number: u32, bytes: u64) -> u64
 }
 
 /// The size of a block with its key and its length.
-fn bytes_size(number: u32, block: &[u8]) -> u64
+pub fn bytes_size(number: u32, block: &[u8]) -> u64
     requires { number ≤ last_number }
     ensures { result ≡ size (block_item number block.now ∷ []) }
 {

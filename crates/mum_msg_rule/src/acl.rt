@@ -5,8 +5,8 @@ use crate::acl_group::{self, AclGroup};
 use crate::acl_line::{self, AclLine};
 use mum_base::{Items, OutOfMemory};
 use mum_fields::{
-    BlocksShape, Message, MessageFault, Placed, Shape, Writer, add_message, field, set_varint,
-    survey,
+    BlocksShape, Length, Message, MessageFault, Placed, Shape, Writer, add_message, field,
+    set_varint, survey,
 };
 use std::alloc::Global;
 
@@ -57,6 +57,16 @@ impl Message for Acl {
         writer.put_each_message(4, &self.acls)?;
         writer.put_number(5, &self.query)?;
         Ok(writer)
+    }
+
+    fn length(&self) -> u64 {
+        Length::new()
+            .number(1, &self.channel_id)
+            .number(2, &self.inherit_acls)
+            .each_message(3, &self.groups)
+            .each_message(4, &self.acls)
+            .number(5, &self.query)
+            .total()
     }
 
     fn survey(payload: &[u8]) -> Result<u64, MessageFault> {

@@ -2,8 +2,8 @@
 
 use mum_base::{Items, OutOfMemory, Text};
 use mum_fields::{
-    FieldShape, Message, MessageFault, Placed, Writer, add_numbers, field, set_text, set_varint,
-    survey,
+    FieldShape, Length, Message, MessageFault, Placed, Writer, add_numbers, field, set_text,
+    set_varint, survey,
 };
 use std::alloc::Global;
 
@@ -77,6 +77,18 @@ impl Message for AclGroup {
         writer.put_each_number(6, &self.remove)?;
         writer.put_each_number(7, &self.inherited_members)?;
         Ok(writer)
+    }
+
+    fn length(&self) -> u64 {
+        Length::new()
+            .text(1, &self.name)
+            .number(2, &self.inherited)
+            .number(3, &self.inherit)
+            .number(4, &self.inheritable)
+            .each_number(5, &self.add)
+            .each_number(6, &self.remove)
+            .each_number(7, &self.inherited_members)
+            .total()
     }
 
     fn survey(payload: &[u8]) -> Result<u64, MessageFault> {

@@ -2,7 +2,7 @@
 
 use mum_base::{OutOfMemory, Text};
 use mum_fields::{
-    FieldShape, Message, MessageFault, Placed, Writer, field, set_text, set_varint, survey,
+    FieldShape, Length, Message, MessageFault, Placed, Writer, field, set_text, set_varint, survey,
 };
 use std::alloc::Global;
 
@@ -75,6 +75,18 @@ impl Message for AclLine {
         writer.put_number(6, &self.grant)?;
         writer.put_number(7, &self.deny)?;
         Ok(writer)
+    }
+
+    fn length(&self) -> u64 {
+        Length::new()
+            .number(1, &self.apply_here)
+            .number(2, &self.apply_subs)
+            .number(3, &self.inherited)
+            .number(4, &self.user_id)
+            .text(5, &self.group)
+            .number(6, &self.grant)
+            .number(7, &self.deny)
+            .total()
     }
 
     fn survey(payload: &[u8]) -> Result<u64, MessageFault> {

@@ -2,7 +2,7 @@
 
 use mum_base::{OutOfMemory, Text};
 use mum_fields::{
-    FieldShape, Message, MessageFault, Placed, Writer, field, set_text, set_varint, survey,
+    FieldShape, Length, Message, MessageFault, Placed, Writer, field, set_text, set_varint, survey,
 };
 use std::alloc::Global;
 
@@ -69,6 +69,17 @@ impl Message for PermissionDenied {
         writer.put_number(5, &self.kind)?;
         writer.put_text(6, &self.name)?;
         Ok(writer)
+    }
+
+    fn length(&self) -> u64 {
+        Length::new()
+            .number(1, &self.permission)
+            .number(2, &self.channel_id)
+            .number(3, &self.session)
+            .text(4, &self.reason)
+            .number(5, &self.kind)
+            .text(6, &self.name)
+            .total()
     }
 
     fn survey(payload: &[u8]) -> Result<u64, MessageFault> {

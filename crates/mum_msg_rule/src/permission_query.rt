@@ -1,7 +1,9 @@
 //! PermissionQuery: a client asks for its permissions on a channel, and the server tells them.
 
 use mum_base::OutOfMemory;
-use mum_fields::{FieldShape, Message, MessageFault, Placed, Writer, field, set_varint, survey};
+use mum_fields::{
+    FieldShape, Length, Message, MessageFault, Placed, Writer, field, set_varint, survey,
+};
 use std::alloc::Global;
 
 /// Mumble.proto, message PermissionQuery.
@@ -48,6 +50,14 @@ impl Message for PermissionQuery {
         writer.put_number(2, &self.permissions)?;
         writer.put_number(3, &self.flush)?;
         Ok(writer)
+    }
+
+    fn length(&self) -> u64 {
+        Length::new()
+            .number(1, &self.channel_id)
+            .number(2, &self.permissions)
+            .number(3, &self.flush)
+            .total()
     }
 
     fn survey(payload: &[u8]) -> Result<u64, MessageFault> {

@@ -2,8 +2,8 @@
 
 use mum_base::{Items, OutOfMemory, Text};
 use mum_fields::{
-    FieldShape, Message, MessageFault, Placed, Writer, add_numbers, field, set_text, set_varint,
-    survey,
+    FieldShape, Length, Message, MessageFault, Placed, Writer, add_numbers, field, set_text,
+    set_varint, survey,
 };
 use std::alloc::Global;
 
@@ -63,6 +63,16 @@ impl Message for TargetBlock {
         writer.put_number(4, &self.links)?;
         writer.put_number(5, &self.children)?;
         Ok(writer)
+    }
+
+    fn length(&self) -> u64 {
+        Length::new()
+            .each_number(1, &self.session)
+            .number(2, &self.channel_id)
+            .text(3, &self.group)
+            .number(4, &self.links)
+            .number(5, &self.children)
+            .total()
     }
 
     fn survey(payload: &[u8]) -> Result<u64, MessageFault> {

@@ -2,8 +2,8 @@
 
 use mum_base::{Items, OutOfMemory, Text};
 use mum_fields::{
-    FieldShape, Message, MessageFault, Placed, Writer, add_numbers, field, set_text, set_varint,
-    survey,
+    FieldShape, Length, Message, MessageFault, Placed, Writer, add_numbers, field, set_text,
+    set_varint, survey,
 };
 use std::alloc::Global;
 
@@ -63,6 +63,16 @@ impl Message for TextMessage {
         writer.put_each_number(4, &self.tree_id)?;
         writer.put_text(5, &self.message)?;
         Ok(writer)
+    }
+
+    fn length(&self) -> u64 {
+        Length::new()
+            .number(1, &self.actor)
+            .each_number(2, &self.session)
+            .each_number(3, &self.channel_id)
+            .each_number(4, &self.tree_id)
+            .text(5, &self.message)
+            .total()
     }
 
     fn survey(payload: &[u8]) -> Result<u64, MessageFault> {

@@ -3,8 +3,8 @@
 use crate::target_block::{self, TargetBlock};
 use mum_base::{Items, OutOfMemory};
 use mum_fields::{
-    BlocksShape, Message, MessageFault, Placed, Shape, Writer, add_message, field, set_varint,
-    survey,
+    BlocksShape, Length, Message, MessageFault, Placed, Shape, Writer, add_message, field,
+    set_varint, survey,
 };
 use std::alloc::Global;
 
@@ -40,6 +40,13 @@ impl Message for VoiceTarget {
         writer.put_number(1, &self.id)?;
         writer.put_each_message(2, &self.targets)?;
         Ok(writer)
+    }
+
+    fn length(&self) -> u64 {
+        Length::new()
+            .number(1, &self.id)
+            .each_message(2, &self.targets)
+            .total()
     }
 
     fn survey(payload: &[u8]) -> Result<u64, MessageFault> {

@@ -2,8 +2,8 @@
 
 use mum_base::{Items, OutOfMemory, Text};
 use mum_fields::{
-    FieldShape, Message, MessageFault, Placed, Writer, add_numbers, add_text, field, set_text,
-    set_varint, survey,
+    FieldShape, Length, Message, MessageFault, Placed, Writer, add_numbers, add_text, field,
+    set_text, set_varint, survey,
 };
 use std::alloc::Global;
 
@@ -63,6 +63,16 @@ impl Message for Authenticate {
         writer.put_each_number(4, &self.celt_versions)?;
         writer.put_number(5, &self.opus)?;
         Ok(writer)
+    }
+
+    fn length(&self) -> u64 {
+        Length::new()
+            .text(1, &self.username)
+            .text(2, &self.password)
+            .each_text(3, &self.tokens)
+            .each_number(4, &self.celt_versions)
+            .number(5, &self.opus)
+            .total()
     }
 
     fn survey(payload: &[u8]) -> Result<u64, MessageFault> {

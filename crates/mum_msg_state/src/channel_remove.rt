@@ -1,7 +1,9 @@
 //! ChannelRemove: a channel is removed, or is to be.
 
 use mum_base::OutOfMemory;
-use mum_fields::{FieldShape, Message, MessageFault, Placed, Writer, field, set_varint, survey};
+use mum_fields::{
+    FieldShape, Length, Message, MessageFault, Placed, Writer, field, set_varint, survey,
+};
 use std::alloc::Global;
 
 /// Mumble.proto, message ChannelRemove.
@@ -32,6 +34,10 @@ impl Message for ChannelRemove {
     fn put(&self, mut writer: Writer) -> Result<Writer, OutOfMemory> {
         writer.put_number(1, &self.channel_id)?;
         Ok(writer)
+    }
+
+    fn length(&self) -> u64 {
+        Length::new().number(1, &self.channel_id).total()
     }
 
     fn survey(payload: &[u8]) -> Result<u64, MessageFault> {

@@ -2,8 +2,8 @@
 
 use mum_base::{Items, OutOfMemory, Text};
 use mum_fields::{
-    FieldShape, Message, MessageFault, Placed, Writer, add_numbers, field, set_text, set_varint,
-    survey,
+    FieldShape, Length, Message, MessageFault, Placed, Writer, add_numbers, field, set_text,
+    set_varint, survey,
 };
 use std::alloc::Global;
 
@@ -93,6 +93,21 @@ impl Message for ChannelState {
         writer.put_number(9, &self.position)?;
         writer.put_number(11, &self.max_users)?;
         Ok(writer)
+    }
+
+    fn length(&self) -> u64 {
+        Length::new()
+            .number(1, &self.channel_id)
+            .number(2, &self.parent)
+            .text(3, &self.name)
+            .each_number(4, &self.links)
+            .text(5, &self.description)
+            .each_number(6, &self.links_add)
+            .each_number(7, &self.links_remove)
+            .number(8, &self.temporary)
+            .number(9, &self.position)
+            .number(11, &self.max_users)
+            .total()
     }
 
     fn survey(payload: &[u8]) -> Result<u64, MessageFault> {

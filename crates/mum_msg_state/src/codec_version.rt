@@ -1,7 +1,9 @@
 //! CodecVersion: which codecs the users of the server are to speak.
 
 use mum_base::OutOfMemory;
-use mum_fields::{FieldShape, Message, MessageFault, Placed, Writer, field, set_varint, survey};
+use mum_fields::{
+    FieldShape, Length, Message, MessageFault, Placed, Writer, field, set_varint, survey,
+};
 use std::alloc::Global;
 
 /// Mumble.proto, message CodecVersion.
@@ -54,6 +56,15 @@ impl Message for CodecVersion {
         writer.put_number(3, &self.prefer_alpha)?;
         writer.put_number(4, &self.opus)?;
         Ok(writer)
+    }
+
+    fn length(&self) -> u64 {
+        Length::new()
+            .number(1, &self.alpha)
+            .number(2, &self.beta)
+            .number(3, &self.prefer_alpha)
+            .number(4, &self.opus)
+            .total()
     }
 
     fn survey(payload: &[u8]) -> Result<u64, MessageFault> {

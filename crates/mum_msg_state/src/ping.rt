@@ -1,7 +1,9 @@
 //! Ping: each side asks now and then whether the other still hears it.
 
 use mum_base::OutOfMemory;
-use mum_fields::{FieldShape, Message, MessageFault, Placed, Writer, field, set_varint, survey};
+use mum_fields::{
+    FieldShape, Length, Message, MessageFault, Placed, Writer, field, set_varint, survey,
+};
 use std::alloc::Global;
 
 /// Mumble.proto, message Ping. Of its fields only the timestamp is read; a reply repeats it.
@@ -32,6 +34,10 @@ impl Message for Ping {
     fn put(&self, mut writer: Writer) -> Result<Writer, OutOfMemory> {
         writer.put_number(1, &self.timestamp)?;
         Ok(writer)
+    }
+
+    fn length(&self) -> u64 {
+        Length::new().number(1, &self.timestamp).total()
     }
 
     fn survey(payload: &[u8]) -> Result<u64, MessageFault> {

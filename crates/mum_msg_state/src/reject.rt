@@ -2,7 +2,7 @@
 
 use mum_base::{OutOfMemory, Text};
 use mum_fields::{
-    FieldShape, Message, MessageFault, Placed, Writer, field, set_text, set_varint, survey,
+    FieldShape, Length, Message, MessageFault, Placed, Writer, field, set_text, set_varint, survey,
 };
 use std::alloc::Global;
 
@@ -41,6 +41,13 @@ impl Message for Reject {
         writer.put_number(1, &self.kind)?;
         writer.put_text(2, &self.reason)?;
         Ok(writer)
+    }
+
+    fn length(&self) -> u64 {
+        Length::new()
+            .number(1, &self.kind)
+            .text(2, &self.reason)
+            .total()
     }
 
     fn survey(payload: &[u8]) -> Result<u64, MessageFault> {

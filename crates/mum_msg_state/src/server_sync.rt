@@ -2,7 +2,7 @@
 
 use mum_base::{OutOfMemory, Text};
 use mum_fields::{
-    FieldShape, Message, MessageFault, Placed, Writer, field, set_text, set_varint, survey,
+    FieldShape, Length, Message, MessageFault, Placed, Writer, field, set_text, set_varint, survey,
 };
 use std::alloc::Global;
 
@@ -56,6 +56,15 @@ impl Message for ServerSync {
         writer.put_text(3, &self.welcome_text)?;
         writer.put_number(4, &self.permissions)?;
         Ok(writer)
+    }
+
+    fn length(&self) -> u64 {
+        Length::new()
+            .number(1, &self.session)
+            .number(2, &self.max_bandwidth)
+            .text(3, &self.welcome_text)
+            .number(4, &self.permissions)
+            .total()
     }
 
     fn survey(payload: &[u8]) -> Result<u64, MessageFault> {

@@ -2,8 +2,8 @@
 
 use mum_base::{Items, Octets, OutOfMemory, Text};
 use mum_fields::{
-    FieldShape, Message, MessageFault, Placed, Writer, add_numbers, add_text, field, set_block,
-    set_text, set_varint, survey,
+    FieldShape, Length, Message, MessageFault, Placed, Writer, add_numbers, add_text, field,
+    set_block, set_text, set_varint, survey,
 };
 use std::alloc::Global;
 
@@ -141,6 +141,29 @@ impl Message for UserState {
         writer.put_each_number(21, &self.listening_channel_add)?;
         writer.put_each_number(22, &self.listening_channel_remove)?;
         Ok(writer)
+    }
+
+    fn length(&self) -> u64 {
+        Length::new()
+            .number(1, &self.session)
+            .number(2, &self.actor)
+            .text(3, &self.name)
+            .number(4, &self.user_id)
+            .number(5, &self.channel_id)
+            .number(6, &self.mute)
+            .number(7, &self.deaf)
+            .number(8, &self.suppress)
+            .number(9, &self.self_mute)
+            .number(10, &self.self_deaf)
+            .octets(12, &self.plugin_context)
+            .text(13, &self.plugin_identity)
+            .text(14, &self.comment)
+            .number(18, &self.priority_speaker)
+            .number(19, &self.recording)
+            .each_text(20, &self.temporary_access_tokens)
+            .each_number(21, &self.listening_channel_add)
+            .each_number(22, &self.listening_channel_remove)
+            .total()
     }
 
     fn survey(payload: &[u8]) -> Result<u64, MessageFault> {

@@ -2,7 +2,7 @@
 
 use mum_base::{OutOfMemory, Text};
 use mum_fields::{
-    FieldShape, Message, MessageFault, Placed, Writer, field, set_text, set_varint, survey,
+    FieldShape, Length, Message, MessageFault, Placed, Writer, field, set_text, set_varint, survey,
 };
 use std::alloc::Global;
 
@@ -57,6 +57,15 @@ impl Message for Version {
         writer.put_text(3, &self.os)?;
         writer.put_text(4, &self.os_version)?;
         Ok(writer)
+    }
+
+    fn length(&self) -> u64 {
+        Length::new()
+            .number(1, &self.version)
+            .text(2, &self.release)
+            .text(3, &self.os)
+            .text(4, &self.os_version)
+            .total()
     }
 
     fn survey(payload: &[u8]) -> Result<u64, MessageFault> {

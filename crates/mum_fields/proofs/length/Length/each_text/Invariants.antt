@@ -1,0 +1,7 @@
+use Rattle.std.proofs.Common.{◌≡◌, ◌+◌, take}
+use Rattle.mum_fields.specs.Survey.{cut, size}
+use Rattle.mum_fields.specs.Written.{each_block}
+use Rattle.mum_fields.proofs.length.Length.each_text.Given as goal
+
+abbrev pub invariant-loop-text : goal.invariant-loop-text
+invariant-loop-text l = l.length ≡ cut (l.fn.self + size (each_block l.number (take l.text-index l.list)))

@@ -1,0 +1,16 @@
+use Rattle.std.proofs.Common.{◌∙◌}
+use Rattle.mum_fields.specs.Table.{layout, parts}
+use Rattle.mum_fields.proofs.Sizes.{fields-counted}
+use Rattle.mum_msg_rule.specs.Messages.{acl}
+use Rattle.mum_msg_rule.proofs.acl.AclMessage.length.Goals as goal
+
+pub returns : goal.returns
+returns c =
+    c.total.ensures
+    ∙ fields-counted (layout acl) (parts acl c.args.self.now)
+    _ c.new.ensures
+    _ c.number.ensures
+    _ c.number-2.ensures
+    _ c.each_message.ensures
+    _ c.each_message-2.ensures
+    _ c.number-3.ensures

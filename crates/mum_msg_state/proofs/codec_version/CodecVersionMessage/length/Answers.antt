@@ -1,0 +1,15 @@
+use Rattle.std.proofs.Common.{◌∙◌}
+use Rattle.mum_fields.specs.Table.{layout, parts}
+use Rattle.mum_fields.proofs.Sizes.{fields-counted}
+use Rattle.mum_msg_state.specs.Messages.{codec_version}
+use Rattle.mum_msg_state.proofs.codec_version.CodecVersionMessage.length.Goals as goal
+
+pub returns : goal.returns
+returns c =
+    c.total.ensures
+    ∙ fields-counted (layout codec_version) (parts codec_version c.args.self.now)
+    _ c.new.ensures
+    _ c.number.ensures
+    _ c.number-2.ensures
+    _ c.number-3.ensures
+    _ c.number-4.ensures

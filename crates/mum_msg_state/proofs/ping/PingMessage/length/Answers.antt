@@ -1,0 +1,12 @@
+use Rattle.std.proofs.Common.{◌∙◌}
+use Rattle.mum_fields.specs.Table.{layout, parts}
+use Rattle.mum_fields.proofs.Sizes.{fields-counted}
+use Rattle.mum_msg_state.specs.Messages.{ping}
+use Rattle.mum_msg_state.proofs.ping.PingMessage.length.Goals as goal
+
+pub returns : goal.returns
+returns c =
+    c.total.ensures
+    ∙ fields-counted (layout ping) (parts ping c.args.self.now)
+    _ c.new.ensures
+    _ c.number.ensures

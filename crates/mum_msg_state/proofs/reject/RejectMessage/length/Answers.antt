@@ -1,0 +1,13 @@
+use Rattle.std.proofs.Common.{◌∙◌}
+use Rattle.mum_fields.specs.Table.{layout, parts}
+use Rattle.mum_fields.proofs.Sizes.{fields-counted}
+use Rattle.mum_msg_state.specs.Messages.{reject}
+use Rattle.mum_msg_state.proofs.reject.RejectMessage.length.Goals as goal
+
+pub returns : goal.returns
+returns c =
+    c.total.ensures
+    ∙ fields-counted (layout reject) (parts reject c.args.self.now)
+    _ c.new.ensures
+    _ c.number.ensures
+    _ c.text.ensures

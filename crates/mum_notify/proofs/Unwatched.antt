@@ -31,6 +31,7 @@ use Rattle.mum_state.specs.State.{StateValue}
 use Rattle.mum_state.specs.Suppression.{heard_anew, is_newcomer, is_set_anew, with_clearing, with_suppression}
 use Rattle.mum_state.specs.declared.edit.Edit.{Edit}
 use Rattle.mum_state.specs.declared.edit.Edit.TheVariants.{Join, Kick, Leave, MakeChannel, RemoveChannel, SetAcl, SetTarget, SetTokens, SetUser}
+use Rattle.mum_state.proofs.Clearing.{by_clearing}
 use Rattle.mum_state.proofs.Descent.{applied_descends}
 use Rattle.mum_state.proofs.Each.{Each, each_filter, each_insert, each_map, each_so, found_passes, some_found}
 use Rattle.mum_state.proofs.Emptying.{alone}
@@ -221,9 +222,7 @@ set_listens state (SetTarget one id target) session apart = ap (λ (pairs : List
 set_listens state edit session apart = refl
 
 clearing_listeners : (edit : Edit) (state : StateValue) → (with_clearing edit state).roster.listeners ≡ state.roster.listeners
-clearing_listeners (SetUser session actor channel mute deaf true priority self_mute self_deaf recording comment context listen unlisten) state = refl
-clearing_listeners (SetUser session actor channel mute deaf false priority self_mute self_deaf recording comment context listen unlisten) state = refl
-clearing_listeners edit state = refl
+clearing_listeners edit state = by_clearing (λ after. after.roster.listeners ≡ state.roster.listeners) edit state refl (λ session. refl)
 
 -- where no channel is told gone, none goes
 

@@ -12,9 +12,10 @@ use Rattle.mum_tree.specs.Rows.{is_root, row_of}
 use Rattle.mum_tree.specs.State.{TreeState, partners}
 use Rattle.mum_tree.specs.declared.channel.Channel.{Channel}
 use Rattle.mum_state.specs.declared.edit.Edit.{Edit}
-use Rattle.mum_state.specs.declared.edit.Edit.TheVariants.{EditChannel, MakeChannel}
+use Rattle.mum_state.specs.declared.edit.Edit.TheVariants.{MakeChannel}
 use Rattle.mum_state.specs.Kinds.{is_empty}
 use Rattle.mum_state.specs.Named.{given}
+use Rattle.mum_state.specs.Parts.{channel_edit}
 use Rattle.mum_state.specs.State.{StateValue}
 
 abbrev pub channel_of : TreeState → ChannelId → Option Channel
@@ -117,9 +118,8 @@ in_order ids = fold (λ ordered id. with_channel id ordered) [] ids
 
 -- the channels that an edit can make others: the one that it edits, and those that it links to it or parts from it
 abbrev pub edited_channels : Edit → List ChannelId
-edited_channels (EditChannel id actor name parent description position max_users links_add links_remove) =
-    in_order (id ∷ links_add ++ links_remove)
-edited_channels edit = []
+edited_channels edit =
+    option_map_or (λ channel. in_order (channel.channel ∷ channel.change.links_add ++ channel.change.links_remove)) (channel_edit edit) []
 
 abbrev pub channel_changes_told : StateValue → Edit → StateValue → List ChannelState
 channel_changes_told before edit after = flat_map (channel_difference before.tree after.tree) (edited_channels edit)

@@ -10,9 +10,10 @@ use Rattle.mum_users.specs.Sessions.{session_of}
 use Rattle.mum_users.specs.State.{RosterState}
 use Rattle.mum_users.specs.declared.user.User.{User}
 use Rattle.mum_state.specs.declared.edit.Edit.{Edit}
-use Rattle.mum_state.specs.declared.edit.Edit.TheVariants.{Kick, MakeChannel, RemoveChannel, SetAcl, SetTokens, SetUser}
+use Rattle.mum_state.specs.declared.edit.Edit.TheVariants.{Kick, MakeChannel, RemoveChannel, SetAcl, SetTokens}
 use Rattle.mum_state.specs.Kinds.{is_empty}
 use Rattle.mum_state.specs.Named.{given}
+use Rattle.mum_state.specs.Parts.{session_edit}
 use Rattle.mum_state.specs.State.{StateValue}
 use Rattle.mum_notify.specs.Channels.{if_it_tells, said_unless}
 use Rattle.mum_notify.specs.declared.watch.Watch.{Watch}
@@ -56,14 +57,12 @@ user_told roster user = record {
 abbrev pub edited_by : Edit → Option SessionId
 edited_by (Kick session actor reason ban) = Some actor
 edited_by (RemoveChannel id actor) = Some actor
-edited_by (SetUser session actor channel mute deaf clear_suppress priority self_mute self_deaf recording comment context listen unlisten) = Some actor
 edited_by (SetAcl channel actor policy) = actor
-edited_by edit = None
+edited_by edit = option_map (λ user. user.actor) (session_edit edit)
 
 -- a comment is given
 abbrev pub gives_comment : Edit → Bool
-gives_comment (SetUser session actor channel mute deaf clear_suppress priority self_mute self_deaf recording comment context listen unlisten) = is_some comment
-gives_comment edit = false
+gives_comment edit = option_map_or (λ user. is_some user.change.comment) (session_edit edit) false
 
 -- a flag that is another is said, also where it became false
 abbrev pub flag_told : Bool → Bool → Option Bool
@@ -122,9 +121,8 @@ abbrev pub watch_own : Edit → Watch
 watch_own (RemoveChannel id actor) = Everybody
 watch_own (SetAcl channel actor policy) = Everybody
 watch_own (SetTokens session tokens) = One session
-watch_own (SetUser session actor channel mute deaf clear_suppress priority self_mute self_deaf recording comment context listen unlisten) = One session
 watch_own (MakeChannel id parent name temporary info maker) = watch_given (if temporary then maker else None)
-watch_own edit = Nobody
+watch_own edit = option_map_or (λ user. One user.session) (session_edit edit) Nobody
 
 -- where a channel goes, whoever was in it or listened to it is another
 abbrev pub whom_to_watch : Edit → Bool → Watch

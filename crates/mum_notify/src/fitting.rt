@@ -14,7 +14,6 @@ use mum_state::Edit;
 use std::alloc::Global;
 
 fn kick_fits(
-    alloc: Global,
     session: SessionId,
     actor: SessionId,
     reason: &Text,
@@ -24,7 +23,7 @@ fn kick_fits(
         ↔ IsWithinFrame (user_gone_payload (user_kicked session actor reason.now ban))) }
 {
     let told = user_kicked(session, actor, reason, ban)?;
-    is_within(alloc, &told)
+    Ok(is_within(&told))
 }
 
 fn sent_fits(
@@ -48,7 +47,7 @@ fn sent_fits(
         trees,
     };
     let told = text_told(alloc, &text, message)?;
-    is_within(alloc, &told)
+    Ok(is_within(&told))
 }
 
 /// Whether one frame takes what the edit itself says: the message by which it puts a session out, or its
@@ -62,7 +61,7 @@ pub fn fits_frame(alloc: Global, edit: &Edit) -> Result<bool, OutOfMemory>
             actor,
             reason,
             ban,
-        } => kick_fits(alloc, *session, *actor, reason, *ban),
+        } => kick_fits(*session, *actor, reason, *ban),
         Edit::Text {
             actor,
             sessions,

@@ -29,11 +29,10 @@ fn frame_of<M: Message>(alloc: Global, kind: u16, message: &M) -> Result<Octets,
 }
 
 /// Whether one frame takes the message.
-pub(crate) fn is_within<M: Message>(alloc: Global, message: &M) -> Result<bool, OutOfMemory>
-    ensures { IfOk result (λ fits. IsTrue fits ↔ IsWithinFrame (spelled M.rows message.now)) }
+pub(crate) fn is_within<M: Message>(message: &M) -> bool
+    ensures { IsTrue result ↔ IsWithinFrame (spelled M.rows message.now) }
 {
-    let payload = message.encode(alloc)?;
-    Ok(payload.as_slice().len() <= PAYLOAD_LIMIT)
+    message.length() <= PAYLOAD_LIMIT as u64
 }
 
 pub(crate) fn version_frame(alloc: Global, message: &Version) -> Result<Octets, OutOfMemory>

@@ -16,6 +16,7 @@ use Rattle.mum_state.specs.Parts.{user_parts}
 use Rattle.mum_state.specs.Set.{set_by}
 use Rattle.mum_state.specs.State.{StateValue}
 use Rattle.mum_state.specs.Suppression.{heard_anew, is_set_anew, with_clearing, with_suppression}
+use Rattle.mum_state.proofs.Clearing.{by_clearing}
 use Rattle.mum_state.proofs.Each.{Each, each_filter, each_insert, each_map, each_so}
 
 -- it is the same session, in its slot, with its account and, unless the edit sets them, its tokens
@@ -105,11 +106,11 @@ module _ (P : User → Type 0) (unheard : IsUnheard P) where
       (λ user holds. one_heard (is_set_anew before.roster.sessions edit user) _ user holds) state.roster.sessions all
 
   clearing_descends : (edit : Edit) (state : StateValue) → Each P state.roster.sessions → Each P (with_clearing edit state).roster.sessions
-  clearing_descends (SetUser session actor channel mute deaf true priority self_mute self_deaf recording comment context listen unlisten) state all =
+  clearing_descends edit state all =
+      by_clearing (λ after. Each P after.roster.sessions) edit state all
+      (λ session.
       each_map P P (λ user. cond (has_number session user) (record user { suppress = false }) user)
-      (λ user holds. one_heard (has_number session user) false user holds) state.roster.sessions all
-  clearing_descends (SetUser session actor channel mute deaf false priority self_mute self_deaf recording comment context listen unlisten) state all = all
-  clearing_descends edit state all = all
+      (λ user holds. one_heard (has_number session user) false user holds) state.roster.sessions all)
 
   -- what an edit leaves
   pub applied_descends : (state : StateValue) (edit : Edit) → Each P (set_by state edit).roster.sessions → Each P (applied state edit).roster.sessions

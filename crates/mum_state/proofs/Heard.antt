@@ -4,21 +4,17 @@ use Rattle.mum_base.specs.declared.number.ChannelId.{ChannelId}
 use Rattle.mum_users.specs.declared.user.User.{User}
 use Rattle.mum_users.specs.State.{has_number, is_in}
 use Rattle.mum_state.specs.declared.edit.Edit.{Edit}
-use Rattle.mum_state.specs.declared.edit.Edit.TheVariants.{SetUser}
 use Rattle.mum_state.specs.Emptied.{has_member}
 use Rattle.mum_state.specs.State.{StateValue}
 use Rattle.mum_state.specs.Suppression.{heard_anew, is_set_anew, with_clearing, with_suppression}
+use Rattle.mum_state.proofs.Clearing.{by_clearing}
 use Rattle.mum_state.proofs.Each.{any_map}
 
 pub clearing_tree : (edit : Edit) (state : StateValue) → (with_clearing edit state).tree ≡ state.tree
-clearing_tree (SetUser session actor channel mute deaf true priority self_mute self_deaf recording comment context listen unlisten) state = refl
-clearing_tree (SetUser session actor channel mute deaf false priority self_mute self_deaf recording comment context listen unlisten) state = refl
-clearing_tree edit state = refl
+clearing_tree edit state = by_clearing (λ after. after.tree ≡ state.tree) edit state refl (λ session. refl)
 
 pub clearing_policies : (edit : Edit) (state : StateValue) → (with_clearing edit state).policies ≡ state.policies
-clearing_policies (SetUser session actor channel mute deaf true priority self_mute self_deaf recording comment context listen unlisten) state = refl
-clearing_policies (SetUser session actor channel mute deaf false priority self_mute self_deaf recording comment context listen unlisten) state = refl
-clearing_policies edit state = refl
+clearing_policies edit state = by_clearing (λ after. after.policies ≡ state.policies) edit state refl (λ session. refl)
 
 -- who is in a channel does not hang on who may speak there
 still_in : (channel : ChannelId) (b on : Bool) (user : User) → is_in channel (cond b (record user { suppress = on }) user) ≡ is_in channel user
@@ -32,11 +28,11 @@ suppression_members channel before edit state =
     (λ user. still_in channel (is_set_anew before.roster.sessions edit user) _ user) state.roster.sessions
 
 clearing_members : (channel : ChannelId) (edit : Edit) (state : StateValue) → has_member (with_clearing edit state).roster.sessions channel ≡ has_member state.roster.sessions channel
-clearing_members channel (SetUser session actor into mute deaf true priority self_mute self_deaf recording comment context listen unlisten) state =
+clearing_members channel edit state =
+    by_clearing (λ after. has_member after.roster.sessions channel ≡ has_member state.roster.sessions channel) edit state refl
+    (λ session.
     any_map (is_in channel) (is_in channel) (λ user. cond (has_number session user) (record user { suppress = false }) user)
-    (λ user. still_in channel (has_number session user) false user) state.roster.sessions
-clearing_members channel (SetUser session actor into mute deaf false priority self_mute self_deaf recording comment context listen unlisten) state = refl
-clearing_members channel edit state = refl
+    (λ user. still_in channel (has_number session user) false user) state.roster.sessions)
 
 pub heard_members : (channel : ChannelId) (before : StateValue) (edit : Edit) (state : StateValue)
     → has_member (with_clearing edit (with_suppression before edit state)).roster.sessions channel ≡ has_member state.roster.sessions channel

@@ -1,5 +1,6 @@
 pub mod Counting
 pub mod ByPlace
+pub mod Clearing
 pub mod Descent
 pub mod Each
 pub mod Granted
@@ -26,6 +27,7 @@ pub mod Removing
 pub mod Altering
 pub mod Holding
 pub mod Fitting
+pub mod OfSession
 pub mod Keeping
 pub mod Members
 pub mod Renewing
@@ -49,6 +51,7 @@ pub mod Marking
 pub mod Speaking
 pub mod Asked
 pub mod Scenes
+pub mod PartsFacts
 pub mod StandardFacts
 pub mod EffectFacts
 pub mod FitFacts

@@ -18,7 +18,7 @@ use Rattle.mum_users.specs.declared.user.User.{User}
 use Rattle.mum_users.specs.Edit.{UserEdit, edit_fault}
 use Rattle.mum_users.specs.Proper.{IsProper, SlotsRise}
 use Rattle.mum_state.specs.declared.account.TheConstants.{ACCOUNT_LIMIT}
-use Rattle.mum_state.specs.declared.edit.Edit.TheVariants.{AddAccount, EditChannel, MakeChannel, RemoveChannel, SetUser}
+use Rattle.mum_state.specs.declared.edit.Edit.TheVariants.{AddAccount, MakeChannel, RemoveChannel}
 use Rattle.mum_state.specs.declared.renewed.Renewed.TheVariants.{Nobody, One}
 use Rattle.mum_state.specs.Channels.{channels_of, speaks_where_in}
 use Rattle.mum_state.specs.Counts.{raised_slots, raised_where}
@@ -236,31 +236,9 @@ module _ (slot : Slot) (state : StateValue) where
         (only_one (has_slot slot) (has_number user.session) state.roster.sessions user (proper.numbers user.session) (eq-eqb user.session.0 user.session.0 refl) found)
         (only_found (has_slot slot) state.roster.sessions user (slot_once state.roster.limit 0 slot.0 state.roster.sessions proper.slots) found)))
 
--- ---- changes that fit
+-- ---- what fits
 
-pub user_fits : (state : StateValue) (session actor : SessionId) (channel : Option ChannelId) (mute deaf : Option Bool) (clear_suppress : Bool) (priority self_mute self_deaf recording : Option Bool) (comment context : Option (List ℕ)) (listen unlisten : List ChannelId) (change : UserEdit)
-    → fits state (SetUser session actor channel mute deaf clear_suppress priority self_mute self_deaf recording comment context listen unlisten) ≡ true
-    → Some change ≡ Some (user_parts channel mute deaf priority self_mute self_deaf recording comment context listen unlisten) → edit_fault state.roster session change ≡ None
-user_fits state session actor channel mute deaf clear_suppress priority self_mute self_deaf recording comment context listen unlisten change fit is =
-    let parts : UserEdit = user_parts channel mute deaf priority self_mute self_deaf recording comment context listen unlisten in
-    let sets = (fit_parts state (SetUser session actor channel mute deaf clear_suppress priority self_mute self_deaf recording comment context listen unlisten) fit).sets in
-    let front = and_parts (is_none (edit_fault state.roster session parts) && holds_of_given is_text comment) (holds_of_given is_context context) sets in
-    let none = and_parts (is_none (edit_fault state.roster session parts)) (holds_of_given is_text comment) front.0 in
-    let same : change ≡ parts = cc in
-    ap (edit_fault state.roster session) same ∙ none_is (edit_fault state.roster session parts) none.0
-
-pub channel_fits : (state : StateValue) (id : ChannelId) (actor : Option SessionId) (name : Option (List ℕ)) (parent : Option ChannelId) (description : Option (List ℕ)) (position : Option ℤ) (max_users : Option ℕ) (links_add links_remove : List ChannelId) (change : Change)
-    → fits state (EditChannel id actor name parent description position max_users links_add links_remove) ≡ true
-    → Some change ≡ Some (channel_parts name parent description position max_users links_add links_remove) → fault_of_edit state.tree id change ≡ None
-channel_fits state id actor name parent description position max_users links_add links_remove change fit is =
-    let parts : Change = channel_parts name parent description position max_users links_add links_remove in
-    let sets = (fit_parts state (EditChannel id actor name parent description position max_users links_add links_remove) fit).sets in
-    let front = and_parts (is_none (fault_of_edit state.tree id parts) && holds_of_given is_name name) (holds_of_given is_text description) sets in
-    let none = and_parts (is_none (fault_of_edit state.tree id parts)) (holds_of_given is_name name) front.0 in
-    let same : change ≡ parts = cc in
-    ap (fault_of_edit state.tree id) same ∙ none_is (fault_of_edit state.tree id parts) none.0
-
--- what fits, of an account that is added, of a channel that is made, and of one that is removed
+-- of an account that is added, of a channel that is made, and of one that is removed
 pub account_fits : (state : StateValue) (account : AccountId) (name digest : List ℕ) → fits state (AddAccount account name digest) ≡ true
     → (list_any (is_named name) state.accounts ≡ false) × (list_any (is_numbered account) state.accounts ≡ false)
 account_fits state account name digest fit =

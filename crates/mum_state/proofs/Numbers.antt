@@ -4,7 +4,7 @@ use Rattle.std.proofs.lemmas.Bool.{and_parts, false≢true}
 use Rattle.std.proofs.lemmas.Bool.Decides.{nat_tests}
 use Rattle.mum_users.specs.State.{RosterState}
 use Rattle.mum_state.specs.declared.edit.Edit.{Edit}
-use Rattle.mum_state.specs.declared.edit.Edit.TheVariants.{Join, MakeChannel, SetTarget, SetUser}
+use Rattle.mum_state.specs.declared.edit.Edit.TheVariants.{Join, MakeChannel, SetTarget}
 use Rattle.mum_state.specs.After.{all_fit, led_to}
 use Rattle.mum_state.specs.Applied.{applied}
 use Rattle.mum_state.specs.Fits.{fits, gives_right_numbers, is_countable, sets_properly}
@@ -13,6 +13,7 @@ use Rattle.mum_state.specs.Named.{names_there}
 use Rattle.mum_state.specs.Set.{set_by}
 use Rattle.mum_state.specs.State.{StateValue}
 use Rattle.mum_state.specs.Suppression.{with_clearing, with_suppression}
+use Rattle.mum_state.proofs.Clearing.{by_clearing}
 
 -- the second of four
 second_of : (a b c d : Bool) → IsTrue (a && b && c && d) → IsTrue b
@@ -25,14 +26,10 @@ numbers_of_fitting state edit fit =
     second_of (names_there state edit) (gives_right_numbers state edit) (sets_properly state edit) (is_countable state edit) fit
 
 clearing_greatest : (edit : Edit) (state : StateValue) → (with_clearing edit state).tree.greatest ≡ state.tree.greatest
-clearing_greatest (SetUser session actor channel mute deaf true priority self_mute self_deaf recording comment context listen unlisten) state = refl
-clearing_greatest (SetUser session actor channel mute deaf false priority self_mute self_deaf recording comment context listen unlisten) state = refl
-clearing_greatest edit state = refl
+clearing_greatest edit state = by_clearing (λ after. after.tree.greatest ≡ state.tree.greatest) edit state refl (λ session. refl)
 
 clearing_last : (edit : Edit) (state : StateValue) → (with_clearing edit state).roster.last ≡ state.roster.last
-clearing_last (SetUser session actor channel mute deaf true priority self_mute self_deaf recording comment context listen unlisten) state = refl
-clearing_last (SetUser session actor channel mute deaf false priority self_mute self_deaf recording comment context listen unlisten) state = refl
-clearing_last edit state = refl
+clearing_last edit state = by_clearing (λ after. after.roster.last ≡ state.roster.last) edit state refl (λ session. refl)
 
 set_greatest : (state : StateValue) (edit : Edit) → IsTrue (gives_right_numbers state edit) → state.tree.greatest ≤ (set_by state edit).tree.greatest
 set_greatest state (MakeChannel id parent name temporary info None) right = grind (arith, nat_tests, right)

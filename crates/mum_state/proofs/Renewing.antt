@@ -1,9 +1,11 @@
 -- For whom an edit starts anew what was computed of a session.
-use Rattle.std.proofs.Common.{◌≡◌, ℕ, ◌<◌, ◌≤◌, ◌==◌, ◌&&◌, ◌||◌, not, Bool, true, false, cond, List, length, get_or, map, refl, sym, ap, ◌∙◌, arith, Option, Some, None, unwrap_or}
+use Rattle.std.proofs.Common.{◌≡◌, ℕ, ◌<◌, ◌≤◌, ◌==◌, ◌&&◌, ◌||◌, not, Bool, true, false, cond, List, length, get_or, map, refl, sym, ap, ap₂, ◌∙◌, arith, Option, Some, None, unwrap_or}
 use Rattle.std.specs.List.{All, count_by, filter, list_any}
+use Rattle.std.specs.Option.{option_map}
 use Rattle.std.proofs.lemmas.Bool.{and_parts, and_right, both_ways, eq-eqb, eqb-true, false≢true, ltb-true, ne_eqb, not-true, or_from}
 use Rattle.std.proofs.lemmas.List.Elements.{All-filter}
 use Rattle.std.proofs.lemmas.List.Folds.{list_any_at}
+use Rattle.std.proofs.lemmas.Option.{none-some, same_Some}
 use Rattle.mum_base.specs.declared.number.AccountId.{AccountId}
 use Rattle.mum_base.specs.declared.number.ChannelId.{ChannelId}
 use Rattle.mum_base.specs.declared.number.SessionId.{SessionId}
@@ -23,12 +25,12 @@ use Rattle.mum_users.specs.Targets.{targeted}
 use Rattle.mum_users.specs.declared.target.Target.{Target}
 use Rattle.mum_users.proofs.Counts.{some_from}
 use Rattle.mum_state.specs.declared.edit.Edit.{Edit}
-use Rattle.mum_state.specs.declared.edit.Edit.TheVariants.{AddAccount, EditChannel, Join, Kick, Leave, MakeChannel, RemoveChannel, SetAcl, SetLimits, SetServer, SetTarget, SetTokens, SetUser, Text}
+use Rattle.mum_state.specs.declared.edit.Edit.TheVariants.{AddAccount, EditChannel, Join, Kick, Leave, MakeChannel, RemoveChannel, SetAcl, SetLimits, SetServer, SetTarget, SetTokens, Text}
 use Rattle.mum_state.specs.Counts.{renews}
 use Rattle.mum_state.specs.Fits.{fits}
 use Rattle.mum_state.specs.Followed.{enters, is_slot_of_maker, may_renew}
 use Rattle.mum_state.specs.Kinds.{sets_tokens_of}
-use Rattle.mum_state.specs.Parts.{user_parts}
+use Rattle.mum_state.specs.Parts.{SessionEdit, session_edit}
 use Rattle.mum_state.specs.Proper.{IsProper}
 use Rattle.mum_state.specs.Set.{moved_up, set_by}
 use Rattle.mum_state.specs.State.{StateValue}
@@ -39,6 +41,7 @@ use Rattle.mum_state.proofs.Givens.{none_is}
 use Rattle.mum_state.proofs.Gone.{parent_stays, there_without_subtree}
 use Rattle.mum_state.proofs.Listed.{all_at}
 use Rattle.mum_state.proofs.Members.{AreNumbered, and_false, and_true, any_agree, any_inserted, any_mapped, newcomers, nobody_new, none_passes, or_false}
+use Rattle.mum_state.proofs.OfSession.{IsOfSession, of_session}
 
 and_swap : (a b : Bool) → (a && b) ≡ (b && a)
 and_swap true true = refl
@@ -129,13 +132,21 @@ module _ (state : StateValue) (session : SessionId) (change : UserEdit) where
       let user : User = get_or users k d in
       ap (λ b. not (user.channel.0 == (g user).channel.0) || b) (no_tokens (g user)) ∙ entered user (has_number session user) refl) slot)
 
-pub renews_user : (state : StateValue) (session actor : SessionId) (channel : Option ChannelId) (mute deaf : Option Bool) (clear_suppress : Bool) (priority self_mute self_deaf recording : Option Bool) (comment context : Option (List ℕ)) (listen unlisten : List ChannelId)
+pub renews_user : (state : StateValue) (edit : Edit) (session : SessionId) (channel : Option ChannelId)
+    → option_map (λ user. user.session) (session_edit edit) ≡ Some session → option_map (λ user. user.change.channel) (session_edit edit) ≡ Some channel
     → IsProper state → (slot : ℕ)
-    → list_any (λ user. has_number session user && ((user.slot.0 == slot) && enters channel user)) state.roster.sessions
-    ≡ renews state (SetUser session actor channel mute deaf clear_suppress priority self_mute self_deaf recording comment context listen unlisten) slot
-renews_user state session actor channel mute deaf clear_suppress priority self_mute self_deaf recording comment context listen unlisten proper slot =
-    renews_changed state session (user_parts channel mute deaf priority self_mute self_deaf recording comment context listen unlisten)
-    (SetUser session actor channel mute deaf clear_suppress priority self_mute self_deaf recording comment context listen unlisten) refl (λ user. refl) proper slot
+    → list_any (λ user. has_number session user && ((user.slot.0 == slot) && enters channel user)) state.roster.sessions ≡ renews state edit slot
+renews_user state edit session channel named into proper slot = step (session_edit edit) refl named into
+  where
+    step : (given : Option SessionEdit) → session_edit edit ≡ given → option_map (λ user. user.session) given ≡ Some session
+        → option_map (λ user. user.change.channel) given ≡ Some channel
+        → list_any (λ user. has_number session user && ((user.slot.0 == slot) && enters channel user)) state.roster.sessions ≡ renews state edit slot
+    step None is at to = absurd (none-some _ at)
+    step (Some user) is at to =
+        let are : IsOfSession state edit user = of_session state edit user is in
+        ap₂ (λ (one : SessionId) (other : Option ChannelId). list_any (λ user. has_number one user && ((user.slot.0 == slot) && enters other user)) state.roster.sessions)
+        (sym (same_Some _ _ at)) (sym (same_Some _ _ to))
+        ∙ renews_changed state user.session user.change edit (ap (λ (after : StateValue). after.roster.sessions) are.sets) are.no_tokens proper slot
 
 -- ---- a maker that enters its channel
 

@@ -14,7 +14,7 @@ use Rattle.mum_tree.proofs.Upward.{path_leads}
 use Rattle.mum_users.specs.declared.user.User.{User}
 use Rattle.mum_users.specs.State.{has_number}
 use Rattle.mum_state.specs.declared.edit.Edit.{Edit}
-use Rattle.mum_state.specs.declared.edit.Edit.TheVariants.{SetTokens, SetUser}
+use Rattle.mum_state.specs.declared.edit.Edit.TheVariants.{SetTokens}
 use Rattle.mum_state.specs.Applied.{applied}
 use Rattle.mum_state.specs.Emptied.{without_emptied}
 use Rattle.mum_state.specs.Kinds.{sets_policy, sets_tokens_of}
@@ -88,14 +88,10 @@ emptied_speaks before state user proper there =
 -- ---- who is heard anew
 
 not_cleared : (edit : Edit) (user : User) → is_cleared edit user ≡ false → silent_cleared edit user ≡ user.suppress
-not_cleared (SetUser session actor channel mute deaf true priority self_mute self_deaf recording comment context listen unlisten) user none =
-    ap (λ (b : Bool). cond b false user.suppress) none
-not_cleared (SetUser session actor channel mute deaf false priority self_mute self_deaf recording comment context listen unlisten) user none = refl
-not_cleared edit user none = refl
+not_cleared edit user none = ap (λ (b : Bool). cond b false user.suppress) none
 
 -- neither depends on who may speak
 cleared_heard : (edit : Edit) (silent : User → Bool) (user : User) → is_cleared edit (heard silent user) ≡ is_cleared edit user
-cleared_heard (SetUser session actor channel mute deaf clear_suppress priority self_mute self_deaf recording comment context listen unlisten) silent user = refl
 cleared_heard edit silent user = refl
 
 tokens_heard : (edit : Edit) (silent : User → Bool) (user : User) → sets_tokens_of edit (heard silent user) ≡ sets_tokens_of edit user

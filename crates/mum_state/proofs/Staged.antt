@@ -1,5 +1,5 @@
 -- What each stage of an edit needs of the state before it.
-use Rattle.std.proofs.Common.{◌≡◌, ℕ, ◌+◌, ◌≤◌, ◌^◌, ◌==◌, ◌&&◌, ◌||◌, Bool, true, false, cond, List, [], ◌∷◌, length, refl, sym, ap, subst, ◌∙◌, arith, Option, Some, None, Result, Ok, Err, IfSome, IsTrue, OnErr, OnOk}
+use Rattle.std.proofs.Common.{◌≡◌, ℕ, ◌+◌, ◌≤◌, ◌^◌, ◌==◌, ◌&&◌, ◌||◌, Bool, true, false, cond, List, [], ◌∷◌, length, refl, sym, ap, subst, ◌∙◌, arith, Option, Some, None, Result, Ok, Err, IfSome, IsTrue, OnErr, OnOk, if◌then◌else◌}
 use Rattle.std.specs.List.{All, list_all, list_any}
 use Rattle.std.specs.Option.{option_map_or}
 use Rattle.std.proofs.lemmas.Bool.{and_from, and_parts}
@@ -10,11 +10,10 @@ use Rattle.mum_tree.specs.Rows.{is_there}
 use Rattle.mum_tree.specs.State.{TreeState}
 use Rattle.mum_users.specs.declared.user.User.{User}
 use Rattle.mum_base.specs.declared.number.TheConstants.{SLOTS}
-use Rattle.mum_users.specs.Edit.{UserEdit, changed_user}
+use Rattle.mum_users.specs.Edit.{changed_user}
 use Rattle.mum_users.specs.Proper.{IsProper as IsProperRoster}
 use Rattle.mum_users.specs.State.{has_number}
 use Rattle.mum_state.specs.declared.edit.Edit.{Edit}
-use Rattle.mum_state.specs.declared.edit.Edit.TheVariants.{SetUser}
 use Rattle.mum_state.specs.declared.renewed.Renewed.{Renewed}
 use Rattle.mum_state.specs.Applied.{applied}
 use Rattle.mum_state.specs.Counts.{renews}
@@ -23,17 +22,19 @@ use Rattle.mum_state.specs.Kinds.{sets_policy}
 use Rattle.mum_state.specs.Fits.{fits}
 use Rattle.mum_state.specs.Followed.{cleared_session, counted, is_left_empty, left_by, with_left_closed}
 use Rattle.mum_state.specs.Named.{named_account, named_channels, named_sessions}
-use Rattle.mum_state.specs.Parts.{user_parts}
+use Rattle.mum_state.specs.Parts.{SessionEdit, session_edit}
 use Rattle.mum_state.specs.Proper.{IsProper}
 use Rattle.mum_state.specs.Renewed.{heard_again, is_renewed_slot}
 use Rattle.mum_state.specs.Set.{set_by}
 use Rattle.mum_state.specs.State.{Counts, StateValue, has_account}
 use Rattle.mum_state.specs.Suppression.{heard_anew, with_clearing}
 use Rattle.mum_state.proofs.Applying.{applied_is, counts_set}
+use Rattle.mum_state.proofs.Clearing.{by_clearing}
 use Rattle.mum_state.proofs.Fitting.{fit_parts}
 use Rattle.mum_state.proofs.Keeping.{fit_proper}
 use Rattle.mum_state.proofs.Leftover.{left_alone, left_may_go}
 use Rattle.mum_state.proofs.Listed.{any_map}
+use Rattle.mum_state.proofs.OfSession.{IsOfSession, of_session}
 
 -- the sessions that a fitting edit names are here
 pub sessions_named : (state : StateValue) (edit : Edit) → fits state edit ≡ true → list_all (λ session. list_any (has_number session) state.roster.sessions) (named_sessions edit) ≡ true
@@ -56,29 +57,35 @@ either_session change user session false keeps = refl
 -- whoever may speak is here
 pub clear_ready : (state : StateValue) (edit : Edit) (renewed : Renewed) (all : Bool) → fits state edit ≡ true
     → IsTrue (list_all (λ session. list_any (has_number session) (heard_again renewed all (set_by state edit)).roster.sessions) (cleared_session edit))
-clear_ready state (SetUser session actor channel mute deaf false priority self_mute self_deaf recording comment context listen unlisten) renewed all fit = refl
-clear_ready state (SetUser session actor channel mute deaf true priority self_mute self_deaf recording comment context listen unlisten) renewed all fit =
-    let edit : Edit = SetUser session actor channel mute deaf true priority self_mute self_deaf recording comment context listen unlisten in
-    let parts : UserEdit = user_parts channel mute deaf priority self_mute self_deaf recording comment context listen unlisten in
-    let here : list_any (has_number session) state.roster.sessions ≡ true =
-    first_of (λ one. list_any (has_number one) state.roster.sessions) session (actor ∷ []) (sessions_named state edit fit) in
-    and_from (list_any (has_number session) (heard_again renewed all (set_by state edit)).roster.sessions) true
-    (any_map (has_number session) (λ user. cond (is_renewed_slot renewed user.slot.0 || all) (heard_anew (set_by state edit) user) user)
-    (λ user. either_session (heard_anew (set_by state edit)) user session (is_renewed_slot renewed user.slot.0 || all) (λ one. refl)) (set_by state edit).roster.sessions
-    ∙ any_map (has_number session) (λ user. cond (has_number session user) (changed_user parts user) user)
-    (λ user. either_session (changed_user parts) user session (has_number session user) (λ one. refl)) state.roster.sessions
-    ∙ here) refl
-clear_ready state edit renewed all fit = refl
+clear_ready state edit renewed all fit = step (session_edit edit) refl
+  where
+    cleared : (user : SessionEdit) → session_edit edit ≡ Some user → (clears : Bool)
+        → IsTrue (list_all (λ session. list_any (has_number session) (heard_again renewed all (set_by state edit)).roster.sessions) (if clears then user.session ∷ [] else []))
+    cleared user is true =
+        let are : IsOfSession state edit user = of_session state edit user is in
+        let here : list_any (has_number user.session) state.roster.sessions ≡ true =
+        first_of (λ one. list_any (has_number one) state.roster.sessions) user.session (user.actor ∷ [])
+        (subst (λ (sessions : List SessionId). list_all (λ session. list_any (has_number session) state.roster.sessions) sessions ≡ true) are.names (sessions_named state edit fit)) in
+        and_from (list_any (has_number user.session) (heard_again renewed all (set_by state edit)).roster.sessions) true
+        (any_map (has_number user.session) (λ one. cond (is_renewed_slot renewed one.slot.0 || all) (heard_anew (set_by state edit) one) one)
+        (λ one. either_session (heard_anew (set_by state edit)) one user.session (is_renewed_slot renewed one.slot.0 || all) (λ other. refl)) (set_by state edit).roster.sessions
+        ∙ ap (λ (after : StateValue). list_any (has_number user.session) after.roster.sessions) are.sets
+        ∙ any_map (has_number user.session) (λ one. cond (has_number user.session one) (changed_user user.change one) one)
+        (λ one. either_session (changed_user user.change) one user.session (has_number user.session one) (λ other. refl)) state.roster.sessions
+        ∙ here) refl
+    cleared user is false = refl
+
+    step : (given : Option SessionEdit) → session_edit edit ≡ given
+        → IsTrue (list_all (λ session. list_any (has_number session) (heard_again renewed all (set_by state edit)).roster.sessions)
+        (option_map_or (λ user. if user.clear_suppress then user.session ∷ [] else []) given []))
+    step None is = refl
+    step (Some user) is = cleared user is user.clear_suppress
 
 clearing_tree : (edit : Edit) (state : StateValue) → (with_clearing edit state).tree ≡ state.tree
-clearing_tree (SetUser session actor channel mute deaf true priority self_mute self_deaf recording comment context listen unlisten) state = refl
-clearing_tree (SetUser session actor channel mute deaf false priority self_mute self_deaf recording comment context listen unlisten) state = refl
-clearing_tree edit state = refl
+clearing_tree edit state = by_clearing (λ after. after.tree ≡ state.tree) edit state refl (λ session. refl)
 
 clearing_counts : (edit : Edit) (state : StateValue) → (with_clearing edit state).counts ≡ state.counts
-clearing_counts (SetUser session actor channel mute deaf true priority self_mute self_deaf recording comment context listen unlisten) state = refl
-clearing_counts (SetUser session actor channel mute deaf false priority self_mute self_deaf recording comment context listen unlisten) state = refl
-clearing_counts edit state = refl
+clearing_counts edit state = by_clearing (λ after. after.counts ≡ state.counts) edit state refl (λ session. refl)
 
 -- a channel that may be empty may go
 pub close_ready : (state : StateValue) (edit : Edit) (renewed : Renewed) (all : Bool) → IsProper state → fits state edit ≡ true

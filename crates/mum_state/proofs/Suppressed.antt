@@ -1,17 +1,20 @@
 -- Suppression, set anew or cleared, changes whether sessions may speak, and nothing else.
-use Rattle.std.proofs.Common.{◌≡◌, not, Bool, true, false, cond, List, [], ◌∷◌, map, refl, ap, ◌∙◌}
+use Rattle.std.proofs.Common.{◌≡◌, ◌&&◌, not, Bool, true, false, cond, List, [], ◌∷◌, map, refl, ap, ◌∙◌, Option, Some, None, if◌then◌else◌}
+use Rattle.std.specs.Option.{option_map_or}
 use Rattle.mum_base.specs.declared.number.ChannelId.{ChannelId}
+use Rattle.mum_base.specs.declared.number.SessionId.{SessionId}
 use Rattle.mum_tree.specs.Rows.{is_there}
 use Rattle.mum_users.specs.declared.user.User.{User}
+use Rattle.mum_users.specs.Sessions.{suppressed}
 use Rattle.mum_users.specs.State.{has_number, is_in}
 use Rattle.mum_users.proofs.Rosters.{IsProper-mapped}
 use Rattle.mum_state.specs.declared.edit.Edit.{Edit}
-use Rattle.mum_state.specs.declared.edit.Edit.TheVariants.{SetUser}
 use Rattle.mum_state.specs.Emptied.{has_member}
+use Rattle.mum_state.specs.Parts.{SessionEdit, session_edit}
 use Rattle.mum_state.specs.Permissions.{may_speak}
 use Rattle.mum_state.specs.Proper.{IsProper, is_sound_user}
 use Rattle.mum_state.specs.State.{StateValue}
-use Rattle.mum_state.specs.Suppression.{heard_anew, is_set_anew, with_clearing, with_suppression}
+use Rattle.mum_state.specs.Suppression.{cleared_by, heard_anew, is_cleared, is_set_anew, with_clearing, with_suppression}
 use Rattle.mum_state.proofs.Listed.{all_map, any_map, map_same, map_twice}
 
 -- a session that may speak or not
@@ -32,8 +35,7 @@ silent_anew before edit state user = cond (is_set_anew before.roster.sessions ed
 
 -- who may not speak once it is cleared
 abbrev pub silent_cleared : Edit → User → Bool
-silent_cleared (SetUser session actor channel mute deaf true priority self_mute self_deaf recording comment context listen unlisten) user = cond (has_number session user) false user.suppress
-silent_cleared edit user = user.suppress
+silent_cleared edit user = cond (is_cleared edit user) false user.suppress
 
 pub suppression_is : (before : StateValue) (edit : Edit) (state : StateValue) → with_suppression before edit state ≡ with_heard (silent_anew before edit state) state
 suppression_is before edit state =
@@ -48,11 +50,21 @@ unchanged : (state : StateValue) → state ≡ with_heard (λ user. user.suppres
 unchanged state = ap (λ (users : List User). record state { roster = record state.roster { sessions = users } }) (heard_itself state.roster.sessions)
 
 pub clearing_is : (edit : Edit) (state : StateValue) → with_clearing edit state ≡ with_heard (silent_cleared edit) state
-clearing_is (SetUser session actor channel mute deaf true priority self_mute self_deaf recording comment context listen unlisten) state =
-    ap (λ (users : List User). record state { roster = record state.roster { sessions = users } })
-    (map_same (λ user. cond (has_number session user) (record user { suppress = false }) user) (heard (λ user. cond (has_number session user) false user.suppress)) (λ user. heard_either (has_number session user) false user) state.roster.sessions)
-clearing_is (SetUser session actor channel mute deaf false priority self_mute self_deaf recording comment context listen unlisten) state = unchanged state
-clearing_is edit state = unchanged state
+clearing_is edit state = step (session_edit edit)
+  where
+    either : (clears : Bool) (session : SessionId)
+        → (if clears then record state { roster = suppressed state.roster session false } else state)
+        ≡ with_heard (λ user. cond (clears && has_number session user) false user.suppress) state
+    either true session =
+        ap (λ (users : List User). record state { roster = record state.roster { sessions = users } })
+        (map_same (λ user. cond (has_number session user) (record user { suppress = false }) user) (heard (λ user. cond (has_number session user) false user.suppress))
+        (λ user. heard_either (has_number session user) false user) state.roster.sessions)
+    either false session = unchanged state
+
+    step : (given : Option SessionEdit)
+        → cleared_by given state ≡ with_heard (λ user. cond (option_map_or (λ one. one.clear_suppress && has_number one.session user) given false) false user.suppress) state
+    step None = unchanged state
+    step (Some user) = either user.clear_suppress user.session
 
 -- one after the other
 pub heard_twice : (then_silent silent : User → Bool) (state : StateValue) → with_heard then_silent (with_heard silent state) ≡ with_heard (λ user. then_silent (heard silent user)) state

@@ -13,10 +13,10 @@ use Rattle.mum_users.specs.Targets.{is_oversize}
 use Rattle.mum_state.specs.declared.account.TheConstants.{ACCOUNT_LIMIT}
 use Rattle.mum_state.specs.declared.count.TheConstants.{EDIT_LIMIT}
 use Rattle.mum_state.specs.declared.edit.Edit.{Edit}
-use Rattle.mum_state.specs.declared.edit.Edit.TheVariants.{AddAccount, EditChannel, Join, MakeChannel, RemoveChannel, SetAcl, SetLimits, SetServer, SetTarget, SetTokens, SetUser}
+use Rattle.mum_state.specs.declared.edit.Edit.TheVariants.{AddAccount, Join, MakeChannel, RemoveChannel, SetAcl, SetLimits, SetServer, SetTarget, SetTokens}
 use Rattle.mum_state.specs.Kinds.{changes_paths, changes_routes, is_of_configuration}
 use Rattle.mum_state.specs.Named.{names_there}
-use Rattle.mum_state.specs.Parts.{channel_parts, user_parts}
+use Rattle.mum_state.specs.Parts.{ChannelEdit, SessionEdit, by_parts}
 use Rattle.mum_state.specs.Proper.{is_name, is_short, is_sound_policy, is_text}
 use Rattle.mum_state.specs.State.{StateValue, has_account, is_named}
 
@@ -34,6 +34,18 @@ gives_right_numbers state (SetTarget session id target) = not ((id == 0) || nat_
 gives_right_numbers state (SetLimits sessions channels) = nat_le state.roster.limit sessions && nat_le state.tree.limit channels
 gives_right_numbers state edit = true
 
+-- no cause refuses the change of a channel, and its name and its description are as they may be
+abbrev pub edits_channel_properly : StateValue → ChannelEdit → Bool
+edits_channel_properly state edit =
+    is_none (fault_of_edit state.tree edit.channel edit.change)
+    && holds_of_given is_name edit.change.name && holds_of_given is_text edit.change.description
+
+-- no cause refuses the change of a session, and its comment and its context are as they may be
+abbrev pub edits_session_properly : StateValue → SessionEdit → Bool
+edits_session_properly state edit =
+    is_none (edit_fault state.roster edit.session edit.change)
+    && holds_of_given is_text edit.change.comment && holds_of_given is_context edit.change.context
+
 -- what it sets is as it may be: where this holds of an edit that names what is there, the state stays proper
 abbrev pub sets_properly : StateValue → Edit → Bool
 sets_properly state (SetServer welcome bandwidth password) = is_text welcome
@@ -45,17 +57,11 @@ sets_properly state (Join session slot name account tokens) =
     is_none (join_fault state.roster name) && is_short name && are_tokens tokens
 sets_properly state (MakeChannel id parent name temporary info maker) =
     is_none (fault_of_add state.tree id parent name) && is_name name && is_text info.description
-sets_properly state (EditChannel id actor name parent description position max_users links_add links_remove) =
-    is_none (fault_of_edit state.tree id (channel_parts name parent description position max_users links_add links_remove))
-    && holds_of_given is_name name && holds_of_given is_text description
 sets_properly state (RemoveChannel id actor) = is_none (fault_of_remove state.tree id)
-sets_properly state (SetUser session actor channel mute deaf clear_suppress priority self_mute self_deaf recording comment context listen unlisten) =
-    is_none (edit_fault state.roster session (user_parts channel mute deaf priority self_mute self_deaf recording comment context listen unlisten))
-    && holds_of_given is_text comment && holds_of_given is_context context
 sets_properly state (SetTokens session tokens) = are_tokens tokens
 sets_properly state (SetTarget session id target) = not (is_oversize target)
 sets_properly state (SetAcl channel actor policy) = is_sound_policy policy
-sets_properly state edit = true
+sets_properly state edit = by_parts (edits_channel_properly state) (edits_session_properly state) true edit
 
 -- the count may still rise over the revision, where the edit raises it
 abbrev pub has_room_for : Bool → ℕ → ℕ → Bool

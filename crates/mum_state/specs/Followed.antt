@@ -10,11 +10,12 @@ use Rattle.mum_users.specs.declared.user.User.{User}
 use Rattle.mum_users.specs.Sessions.{session_of}
 use Rattle.mum_users.specs.State.{has_number}
 use Rattle.mum_state.specs.declared.edit.Edit.{Edit}
-use Rattle.mum_state.specs.declared.edit.Edit.TheVariants.{Join, Kick, Leave, MakeChannel, RemoveChannel, SetTokens, SetUser}
+use Rattle.mum_state.specs.declared.edit.Edit.TheVariants.{Join, Kick, Leave, MakeChannel, RemoveChannel, SetTokens}
 use Rattle.mum_state.specs.declared.renewed.Renewed.{Renewed}
 use Rattle.mum_state.specs.Counts.{raised_slots, raised_where}
 use Rattle.mum_state.specs.Emptied.{has_member}
 use Rattle.mum_state.specs.Kinds.{changes_paths, changes_routes, is_of_configuration}
+use Rattle.mum_state.specs.Parts.{session_edit}
 use Rattle.mum_state.specs.Renewed.{is_renewed_slot}
 use Rattle.mum_state.specs.Set.{with_tree}
 use Rattle.mum_state.specs.State.{Counts, StateValue}
@@ -23,10 +24,9 @@ use Rattle.mum_state.specs.State.{Counts, StateValue}
 abbrev pub may_renew : Edit → Bool
 may_renew (Join session slot name account tokens) = true
 may_renew (SetTokens session tokens) = true
-may_renew (SetUser session actor channel mute deaf clear_suppress priority self_mute self_deaf recording comment context listen unlisten) = true
 may_renew (MakeChannel id parent name temporary info maker) = true
 may_renew (RemoveChannel id actor) = true
-may_renew edit = false
+may_renew edit = is_some (session_edit edit)
 
 -- the session is not in the channel that is given
 abbrev pub enters : Option ChannelId → User → Bool
@@ -49,9 +49,8 @@ left_by state (Leave session) = temporary_around state session
 left_by state (Kick session actor reason ban) = temporary_around state session
 left_by state (MakeChannel id parent name temporary info maker) =
     if temporary then option_and_then (temporary_around state) maker else None
-left_by state (SetUser session actor channel mute deaf clear_suppress priority self_mute self_deaf recording comment context listen unlisten) =
-    if is_some channel then temporary_around state session else None
-left_by state edit = None
+left_by state edit =
+    option_and_then (λ user. if is_some user.change.channel then temporary_around state user.session else None) (session_edit edit)
 
 -- there is such a channel, and nobody is in it
 abbrev pub is_left_empty : Option ChannelId → StateValue → Bool
@@ -65,9 +64,7 @@ with_left_closed (Some id) state =
 
 -- the session that may speak where it is, if the edit says so
 abbrev pub cleared_session : Edit → List SessionId
-cleared_session (SetUser session actor channel mute deaf clear_suppress priority self_mute self_deaf recording comment context listen unlisten) =
-    if clear_suppress then session ∷ [] else []
-cleared_session edit = []
+cleared_session edit = option_map_or (λ user. if user.clear_suppress then user.session ∷ [] else []) (session_edit edit) []
 
 -- the counts after an edit that renews these slots, and closes a channel or not
 abbrev pub counted : Edit → Renewed → Bool → Counts → Counts

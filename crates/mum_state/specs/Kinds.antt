@@ -1,9 +1,11 @@
 -- Kinds of edits: who makes them, and what they may change.
 use Rattle.std.specs.Prelude.{◌==◌, ◌&&◌, not, Bool, true, false, List, length, is_none, is_some}
+use Rattle.std.specs.Option.{option_map_or}
 use Rattle.mum_users.specs.declared.user.User.{User}
 use Rattle.mum_users.specs.State.{has_number}
 use Rattle.mum_state.specs.declared.edit.Edit.{Edit}
-use Rattle.mum_state.specs.declared.edit.Edit.TheVariants.{AddAccount, EditChannel, Kick, Leave, MakeChannel, RemoveChannel, SetAcl, SetLimits, SetServer, SetTokens, SetUser, Text}
+use Rattle.mum_state.specs.declared.edit.Edit.TheVariants.{AddAccount, Kick, Leave, MakeChannel, RemoveChannel, SetAcl, SetLimits, SetServer, SetTokens, Text}
+use Rattle.mum_state.specs.Parts.{ChannelEdit, SessionEdit, by_parts, channel_edit}
 
 -- it is a configuration's, which has no actor and no maker, and no session's
 abbrev pub is_of_configuration : Edit → Bool
@@ -11,17 +13,15 @@ is_of_configuration (SetServer welcome bandwidth password) = true
 is_of_configuration (SetLimits sessions channels) = true
 is_of_configuration (AddAccount account name digest) = true
 is_of_configuration (MakeChannel id parent name temporary info maker) = is_none maker
-is_of_configuration (EditChannel id actor name parent description position max_users links_add links_remove) = is_none actor
 is_of_configuration (SetAcl channel actor policy) = is_none actor
-is_of_configuration edit = false
+is_of_configuration edit = option_map_or (λ channel. is_none channel.actor) (channel_edit edit) false
 
 -- it is an edit of channels or of their policies
 abbrev pub changes_channels : Edit → Bool
 changes_channels (MakeChannel id parent name temporary info maker) = true
-changes_channels (EditChannel id actor name parent description position max_users links_add links_remove) = true
 changes_channels (RemoveChannel id actor) = true
 changes_channels (SetAcl channel actor policy) = true
-changes_channels edit = false
+changes_channels edit = is_some (channel_edit edit)
 
 -- what it sets takes no memory
 abbrev pub needs_no_memory : Edit → Bool
@@ -47,19 +47,25 @@ is_empty xs = length xs == 0
 -- it makes, moves or removes channels, or sets a policy
 abbrev pub changes_paths : Edit → Bool
 changes_paths (MakeChannel id parent name temporary info maker) = true
-changes_paths (EditChannel id actor name parent description position max_users links_add links_remove) = is_some parent
 changes_paths (RemoveChannel id actor) = true
 changes_paths (SetAcl channel actor policy) = true
-changes_paths edit = false
+changes_paths edit = option_map_or (λ channel. is_some channel.change.parent) (channel_edit edit) false
+
+-- it moves the channel, or changes its links
+abbrev pub changes_ways : ChannelEdit → Bool
+changes_ways edit =
+    not (is_none edit.change.parent && is_empty edit.change.links_add && is_empty edit.change.links_remove)
+
+-- it changes where the session is, to what it listens, or whether it speaks or hears
+abbrev pub changes_hearing : SessionEdit → Bool
+changes_hearing edit =
+    not (is_none edit.change.channel && is_none edit.change.flags.mute && is_none edit.change.flags.deaf && not edit.clear_suppress
+    && is_none edit.change.flags.self_mute && is_none edit.change.flags.self_deaf
+    && is_empty edit.change.listen && is_empty edit.change.unlisten)
 
 -- it is none that changes nothing but what no route reads
 abbrev pub changes_routes : Edit → Bool
 changes_routes (SetServer welcome bandwidth password) = false
 changes_routes (AddAccount account name digest) = false
 changes_routes (Text actor sessions channels trees message) = false
-changes_routes (EditChannel id actor name parent description position max_users links_add links_remove) =
-    not (is_none parent && is_empty links_add && is_empty links_remove)
-changes_routes (SetUser session actor channel mute deaf clear_suppress priority self_mute self_deaf recording comment context listen unlisten) =
-    not (is_none channel && is_none mute && is_none deaf && not clear_suppress && is_none self_mute && is_none self_deaf
-    && is_empty listen && is_empty unlisten)
-changes_routes edit = true
+changes_routes edit = by_parts changes_ways changes_hearing true edit

@@ -8,7 +8,8 @@ use Rattle.mum_base.specs.declared.number.SessionId.{SessionId}
 use Rattle.mum_tree.specs.Rows.{is_there}
 use Rattle.mum_users.specs.State.{has_number}
 use Rattle.mum_state.specs.declared.edit.Edit.{Edit}
-use Rattle.mum_state.specs.declared.edit.Edit.TheVariants.{EditChannel, Join, Kick, Leave, MakeChannel, RemoveChannel, SetAcl, SetTarget, SetTokens, SetUser, Text}
+use Rattle.mum_state.specs.declared.edit.Edit.TheVariants.{Join, Kick, Leave, MakeChannel, RemoveChannel, SetAcl, SetTarget, SetTokens, Text}
+use Rattle.mum_state.specs.Parts.{by_parts}
 use Rattle.mum_state.specs.State.{StateValue, has_account}
 
 -- the value that is given, or none
@@ -20,26 +21,21 @@ abbrev pub named_sessions : Edit → List SessionId
 named_sessions (Leave session) = session ∷ []
 named_sessions (Kick session actor reason ban) = session ∷ actor ∷ []
 named_sessions (MakeChannel id parent name temporary info maker) = given maker
-named_sessions (EditChannel id actor name parent description position max_users links_add links_remove) = given actor
 named_sessions (RemoveChannel id actor) = actor ∷ []
-named_sessions (SetUser session actor channel mute deaf clear_suppress priority self_mute self_deaf recording comment context listen unlisten) =
-    session ∷ actor ∷ []
 named_sessions (SetTokens session tokens) = session ∷ []
 named_sessions (SetTarget session id target) = session ∷ []
 named_sessions (SetAcl channel actor policy) = given actor
 named_sessions (Text actor sessions channels trees message) = actor ∷ []
-named_sessions edit = []
+named_sessions edit = by_parts (λ channel. given channel.actor) (λ user. user.session ∷ user.actor ∷ []) [] edit
 
 -- nor are the channels of a text and of a voice target
 abbrev pub named_channels : Edit → List ChannelId
 named_channels (MakeChannel id parent name temporary info maker) = parent ∷ []
-named_channels (EditChannel id actor name parent description position max_users links_add links_remove) =
-    id ∷ (given parent ++ links_add ++ links_remove)
 named_channels (RemoveChannel id actor) = id ∷ []
-named_channels (SetUser session actor channel mute deaf clear_suppress priority self_mute self_deaf recording comment context listen unlisten) =
-    given channel ++ listen ++ unlisten
 named_channels (SetAcl channel actor policy) = channel ∷ []
-named_channels edit = []
+named_channels edit =
+    by_parts (λ channel. channel.channel ∷ (given channel.change.parent ++ channel.change.links_add ++ channel.change.links_remove))
+    (λ user. given user.change.channel ++ user.change.listen ++ user.change.unlisten) [] edit
 
 -- nor are the accounts of a policy
 abbrev pub named_account : Edit → Option AccountId

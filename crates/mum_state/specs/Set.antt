@@ -13,8 +13,8 @@ use Rattle.mum_users.specs.Listeners.{without_channels}
 use Rattle.mum_users.specs.Sessions.{joined, left, placed, with_tokens}
 use Rattle.mum_users.specs.Targets.{targeted}
 use Rattle.mum_state.specs.declared.edit.Edit.{Edit}
-use Rattle.mum_state.specs.declared.edit.Edit.TheVariants.{AddAccount, EditChannel, Join, Kick, Leave, MakeChannel, RemoveChannel, SetAcl, SetLimits, SetServer, SetTarget, SetTokens, SetUser, Text}
-use Rattle.mum_state.specs.Parts.{channel_parts, user_parts}
+use Rattle.mum_state.specs.declared.edit.Edit.TheVariants.{AddAccount, Join, Kick, Leave, MakeChannel, RemoveChannel, SetAcl, SetLimits, SetServer, SetTarget, SetTokens}
+use Rattle.mum_state.specs.Parts.{by_parts}
 use Rattle.mum_state.specs.State.{PolicyRow, StateValue, policy_row, with_account}
 
 -- the channels are these: policies and listeners of others are gone
@@ -71,12 +71,10 @@ set_by state (Leave session) = record state { roster = left state.roster session
 set_by state (Kick session actor reason ban) = record state { roster = left state.roster session }
 set_by state (MakeChannel id parent name temporary info maker) =
     with_maker_in (with_made state (with_info (with_new state.tree id parent name temporary) id info) id) id temporary maker
-set_by state (EditChannel id actor name parent description position max_users links_add links_remove) =
-    record state { tree = with_change state.tree id (channel_parts name parent description position max_users links_add links_remove) }
 set_by state (RemoveChannel id actor) = with_tree (with_members_moved_up state id) (without_subtree state.tree id)
-set_by state (SetUser session actor channel mute deaf clear_suppress priority self_mute self_deaf recording comment context listen unlisten) =
-    record state { roster = edited state.roster session (user_parts channel mute deaf priority self_mute self_deaf recording comment context listen unlisten) }
 set_by state (SetTokens session tokens) = record state { roster = with_tokens state.roster session tokens }
 set_by state (SetTarget session id target) = record state { roster = targeted state.roster session id target }
 set_by state (SetAcl channel actor policy) = record state { policies = with_policy channel policy state.policies }
-set_by state (Text actor sessions channels trees message) = state
+set_by state edit =
+    by_parts (λ channel. record state { tree = with_change state.tree channel.channel channel.change })
+    (λ user. record state { roster = edited state.roster user.session user.change }) state edit

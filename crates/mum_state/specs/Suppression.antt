@@ -1,12 +1,13 @@
 -- Whether a session may speak where it is: for whom this is set again, and from what.
-use Rattle.std.specs.Prelude.{◌&&◌, ◌||◌, Bool, false, not, List, map, if◌then◌else◌}
+use Rattle.std.specs.Prelude.{◌&&◌, ◌||◌, Bool, false, not, List, map, Option, Some, None, if◌then◌else◌}
 use Rattle.std.specs.List.{list_any}
+use Rattle.std.specs.Option.{option_map_or}
 use Rattle.mum_users.specs.declared.user.User.{User}
 use Rattle.mum_users.specs.Sessions.{suppressed}
 use Rattle.mum_users.specs.State.{has_number, is_in}
 use Rattle.mum_state.specs.declared.edit.Edit.{Edit}
-use Rattle.mum_state.specs.declared.edit.Edit.TheVariants.{SetUser}
 use Rattle.mum_state.specs.Kinds.{sets_policy, sets_tokens_of}
+use Rattle.mum_state.specs.Parts.{SessionEdit, session_edit}
 use Rattle.mum_state.specs.Permissions.{may_speak}
 use Rattle.mum_state.specs.State.{StateValue}
 
@@ -25,9 +26,7 @@ is_set_anew before edit user = is_renewed before edit user || sets_policy edit
 
 -- the same edit lets it speak
 abbrev pub is_cleared : Edit → User → Bool
-is_cleared (SetUser session actor channel mute deaf clear_suppress priority self_mute self_deaf recording comment context listen unlisten) user =
-    clear_suppress && has_number session user
-is_cleared edit user = false
+is_cleared edit user = option_map_or (λ one. one.clear_suppress && has_number one.session user) (session_edit edit) false
 
 -- by what it may do now
 abbrev pub heard_anew : StateValue → User → User
@@ -40,8 +39,12 @@ with_suppression before edit state = record state {
   };
 }
 
+-- the session of this edit may speak where it is, if the edit says so
+abbrev pub cleared_by : Option SessionEdit → StateValue → StateValue
+cleared_by None state = state
+cleared_by (Some edit) state =
+    if edit.clear_suppress then record state { roster = suppressed state.roster edit.session false } else state
+
 -- it may speak where the edit says so, whatever it may do
 abbrev pub with_clearing : Edit → StateValue → StateValue
-with_clearing (SetUser session actor channel mute deaf clear_suppress priority self_mute self_deaf recording comment context listen unlisten) state =
-    if clear_suppress then record state { roster = suppressed state.roster session false } else state
-with_clearing edit state = state
+with_clearing edit state = cleared_by (session_edit edit) state

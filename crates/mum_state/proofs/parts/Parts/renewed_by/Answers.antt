@@ -1,5 +1,6 @@
 use Rattle.std.proofs.Common.{◌≡◌, ◌∙◌, ◌==◌, ◌&&◌, true, ap, sym, subst}
 use Rattle.std.specs.List.{list_any}
+use Rattle.std.specs.Option.{option_map}
 use Rattle.mum_base.specs.declared.number.TheConstants.{SLOTS}
 use Rattle.mum_tree.specs.Rows.{is_below}
 use Rattle.mum_tree.specs.State.{TreeState}
@@ -9,6 +10,7 @@ use Rattle.mum_users.proofs.Rosters.{slots_below_greatest}
 use Rattle.mum_state.specs.declared.edit.Edit.{Edit}
 use Rattle.mum_state.specs.Counts.{renews}
 use Rattle.mum_state.specs.Fits.{fits}
+use Rattle.mum_state.specs.Parts.{session_edit}
 use Rattle.mum_state.specs.State.{StateValue}
 use Rattle.mum_state.proofs.Renewing.{renews_joined, renews_maker, renews_nobody, renews_removed, renews_tokens, renews_user}
 use Rattle.mum_state.proofs.parts.Parts.renewed_by.Goals as goal
@@ -31,8 +33,9 @@ returns-in-SetTokens c = λ slot.
 pub returns-in-SetUser : goal.returns-in-SetUser
 returns-in-SetUser c = λ slot.
     c.slot_entering.ensures slot
-    ∙ renews_user c.args.self.now c.in-SetUser.session c.in-SetUser.actor c.in-SetUser.channel c.in-SetUser.mute c.in-SetUser.deaf c.in-SetUser.clear_suppress c.in-SetUser.priority c.in-SetUser.self_mute c.in-SetUser.self_deaf c.in-SetUser.recording c.in-SetUser.comment c.in-SetUser.context c.in-SetUser.listen c.in-SetUser.unlisten c.requires.proper slot
-    ∙ ap (λ (e : Edit). renews c.args.self.now e slot) (sym c.in-SetUser.is)
+    ∙ renews_user c.args.self.now c.args.edit.now c.in-SetUser.session c.in-SetUser.channel
+    (ap (λ (e : Edit). option_map (λ user. user.session) (session_edit e)) c.in-SetUser.is)
+    (ap (λ (e : Edit). option_map (λ user. user.change.channel) (session_edit e)) c.in-SetUser.is) c.requires.proper slot
 
 pub returns-in-MakeChannel : goal.returns-in-MakeChannel
 returns-in-MakeChannel c = λ slot.

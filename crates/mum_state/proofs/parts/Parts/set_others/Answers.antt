@@ -1,17 +1,18 @@
-use Rattle.std.proofs.Common.{◌≡◌, ◌∙◌, true, ap, subst}
+use Rattle.std.proofs.Common.{◌≡◌, true, ap, subst}
+use Rattle.std.specs.Option.{option_map}
 use Rattle.mum_users.specs.Edit.{user_edit_of}
 use Rattle.mum_state.specs.declared.edit.Edit.{Edit}
 use Rattle.mum_state.specs.Fits.{fits}
-use Rattle.mum_state.specs.Parts.{user_change}
+use Rattle.mum_state.specs.Parts.{session_edit}
 use Rattle.mum_state.proofs.Limiting.{limits_fit}
-use Rattle.mum_state.proofs.Marking.{account_fits, user_fits}
+use Rattle.mum_state.proofs.Marking.{account_fits}
+use Rattle.mum_state.proofs.OfSession.{user_fits}
 use Rattle.mum_state.proofs.parts.Parts.set_others.Goals as goal
 
 pub edit_user-requires : goal.edit_user-requires
 edit_user-requires c =
-    user_fits c.args.self.now c.in-SetUser.session c.in-SetUser.actor c.in-SetUser.channel c.in-SetUser.mute c.in-SetUser.deaf c.in-SetUser.clear_suppress c.in-SetUser.priority c.in-SetUser.self_mute c.in-SetUser.self_deaf c.in-SetUser.recording c.in-SetUser.comment c.in-SetUser.context c.in-SetUser.listen c.in-SetUser.unlisten
-    (user_edit_of c.in-Some.change) (subst (λ (e : Edit). fits c.args.self.now e ≡ true) c.in-SetUser.is c.requires.fits)
-    (c.in-Some.ensures ∙ ap user_change c.in-SetUser.is)
+    user_fits c.args.self.now c.args.edit.now c.in-SetUser.session (user_edit_of c.in-Some.change) c.requires.fits
+    (ap (λ (e : Edit). option_map (λ user. user.session) (session_edit e)) c.in-SetUser.is) c.in-Some.ensures
 
 pub add_account-requires : goal.add_account-requires
 add_account-requires c =

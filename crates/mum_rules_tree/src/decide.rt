@@ -1,6 +1,7 @@
 //! What is decided of a message on channels.
 
 ghost use Rattle.std.specs.Prelude.{◌≡◌, IfOk, IsTrue, length, nat_lt};
+ghost use Rattle.mum_fields.specs.Survey.{cut};
 ghost use Rattle.mum_policy.specs.Member.{actor_of};
 ghost use Rattle.mum_rules_tree.specs.Asked.{command_of, is_named_there, is_query, names_there, payload_of};
 ghost use Rattle.mum_rules_tree.specs.Decision.{FitsWhereAccepted};
@@ -13,7 +14,7 @@ use crate::make::decide_new;
 use crate::message::TreeMessage;
 use crate::reason::{COMMAND_LIMIT, takes_no_edits};
 use crate::remove::decide_removal;
-use mum_base::{ChannelId, Octets, OutOfMemory, Reason, SessionId};
+use mum_base::{ChannelId, OutOfMemory, Reason, SessionId};
 use mum_msg_rule::{Acl, Message};
 use mum_msg_state::ChannelState;
 use mum_policy::Who;
@@ -21,22 +22,22 @@ use mum_state::{State, Verdict, home_of, who_is};
 use mum_tree::Tree;
 use std::alloc::Global;
 
-fn payload_of(alloc: Global, message: &TreeMessage) -> Result<Octets, OutOfMemory>
-    ensures { IfOk result (λ payload. payload ≡ payload_of message.now) }
+// How many bytes the payload of a message has as this server spells it, or 2^64 - 1 where they are more.
+fn payload_length(message: &TreeMessage) -> u64
+    ensures { result ≡ cut (length (payload_of message.now)) }
 {
     match message {
-        TreeMessage::State(message) => message.encode(alloc),
-        TreeMessage::Remove(message) => message.encode(alloc),
-        TreeMessage::Acl(message) => message.encode(alloc),
+        TreeMessage::State(message) => message.length(),
+        TreeMessage::Remove(message) => message.length(),
+        TreeMessage::Acl(message) => message.length(),
     }
 }
 
 /// Whether the payload of a message, as this server spells it, is above the limit of commands.
-fn is_too_long(alloc: Global, message: &TreeMessage) -> Result<bool, OutOfMemory>
-    ensures { IfOk result (λ long. long ≡ nat_lt COMMAND_LIMIT (length (payload_of message.now))) }
+fn is_too_long(message: &TreeMessage) -> bool
+    ensures { result ≡ nat_lt COMMAND_LIMIT (length (payload_of message.now)) }
 {
-    let payload = payload_of(alloc, message)?;
-    Ok(payload.as_slice().len() > COMMAND_LIMIT)
+    payload_length(message) > COMMAND_LIMIT as u64
 }
 
 /// Whether a channel is named, and is there.
@@ -139,7 +140,7 @@ pub fn decide_tree(
     if takes_no_edits(state) {
         return Ok(Verdict::ignored(Reason::Gone));
     }
-    if is_too_long(alloc, message)? {
+    if is_too_long(message) {
         return Ok(Verdict::ignored(Reason::TooLong));
     }
     if !names_there(state.tree(), message) {

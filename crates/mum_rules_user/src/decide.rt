@@ -102,7 +102,7 @@ fn decide_for(
     if takes_no_edits(state) {
         return Ok(Verdict::ignored(Reason::Gone));
     }
-    if let Some(reason) = reason_to_ignore(alloc, state, actor, message)? {
+    if let Some(reason) = reason_to_ignore(state, actor, message) {
         return Ok(Verdict::ignored(reason));
     }
     decide_with_tokens(alloc, state, user, message, tokens_brought(message))
@@ -122,7 +122,7 @@ fn decide_for_nobody(
     match message {
         UserMessage::Leave => Ok(Verdict::ignored(Reason::Gone)),
         UserMessage::Join(login, version) => {
-            if is_too_long(alloc, message)? {
+            if is_too_long(message) {
                 return Ok(Verdict::ignored(Reason::TooLong));
             }
             decide_login(alloc, state, *version, login)

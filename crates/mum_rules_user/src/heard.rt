@@ -1,6 +1,7 @@
 //! Which messages are heard, and which are ignored.
 
-ghost use Rattle.std.specs.Prelude.{◌≡◌, ◌∷◌, IfOk, [], length, nat_lt, not};
+ghost use Rattle.std.specs.Prelude.{◌≡◌, ◌∷◌, [], length, nat_lt, not};
+ghost use Rattle.mum_fields.specs.Survey.{cut};
 ghost use Rattle.mum_rules_tree.specs.Decision.{case_of, first_standing};
 ghost use Rattle.mum_rules_tree.specs.declared.reason.TheConstants.{COMMAND_LIMIT};
 ghost use Rattle.mum_state.specs.Fits.{holds_of_given};
@@ -8,34 +9,33 @@ ghost use Rattle.mum_rules_user.specs.Asked.{is_empty_text, is_here, names_there
 
 use crate::message::UserMessage;
 use crate::session::{is_here, is_oneself, session_or};
-use mum_base::{Octets, OutOfMemory, Reason, SessionId};
+use mum_base::{Reason, SessionId};
 use mum_msg_rule::Message;
 use mum_msg_state::UserState;
 use mum_rules_tree::{COMMAND_LIMIT, are_there, is_there_if_named};
 use mum_state::State;
 use mum_users::Roster;
-use std::alloc::Global;
 
-fn payload_of(alloc: Global, message: &UserMessage) -> Result<Octets, OutOfMemory>
-    ensures { IfOk result (λ payload. payload ≡ payload_of message.now) }
+// How many bytes the payload of a message has as this server spells it, or 2^64 - 1 where they are more.
+fn payload_length(message: &UserMessage) -> u64
+    ensures { result ≡ cut (length (payload_of message.now)) }
 {
     match message {
-        UserMessage::Join(message, _) => message.encode(alloc),
-        UserMessage::User(message) => message.encode(alloc),
-        UserMessage::Kick(message) => message.encode(alloc),
-        UserMessage::Text(message) => message.encode(alloc),
-        UserMessage::Target(message) => message.encode(alloc),
-        UserMessage::Query(message) => message.encode(alloc),
-        UserMessage::Leave => Ok(Octets::from_vec(Vec::new(alloc))),
+        UserMessage::Join(message, _) => message.length(),
+        UserMessage::User(message) => message.length(),
+        UserMessage::Kick(message) => message.length(),
+        UserMessage::Text(message) => message.length(),
+        UserMessage::Target(message) => message.length(),
+        UserMessage::Query(message) => message.length(),
+        UserMessage::Leave => 0,
     }
 }
 
 /// Whether the payload of a message, as this server spells it, has more bytes than a command may have.
-pub(crate) fn is_too_long(alloc: Global, message: &UserMessage) -> Result<bool, OutOfMemory>
-    ensures { IfOk result (λ long. long ≡ nat_lt COMMAND_LIMIT (length (payload_of message.now))) }
+pub(crate) fn is_too_long(message: &UserMessage) -> bool
+    ensures { result ≡ nat_lt COMMAND_LIMIT (length (payload_of message.now)) }
 {
-    let payload = payload_of(alloc, message)?;
-    Ok(payload.as_slice().len() > COMMAND_LIMIT)
+    payload_length(message) > COMMAND_LIMIT as u64
 }
 
 /// Whether the session that is named, if one is, is here.
@@ -107,29 +107,28 @@ fn is_empty_text(message: &UserMessage) -> bool
 
 /// The first reason to ignore a message of a session that is here, while edits are taken.
 pub(crate) fn reason_to_ignore(
-    alloc: Global,
     state: &State,
     actor: SessionId,
     message: &UserMessage,
-) -> Result<Option<Reason>, OutOfMemory>
-    ensures { IfOk result (λ reason. reason ≡ first_standing
+) -> Option<Reason>
+    ensures { result ≡ first_standing
         (case_of Reason.TooLong (nat_lt COMMAND_LIMIT (length (payload_of message.now)))
         ∷ case_of Reason.NotThere (not (names_there state.now message.now))
         ∷ case_of Reason.OfAnother (sets_own_of_another actor message.now)
         ∷ case_of Reason.EmptyText (is_empty_text message.now)
-        ∷ [])) }
+        ∷ []) }
 {
-    if is_too_long(alloc, message)? {
-        return Ok(Some(Reason::TooLong));
+    if is_too_long(message) {
+        return Some(Reason::TooLong);
     }
     if !names_there(state, message) {
-        return Ok(Some(Reason::NotThere));
+        return Some(Reason::NotThere);
     }
     if sets_own_of_another(actor, message) {
-        return Ok(Some(Reason::OfAnother));
+        return Some(Reason::OfAnother);
     }
     if is_empty_text(message) {
-        return Ok(Some(Reason::EmptyText));
+        return Some(Reason::EmptyText);
     }
-    Ok(None)
+    None
 }

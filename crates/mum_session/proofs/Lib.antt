@@ -1,3 +1,4 @@
+pub mod Tables
 pub mod Echoes
 pub mod Strangers
 pub mod Frames

@@ -4,6 +4,7 @@
 #![tactic(auto)]
 
 mod action;
+mod asks;
 mod command;
 mod decision;
 mod heard;

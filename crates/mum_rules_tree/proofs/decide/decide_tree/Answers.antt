@@ -19,7 +19,7 @@ as_decided c =
     heard_verdict state c.args.actor c.who_is-who.result.session c.args.message.now user (actor_of c.who_is-who.result)
     found
     (sym c.takes_no_edits.ensures ∙ c.if-takes_no_edits.false)
-    (sym c.in_ok-is_too_long.ensures ∙ c.if-branch.false)
+    (sym c.is_too_long.ensures ∙ c.if-is_too_long.false)
     named
     (c.who_is-who.ensures.actor
     ∙ ap (λ (channels : List ChannelId). actor_at channels user user.tokens) (c.as_slice.ensures.value ∙ c.home_of-home.ensures)

@@ -24,7 +24,7 @@ as_decided c =
     let message = c.args.message.now in
     let here : session_of state.roster c.args.actor ≡ Some user = sym (c.in-Some.ensures.row ∙ ap (λ (r : RosterState). session_of r c.args.actor) c.roster.ensures.roster) in
     let room : takes_no_edits state ≡ false = sym c.takes_no_edits.ensures ∙ c.if-takes_no_edits.false in
-    let none : first_standing (later_reasons state c.args.actor message) ≡ None = sym c.in_ok-reason.ensures ∙ c.in_default-2.is in
+    let none : first_standing (later_reasons state c.args.actor message) ≡ None = sym c.reason_to_ignore.ensures ∙ c.in_default-reason_to_ignore.is in
     ap (λ (tokens : List (List ℕ)). command_verdict state (actor_with state.tree user (tokens_for_once user.tokens tokens)) user.session (command_of user.session message)) c.tokens_brought.ensures
     ∙ session_verdict state c.args.actor message user here room none
 

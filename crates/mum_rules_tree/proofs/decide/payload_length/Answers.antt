@@ -1,6 +1,6 @@
 use Rattle.std.proofs.Common.{rules}
 use Rattle.mum_rules_tree.specs.Asked.{payload_of}
-use Rattle.mum_rules_tree.proofs.decide.payload_of.Goals as goal
+use Rattle.mum_rules_tree.proofs.decide.payload_length.Goals as goal
 
 pub returns-in-State : goal.returns-in-State
 unfolding payload_of

@@ -41,6 +41,10 @@ impl Station for NoStation {
         false
     }
 
+    fn had_news(&mut self) -> bool {
+        false
+    }
+
     fn look(&mut self, _may_sleep: bool) -> Look {
         Look::Nothing
     }

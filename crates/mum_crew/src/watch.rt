@@ -44,10 +44,12 @@ impl Pace {
     fn listen<S: Station>(&mut self, station: &mut S) {
         let owner_worked = station.did_owner_work();
         let was_shut = station.was_shut();
+        let had_news = station.had_news();
         if owner_worked || was_shut {
             self.for_workers = true;
             self.for_owner = true;
         }
+        self.for_workers = self.for_workers || had_news;
     }
 
     // After a round that worked.
@@ -67,8 +69,7 @@ impl Pace {
                 station.wake_others(self.for_owner);
             }
             station.release();
-            let ready = station.look(false) == Look::Ready;
-            self.for_workers = ready || self.for_workers;
+            station.look(false);
         }
     }
 
@@ -84,9 +85,8 @@ impl Pace {
         if station.release() {
             return;
         }
-        let look = station.look(true);
-        self.slept_in_vain = look == Look::Nothing;
-        self.for_workers = look == Look::Ready;
+        self.slept_in_vain = station.look(true) == Look::Nothing;
+        self.for_workers = false;
         self.for_owner = false;
         self.woke = false;
     }

@@ -13,6 +13,7 @@ pub struct Board {
     asked: AtomicU64,
     open: AtomicU64,
     shut: AtomicU64,
+    has_news: AtomicBool,
     apart: [u64; 16],
 }
 
@@ -26,6 +27,7 @@ impl Board {
             asked: AtomicU64::new(0),
             open: AtomicU64::new(0),
             shut: AtomicU64::new(0),
+            has_news: AtomicBool::new(false),
             apart: [0; 16],
         }
     }
@@ -83,6 +85,16 @@ impl Board {
     /// The number of the batch.
     pub fn batch(&self) -> u64 {
         self.batch.load(Ordering::SeqCst)
+    }
+
+    /// A link brought what other threads may have to hear of.
+    pub fn note_news(&self) {
+        self.has_news.store(true, Ordering::SeqCst);
+    }
+
+    /// Whether a link did since the last call.
+    pub fn take_news(&self) -> bool {
+        self.has_news.swap(false, Ordering::SeqCst)
     }
 
     pub fn open_link(&self) {

@@ -147,14 +147,14 @@ enum Begins {
 }
 
 // Where a client is in the frames that it sends: how much of the next header has come; of the payload under way the
-// length, how many bytes are to come, and whether they are a message's.
+// frame's type, the length, and how many bytes are to come.
 #[derive(Clone, Copy)]
 struct Frames {
     header: [u8; HEADER_LENGTH],
     gathered: usize,
     payload: u64,
     payload_left: u64,
-    is_message: bool,
+    kind: u16,
     ghost begun: { gathered < 6 },
 }
 
@@ -165,7 +165,7 @@ impl Frames {
             gathered: 0,
             payload: 0,
             payload_left: 0,
-            is_message: false,
+            kind: PING,
         }
     }
 
@@ -198,7 +198,7 @@ impl Frames {
         let kind = u16::from_be_bytes([a, b]);
         self.payload = u64::from(u32::from_be_bytes([c, d, e, f]));
         self.payload_left = self.payload;
-        self.is_message = !matches!(kind, VOICE | PING);
+        self.kind = kind;
         kind
     }
 
@@ -214,6 +214,11 @@ impl Frames {
         }
     }
 
+    // Whether the frame that began last is a Ping, and a short one: a frame that is too long ends its connection.
+    fn are_in_a_ping(&self) -> bool {
+        self.kind == PING && self.payload <= SHORT_LIMIT
+    }
+
     // How many bytes of the frame under way have come.
     fn passed(&self) -> u64 {
         let come = self.payload.saturating_sub(self.payload_left);
@@ -222,7 +227,7 @@ impl Frames {
 
     // How many pieces begin in the next bytes of the payload under way.
     fn pieces_to_come(&self, bytes: u64) -> u64 {
-        if !self.is_message {
+        if matches!(self.kind, VOICE | PING) {
             return 0;
         }
         let passed = self.passed();
@@ -269,6 +274,15 @@ impl HangUp {
         self.since = Some(since);
         milliseconds.saturating_sub(since) >= LEFT_BEHIND_LIMIT
     }
+}
+
+/// What was read of a client.
+#[derive(Clone, Copy, Debug, PartialEq, Eq)]
+pub struct Counted {
+    /// How many frames begin in it.
+    pub frames: usize,
+    /// Whether all of it is of Pings, which concern nobody else. What has come of a header counts with the frame before.
+    pub is_pings: bool,
 }
 
 /// Counts the frames that a client sends, and says when no more may be read.
@@ -323,10 +337,13 @@ impl Meter {
         self.frames.payload
     }
 
-    /// Counts the frames that begin in what was read. How many there are.
-    pub fn count(&mut self, read: &[u8]) -> usize {
+    /// Counts the frames that begin in what was read.
+    pub fn count(&mut self, read: &[u8]) -> Counted {
         let mut rest = read;
-        let mut begun = 0usize;
+        let mut counted = Counted {
+            frames: 0,
+            is_pings: true,
+        };
         for _ in 0..read.len() {
             if rest.is_empty() {
                 break;
@@ -335,14 +352,15 @@ impl Meter {
             match front.begins {
                 Begins::Nothing => {}
                 Begins::Frame(kind) => {
-                    begun = begun.saturating_add(1);
+                    counted.frames = counted.frames.saturating_add(1);
                     self.count_frame(kind);
                 }
                 Begins::Pieces(pieces) => self.messages.add_frames(pieces),
             }
+            counted.is_pings = counted.is_pings && self.frames.are_in_a_ping();
             rest = &rest[front.length..];
         }
-        begun
+        counted
     }
 
     fn count_frame(&mut self, kind: u16) {

@@ -133,21 +133,23 @@ impl<X: Clock + Send + Drop> Station for SocketStation<X> {
         self.shut != before
     }
 
+    fn had_news(&mut self) -> bool {
+        self.board.take_news()
+    }
+
     fn look(&mut self, may_sleep: bool) -> Look {
         let is_slowed = self.board.is_slowed();
         let wait = Duration::from_millis(if may_sleep { self.sleep() } else { 0 });
         if self.poll.poll(&mut self.events, Some(wait)).is_err() {
-            return Look::Woken;
+            return Look::Something;
         }
         let ready = self.take_notice();
         if ready > 1 {
             self.board.hold();
         }
         // a link that had to wait may be read now
-        if ready > 0 || is_slowed {
-            Look::Ready
-        } else if !self.events.is_empty() {
-            Look::Woken
+        if is_slowed || !self.events.is_empty() {
+            Look::Something
         } else {
             Look::Nothing
         }

@@ -50,6 +50,17 @@ impl Wire {
         requires { 0 < length buf.old }
         ensures { PollReadLeaves result None None buf.new }
     {
+        let read = self.read_in_pace(buf);
+        if matches!(read, PollRead::End | PollRead::Failed) {
+            self.board.note_news();
+        }
+        read
+    }
+
+    fn read_in_pace(&mut self, buf: &mut [u8]) -> PollRead
+        requires { 0 < length buf.old }
+        ensures { PollReadLeaves result None None buf.new }
+    {
         self.board.ask();
         if self.keeps_an_earlier_batch() {
             self.send_kept();
@@ -117,8 +128,12 @@ impl Wire {
 
     fn note_read(&mut self, bytes: &[u8], is_full: bool) {
         self.bytes_read = self.bytes_read.saturating_add(bytes.len() as u64);
-        if self.meter.count(bytes) > 1 {
+        let counted = self.meter.count(bytes);
+        if counted.frames > 1 {
             self.board.hold();
+        }
+        if !counted.is_pings {
+            self.board.note_news();
         }
         self.reservation.leave_frames_before(self.meter.payload());
         if is_full || self.hub.has(self.slot, HUNG_UP) {
@@ -138,6 +153,17 @@ impl Wire {
 
     /// Sends the piece where nothing is kept and nobody holds back, and else keeps it as far as there is room.
     pub fn write(&mut self, piece: &[u8]) -> PollWrite
+        requires { 0 < length piece.now }
+        ensures { PollWriteLeaves result None None piece.now }
+    {
+        let written = self.send_or_keep(piece);
+        if matches!(written, PollWrite::Failed) {
+            self.board.note_news();
+        }
+        written
+    }
+
+    fn send_or_keep(&mut self, piece: &[u8]) -> PollWrite
         requires { 0 < length piece.now }
         ensures { PollWriteLeaves result None None piece.now }
     {

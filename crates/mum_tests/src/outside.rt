@@ -127,9 +127,13 @@ impl Station for Awake {
         false
     }
 
+    fn had_news(&mut self) -> bool {
+        false
+    }
+
     fn look(&mut self, _may_sleep: bool) -> Look {
         thread::yield_now();
-        Look::Woken
+        Look::Something
     }
 
     fn note_late(&mut self) {}

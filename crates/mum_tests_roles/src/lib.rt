@@ -1,4 +1,4 @@
-//! Tests of the parts that the server's roles are made of: a port over links that take nothing, the control owner over
+//! Tests of the parts that the server's roles are made of: a port over links that take nothing or all, the control owner over
 //! a box that is full or without memory, and the owner's journal. A module for each crate.
 #![tactic(auto)]
 
@@ -10,3 +10,5 @@ mod opening;
 mod owner;
 #[cfg(test)]
 mod port;
+#[cfg(test)]
+mod turns;

@@ -97,7 +97,7 @@ impl Link for Deaf {
 
 /// Packets that are dropped.
 #[derive(Drop)]
-struct Nowhere;
+pub(crate) struct Nowhere;
 
 impl VoiceRouter for Nowhere {
     ghost use Rattle.std.specs.Prelude.{true, ⊤};

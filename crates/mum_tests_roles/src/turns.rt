@@ -1,0 +1,197 @@
+//! `mum_port`: notices and voice that wait together go out by turns.
+
+ghost use Rattle.std.specs.Prelude.{◌≡◌, None, replicate};
+ghost use Rattle.mum_port.specs.Taking.{IsPosted, IsVoiced};
+
+use crate::port::Nowhere;
+use mum_base::{Octets, OutOfMemory, ReplyEnd, SessionId, Slot};
+use mum_io::{Link, PollRead, PollWrite, Tally};
+use mum_outbox::{BoxPass, Desk, PostBox, PostParcel, VoiceBox, VoiceParcel};
+use mum_port::{DeskItem, Passes, Port};
+use std::alloc::Global;
+use std::sync::atomic::{AtomicU64, Ordering};
+use std::sync::{Arc, Wait};
+use std::test::Fail;
+
+/// Who is sent all that waits here.
+const SESSION: SessionId = SessionId(5);
+
+/// A frame of type 3 without a payload. A voice packet has type 1.
+const NOTICE: [u8; 6] = [0, 3, 0, 0, 0, 0];
+
+/// A link that takes all that is written, and writes the type of each piece as a digit into a word.
+#[derive(Drop)]
+struct Eager {
+    types: Arc<AtomicU64>,
+    tally: Tally,
+    is_shut: bool,
+}
+
+impl Link for Eager {
+    ghost counts = { λ l. l.tally };
+
+    ghost left = { λ _. None };
+
+    ghost written = { λ _. None };
+
+    ghost address = { λ _. replicate 16 0 };
+
+    ghost is_shut = { λ l. l.is_shut };
+
+    fn poll_read(&mut self, _buf: &mut [u8]) -> PollRead {
+        self.tally.count_stall();
+        PollRead::NotYet
+    }
+
+    fn poll_write(&mut self, piece: &[u8]) -> PollWrite {
+        let digit = match piece.get(1) {
+            Some(kind) => u64::from(*kind),
+            None => 9,
+        };
+        let types = self.types.load(Ordering::SeqCst);
+        let types = types.wrapping_mul(10).wrapping_add(digit);
+        self.types.store(types, Ordering::SeqCst);
+        PollWrite::Took(piece.len())
+    }
+
+    fn shut(&mut self) {
+        self.is_shut = true;
+    }
+
+    fn address(&self) -> [u8; 16] {
+        [0; 16]
+    }
+}
+
+/// Offers so many notices to a box.
+fn put_notices<R: Wait>(
+    rt: &R,
+    alloc: Global,
+    queue: &PostBox,
+    pass: &mut BoxPass<PostParcel>,
+    count: u32,
+) -> Result<(), OutOfMemory>
+    requires { pass.old.queue ≡ queue.now.queue }
+{
+    for _item in 0..count {
+        let parcel = PostParcel {
+            to: SESSION,
+            bytes: Octets::from_vec(Vec::from_array(alloc, NOTICE)?),
+            last: false,
+        };
+        let _sent = queue.offer_as(rt, pass, parcel);
+    }
+    Ok(())
+}
+
+/// A post box in which so many notices wait.
+fn notices<R: Wait>(rt: &R, alloc: Global, count: u32) -> Result<PostBox, OutOfMemory> {
+    let mut queue = PostBox::new(alloc)?;
+    let mut pass = queue.pass();
+    put_notices(rt, alloc, &queue, &mut pass, count)?;
+    Ok(queue)
+}
+
+/// A voice box in which so many packets wait.
+fn packets<R: Wait>(rt: &R, alloc: Global, count: u32) -> Result<VoiceBox, OutOfMemory> {
+    let mut queue = VoiceBox::new(alloc)?;
+    let mut pass = queue.pass();
+    for _item in 0..count {
+        let parcel = VoiceParcel {
+            to: SESSION,
+            bytes: Default::default(),
+        };
+        let _sent = queue.put_as(rt, &mut pass, parcel);
+    }
+    Ok(queue)
+}
+
+/// Gives a port so many steps.
+fn step_on<R: Wait>(
+    rt: &R,
+    alloc: Global,
+    port: &mut Port<Eager>,
+    desk: &Desk<DeskItem>,
+    pass: &mut BoxPass<DeskItem>,
+    posts: &[PostBox],
+    voices: &[VoiceBox],
+    steps: u32,
+)
+    requires desk { pass.old.queue ≡ desk.now.queue }
+    requires posts { IsPosted posts.now port.old.passes }
+    requires voices { IsVoiced voices.now port.old.passes }
+{
+    let mut buf = [0; 64];
+    for _step in 0..steps {
+        port.step(rt, alloc, desk, pass, posts, voices, &mut Nowhere, &mut buf);
+    }
+}
+
+/// The same of a port of this link, whose session has these boxes.
+fn step_joined<R: Wait>(
+    rt: &R,
+    alloc: Global,
+    link: Eager,
+    post: PostBox,
+    voice: VoiceBox,
+    passes: Passes,
+    steps: u32,
+) -> Result<(), OutOfMemory>
+    requires post { passes.post.queue ≡ post.queue }
+    requires voice { passes.voice.queue ≡ voice.queue }
+    requires slot { passes.slot.0 ≡ 0 }
+{
+    let mut desk = Desk::<DeskItem>::new(alloc)?;
+    let mut pass = desk.pass();
+    let mut port = Port::new(alloc, 1, 0, link);
+    let joined = ReplyEnd::Joined(SESSION, Slot(0));
+    let nothing = Octets::from_vec(Vec::new(alloc));
+    port.answered(alloc, joined, nothing, Some(passes));
+    step_on(
+        rt,
+        alloc,
+        &mut port,
+        &desk,
+        &mut pass,
+        &[post],
+        &[voice],
+        steps,
+    );
+    Ok(())
+}
+
+/// The types of the frames, in order, that a port writes in so many steps, where so many notices and packets wait.
+fn types_of<R: Wait>(
+    rt: &R,
+    alloc: Global,
+    waiting: (u32, u32),
+    steps: u32,
+) -> Result<u64, OutOfMemory> {
+    let types = Arc::new(alloc, AtomicU64::new(0))?;
+    let link = Eager {
+        types: types.clone()?,
+        tally: Tally::new(),
+        is_shut: false,
+    };
+    let mut post = notices(rt, alloc, waiting.0)?;
+    let mut voice = packets(rt, alloc, waiting.1)?;
+    let passes = Passes {
+        slot: Slot(0),
+        post: post.pass(),
+        voice: voice.pass(),
+    };
+    step_joined(rt, alloc, link, post, voice, passes, steps)?;
+    Ok(types.load(Ordering::SeqCst))
+}
+
+#[test]
+fn notices_and_voice_go_out_by_turns(rt: HostRuntime) -> Result<(), Fail> {
+    let alloc: Global = rt.alloc();
+    // a frame at each step, a notice first; what is alone goes on alone
+    assert_eq!(rt; types_of(&rt, alloc, (3, 3), 6)?, 313_131);
+    assert_eq!(rt; types_of(&rt, alloc, (2, 4), 6)?, 313_111);
+    assert_eq!(rt; types_of(&rt, alloc, (4, 2), 6)?, 313_133);
+    // none is written twice, and none waits when the steps are over
+    assert_eq!(rt; types_of(&rt, alloc, (2, 2), 9)?, 3131);
+    Ok(())
+}

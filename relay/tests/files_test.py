@@ -77,18 +77,19 @@ def the_man_page_is_right():
     done = passed(run("man", "--warnings", "-l", path("murmur.1"), env={**os.environ, "MANROFFSEQ": "", "LC_ALL": "C.UTF-8"}))
     assert not done.stderr and "SYNOPSIS" in done.stdout, done.stderr
     usage = run(PROGRAM).stderr
-    for command in ("replay", "exercise", "serve"):
+    for command in ("replay", "audit", "exercise", "serve"):
         assert command in usage and f"murmur {command}" in done.stdout, command
 
 
 def completion_knows_the_words():
     asked = {
-        "murmur ": "replay exercise serve",
+        "murmur ": "replay audit exercise serve",
         "murmur re": "replay",
         "murmur serve ": "proxy: unix: 127.0.0.1:64738 [::1]:64738",
         "murmur serve proxy:u": "unix:",
         "murmur serve proxy:unix:/et": "/etc/",
         "murmur serve 127.0.0.1:64738 1": "1000 100000",
+        "murmur serve 127.0.0.1:64738 1 ": "journal",
         "murmur replay ": "",
     }
     for line, wanted in asked.items():

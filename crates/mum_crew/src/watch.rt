@@ -1,7 +1,8 @@
 //! How a thread gives its roles their turns, and when it sleeps.
 //!
-//! No wake is lost: who puts an item into a queue wakes the sleepers afterwards, and who sleeps said so
-//! (`Station::begin`) before it found the queue empty. This is an argument and no proof, so a sleep has an end.
+//! A thread whose links brought news, or which saw the owner work or a link shut, wakes the sleepers before it
+//! sleeps itself and after each sixteen rounds that worked; who sleeps said so (`Station::begin`) before it found
+//! its queues empty. That no wake is lost by this is an argument and no proof, so a sleep has an end.
 
 ghost use Rattle.std.specs.Prelude.{◌≡◌, IsTrue, All, map};
 
@@ -59,7 +60,7 @@ impl Pace {
         }
         self.slept_in_vain = false;
         self.woke = false;
-        self.rounds = self.rounds.saturating_add(1);
+        self.rounds = self.rounds.wrapping_add(1);
         if self.rounds == BUSY {
             station.hold();
         }

@@ -1,5 +1,5 @@
 -- What is kept of the permissions of a state.
-use Rattle.std.specs.Prelude.{◌≡◌, ℕ, ◌+◌, ◌*◌, ◌<◌, ◌≤◌, ◌==◌, ◌&&◌, Bool, false, true, List, replicate, slice_index_or, Some, IsSome, IsTrue, if◌then◌else◌}
+use Rattle.std.specs.Prelude.{◌≡◌, ℕ, ◌+◌, ◌*◌, ◌<◌, ◌≤◌, ◌==◌, ◌&&◌, Bool, false, true, List, MatchOption, Option, replicate, set, slice_index_or, Some, IsSome, IsTrue, if◌then◌else◌}
 use Rattle.mum_base.specs.declared.number.ChannelId.{ChannelId}
 use Rattle.mum_base.specs.declared.number.SessionId.{SessionId}
 use Rattle.mum_base.specs.declared.number.Slot.{Slot}
@@ -92,3 +92,14 @@ perm_entry state session channel value = record {
   count = count_of state (slot_of state session);
   value = value;
 }
+
+-- What an answer leaves: its entry is at the place of the session and the channel, with the counts of the state, and
+-- every other entry is as it was.
+pub record KeepsPerm (state : StateValue) (session : SessionId) (channel : ChannelId) (value : Perm) (before later : List PermEntry) : Type 0 where
+  pub kept : later ≡ set before (index_of state session channel) (perm_entry state session channel value)
+  pub stands : IsTrue (answers state session channel (kept_at state session channel later))
+
+-- the same, where the two may not be there: then every entry is as it was
+abbrev pub KeepsAnswer : StateValue → SessionId → ChannelId → Option Perm → List PermEntry → List PermEntry → Type 0
+KeepsAnswer state session channel answer before later =
+    MatchOption answer (later ≡ before) (λ value. KeepsPerm state session channel value before later)

@@ -59,6 +59,7 @@ impl Caches {
         ensures hearers { audience.new ≡ hearers_at state.now speaker target }
         ensures entry { KeepsAsked state.now speaker target self.old.routes self.new.routes }
         ensures steps { RouteAnswers state.now speaker target self.old.routes → steps.new ≡ steps.old }
+        ensures unasked { RouteAnswers state.now speaker target self.old.routes → self.new.perms ≡ self.old.perms }
         ensures sound { AreSound state.now self.new }
     {
         let Caches { perms, routes } = self;

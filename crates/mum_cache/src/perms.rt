@@ -185,9 +185,13 @@ impl PermCache {
 }
 
 impl Rights for PermCache {
-    ghost use Rattle.mum_cache.specs.Perms.{ArePermsSound};
+    ghost use Rattle.mum_cache.specs.Perms.{ArePermsSound, KeepsAnswer, visits_at};
 
     ghost sound = { λ cache state. ArePermsSound state cache };
+
+    ghost kept = { λ before state session channel answer later. KeepsAnswer state session channel answer before later };
+
+    ghost cost = { λ cache state session channel. visits_at state session channel cache };
 
     fn held<L: Ledger>(
         &mut self,

@@ -78,6 +78,7 @@ fn keep<L: Ledger>(
     requires perms { ArePermsSound state.now perms.old }
     requires routes { AreRoutesSound state.now entries.old }
     ensures steps { RouteAnswers state.now speaker.now.session target entries.old → steps.new ≡ steps.old }
+    ensures unasked { RouteAnswers state.now speaker.now.session target entries.old → perms.new ≡ perms.old }
     ensures kept { KeepsRoute state.now speaker.now.session target entries.old entries.new }
     ensures perms { ArePermsSound state.now perms.new }
     ensures routes { AreRoutesSound state.now entries.new }
@@ -116,8 +117,8 @@ impl RouteCache {
     }
 
     /// Who hears what a session says to a target, in place of who was in the audience, as `route_into` of
-    /// `mum_route` tells it. Where the entry of the speaker and the target stands no step is counted. What
-    /// sessions may do in channels is asked of `perms`. The answer is kept, but for loopback and for a speaker
+    /// `mum_route` tells it. Where the entry of the speaker and the target stands no step is counted, and
+    /// `perms` is as it was. Else what sessions may do in channels is asked of `perms`. The answer is kept, but for loopback and for a speaker
     /// that is not there. It takes no memory.
     pub fn route_at<L: Ledger>(
         &mut self,
@@ -135,6 +136,7 @@ impl RouteCache {
         ensures members { map member_of audience.new ≡ route state.now speaker target }
         ensures hearers { audience.new ≡ hearers_at state.now speaker target }
         ensures steps { RouteAnswers state.now speaker target self.old → steps.new ≡ steps.old }
+        ensures unasked { RouteAnswers state.now speaker target self.old → perms.new ≡ perms.old }
         ensures kept { IsSome (session_of state.now.roster speaker) → target < LOOPBACK
             → KeepsRoute state.now speaker target self.old self.new }
         ensures stands { IsSome (session_of state.now.roster speaker) → target < LOOPBACK

@@ -251,7 +251,7 @@ pub fn route_with<T: Rights, L: Ledger>(
 /// that is not there.
 ///
 /// A step is counted for each entry of an access control list that is read; how many is not said. The
-/// permission of the speaker is evaluated at most once in a channel. It takes no memory.
+/// permission of the speaker is evaluated at most once in a channel. That is not proved. It takes no memory.
 pub fn route_into<L: Ledger>(
     state: &State,
     speaker: SessionId,

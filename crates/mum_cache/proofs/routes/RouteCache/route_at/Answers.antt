@@ -95,6 +95,19 @@ returns-clause-steps g c =
     (subst (λ (s : SessionId). RouteAnswers state s c.args.target c.self.inside.entries) (sym number)
     (subst (λ (es : List RouteEntry). RouteAnswers state c.args.speaker c.args.target es) (sym c.self.view_is) stands))
 
+pub returns-clause-unasked : goal.returns-clause-unasked
+returns-clause-unasked g c =
+    let state = c.args.state.now in
+    let user = c.in-Some.user.now in
+    let found : session_of state.roster c.args.speaker ≡ Some user =
+    sym (ap (λ (r : RosterState). session_of r c.args.speaker) c.roster.ensures.roster) ∙ sym c.session.ensures.row ∙ ap option_copied c.in-Some.is in
+    let is = is_speaker state c.args.speaker user c.roster.ensures.proper found in
+    let number = number_is state c.args.speaker user found in
+    λ stands.
+    c.keep.ensures.unasked
+    (subst (λ (s : SessionId). RouteAnswers state s c.args.target c.self.inside.entries) (sym number)
+    (subst (λ (es : List RouteEntry). RouteAnswers state c.args.speaker c.args.target es) (sym c.self.view_is) stands))
+
 pub returns-clause-kept : goal.returns-clause-kept
 returns-clause-kept g c =
     let state = c.args.state.now in

@@ -14,8 +14,17 @@ ghost use Rattle.mum_port.specs.Facts.{PortFacts, new_port};
 ghost use Rattle.mum_port.specs.Life.{AreUnanswered, Event, Lives, Steps, and_item, asked_item, bytes_queued, bytes_taken, bytes_written, frames_handled, items_asked, items_put, words_said};
 ghost use Rattle.mum_port.specs.Stage.{is_closed};
 
+use crate::front::{VOICE_FRAME_LIMIT, VOICE_LIMIT};
+use crate::port::UNWRITTEN_LIMIT;
 use crate::router::VoiceRouter;
 use mum_io::Link;
+
+/// The numbers that definitions name.
+pub fn numbers()
+    ensures unwritten { UNWRITTEN_LIMIT ≡ 65536 }
+    ensures voice { VOICE_LIMIT ≡ 1025 }
+    ensures frame { VOICE_FRAME_LIMIT ≡ 1031 }
+{}
 
 /// Each frame of the stream is handled once, in order, and no other.
 pub fn frames_are_handled_in_order<L: Link, V: VoiceRouter>()

@@ -1,0 +1,101 @@
+-- A version that was told stays, and the commands of a session are asked.
+use Rattle.std.proofs.Common.{◌≡◌, ◌⊎◌, ℕ, ◌==◌, Bool, true, false, cond, List, [], ◌∷◌, Option, Some, None, refl, Ok, Err, ap, sym, subst, inl, inr}
+use Rattle.std.specs.List.{All}
+use Rattle.std.specs.Option.{is_some}
+use Rattle.std.proofs.lemmas.List.Elements.{All-cons, All-nil}
+use Rattle.mum_base.specs.declared.number.SessionId.{SessionId}
+use Rattle.mum_base.specs.declared.outcome.Reason.TheVariants.{Malformed, TooLong}
+use Rattle.mum_fields.specs.Message.{or_else}
+use Rattle.mum_fields.specs.Table.{decoded}
+use Rattle.mum_frame.specs.declared.kind.TheConstants.{ACL, CHANNEL_REMOVE, CHANNEL_STATE, PERMISSION_QUERY, TEXT_MESSAGE, USER_REMOVE, USER_STATE, VERSION, VOICE_TARGET}
+use Rattle.mum_msg_state.specs.Messages.{version}
+use Rattle.mum_session.specs.Action.{Decoded, action, after_frame, command_action, ignore, version_after}
+use Rattle.mum_session.specs.Heard.{command_heard}
+use Rattle.mum_session.specs.Machine.{Machine, is_rejected}
+use Rattle.mum_session.specs.declared.action.Action.{Action}
+use Rattle.mum_session.specs.declared.action.Action.TheVariants.{Ask}
+use Rattle.mum_session.specs.declared.command.Asked.{Asked}
+use Rattle.mum_session.specs.declared.heard.Heard.{Heard}
+use Rattle.mum_session.specs.declared.heard.Heard.TheVariants as heard
+use Rattle.mum_session.specs.declared.session.Stage.{Stage}
+use Rattle.mum_session.specs.declared.session.Stage.TheVariants.{LoggedIn}
+use Rattle.mum_command_laws.specs.Connections.{CommandsAreAsked, VersionsStay, commands}
+
+-- ---- versions
+
+else_stays : (told before : Option ℕ) → is_some before ≡ true → is_some (or_else told before) ≡ true
+else_stays None before some = some
+else_stays (Some number) before some = refl
+
+told_stays : (before : Option ℕ) (told : Decoded version) → is_some before ≡ true → is_some (version_after before told) ≡ true
+told_stays before (Ok values) some = else_stays values.0 before some
+told_stays before (Err fault) some = some
+
+either_stays : (one other : Bool) (before told : Option ℕ) → is_some before ≡ true → is_some told ≡ true
+    → is_some (cond one before (cond other told before)) ≡ true
+either_stays true other before told some also = some
+either_stays false true before told some also = also
+either_stays false false before told some also = some
+
+pub versions_stay_lem : VersionsStay
+unfolding after_frame
+versions_stay_lem machine kind payload some =
+    either_stays (is_rejected machine.stage) (kind == VERSION) machine.version (version_after machine.version (decoded version payload)) some
+    (told_stays machine.version (decoded version payload) some)
+
+-- ---- commands
+
+abbrev IsAsked : Machine → SessionId → Action → Type 0
+IsAsked machine session act =
+    (act ≡ ignore Malformed) ⊎ (act ≡ ignore TooLong)
+    ⊎ ((what : Asked) × (act ≡ Ask (record { connection = machine.connection; worker = machine.worker; session = Some session; what = what })))
+
+asked : (connection worker : ℕ) (told : Option ℕ) (session : SessionId) (awaits : Bool) (read : Heard Asked)
+    → IsAsked (record { connection = connection; worker = worker; version = told; stage = LoggedIn session; awaits = awaits }) session
+    (command_action (record { connection = connection; worker = worker; version = told; stage = LoggedIn session; awaits = awaits }) read)
+asked connection worker told session awaits heard.Malformed = inl refl
+asked connection worker told session awaits heard.TooLong = inr (inl refl)
+asked connection worker told session awaits (heard.Message what) = inr (inr (what, refl))
+
+-- at a connection with a session
+abbrev seated : ℕ → ℕ → Option ℕ → SessionId → Bool → Machine
+seated connection worker told session awaits =
+    record { connection = connection; worker = worker; version = told; stage = LoggedIn session; awaits = awaits }
+
+each_asked : (connection worker : ℕ) (told : Option ℕ) (session : SessionId) (awaits : Bool) (payload : List ℕ)
+    → All (λ kind. IsAsked (seated connection worker told session awaits) session (action (seated connection worker told session awaits) kind payload)) commands
+unfolding action
+each_asked connection worker told session awaits payload =
+    let machine = seated connection worker told session awaits in
+    All-cons (λ kind. IsAsked machine session (action machine kind payload)) CHANNEL_REMOVE
+    (CHANNEL_STATE ∷ USER_REMOVE ∷ USER_STATE ∷ TEXT_MESSAGE ∷ ACL ∷ VOICE_TARGET ∷ PERMISSION_QUERY ∷ [])
+    (asked connection worker told session awaits (command_heard CHANNEL_REMOVE payload))
+    (All-cons (λ kind. IsAsked machine session (action machine kind payload)) CHANNEL_STATE
+    (USER_REMOVE ∷ USER_STATE ∷ TEXT_MESSAGE ∷ ACL ∷ VOICE_TARGET ∷ PERMISSION_QUERY ∷ [])
+    (asked connection worker told session awaits (command_heard CHANNEL_STATE payload))
+    (All-cons (λ kind. IsAsked machine session (action machine kind payload)) USER_REMOVE
+    (USER_STATE ∷ TEXT_MESSAGE ∷ ACL ∷ VOICE_TARGET ∷ PERMISSION_QUERY ∷ [])
+    (asked connection worker told session awaits (command_heard USER_REMOVE payload))
+    (All-cons (λ kind. IsAsked machine session (action machine kind payload)) USER_STATE
+    (TEXT_MESSAGE ∷ ACL ∷ VOICE_TARGET ∷ PERMISSION_QUERY ∷ [])
+    (asked connection worker told session awaits (command_heard USER_STATE payload))
+    (All-cons (λ kind. IsAsked machine session (action machine kind payload)) TEXT_MESSAGE
+    (ACL ∷ VOICE_TARGET ∷ PERMISSION_QUERY ∷ [])
+    (asked connection worker told session awaits (command_heard TEXT_MESSAGE payload))
+    (All-cons (λ kind. IsAsked machine session (action machine kind payload)) ACL
+    (VOICE_TARGET ∷ PERMISSION_QUERY ∷ [])
+    (asked connection worker told session awaits (command_heard ACL payload))
+    (All-cons (λ kind. IsAsked machine session (action machine kind payload)) VOICE_TARGET
+    (PERMISSION_QUERY ∷ [])
+    (asked connection worker told session awaits (command_heard VOICE_TARGET payload))
+    (All-cons (λ kind. IsAsked machine session (action machine kind payload)) PERMISSION_QUERY []
+    (asked connection worker told session awaits (command_heard PERMISSION_QUERY payload))
+    (All-nil (λ kind. IsAsked machine session (action machine kind payload))))))))))
+
+pub commands_are_asked_lem : CommandsAreAsked
+commands_are_asked_lem machine session payload in_session =
+    subst (λ (m : Machine). All (λ kind. IsAsked m session (action m kind payload)) commands) (same machine in_session)
+    (each_asked machine.connection machine.worker machine.version session machine.awaits payload)
+  where
+    same : (one : Machine) → one.stage ≡ LoggedIn session → seated one.connection one.worker one.version session one.awaits ≡ one
+    same one is = sym (ap (λ (s : Stage). record one { stage = s }) is)

@@ -1,0 +1,11 @@
+mod Arrived
+mod Brought
+mod Connecting
+mod Contained
+mod Entered
+mod Knowing
+mod Learned
+mod LearnedChannel
+mod MetNeeds
+mod Permitted
+mod Ruled

@@ -1,5 +1,6 @@
 -- What the bell of a worker carries, as plain data, and what a worker took from it.
 use Rattle.std.specs.Prelude.{◌≡◌, ℕ, List, [], ◌∷◌, ◌++◌, map, Option, Some, None}
+use Rattle.atomic_table.specs.Seated.{TableId}
 use Rattle.mum_base.specs.declared.number.SessionId.{SessionId}
 use Rattle.mum_base.specs.declared.reply.ReplyEnd.{ReplyEnd}
 use Rattle.mum_outbox.specs.Calls.{one_more}
@@ -25,10 +26,15 @@ pub data Ring (L : Type 0) : Type 0 where
   Lagging : SessionId → Ring L
   NoMore : Ring L
 
--- the items that were taken from a bell, in order, and how often there was none
+-- which queue a bell is, the items that were taken from it, in order, and how often there was none
 pub record BellFacts (L : Type 0) : Type 0 where
+  pub queue : TableId
   pub taken : List (Ring L)
   pub empty : ℕ
+
+-- a bell from which nothing was taken yet
+abbrev pub new_bell : {L : Type 0} → TableId → BellFacts L
+new_bell queue = record { queue = queue; taken = []; empty = 0 }
 
 abbrev pub reply_of : {N : Type 0} {naming : Ghosts N} → Reply N naming → ReplyFacts
 reply_of reply = record { connection = reply.connection; end = reply.end; note = reply.note; wire = reply.wire }
@@ -49,7 +55,7 @@ module _ {L N : Type 0} {naming : Ghosts N} where
 
   -- what was taken by a pass
   abbrev pub bell_of : PassFacts (BellItem L N naming) → BellFacts L
-  bell_of pass = record { taken = rings_of pass.taken; empty = pass.empty }
+  bell_of pass = record { queue = pass.queue; taken = rings_of pass.taken; empty = pass.empty }
 
 -- the bell is asked once: what it gave is the last that was taken, or there was nothing, which is counted
 abbrev pub TakesRing : {L : Type 0} → BellFacts L → Option (Ring L) → BellFacts L → Type 0

@@ -1,10 +1,10 @@
 //! The boxes of all slots, from which ports take.
 
-ghost use Rattle.std.specs.Prelude.{◌≡◌, IfOk, length};
-ghost use Rattle.mum_worker.specs.Boxes.{AreSameBoxes, ArePassesFor, ArePassesIn};
+ghost use Rattle.std.specs.Prelude.{◌≡◌, IfOk};
+ghost use Rattle.mum_worker.specs.Boxes.{AreSameBoxes, ArePassesFor, ArePassesIn, queues};
 
 use mum_base::{OutOfMemory, ReplyEnd, Slot};
-use mum_outbox::{PostBox, VoiceBox};
+use mum_outbox::{PostBox, Queue, VoiceBox};
 use mum_port::Passes;
 use std::alloc::Global;
 use std::marker::Model;
@@ -24,19 +24,20 @@ impl Model for Boxes {
     ghost view = { λ b. record { posts = b.posts.items; voices = b.voices.items } };
 }
 
-/// These boxes, and one more owner of each.
-pub(crate) fn share_each(
+/// These queues, and one more owner of each, in the same order.
+pub fn share_each<I: Drop, const CAPACITY: usize>(
     alloc: Global,
-    voices: Vec<VoiceBox>,
-) -> Result<(Vec<VoiceBox>, Vec<VoiceBox>), OutOfMemory>
-    ensures { IfOk result (λ both. (length both.0.items ≡ length voices.items) × (length both.1.items ≡ length voices.items)) }
+    boxes: Vec<Queue<I, CAPACITY>>,
+) -> Result<(Vec<Queue<I, CAPACITY>>, Vec<Queue<I, CAPACITY>>), OutOfMemory>
+    ensures owners { IfOk result (λ both. queues both.0.items ≡ queues boxes.items) }
+    ensures shares { IfOk result (λ both. queues both.1.items ≡ queues boxes.items) }
 {
     let mut owners = Vec::new(alloc);
     let mut shares = Vec::new(alloc);
-    for voice in voices {
-        let mut voice = voice;
-        let share = voice.share()?;
-        owners.push(voice)?;
+    for owner in boxes {
+        let mut owner = owner;
+        let share = owner.share()?;
+        owners.push(owner)?;
         shares.push(share)?;
     }
     Ok((owners, shares))

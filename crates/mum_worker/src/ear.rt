@@ -1,14 +1,14 @@
 //! The bell of a worker, as the worker takes from it.
 
-ghost use Rattle.std.specs.Prelude.{◌≡◌, []};
-ghost use Rattle.mum_worker.specs.Bell.{TakesRing, ring_given};
+ghost use Rattle.std.specs.Prelude.{◌≡◌};
+ghost use Rattle.mum_worker.specs.Bell.{TakesRing, new_bell, ring_given};
 
 use mum_outbox::{Bell, BoxPass};
 use mum_published::{BellItem, Naming};
 use std::marker::Model;
 use std::sync::Wait;
 
-/// A bell with the worker's pass of it. A contract sees what was taken.
+/// A bell with the worker's pass of it. A contract sees which queue it is, and what was taken.
 #[derive(Drop)]
 pub(crate) struct BellEnd<L, N: Naming> {
     bell: Bell<BellItem<L, N>>,
@@ -29,7 +29,7 @@ impl<L, N: Naming> Model for BellEnd<L, N> {
 impl<L: Drop, N: Naming> BellEnd<L, N> {
     /// A bell, with a new pass of it.
     pub(crate) fn new(bell: Bell<BellItem<L, N>>) -> BellEnd<L, N>
-        ensures { result ≡ record { taken = []; empty = 0 } }
+        ensures { result ≡ new_bell bell.queue }
     {
         let mut bell = bell;
         let pass = bell.pass();

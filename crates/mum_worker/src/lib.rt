@@ -13,6 +13,7 @@ mod role;
 mod routing;
 pub mod worker;
 
+pub use boxes::share_each;
 pub use mum_port::DeskItem;
 pub use mum_published::BellItem;
 pub use mum_router::Routed;

@@ -1,6 +1,6 @@
 //! The ports of a worker.
 
-ghost use Rattle.std.specs.Prelude.{◌≡◌, ◌≤◌, ◌<◌, ◌||◌, ◌++◌, ◌∷◌, [], IfOk, false, filter, length, not, position};
+ghost use Rattle.std.specs.Prelude.{◌≡◌, ◌≤◌, ◌<◌, ◌||◌, ◌++◌, ◌∷◌, [], IfOk, IsTrue, false, filter, length, not, position};
 ghost use Rattle.std.specs.List.{All};
 ghost use Rattle.std.specs.VecDeque.{deque_capacity, deque_len};
 ghost use Rattle.mum_worker.specs.Along.{Along, EachAlong};
@@ -163,6 +163,15 @@ fn step_each<L: Link, G: Gate, N: Naming, R: Wait + Copy>(
     worked
 }
 
+// A link that is not taken in is shut.
+fn turned_away<L: Link>(link: L) -> L
+    ensures { IsTrue (L.is_shut result) }
+{
+    let mut link = link;
+    link.shut();
+    link
+}
+
 // Closes a port, where it is of this session and open.
 fn lag_port<L: Link>(port: &mut Port<L>, alloc: Global, kept: &mut Record, session: SessionId)
     ensures { LagsWhereIts L.counts L.left L.written L.is_shut session port.old (without_room kept.old)
@@ -283,9 +292,7 @@ impl<L: Link> Ports<L> {
             self.list
                 .push_back_reserved(Port::new(alloc, connection, number, link));
         } else {
-            let mut link = link;
-            link.shut();
-            drop(link);
+            drop(turned_away(link));
         }
     }
 

@@ -15,12 +15,15 @@ pub struct WorkerOpening {
 
 impl<L: Link, G: Gate, N: Naming, R: Wait + Copy> Role for Worker<L, G, N, R> {
     ghost use Rattle.mum_worker.specs.Facts.{is_done};
+    ghost use Rattle.mum_worker.specs.Turning.{Turned};
 
     type Opening = WorkerOpening;
 
     ghost opening = { λ w. record { number = w.number; journal = w.common.kept.journal } };
 
     ghost has_ended = { is_done };
+
+    ghost turned = { λ old answer new. Turned L.counts L.left L.written L.is_shut N.opening old new answer };
 
     fn turn(&mut self) -> Turn {
         Worker::turn(self)

@@ -1,6 +1,6 @@
 //! The worker.
 
-ghost use Rattle.std.specs.Prelude.{◌≡◌, ◌<◌, [], IfOk, IsSome, length};
+ghost use Rattle.std.specs.Prelude.{◌≡◌, [], IfOk, IsSome, length};
 ghost use Rattle.mum_base.specs.declared.number.TheConstants.{SLOTS};
 ghost use Rattle.mum_record.specs.Journal.{Each, IsWritableEntry};
 ghost use Rattle.mum_router.specs.Offering.{copies_of, full_of};
@@ -10,7 +10,7 @@ ghost use Rattle.mum_voice.specs.Packet.{IsPacket, plain_parts};
 ghost use Rattle.mum_worker.specs.Bell.{reply_of, ring_of};
 ghost use Rattle.mum_worker.specs.Facts.{speaker_of};
 ghost use Rattle.mum_worker.specs.Hearing.{Heeds, HearsConnection, HearsLag, HearsReply};
-ghost use Rattle.mum_worker.specs.Opening.{EntryStoodFor, HasOpened, PicksFor, RoutesFor};
+ghost use Rattle.mum_worker.specs.Opening.{EntryStoodFor, HasOpened, JoinsShared, PicksFor, RoutesFor};
 ghost use Rattle.mum_worker.specs.Turning.{HearsBell, StepsPorts, Turned};
 
 use crate::boxes::{Boxes, share_each};
@@ -37,6 +37,11 @@ use std::sync::ledger::Ledger;
 
 /// How many bytes a port reads at once.
 const READ_LENGTH: usize = 16_384;
+
+/// The number for which the name of the limit stands. This does nothing: its contract is what it is.
+pub fn limits()
+    ensures read { READ_LENGTH ≡ 16384 }
+{}
 
 /// A live port, by the number of its connection.
 #[derive(Clone, Copy, Debug, PartialEq, Eq)]
@@ -85,11 +90,12 @@ pub struct Worker<L: Link, G: Gate, N: Naming, R: Wait + Copy> {
 }
 
 impl<L: Link, G: Gate, N: Naming, R: Wait + Copy> Model for Worker<L, G, N, R> {
-    ghost use Rattle.std.specs.Prelude.{◌<◌, length};
+    ghost use Rattle.std.specs.Prelude.{◌≡◌, length};
     ghost use Rattle.std.specs.List.{All};
     ghost use Rattle.mum_worker.specs.Facts.{WorkerFacts};
     ghost use Rattle.mum_worker.specs.Routing.{bare};
     ghost use Rattle.mum_worker.specs.Stepping.{OwnsPasses};
+    ghost use Rattle.mum_worker.specs.declared.worker.TheConstants.{READ_LENGTH};
 
     ghost Value = { WorkerFacts L };
 
@@ -103,19 +109,20 @@ impl<L: Link, G: Gate, N: Naming, R: Wait + Copy> Model for Worker<L, G, N, R> {
       ended = w.ended;
     } };
 
-    ghost invariant = { λ w. All (OwnsPasses w.boxes) w.ports × (0 < length w.buffer.items) };
+    ghost invariant = { λ w. All (OwnsPasses w.boxes) w.ports × (length w.buffer.items ≡ READ_LENGTH) };
 }
 
 // Room for what a port reads at once.
 fn read_buffer(alloc: Global) -> Result<Vec<u8>, OutOfMemory>
-    ensures { IfOk result (λ buffer. 0 < length buffer.items) }
+    ensures { IfOk result (λ buffer. length buffer.items ≡ READ_LENGTH) }
 {
     vec![in alloc; 0u8; READ_LENGTH]
 }
 
 impl<L: Link, G: Gate, N: Naming, R: Wait + Copy> Worker<L, G, N, R> {
     /// A worker without ports, over a pass that made no look. Where a journal is asked for, the room of the
-    /// closing entries of so many connections is taken, and no more are taken in.
+    /// closing entries of so many connections is taken, and no more are taken in. It works over the boxes, the desk
+    /// and the bell that it is given, each by new passes.
     pub fn open(
         rt: R,
         alloc: Global,
@@ -130,7 +137,8 @@ impl<L: Link, G: Gate, N: Naming, R: Wait + Copy> Worker<L, G, N, R> {
         requires no_look { pass.asks ≡ [] }
         requires voice { length shared.voice.items ≡ SLOTS }
         requires posts { length shared.posts.items ≡ SLOTS }
-        ensures { IfOk result (HasOpened number pass journal) }
+        ensures opened { IfOk result (HasOpened number pass journal) }
+        ensures joins { IfOk result (JoinsShared shared) }
     {
         let Shared {
             voice,

@@ -15,7 +15,7 @@ use Rattle.mum_worker.specs.Hearing.{Hears}
 use Rattle.mum_worker.specs.Opening.{HasOpened}
 use Rattle.mum_worker.specs.Stepping.{PortSteps, Shares}
 use Rattle.mum_worker.specs.Turning.{Turned, shares_of}
-use Rattle.mum_worker_laws.specs.Causes.{FindsNothing, HasNothingToDo, HasWorked, OneWorked, is_no_more}
+use Rattle.mum_worker_laws.specs.Causes.{FindsNothing, HasNothingToDo, HasWorked, StepWorked, is_no_more}
 use Rattle.mum_worker_laws.specs.Laws.{TurnsTo}
 
 neither : (a b : Bool) → a || b ≡ false → (a ≡ false) × (b ≡ false)
@@ -90,28 +90,33 @@ module _ {L : Type 0} (counts : L → Counts) (left written : L → Option (List
       let turn = did_turn steps.chain in
       (both.0, (between.desk, (turn.0, turn.1.idle both.1), rest.1))
 
-  one_on : (port : PortFacts L) (ports : List (PortFacts L)) → OneWorked counts left written is_shut opening ports → OneWorked counts left written is_shut opening (port ∷ ports)
-  one_on port ports one = record {
+  one_on : (boxes : BoxesFacts) (old : PortFacts L) (olds : List (PortFacts L)) (new : PortFacts L) (news : List (PortFacts L)) → StepWorked counts left written is_shut opening boxes olds news
+      → StepWorked counts left written is_shut opening boxes (old ∷ olds) (new ∷ news)
+  one_on boxes old olds new news one = record {
     place = suc one.place;
     port = one.port;
     there = one.there;
+    after = one.after;
+    after_there = one.after_there;
     machine = one.machine;
     did = one.did;
-    after = one.after;
     steps = one.steps;
+    posts = one.posts;
+    voices = one.voices;
     something = one.something;
   }
 
-  one_here : (boxes : BoxesFacts) (old : PortFacts L) (olds : List (PortFacts L)) (before : Shares) (new : PortFacts L) (after : Shares) (steps : PortSteps counts left written is_shut opening boxes old before new after)
-      → steps.step.worked ≡ true → OneWorked counts left written is_shut opening (old ∷ olds)
-  one_here boxes old olds before new after steps worked =
+  one_here : (boxes : BoxesFacts) (old : PortFacts L) (olds : List (PortFacts L)) (before : Shares) (new : PortFacts L) (news : List (PortFacts L)) (after : Shares) (steps : PortSteps counts left written is_shut opening boxes old before new after)
+      → steps.step.worked ≡ true → StepWorked counts left written is_shut opening boxes (old ∷ olds) (new ∷ news)
+  one_here boxes old olds before new news after steps worked =
       let turn = did_turn steps.chain in record {
         place = zero;
         port = old;
         there = refl;
+        after = new;
+        after_there = refl;
         machine = old.machine;
         did = turn.0;
-        after = new;
         steps = record {
           of_port = refl;
           posts = boxes.posts;
@@ -123,20 +128,22 @@ module _ {L : Type 0} (counts : L → Counts) (left written : L → Option (List
           step = steps.step;
           turn = turn.1;
         };
+        posts = refl;
+        voices = refl;
         something = turn.1.worked worked;
       }
 
   worked_along : (boxes : BoxesFacts) (olds : List (PortFacts L)) (before : Shares) (news : List (PortFacts L)) (after : Shares) → Along (PortSteps counts left written is_shut opening boxes) olds before news after
-      → after.worked ≡ true → (before.worked ≡ true) ⊎ OneWorked counts left written is_shut opening olds
+      → after.worked ≡ true → (before.worked ≡ true) ⊎ StepWorked counts left written is_shut opening boxes olds news
   worked_along boxes [] before [] after same worked = inl (ap (λ (s : Shares). s.worked) (sym same) ∙ worked)
   worked_along boxes [] before (new ∷ news) after along worked = absurd along
   worked_along boxes (old ∷ olds) before [] after along worked = absurd along
   worked_along boxes (old ∷ olds) before (new ∷ news) after (between, steps, along) worked =
       ⊎_elim
       (λ (was : between.worked ≡ true).
-      ⊎_elim (λ (so : before.worked ≡ true). inl so) (λ (so : steps.step.worked ≡ true). inr (one_here boxes old olds before new between steps so))
+      ⊎_elim (λ (so : before.worked ≡ true). inl so) (λ (so : steps.step.worked ≡ true). inr (one_here boxes old olds before new news between steps so))
       (either before.worked steps.step.worked (sym steps.worked ∙ was)))
-      (λ (one : OneWorked counts left written is_shut opening olds). inr (one_on old olds one))
+      (λ (one : StepWorked counts left written is_shut opening boxes olds news). inr (one_on boxes old olds new news one))
       (worked_along boxes olds between news after along worked)
 
   -- ---- the turn
@@ -167,11 +174,21 @@ module _ {L : Type 0} (counts : L → Counts) (left written : L → Option (List
           })
       by false is =
           let quiet = unheard old new Worked turned is in
-          let worked = worked_along turned.between.boxes turned.between.ports (shares_of turned.between turned.heard) turned.steps.steps.stepped (shares_of new turned.worked) turned.steps.steps.along
-          (worked_says (is_done new) turned.worked turned.answer_is) in
-          ⊎_elim (λ (so : turned.heard ≡ true). absurd (true≢false (sym so ∙ is)))
-          (λ (one : OneWorked counts left written is_shut opening turned.between.ports). inr (subst (λ (w : WorkerFacts L). OneWorked counts left written is_shut opening w.ports) quiet.1 one))
-          worked
+          let stepped = turned.steps.steps.stepped in
+          let says = worked_says (is_done new) turned.worked turned.answer_is in
+          let along = subst (λ (w : WorkerFacts L). Along (PortSteps counts left written is_shut opening w.boxes) w.ports (shares_of w turned.heard) stepped (shares_of new turned.worked)) quiet.1 turned.steps.steps.along in
+          let unheard_along = subst (λ (b : Bool). Along (PortSteps counts left written is_shut opening old.boxes) old.ports (shares_of old b) stepped (shares_of new turned.worked)) is along in
+          ⊎_elim (λ (so : false ≡ true). absurd (true≢false (sym so)))
+          (λ (one : StepWorked counts left written is_shut opening old.boxes old.ports stepped). inr (record {
+            bell = bell_after old new Worked turned ∙ subst (λ (r : Option (Ring L)). TakesRing old.bell r turned.hears.bell) quiet.0 turned.hears.takes;
+            ports = record {
+              stepped = stepped;
+              along = subst (λ (b : Bool). Along (PortSteps counts left written is_shut opening old.boxes) old.ports (shares_of old false) stepped (shares_of new b)) says unheard_along;
+              left = turned.steps.steps.left;
+            };
+            one = one;
+          }))
+          (worked_along old.boxes old.ports (shares_of old false) stepped (shares_of new turned.worked) unheard_along says)
 
   -- ---- the last word of the bell
 

@@ -15,6 +15,8 @@ use Rattle.mum_worker.specs.Bell.{Ring, NoMore}
 use Rattle.mum_worker.specs.Boxes.{BoxesFacts}
 use Rattle.mum_worker.specs.Facts.{WorkerFacts, is_done, stays}
 use Rattle.mum_worker.specs.Routing.{RoutesPacket}
+use Rattle.mum_worker.specs.Stepping.{PortSteps}
+use Rattle.mum_worker.specs.Turning.{shares_of}
 
 abbrev pub is_no_more : {L : Type 0} → Ring L → Bool
 is_no_more NoMore = true
@@ -37,16 +39,27 @@ module _ {L : Type 0} (counts : L → Counts) (left written : L → Option (List
     pub ring : Ring L
     pub taken : new.bell ≡ record old.bell { taken = old.bell.taken ++ ring ∷ [] }
 
-  -- one of these ports made a step that did something
-  pub record OneWorked (opening : Opening) (ports : List (PortFacts L)) : Type 0 where
+  -- the step that led from one of these ports to the one at its place did something
+  pub record StepWorked (opening : Opening) (boxes : BoxesFacts) (olds stepped : List (PortFacts L)) : Type 0 where
     pub place : ℕ
     pub port : PortFacts L
-    pub there : slice_get ports place ≡ Some port
+    pub there : slice_get olds place ≡ Some port
+    pub after : PortFacts L
+    pub after_there : slice_get stepped place ≡ Some after
     pub machine : Machine
     pub did : PortDid
-    pub after : PortFacts L
     pub steps : Steps counts left written is_shut (RoutesPacket opening) port machine did after
+    pub posts : steps.posts ≡ boxes.posts
+    pub voices : steps.voices ≡ boxes.voices
     pub something : did ≢ did_nothing
 
+  -- the bell gave nothing, which is counted, each port made its step, in their order, and those that stay then are left. The
+  -- step of one of them did something
+  pub record OneWorked (opening : Opening) (old new : WorkerFacts L) : Type 0 where
+    pub bell : new.bell ≡ record old.bell { empty = one_more old.bell.empty }
+    pub ports : EachAlong (PortSteps counts left written is_shut opening old.boxes) stays
+        old.ports (shares_of old false) new.ports (shares_of new true)
+    pub one : StepWorked opening old.boxes old.ports ports.stepped
+
   abbrev pub HasWorked : Opening → WorkerFacts L → WorkerFacts L → Type 0
-  HasWorked opening old new = HasHeard old new ⊎ OneWorked opening old.ports
+  HasWorked opening old new = HasHeard old new ⊎ OneWorked opening old new

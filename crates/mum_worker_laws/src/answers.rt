@@ -20,7 +20,7 @@ pub fn answers_have_causes<L: Link>()
     ensures idle { (opening : Opening) (old new : WorkerFacts L) →
         Turned L.counts L.left L.written L.is_shut opening old new Idle →
         HasNothingToDo L.counts L.left L.written L.is_shut old new }
-    // `Worked` only where the bell gave something, or the step of a port did something.
+    // `Worked` only where the bell gave something, or the step of a port in this turn did something.
     ensures worked { (opening : Opening) (old new : WorkerFacts L) →
         Turned L.counts L.left L.written L.is_shut opening old new Worked →
         HasWorked L.counts L.left L.written L.is_shut opening old new }

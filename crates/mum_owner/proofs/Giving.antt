@@ -6,6 +6,7 @@ use Rattle.std.proofs.lemmas.Bool.{eqb-true}
 use Rattle.std.proofs.lemmas.List.{append-nil, map-append}
 use Rattle.std.proofs.lemmas.List.Elements.{filter-append, filter_map-append}
 use Rattle.mum_base.specs.declared.number.TheConstants.{CONNECTION_LIMIT}
+use Rattle.atomic_table.specs.Seated.{TableId}
 use Rattle.mum_control.specs.Facts.{ControlFacts}
 use Rattle.mum_crew.specs.declared.role.Turn.{Turn}
 use Rattle.mum_io.specs.Counts.{Counts}
@@ -324,10 +325,10 @@ module _ {D : Type 0} (L : Type 0) (counts : D → Counts) (given : D → ℕ) w
       (all_served all.0 turns new all.2 (commands ++ what.commands) (decided ++ what.leaves) (turned_served old turn all.0 t commands decided served)))
 
   -- from the opening on
-  pub given_once : (control : ControlFacts) (door : D) (connections workers : ℕ) (journal : Bool) (opened owner : OwnerFacts D) (turns : List Turn)
-      → IsOpened control door connections journal workers opened → opened.desk.pass.taken ≡ [] → (all : TurnsTo L counts given opened turns owner)
+  pub given_once : (control : ControlFacts) (door : D) (connections : ℕ) (journal : Bool) (queues : List TableId) (opened owner : OwnerFacts D) (turns : List Turn)
+      → IsOpened control door connections journal queues opened → opened.desk.pass.taken ≡ [] → (all : TurnsTo L counts given opened turns owner)
       → IsServed owner.desk owner.logins (commands_given L counts given opened turns owner all) (leaves_decided L counts given opened turns owner all)
-  given_once control door connections workers journal opened owner turns new none all =
+  given_once control door connections journal queues opened owner turns new none all =
       let nothing_taken : items_taken opened.desk ≡ [] = ap (λ l. map (λ tagged. tagged.item) l) none in
       let leave : opened.desk.leave ≡ None = ap (λ (o : OwnerFacts D). o.desk.leave) new in
       let logins : opened.logins ≡ [] = ap (λ (o : OwnerFacts D). o.logins) new in

@@ -1,9 +1,10 @@
 -- Connections and replies on their way to the bells, over each part of a turn and over turns.
-use Rattle.std.proofs.Common.{◌≡◌, ◌∙◌, ℕ, zero, suc, ◌+◌, ◌<◌, Bool, true, false, cond, List, [], ◌∷◌, ◌++◌, length, Option, Some, None, refl, ap, sym, subst, add-one, append_assoc}
-use Rattle.std.specs.Prelude.{◌&&◌, ◌||◌, filter, is_none, is_some, not, replicate}
+use Rattle.std.proofs.Common.{◌≡◌, ◌∙◌, ℕ, zero, suc, ◌+◌, ◌<◌, Bool, true, false, cond, List, [], ◌∷◌, ◌++◌, length, map, Option, Some, None, refl, ap, sym, subst, add-one, append_assoc}
+use Rattle.std.specs.Prelude.{◌&&◌, ◌||◌, filter, is_none, is_some, not}
 use Rattle.std.specs.List.{filter_map}
-use Rattle.std.proofs.lemmas.List.{append-nil, length-replicate}
+use Rattle.std.proofs.lemmas.List.{append-nil}
 use Rattle.std.proofs.lemmas.List.Elements.{filter-append}
+use Rattle.atomic_table.specs.Seated.{TableId}
 use Rattle.mum_control.specs.Facts.{ControlFacts, ReplyFacts}
 use Rattle.mum_crew.specs.declared.role.Turn.{Turn}
 use Rattle.mum_io.specs.Counts.{Counts, next_count}
@@ -77,10 +78,14 @@ reply_same accepted.Failed connection kept = refl
 
 -- ---- new bells
 
-new_side_at : (place workers : ℕ) → puts_at place (replicate workers new_side) ≡ []
-new_side_at place zero = refl
-new_side_at zero (suc workers) = refl
-new_side_at (suc place) (suc workers) = new_side_at place workers
+new_side_at : (place : ℕ) (queues : List TableId) → puts_at place (map new_side queues) ≡ []
+new_side_at place [] = refl
+new_side_at zero (queue ∷ queues) = refl
+new_side_at (suc place) (queue ∷ queues) = new_side_at place queues
+
+many_new : (queues : List TableId) → length (map new_side queues) ≡ length queues
+many_new [] = refl
+many_new (queue ∷ queues) = ap suc (many_new queues)
 
 -- ---- a reply is made
 
@@ -233,29 +238,29 @@ module _ {D : Type 0} (L : Type 0) (counts : D → Counts) (given : D → ℕ) w
       subst (λ (l : List ReplyFacts). Hands place workers new l) (append_assoc replies more (replies_made L counts given all.0 turns new all.2))
       (all_hands place workers all.0 turns new all.2 (replies ++ more) some (turned_hands place workers old turn all.0 t replies some hands))
 
-  new_hands : (control : ControlFacts) (door : D) (connections workers place : ℕ) (journal : Bool) (opened : OwnerFacts D) → IsOpened control door connections journal workers opened
-      → Hands place workers opened []
-  new_hands control door connections workers place journal opened new =
-      let bells : opened.bells ≡ replicate workers new_side = ap (λ (o : OwnerFacts D). o.bells) new in
+  new_hands : (control : ControlFacts) (door : D) (connections place : ℕ) (journal : Bool) (queues : List TableId) (opened : OwnerFacts D) → IsOpened control door connections journal queues opened
+      → Hands place (length queues) opened []
+  new_hands control door connections place journal queues opened new =
+      let bells : opened.bells ≡ map new_side queues = ap (λ (o : OwnerFacts D). o.bells) new in
       record {
-        many = ap (λ (l : List SideFacts). length l) bells ∙ length-replicate workers new_side;
+        many = ap (λ (l : List SideFacts). length l) bells ∙ many_new queues;
         connections =
-            ap (λ (l : List SideFacts). connections_to place workers l opened.kept.coming) bells
-            ∙ ap (λ (o : OwnerFacts D). connections_to place workers (replicate workers new_side) o.kept.coming) new
-            ∙ ap (λ (l : List Put). filter_map handed l ++ []) (new_side_at place workers)
-            ∙ ap (λ (o : OwnerFacts D). filter (is_of_worker place workers) (numbers o.guests.given)) (sym new);
+            ap (λ (l : List SideFacts). connections_to place (length queues) l opened.kept.coming) bells
+            ∙ ap (λ (o : OwnerFacts D). connections_to place (length queues) (map new_side queues) o.kept.coming) new
+            ∙ ap (λ (l : List Put). filter_map handed l ++ []) (new_side_at place queues)
+            ∙ ap (λ (o : OwnerFacts D). filter (is_of_worker place (length queues)) (numbers o.guests.given)) (sym new);
         answers =
-            ap (λ (l : List SideFacts). replies_to place workers l opened.kept.reply) bells
-            ∙ ap (λ (o : OwnerFacts D). replies_to place workers (replicate workers new_side) o.kept.reply) new
-            ∙ ap (λ (l : List Put). filter_map answered l ++ []) (new_side_at place workers);
+            ap (λ (l : List SideFacts). replies_to place (length queues) l opened.kept.reply) bells
+            ∙ ap (λ (o : OwnerFacts D). replies_to place (length queues) (map new_side queues) o.kept.reply) new
+            ∙ ap (λ (l : List Put). filter_map answered l ++ []) (new_side_at place queues);
       }
 
   -- from the opening on
-  pub handed_once : (control : ControlFacts) (door : D) (connections workers place : ℕ) (journal : Bool) (opened owner : OwnerFacts D) (turns : List Turn) → 0 < workers
-      → IsOpened control door connections journal workers opened → (all : TurnsTo L counts given opened turns owner)
-      → Hands place workers owner (replies_made L counts given opened turns owner all)
-  handed_once control door connections workers place journal opened owner turns some new all =
-      all_hands place workers opened turns owner all [] some (new_hands control door connections workers place journal opened new)
+  pub handed_once : (control : ControlFacts) (door : D) (connections place : ℕ) (journal : Bool) (queues : List TableId) (opened owner : OwnerFacts D) (turns : List Turn) → 0 < length queues
+      → IsOpened control door connections journal queues opened → (all : TurnsTo L counts given opened turns owner)
+      → Hands place (length queues) owner (replies_made L counts given opened turns owner all)
+  handed_once control door connections place journal queues opened owner turns some new all =
+      all_hands place (length queues) opened turns owner all [] some (new_hands control door connections place journal queues opened new)
 
   -- ---- how many the door gave
 
@@ -294,8 +299,8 @@ module _ {D : Type 0} (L : Type 0) (counts : D → Counts) (given : D → ℕ) w
   all_counted before old (turn ∷ turns) new all counted = all_counted before all.0 turns new all.2 (turned_count before old turn all.0 all.1 counted)
 
   -- from the opening on
-  pub counted_from : (control : ControlFacts) (door : D) (connections workers : ℕ) (journal : Bool) (opened owner : OwnerFacts D) (turns : List Turn)
-      → IsOpened control door connections journal workers opened → TurnsTo L counts given opened turns owner → given owner.doorway.door ≡ given_after_all (given door) owner.guests.given
-  counted_from control door connections workers journal opened owner turns new all =
+  pub counted_from : (control : ControlFacts) (door : D) (connections : ℕ) (journal : Bool) (queues : List TableId) (opened owner : OwnerFacts D) (turns : List Turn)
+      → IsOpened control door connections journal queues opened → TurnsTo L counts given opened turns owner → given owner.doorway.door ≡ given_after_all (given door) owner.guests.given
+  counted_from control door connections journal queues opened owner turns new all =
       all_counted (given door) opened turns owner all
       (ap (λ (o : OwnerFacts D). given o.doorway.door) new ∙ ap (λ (o : OwnerFacts D). given_after_all (given door) o.guests.given) (sym new))

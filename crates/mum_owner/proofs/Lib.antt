@@ -12,3 +12,4 @@ mod Handing
 mod Giving
 mod Framing
 mod Sent
+mod Answering

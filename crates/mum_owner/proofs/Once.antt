@@ -4,6 +4,7 @@ use Rattle.std.specs.Prelude.{◌&&◌, All, is_none}
 use Rattle.std.specs.List.{AllPairs}
 use Rattle.std.proofs.lemmas.List.Elements.{All-append, All-cons}
 use Rattle.std.proofs.lemmas.List.Kept.{AllPairs-cons}
+use Rattle.atomic_table.specs.Seated.{TableId}
 use Rattle.mum_control.specs.Facts.{ControlFacts}
 use Rattle.mum_crew.specs.declared.role.Turn.{Turn}
 use Rattle.mum_io.specs.Counts.{Counts}
@@ -196,8 +197,8 @@ module _ {D : Type 0} (L : Type 0) (counts : D → Counts) (given : D → ℕ) w
       apart t.after_desk t.after_press (made t.after_publish.kept.lag t.after_post.kept.lag ++ behind) pressed.given at_press from_press from_post pressed.lags
 
   -- from the opening on
-  pub lags_once : (control : ControlFacts) (door : D) (connections workers : ℕ) (journal : Bool) (opened owner : OwnerFacts D) (turns : List Turn)
-      → IsOpened control door connections journal workers opened → (all : TurnsTo L counts given opened turns owner)
+  pub lags_once : (control : ControlFacts) (door : D) (connections : ℕ) (journal : Bool) (queues : List TableId) (opened owner : OwnerFacts D) (turns : List Turn)
+      → IsOpened control door connections journal queues opened → (all : TurnsTo L counts given opened turns owner)
       → AllPairs (λ one other. one.connection ≢ other.connection) (lags_made L counts given opened turns owner all)
-  lags_once control door connections workers journal opened owner turns new all =
+  lags_once control door connections journal queues opened owner turns new all =
       once_each opened turns owner all (subst (λ (g : GuestsFacts). WereGiven g) (sym (ap (λ (o : OwnerFacts D). o.guests) new)) tt)

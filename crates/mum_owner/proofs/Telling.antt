@@ -1,7 +1,8 @@
 -- Bells that are told one after the other.
-use Rattle.std.proofs.Common.{◌≡◌, ◌∙◌, ℕ, zero, suc, ◌+◌, ◌<◌, ◌≤◌, Bool, true, false, List, [], ◌∷◌, ◌++◌, length, take, drop, get_or, set, replicate, refl, ap, sym, subst, add-one, arith}
+use Rattle.std.proofs.Common.{◌≡◌, ◌∙◌, ℕ, zero, suc, ◌+◌, ◌<◌, ◌≤◌, Bool, true, false, List, [], ◌∷◌, ◌++◌, length, take, drop, get_or, map, set, refl, ap, sym, subst, add-one, append_assoc, arith}
 use Rattle.std.specs.Prelude.{◌||◌}
-use Rattle.mum_owner.specs.Bell.{SideFacts, new_side}
+use Rattle.mum_outbox.specs.Facts.{QueueFacts}
+use Rattle.mum_owner.specs.Bell.{SideFacts, new_side, queues}
 use Rattle.mum_owner.specs.Ringing.{Tells, TellsEach}
 
 either_first : (a b c : Bool) → ((a || b) || c) ≡ (a || (b || c))
@@ -102,14 +103,18 @@ told_all sides now place told past so_far =
     let same : now ≡ so_far.afters = so_far.rest ∙ ap (λ (l : List SideFacts). so_far.afters ++ l) all.1 ∙ nothing_behind so_far.afters in
     subst (λ (l : List SideFacts). TellsEach sides told l) (sym same) (subst (λ (l : List SideFacts). TellsEach l told so_far.afters) all.0 so_far.tells)
 
+-- the new sides of these bells, in order
+abbrev pub new_sides : List QueueFacts → List SideFacts
+new_sides bells = map new_side (queues bells)
+
 -- one more that is new
-pub one_side_more : (sides : List SideFacts) → sides ≡ replicate (length sides) new_side
-    → sides ++ new_side ∷ [] ≡ replicate (length (sides ++ new_side ∷ [])) new_side
-one_side_more [] all = refl
-one_side_more (side ∷ sides) all =
-    let first : side ≡ new_side = cc in
-    let rest : sides ≡ replicate (length sides) new_side = cc in
-    ap (λ (s : SideFacts). s ∷ (sides ++ new_side ∷ [])) first ∙ ap (λ (l : List SideFacts). new_side ∷ l) (one_side_more sides rest)
+pub one_side_more : (sides : List SideFacts) (bell : QueueFacts) (left : List QueueFacts) (all : List SideFacts) → sides ++ new_sides (bell ∷ left) ≡ all
+    → (sides ++ new_side bell.queue ∷ []) ++ new_sides left ≡ all
+one_side_more sides bell left all so = append_assoc sides (new_side bell.queue ∷ []) (new_sides left) ∙ so
+
+pub no_bell_left : (bells : List QueueFacts) → length bells ≡ 0 → bells ≡ []
+no_bell_left [] none = refl
+no_bell_left (bell ∷ bells) none = absurd (omega (arith, none))
 
 -- as many as before
 pub same_length : (sides : List SideFacts) (took : Bool) (afters : List SideFacts) → TellsEach sides took afters → length afters ≡ length sides

@@ -1,8 +1,9 @@
 -- What is put into the bell of a worker, as plain data.
 use Rattle.std.specs.Prelude.{ℕ, Bool, false, List, [], map, Option, Some, None}
+use Rattle.atomic_table.specs.Seated.{TableId}
 use Rattle.mum_base.specs.declared.number.SessionId.{SessionId}
 use Rattle.mum_control.specs.Facts.{ReplyFacts}
-use Rattle.mum_outbox.specs.Facts.{PassFacts}
+use Rattle.mum_outbox.specs.Facts.{PassFacts, QueueFacts}
 use Rattle.mum_published.specs.declared.naming.Naming.{Ghosts}
 use Rattle.mum_published.specs.declared.reply.Reply.{Reply}
 use Rattle.mum_published.specs.declared.bell.BellItem.{BellItem}
@@ -34,16 +35,21 @@ abbrev pub handed_in : {L N : Type 0} {g : Ghosts N} → BellItem L N g → Opti
 handed_in (items.Conn connection link) = Some connection
 handed_in others = None
 
--- what the owner has put into the bell of a worker, how often it found that bell full, and whether the bell took that
--- no more connections come
+-- which queue the bell of a worker is, what the owner has put into it, how often the owner found it full, and whether it
+-- took that no more connections come
 pub record SideFacts : Type 0 where
+  pub queue : TableId
   pub put : List Put
   pub full : ℕ
   pub is_told : Bool
 
--- nothing yet
-abbrev pub new_side : SideFacts
-new_side = record { put = []; full = 0; is_told = false }
+-- nothing yet was put into this queue
+abbrev pub new_side : TableId → SideFacts
+new_side queue = record { queue = queue; put = []; full = 0; is_told = false }
+
+-- which queues these are
+abbrev pub queues : List QueueFacts → List TableId
+queues bells = map (λ (bell : QueueFacts). bell.queue) bells
 
 abbrev pub side_facts : {L N : Type 0} {g : Ghosts N} → PassFacts (BellItem L N g) → Bool → SideFacts
-side_facts pass is_told = record { put = map plain pass.offered; full = pass.full; is_told = is_told }
+side_facts pass is_told = record { queue = pass.queue; put = map plain pass.offered; full = pass.full; is_told = is_told }

@@ -1,5 +1,5 @@
 -- What a door has counted since its owner was opened.
-use Rattle.std.specs.Prelude.{◌≡◌, ◌⊎◌, ℕ, zero, suc, Bool, IsTrue, List, Option}
+use Rattle.std.specs.Prelude.{◌≡◌, ◌⊎◌, ℕ, zero, suc, Bool, false, IsTrue, List, Option}
 use Rattle.mum_io.specs.Counts.{Counts, NoneFalls, Rose, next_count}
 use Rattle.mum_owner.specs.declared.serving.DoorOpening.{DoorOpening}
 
@@ -8,11 +8,14 @@ abbrev pub HasStopped : Counts → Counts → Type 0
 HasStopped old new = Rose old.ends new.ends ⊎ Rose old.faults new.faults
 
 -- no count of the door fell; where it ended or failed, the count of ends or that of faults rose, and where it failed, that
--- of faults; and it is open at the address at which it was
+-- of faults; no fault was counted unless it failed, and no end unless it ended or failed; and it is open at the address at
+-- which it was
 pub record IsSince (opening : DoorOpening) (counts : Counts) (opened_at : Option (List ℕ)) (stopped failed : Bool) : Type 0 where
   pub none_falls : NoneFalls opening.counts counts
   pub stops : IsTrue stopped → HasStopped opening.counts counts
   pub fails : IsTrue failed → Rose opening.counts.faults counts.faults
+  pub steady : failed ≡ false → counts.faults ≡ opening.counts.faults
+  pub open_on : stopped ≡ false → counts.ends ≡ opening.counts.ends
   pub address : opened_at ≡ opening.opened_at
 
 -- how many a door has given in all, where it had given this many, and then these, one by one

@@ -99,6 +99,10 @@ one_command command = record { commands = command ∷ []; leaves = [] }
 abbrev pub one_leave : Bool → ℕ → Settled
 one_leave decided connection = record { commands = []; leaves = listed (leave_where decided connection) }
 
+-- the connections of what was settled: each gets one reply
+abbrev pub connections_of : Settled → List ℕ
+connections_of what = map (λ (command : Command). command.connection) what.commands ++ what.leaves
+
 module _ {D : Type 0} where
   abbrev pub settled_by : (leave waits : Bool) (old : OwnerFacts D) (command : Command) (new : OwnerFacts D) → ReceivesBy leave waits old command new → Settled
   settled_by true waits old command new received = one_leave received.0 command.connection
@@ -172,3 +176,10 @@ module _ {D : Type 0} (L : Type 0) (counts : D → Counts) (given : D → ℕ) w
   leaves_decided old [] new all = []
   leaves_decided old (turn ∷ turns) new all =
       (settled all.1.after_offers all.1.served all.1.after_desk all.1.serves).leaves ++ leaves_decided all.0 turns new all.2
+
+  -- the connections of the commands that were given, or answered for want of memory, and of the leaves that were decided,
+  -- in the order in which that was done
+  abbrev pub connections_settled : (old : OwnerFacts D) (turns : List Turn) (new : OwnerFacts D) → TurnsTo old turns new → List ℕ
+  connections_settled old [] new all = []
+  connections_settled old (turn ∷ turns) new all =
+      connections_of (settled all.1.after_offers all.1.served all.1.after_desk all.1.serves) ++ connections_settled all.0 turns new all.2

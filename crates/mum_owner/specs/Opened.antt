@@ -1,5 +1,6 @@
 -- What an owner is opened with.
-use Rattle.std.specs.Prelude.{◌≡◌, ℕ, Bool, false, [], replicate, None}
+use Rattle.std.specs.Prelude.{◌≡◌, ℕ, Bool, false, List, [], map, None}
+use Rattle.atomic_table.specs.Seated.{TableId}
 use Rattle.mum_control.specs.Facts.{ControlFacts}
 use Rattle.mum_state.specs.State.{StateValue}
 use Rattle.mum_owner.specs.Asking.{new_doorway}
@@ -13,14 +14,15 @@ abbrev pub opening_of : StateValue → DoorOpening → ℕ → Bool → OwnerOpe
 opening_of state door connections journal =
     record { connections = connections; journal = journal; state = state; door = door }
 
--- the owner is new: it has the control owner and the door, keeps nothing, and its bells took nothing from it
-abbrev pub IsOpened : {D : Type 0} → ControlFacts → D → ℕ → Bool → ℕ → OwnerFacts D → Type 0
-IsOpened control door connections journal workers owner =
+-- the owner is new: it has the control owner and the door, keeps nothing, and its bells are these queues, in order, into
+-- which it has put nothing
+abbrev pub IsOpened : {D : Type 0} → ControlFacts → D → ℕ → Bool → List TableId → OwnerFacts D → Type 0
+IsOpened control door connections journal queues owner =
     owner ≡ record {
       control = control;
       doorway = new_doorway door;
       guests = no_guests connections;
-      bells = replicate workers new_side;
+      bells = map new_side queues;
       kept = record { reply = None; lag = None; coming = None };
       desk = record { pass = owner.desk.pass; leave = None };
       logins = [];

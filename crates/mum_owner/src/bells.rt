@@ -1,8 +1,8 @@
 //! The bells of the workers.
 
-ghost use Rattle.std.specs.Prelude.{◌≡◌, ◌<◌, ◌||◌, [], length, IfOk, MatchOption, replicate};
+ghost use Rattle.std.specs.Prelude.{◌≡◌, ◌<◌, ◌||◌, [], length, map, IfOk, MatchOption};
 ghost use Rattle.std.specs.Option.{option_map};
-ghost use Rattle.mum_owner.specs.Bell.{handed_in, new_side, plain, plain_reply, reply_in};
+ghost use Rattle.mum_owner.specs.Bell.{handed_in, new_side, plain, plain_reply, queues, reply_in};
 ghost use Rattle.mum_owner.specs.Bell.Put.{Answer, Handed, Lagging};
 ghost use Rattle.mum_owner.specs.Ringing.{OffersOne, Tells, TellsEach, TellsWhere, are_told, at_worker, with_full, with_put, worker_of};
 
@@ -63,7 +63,7 @@ fn coming_of<L: Drop, N: Naming>(item: BellItem<L, N>) -> Option<Coming<L>>
 
 impl<L: Drop, N: Naming> Side<L, N> {
     fn of(queue: Bell<BellItem<L, N>>) -> Side<L, N>
-        ensures { result ≡ new_side }
+        ensures { result ≡ new_side queue.queue }
     {
         let mut queue = queue;
         let pass = queue.pass();
@@ -130,7 +130,7 @@ fn sides_of<L: Drop, N: Naming>(
     alloc: Global,
     bells: Vec<Bell<BellItem<L, N>>>,
 ) -> Result<Vec<Side<L, N>>, OutOfMemory>
-    ensures { IfOk result (λ sides. sides.items ≡ replicate (length bells.items) new_side) }
+    ensures { IfOk result (λ sides. sides.items ≡ map new_side (queues bells.items)) }
 {
     let mut sides = Vec::new(alloc);
     for queue in bells {
@@ -164,7 +164,7 @@ impl<L: Drop, N: Naming> Bells<L, N> {
         bells: Vec<Bell<BellItem<L, N>>>,
     ) -> Result<Bells<L, N>, OutOfMemory>
         requires { 0 < length bells.items }
-        ensures { IfOk result (λ sides. sides ≡ replicate (length bells.items) new_side) }
+        ensures { IfOk result (λ sides. sides ≡ map new_side (queues bells.items)) }
     {
         Ok(Bells {
             sides: sides_of(alloc, bells)?,

@@ -1,13 +1,14 @@
 //! What holds of an owner whatever its turns are, from its opening on, over any door. These functions do
 //! nothing: each contract is a theorem.
 
-ghost use Rattle.std.specs.Prelude.{◌≡◌, ◌≢◌, ◌++◌, ◌<◌, [], ℕ, Bool, List, filter};
+ghost use Rattle.std.specs.Prelude.{◌≡◌, ◌≢◌, ◌++◌, ◌<◌, [], ℕ, Bool, List, filter, length, map};
 ghost use Rattle.std.specs.List.{AllPairs, filter_map};
+ghost use Rattle.atomic_table.specs.Seated.{TableId};
 ghost use Rattle.mum_control.specs.Facts.{ControlFacts};
 ghost use Rattle.mum_crew.specs.declared.role.Turn.{Turn};
 ghost use Rattle.mum_owner.specs.Doors.{given_after_all};
 ghost use Rattle.mum_owner.specs.Facts.{OwnerFacts};
-ghost use Rattle.mum_owner.specs.Laws.{TurnsTo, answered, command_in, commands_given, handed, is_no_login, is_of_worker, items_taken, lags_made, leave_in, leaves_decided, listed, numbers, puts_at, replies_made};
+ghost use Rattle.mum_owner.specs.Laws.{TurnsTo, answered, command_in, commands_given, connections_settled, handed, is_no_login, is_of_worker, items_taken, lags_made, leave_in, leaves_decided, listed, numbers, puts_at, replies_made};
 ghost use Rattle.mum_owner.specs.Written.{IsWrittenAs, is_login, version_with};
 ghost use Rattle.mum_session.specs.Action.{action};
 ghost use Rattle.mum_session.specs.Machine.{Machine};
@@ -15,22 +16,28 @@ ghost use Rattle.mum_session.specs.declared.action.Action.TheVariants.{Ask};
 ghost use Rattle.mum_session.specs.declared.command.Command.{Command};
 ghost use Rattle.mum_owner.specs.Opened.{IsOpened};
 
+use crate::desk::PENDING_LIMIT;
 use crate::entrance::Entrance;
+
+/// The number that definitions name.
+pub fn limits()
+    ensures pending { PENDING_LIMIT ≡ 16384 }
+{}
 
 /// Each connection that the door gave is kept until the bell of its worker took it, once: what the bell of a
 /// worker took, and then what is kept for it, are those of its connections that were given, in order.
 pub fn connections_are_handed_over_once<D: Entrance>()
-    ensures handed { (control : ControlFacts) (door : D) (connections workers place : ℕ) (journal : Bool)
-        (opened owner : OwnerFacts D) (turns : List Turn) → 0 < workers →
-        IsOpened control door connections journal workers opened →
+    ensures handed { (control : ControlFacts) (door : D) (connections place : ℕ) (journal : Bool) (queues : List TableId)
+        (opened owner : OwnerFacts D) (turns : List Turn) → 0 < length queues →
+        IsOpened control door connections journal queues opened →
         TurnsTo D.Peer D.counts D.given opened turns owner →
         filter_map handed (puts_at place owner.bells)
-        ++ filter (is_of_worker place workers) (listed owner.kept.coming)
-        ≡ filter (is_of_worker place workers) (numbers owner.guests.given) }
+        ++ filter (is_of_worker place (length queues)) (listed owner.kept.coming)
+        ≡ filter (is_of_worker place (length queues)) (numbers owner.guests.given) }
     // As many are counted as the door gave.
-    ensures given { (control : ControlFacts) (door : D) (connections workers : ℕ) (journal : Bool)
+    ensures given { (control : ControlFacts) (door : D) (connections : ℕ) (journal : Bool) (queues : List TableId)
         (opened owner : OwnerFacts D) (turns : List Turn) →
-        IsOpened control door connections journal workers opened →
+        IsOpened control door connections journal queues opened →
         TurnsTo D.Peer D.counts D.given opened turns owner →
         D.given owner.doorway.door ≡ given_after_all (D.given door) owner.guests.given }
 {}
@@ -38,49 +45,59 @@ pub fn connections_are_handed_over_once<D: Entrance>()
 /// Each reply is kept until the bell of the worker of its connection took it, once: what the bell of a worker
 /// took, and then what is kept for it, are the replies to its connections, in the order in which they were made.
 pub fn replies_are_handed_over_once<D: Entrance>()
-    ensures { (control : ControlFacts) (door : D) (connections workers place : ℕ) (journal : Bool)
-        (opened owner : OwnerFacts D) (turns : List Turn) → 0 < workers →
-        IsOpened control door connections journal workers opened →
+    ensures { (control : ControlFacts) (door : D) (connections place : ℕ) (journal : Bool) (queues : List TableId)
+        (opened owner : OwnerFacts D) (turns : List Turn) → 0 < length queues →
+        IsOpened control door connections journal queues opened →
         (all : TurnsTo D.Peer D.counts D.given opened turns owner) →
         filter_map answered (puts_at place owner.bells)
-        ++ filter (λ reply. is_of_worker place workers reply.connection) (listed owner.kept.reply)
-        ≡ filter (λ reply. is_of_worker place workers reply.connection)
+        ++ filter (λ reply. is_of_worker place (length queues) reply.connection) (listed owner.kept.reply)
+        ≡ filter (λ reply. is_of_worker place (length queues) reply.connection)
         (replies_made D.Peer D.counts D.given opened turns owner all) }
 {}
 
 /// At most one lag item is made for a connection.
 pub fn a_connection_lags_once<D: Entrance>()
-    ensures { (control : ControlFacts) (door : D) (connections workers : ℕ) (journal : Bool)
+    ensures { (control : ControlFacts) (door : D) (connections : ℕ) (journal : Bool) (queues : List TableId)
         (opened owner : OwnerFacts D) (turns : List Turn) →
-        IsOpened control door connections journal workers opened →
+        IsOpened control door connections journal queues opened →
         (all : TurnsTo D.Peer D.counts D.given opened turns owner) →
         AllPairs (λ one other. one.connection ≢ other.connection)
         (lags_made D.Peer D.counts D.given opened turns owner all) }
 {}
 
-/// Each command that is taken from the desk is given to the control owner once, in order, at the end of the turn
-/// at which it is taken, or later where it is a login that waits or a leave for which there is no memory.
+/// Each command that is taken from the desk is given to the control owner once, or answered since there was no
+/// memory for its entry in the journal, in order: in the turn in which it is taken, or later where it is a login
+/// that waits or a leave for which there was no memory.
 pub fn commands_are_given_once<D: Entrance>()
     // A login may wait for its slot, behind those that came before it.
-    ensures logins { (control : ControlFacts) (door : D) (connections workers : ℕ) (journal : Bool)
+    ensures logins { (control : ControlFacts) (door : D) (connections : ℕ) (journal : Bool) (queues : List TableId)
         (opened owner : OwnerFacts D) (turns : List Turn) →
-        IsOpened control door connections journal workers opened → opened.desk.pass.taken ≡ [] →
+        IsOpened control door connections journal queues opened → opened.desk.pass.taken ≡ [] →
         (all : TurnsTo D.Peer D.counts D.given opened turns owner) →
         filter is_login (filter_map command_in (items_taken owner.desk))
         ≡ filter is_login (commands_given D.Peer D.counts D.given opened turns owner all) ++ owner.logins }
-    ensures others { (control : ControlFacts) (door : D) (connections workers : ℕ) (journal : Bool)
+    ensures others { (control : ControlFacts) (door : D) (connections : ℕ) (journal : Bool) (queues : List TableId)
         (opened owner : OwnerFacts D) (turns : List Turn) →
-        IsOpened control door connections journal workers opened → opened.desk.pass.taken ≡ [] →
+        IsOpened control door connections journal queues opened → opened.desk.pass.taken ≡ [] →
         (all : TurnsTo D.Peer D.counts D.given opened turns owner) →
         filter is_no_login (filter_map command_in (items_taken owner.desk))
         ≡ filter is_no_login (commands_given D.Peer D.counts D.given opened turns owner all) }
     // A leave is given until it is decided, and nothing is taken before.
-    ensures leaves { (control : ControlFacts) (door : D) (connections workers : ℕ) (journal : Bool)
+    ensures leaves { (control : ControlFacts) (door : D) (connections : ℕ) (journal : Bool) (queues : List TableId)
         (opened owner : OwnerFacts D) (turns : List Turn) →
-        IsOpened control door connections journal workers opened → opened.desk.pass.taken ≡ [] →
+        IsOpened control door connections journal queues opened → opened.desk.pass.taken ≡ [] →
         (all : TurnsTo D.Peer D.counts D.given opened turns owner) →
         filter_map leave_in (items_taken owner.desk)
         ≡ leaves_decided D.Peer D.counts D.given opened turns owner all ++ listed owner.desk.leave }
+{}
+
+/// Each command that is given to the control owner, or answered for want of memory, and each leave that is decided
+/// makes one reply to its connection, in the order in which that is done, and nothing else makes one.
+pub fn each_command_has_one_reply<D: Entrance>()
+    ensures { (old new : OwnerFacts D) (turns : List Turn) →
+        (all : TurnsTo D.Peer D.counts D.given old turns new) →
+        map (λ reply. reply.connection) (replies_made D.Peer D.counts D.given old turns new all)
+        ≡ connections_settled D.Peer D.counts D.given old turns new all }
 {}
 
 /// A command is written down as a frame of the type of the frame that asked for it, with the version that its

@@ -1,6 +1,6 @@
 //! The owner.
 
-ghost use Rattle.std.specs.Prelude.{◌≡◌, ◌↔◌, ◌<◌, ◌+◌, ◌||◌, [], None, Some, IfErr, IfOk, IsTrue, length, replicate};
+ghost use Rattle.std.specs.Prelude.{◌≡◌, ◌↔◌, ◌<◌, ◌+◌, ◌||◌, [], None, Some, false, IfErr, IfOk, IsTrue, length, map};
 ghost use Rattle.mum_base.specs.declared.number.TheConstants.{CONNECTION_LIMIT};
 ghost use Rattle.mum_control.specs.Commanded.{current};
 ghost use Rattle.mum_io.specs.Counts.{NoneFalls, Rose};
@@ -12,7 +12,7 @@ ghost use Rattle.mum_owner.specs.Doors.{NoMoreCome, given_after_all};
 ghost use Rattle.mum_owner.specs.Guests.{entered, has_room, joined_by, lagging, no_guests};
 ghost use Rattle.mum_owner.specs.Opened.{IsOpened, opening_of};
 ghost use Rattle.mum_owner.specs.Serving.{EmptiesFor, GivesWaiting, GoesWhere, IsGiven, LeaveIsGiven, Receives, ReceivesItem, ServesDesk, TakesItem, blocker, leave_kept, leave_of, may_go, must_wait, refusal};
-ghost use Rattle.mum_owner.specs.Bell.{new_side, plain_reply};
+ghost use Rattle.mum_owner.specs.Bell.{new_side, plain_reply, queues};
 ghost use Rattle.mum_owner.specs.Turned.{Asks, LagsFor, Offered, OwnerTurned, PostsNotice, Presses, Publishes, ended, has_ended, is_not_to_ask, is_over, lagged_for, turn_of, with_lag};
 
 use crate::bells::Bells;
@@ -118,7 +118,7 @@ fn rooms_of<L: Drop, N: Naming>(
 ) -> Result<(Guests, Bells<L, N>, Logins), OutOfMemory>
     requires { 0 < length bells.items }
     ensures guests { IfOk result (λ rooms. rooms.0 ≡ no_guests connections) }
-    ensures bells { IfOk result (λ rooms. rooms.1 ≡ replicate (length bells.items) new_side) }
+    ensures bells { IfOk result (λ rooms. rooms.1 ≡ map new_side (queues bells.items)) }
     ensures logins { IfOk result (λ rooms. rooms.2 ≡ []) }
 {
     let bells = Bells::open(alloc, bells)?;
@@ -195,7 +195,8 @@ fn take_in<L: Drop, N: Naming>(guests: &mut Guests, kept: &mut Kept<L, N>, link:
 
 impl<'a, D: Entrance, N: Serving, R: Wait + Copy> Owner<'a, D, N, R> {
     /// Takes the memory for what it keeps of as many connections as may be open at once. At most `connections`
-    /// are taken from the door. Where memory runs out, the door comes back.
+    /// are taken from the door. Its bells are those that are given, in their order: the first is that of worker 0.
+    /// Where memory runs out, the door comes back.
     pub fn open(
         rt: R,
         alloc: Global,
@@ -211,7 +212,7 @@ impl<'a, D: Entrance, N: Serving, R: Wait + Copy> Owner<'a, D, N, R> {
         requires door { record { counts = D.counts door; given = D.given door; opened_at = D.opened_at door } ≡ N.door }
         requires connections { 0 < connections }
         requires bells { 0 < length bells.items }
-        ensures owner { IfOk result (IsOpened control.entry door connections journal (length bells.items)) }
+        ensures owner { IfOk result (IsOpened control.entry door connections journal (queues bells.items)) }
         ensures desk { IfOk result (λ owner. IsNewPass desk owner.desk.pass) }
         ensures door { IfErr result (λ back. back ≡ door) }
     {
@@ -606,6 +607,9 @@ impl<'a, D: Entrance, N: Serving, R: Wait + Copy> Owner<'a, D, N, R> {
         ensures no_memory { result.no_memory ≡ self.entry.scribe.no_memory }
         ensures door_failed { result.door_failed ≡ self.entry.doorway.failed }
         ensures failed { IsTrue result.door_failed → Rose N.door.counts.faults (D.counts result.door).faults }
+        // Unless the door failed, no fault was counted; and unless it ended or failed, no end.
+        ensures steady { result.door_failed ≡ false → (D.counts result.door).faults ≡ N.door.counts.faults }
+        ensures open_on { self.entry.doorway.stopped ≡ false → (D.counts result.door).ends ≡ N.door.counts.ends }
         ensures counts { NoneFalls N.door.counts (D.counts result.door) }
         ensures address { D.opened_at result.door ≡ N.door.opened_at }
         ensures given { D.given result.door ≡ given_after_all N.door.given result.connections }
@@ -658,6 +662,8 @@ impl<'a, D: Entrance, N: Serving, R: Wait + Copy> Role for Owner<'a, D, N, R> {
     ghost opening = { λ owner. opening_of N.opening.state N.door owner.guests.limit owner.scribe.is_asked };
 
     ghost has_ended = { has_ended };
+
+    ghost turned = { OwnerTurned D.Peer D.counts D.given };
 
     fn turn(&mut self) -> Turn {
         Owner::turn(self)

@@ -1,11 +1,10 @@
-use Rattle.std.proofs.Common.{◌≡◌, ◌+◌, length, replicate}
+use Rattle.std.proofs.Common.{◌≡◌, ◌++◌, length}
 use Rattle.std.specs.Vec.Iter.{into_iter_items, into_iter_len}
-use Rattle.mum_owner.specs.Bell.{new_side}
+use Rattle.mum_owner.proofs.Telling.{new_sides}
 use Rattle.mum_owner.proofs.bells.sides_of.Given as goal
 
 -- the sides so far, and the bells that are left
 abbrev pub invariant-loop-queue : goal.invariant-loop-queue
 invariant-loop-queue g l =
-    (l.sides.items ≡ replicate (length l.sides.items) new_side)
-    × (length l.sides.items + length (into_iter_items l.queue-iterator) ≡ length l.fn.bells.items)
+    (l.sides.items ++ new_sides (into_iter_items l.queue-iterator) ≡ new_sides l.fn.bells.items)
     × (into_iter_len l.queue-iterator ≡ length (into_iter_items l.queue-iterator))

@@ -124,7 +124,7 @@ text_runs text no_memory door_failed (ends.AuditWrong line given defined) old ne
 text_runs text no_memory door_failed ends.CrewFault old new before after writes rose = absurd writes
 text_runs text no_memory door_failed (ends.BadConfig code key) old new before after writes rose = tt
 text_runs text no_memory door_failed ends.ReadFault old new before after writes rose = tt
-text_runs text no_memory door_failed ends.WriteFault old new before after writes rose = tt
+text_runs text no_memory door_failed ends.WriteFault old new before after writes rose = rose
 text_runs text no_memory door_failed ends.DoorFault old new before after writes rose = tt
 text_runs text no_memory door_failed ends.OutOfMemory old new before after writes rose = tt
 
@@ -137,6 +137,6 @@ all_run (Some journal) totals no_memory door_failed (ends.AuditWrong line given 
 all_run (Some journal) totals no_memory door_failed ends.CrewFault old new before after writes rose = absurd writes.1
 all_run (Some journal) totals no_memory door_failed (ends.BadConfig code key) old new before after writes rose = tt
 all_run (Some journal) totals no_memory door_failed ends.ReadFault old new before after writes rose = tt
-all_run (Some journal) totals no_memory door_failed ends.WriteFault old new before after writes rose = tt
+all_run (Some journal) totals no_memory door_failed ends.WriteFault old new before after writes rose = rose
 all_run (Some journal) totals no_memory door_failed ends.DoorFault old new before after writes rose = tt
 all_run (Some journal) totals no_memory door_failed ends.OutOfMemory old new before after writes rose = tt

@@ -1,9 +1,10 @@
 -- A run of the program that serves: what it reads, what it writes, and how it ends.
 use Rattle.std.specs.Option.{option_map}
-use Rattle.std.specs.Prelude.{◌≡◌, ⊤, ◌⊎◌, ℕ, Bool, true, false, List, [], ◌∷◌, ◌++◌, codes, decimal, IfSome, Option, Some, None, is_some, Result, Ok, Err}
+use Rattle.std.specs.Prelude.{◌≡◌, ⊤, ◌⊎◌, ℕ, Bool, true, false, List, [], ◌∷◌, ◌++◌, codes, decimal, IfSome, Option, Some, None, Result, Ok, Err}
 use Rattle.mum_config.specs.Document.{config_in, fault_of}
 use Rattle.mum_config.specs.declared.config.Config.{Config}
-use Rattle.mum_crew.specs.Crew.{CrewCounts}
+use Rattle.mum_crew.specs.Crew.{CrewCounts, RunCounts}
+use Rattle.mum_crew.specs.declared.crew.CrewEnd.TheVariants.{Ran}
 use Rattle.mum_document.specs.Fault.{Fault}
 use Rattle.mum_config.specs.Refusal.{told_fault}
 use Rattle.mum_config.specs.declared.refusal.BadConfig.{BadConfig as DocumentError}
@@ -18,12 +19,13 @@ use Rattle.mum_audit.specs.declared.audited.Audited.TheVariants.{Wrong}
 use Rattle.mum_record.specs.declared.journal.Journal.{Journal}
 use Rattle.mum_serve.specs.Journals.{journal_of, journal_text, where_asked}
 use Rattle.mum_serve.specs.Opening.{opening_edits}
-use Rattle.mum_serve.specs.Serving.{ServesOver}
+use Rattle.mum_serve.specs.Serving.{RunsCounted, ServesOver}
 use Rattle.mum_serve.specs.declared.entries.Entries.{Entries}
 use Rattle.mum_serve.specs.declared.program.Input.{Input}
 use Rattle.mum_serve.specs.declared.program.ServerEnd.{ServerEnd}
 use Rattle.mum_serve.specs.declared.program.ServerEnd.TheVariants.{Finished, BadConfig, ReadFault, WriteFault, DoorFault, CrewFault, AuditWrong, OutOfMemory}
-use Rattle.mum_serve.specs.declared.server.Served.TheVariants.{Whole, DoorFault as DoorStaysShut}
+use Rattle.mum_serve.specs.declared.server.Served.{Served}
+use Rattle.mum_serve.specs.declared.server.Served.TheVariants.{Whole, DoorFault as DoorStaysShut, CrewFault as CrewIsRefused, OutOfMemory as NothingStarts}
 use Rattle.mum_serve.specs.declared.totals.Totals.{Totals}
 
 -- ---- what is read
@@ -83,10 +85,11 @@ abbrev pub WritesCounted : ServerEnd → ℕ → ℕ → Type 0
 WritesCounted WriteFault old new = Rose old new
 WritesCounted others old new = new ≡ old
 
--- a run that came to its end was one of the crew, and a crew that did not start counted that
+-- a run that wrote, or whose journal was wrong, was one of the crew, and a crew that did not start counted that
 abbrev pub RunsInCrew : ServerEnd → CrewCounts → CrewCounts → Type 0
 RunsInCrew Finished old new = Rose old.runs new.runs
 RunsInCrew (AuditWrong line given defined) old new = Rose old.runs new.runs
+RunsInCrew WriteFault old new = Rose old.runs new.runs
 RunsInCrew CrewFault old new = Rose old.refused new.refused
 RunsInCrew others old new = ⊤
 
@@ -141,32 +144,39 @@ WritesAll None totals no_memory door_failed end old new = WritesText (served_lin
 -- ---- how it ends
 
 module _ {D : Type 0} (L : Type 0) (counts : D → Counts) (given : D → ℕ) (opened_at : D → Option (List ℕ)) where
-  -- all were served, from the state that the configuration describes, and this is what was written of it
-  pub record HasServed (address : List ℕ) (journal : Bool) (connections : ℕ) (input : Input) (end : ServerEnd) (door left : Option D) (old new : Option (List ℕ)) : Type 0 where
+  -- all were served, from the state that the configuration describes, in a run that the crew counted, and this is what was
+  -- written of it
+  pub record HasServed (address : List ℕ) (journal : Bool) (connections : ℕ) (input : Input) (end : ServerEnd) (door left : Option D) (old new : Option (List ℕ)) (crew crew_after : CrewCounts) : Type 0 where
     pub totals : Totals
     pub entries : Entries
     pub no_memory : Bool
     pub door_failed : Bool
     pub serves : ServesOver L counts given opened_at address (after (opening_edits input.config.edits)) journal connections input.config.workers door (Whole totals entries no_memory door_failed) left
+    pub ran : RunCounts Ran crew crew_after
     pub writes : WritesAll (where_asked journal (journal_of input.config.workers input.document entries)) totals no_memory door_failed end old new
 
-  -- the door did not open
-  abbrev pub StaysShut : List ℕ → Bool → ℕ → Input → Option D → Option D → Type 0
-  StaysShut address journal connections input door left =
-      ServesOver L counts given opened_at address (after (opening_edits input.config.edits)) journal connections input.config.workers door DoorStaysShut left
+  -- nobody was served, which is what it came to, and nothing is written
+  pub record ServesNobody (address : List ℕ) (journal : Bool) (connections : ℕ) (input : Input) (served : Served) (door left : Option D) (old new : Option (List ℕ)) (crew crew_after : CrewCounts) : Type 0 where
+    pub serves : ServesOver L counts given opened_at address (after (opening_edits input.config.edits)) journal connections input.config.workers door served left
+    pub counted : RunsCounted served crew crew_after
+    pub keeps : Keeps old new
 
   -- all were served; or the door did not open, the crew did not start, or memory ran out, and nothing is written
-  abbrev pub EndsWith : List ℕ → Bool → ℕ → Input → ServerEnd → Option D → Option D → Option (List ℕ) → Option (List ℕ) → Type 0
-  EndsWith address journal connections input DoorFault door left old new =
-      HasServed address journal connections input DoorFault door left old new ⊎ (StaysShut address journal connections input door left × Keeps old new)
-  EndsWith address journal connections input CrewFault door left old new = (is_some left ≡ true) × Keeps old new
-  EndsWith address journal connections input OutOfMemory door left old new =
-      HasServed address journal connections input OutOfMemory door left old new ⊎ ((is_some left ≡ true) × Keeps old new)
-  EndsWith address journal connections input end door left old new = HasServed address journal connections input end door left old new
+  abbrev pub EndsWith : List ℕ → Bool → ℕ → Input → ServerEnd → Option D → Option D → Option (List ℕ) → Option (List ℕ) → CrewCounts → CrewCounts → Type 0
+  EndsWith address journal connections input DoorFault door left old new crew crew_after =
+      HasServed address journal connections input DoorFault door left old new crew crew_after
+      ⊎ ServesNobody address journal connections input DoorStaysShut door left old new crew crew_after
+  EndsWith address journal connections input CrewFault door left old new crew crew_after =
+      ServesNobody address journal connections input CrewIsRefused door left old new crew crew_after
+  EndsWith address journal connections input OutOfMemory door left old new crew crew_after =
+      HasServed address journal connections input OutOfMemory door left old new crew crew_after
+      ⊎ ServesNobody address journal connections input NothingStarts door left old new crew crew_after
+  EndsWith address journal connections input end door left old new crew crew_after =
+      HasServed address journal connections input end door left old new crew crew_after
 
   -- the input describes a configuration, and the run ends with it; or it names a fault, the input failed or memory ran
   -- out, and nothing else happened
-  abbrev pub EndsAt : List ℕ → Bool → ℕ → Option (List ℕ) → ServerEnd → Option D → Option D → Option (List ℕ) → Option (List ℕ) → Type 0
-  EndsAt address journal connections bytes end door left old new =
-      ((input : Input) × IsInput bytes input × EndsWith address journal connections input end door left old new)
-      ⊎ (IsRefusal end × IfSome bytes (λ all. NamesFault end (fault_of (document_of all))) × (left ≡ door) × Keeps old new)
+  abbrev pub EndsAt : List ℕ → Bool → ℕ → Option (List ℕ) → ServerEnd → Option D → Option D → Option (List ℕ) → Option (List ℕ) → CrewCounts → CrewCounts → Type 0
+  EndsAt address journal connections bytes end door left old new crew crew_after =
+      ((input : Input) × IsInput bytes input × EndsWith address journal connections input end door left old new crew crew_after)
+      ⊎ (IsRefusal end × IfSome bytes (λ all. NamesFault end (fault_of (document_of all))) × (left ≡ door) × Keeps old new × (crew_after ≡ crew))

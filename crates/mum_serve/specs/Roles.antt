@@ -1,16 +1,18 @@
 -- The roles of a server: with what they were opened, and what they came to.
 use Rattle.std.specs.Prelude.{◌≡◌, ⊤, ℕ, zero, suc, ◌+◌, ◌||◌, Bool, true, false, List, [], ◌∷◌, length, map, Option}
-use Rattle.std.specs.List.{AllByRecursion}
+use Rattle.mum_crew.specs.declared.role.Turn.{Turn}
 use Rattle.mum_io.specs.Counts.{Counts, NoneFalls, Rose}
 use Rattle.mum_owner.specs.Decided.{HasWritten}
 use Rattle.mum_owner.specs.Doors.{NoMoreCome, given_after_all}
 use Rattle.mum_owner.specs.Facts.{OwnerFacts}
 use Rattle.mum_owner.specs.Opened.{opening_of as owner_opening}
-use Rattle.mum_owner.specs.Turned.{has_ended as owner_has_ended}
+use Rattle.mum_owner.specs.Turned.{OwnerTurned, has_ended as owner_has_ended}
 use Rattle.mum_owner.specs.declared.serving.DoorOpening.{DoorOpening}
 use Rattle.mum_published.specs.Calls.{appended}
+use Rattle.mum_published.specs.Facts.{Opening}
 use Rattle.mum_state.specs.State.{StateValue}
 use Rattle.mum_worker.specs.Facts.{WorkerFacts, is_done}
+use Rattle.mum_worker.specs.Turning.{Turned}
 use Rattle.mum_worker.specs.declared.role.WorkerOpening.{WorkerOpening}
 use Rattle.mum_serve.specs.Journals.{AreWritable, entries_of}
 use Rattle.mum_serve.specs.Totals.{nothing, totals_of, with_worker}
@@ -69,6 +71,22 @@ module _ {D G N R L : Type 0} where
   workers_in (roles.Owner owner ∷ others) = workers_in others
   workers_in (roles.Worker worker ∷ others) = worker ∷ workers_in others
 
+  -- the owners among these
+  abbrev pub owners_in : List (Roles D G N R L) → List (OwnerFacts D)
+  owners_in [] = []
+  owners_in (roles.Owner owner ∷ others) = owner ∷ owners_in others
+  owners_in (roles.Worker worker ∷ others) = owners_in others
+
+-- ---- their turns
+
+module _ {D G N R L : Type 0} (counts : D → Counts) (given : D → ℕ) (link_counts : L → Counts) (left written : L → Option (List ℕ)) (is_shut : L → Bool) (opening : Opening) where
+  -- a turn of the owner is one of an owner, and a turn of a worker is one of a worker
+  abbrev pub RoleTurned : Roles D G N R L → Turn → Roles D G N R L → Type 0
+  RoleTurned (roles.Owner old) answer (roles.Owner new) = OwnerTurned L counts given old answer new
+  RoleTurned (roles.Owner old) answer (roles.Worker new) = ⊥
+  RoleTurned (roles.Worker old) answer (roles.Owner new) = ⊥
+  RoleTurned (roles.Worker old) answer (roles.Worker new) = Turned link_counts left written is_shut opening old new answer
+
 -- ---- how they end
 
 -- what these workers came to is added
@@ -78,7 +96,7 @@ with_workers (worker ∷ others) totals = with_workers others (with_worker worke
 
 module _ {D L : Type 0} (counts : D → Counts) (given : D → ℕ) (opened_at : D → Option (List ℕ)) where
   -- what a server of this owner and these workers came to: its totals, what was written down, whether memory ran out in
-  -- a role, whether the door failed, which it counted, and the door, at the address at which it was opened. Where a
+  -- a role, whether the owner found that the door failed, which it counted exactly then, and the door, at the address at which it was opened. Where a
   -- journal was asked for, the control entries are the commands that were decided, and what they accepted is all that was
   -- appended. Where the owner has ended, as many connections were given as there were to be, or the door ended or failed
   pub record CameTo (state : StateValue) (opening : DoorOpening) (owner : OwnerFacts D) (workers : List (WorkerFacts L)) (totals : Totals) (entries : Entries) (no_memory door_failed : Bool) (door : D) : Type 0 where
@@ -90,9 +108,12 @@ module _ {D L : Type 0} (counts : D → Counts) (given : D → ℕ) (opened_at :
     pub sums : totals ≡ totals_of owner.guests.given (length (appended owner.control.publisher)) (with_workers workers nothing)
     pub memory : no_memory ≡ (owner.scribe.no_memory || (with_workers workers nothing).no_memory)
     pub counted : NoneFalls opening.counts (counts door)
+    pub failed_is : door_failed ≡ owner.doorway.failed
     pub failed : door_failed ≡ true → Rose opening.counts.faults (counts door).faults
+    pub steady : door_failed ≡ false → (counts door).faults ≡ opening.counts.faults
     pub gave : given door ≡ given_after_all opening.given owner.guests.given
     pub address : opened_at door ≡ opening.opened_at
+    pub door_is : door ≡ owner.doorway.door
     pub over : owner_has_ended owner ≡ true → NoMoreCome owner.guests.given owner.guests.limit opening.counts (counts door)
 
 module _ {D G N R L : Type 0} (counts : D → Counts) (given : D → ℕ) (opened_at : D → Option (List ℕ)) where

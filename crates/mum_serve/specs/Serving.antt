@@ -1,9 +1,9 @@
 -- How a server comes to its end.
-use Rattle.std.specs.Prelude.{◌≡◌, ⊤, ℕ, Bool, true, false, List, map, Option, Some, IfSome}
+use Rattle.std.specs.Prelude.{◌≡◌, ℕ, Bool, true, List, map, Option, Some, IfSome}
 use Rattle.std.specs.List.{AllByRecursion}
 use Rattle.mum_crew.specs.Crew.{CrewCounts, RunCounts}
 use Rattle.mum_crew.specs.declared.crew.CrewEnd.TheVariants.{Ran, Refused}
-use Rattle.mum_io.specs.Counts.{Counts, Rose}
+use Rattle.mum_io.specs.Counts.{Counts, CountsFault}
 use Rattle.mum_owner.specs.Facts.{OwnerFacts}
 use Rattle.mum_owner.specs.Turned.{has_ended as owner_has_ended}
 use Rattle.mum_owner.specs.declared.serving.DoorOpening.{DoorOpening}
@@ -39,12 +39,12 @@ module _ {D : Type 0} (L : Type 0) (counts : D → Counts) (given : D → ℕ) (
     pub crew_ended : AllByRecursion (λ worker. is_done worker ≡ true) crew
     pub came : CameTo counts given opened_at state opening owner crew totals entries no_memory door_failed door
 
-  -- where all were served, the roles have run
+  -- where all were served, the roles have run, and else the door is as it was
   abbrev pub Runs : StateValue → DoorOpening → Bool → ℕ → ℕ → Served → D → Type 0
   Runs state opening journal connections workers (Whole totals entries no_memory door_failed) door =
       HasRun state opening journal connections workers totals entries no_memory door_failed door
   Runs state opening journal connections workers DoorFault door = ⊥
-  Runs state opening journal connections workers others door = ⊤
+  Runs state opening journal connections workers others door = opening_at counts given opened_at door ≡ opening
 
   -- the door was opened at this address, and the roles have run over it
   pub record OpensAndRuns (address : List ℕ) (state : StateValue) (journal : Bool) (connections workers : ℕ) (door : D) (totals : Totals) (entries : Entries) (no_memory door_failed : Bool) (left : D) : Type 0 where
@@ -54,12 +54,23 @@ module _ {D : Type 0} (L : Type 0) (counts : D → Counts) (given : D → ℕ) (
     pub at : IfSome (opened_at opened) (λ known. known ≡ address)
     pub run : HasRun state (opening_at counts given opened_at opened) journal connections workers totals entries no_memory door_failed left
 
-  -- where all were served, the door was opened and the roles have run over it; a door that did not open counted that
+  -- the door counted a fault and nothing else, and gave no connection
+  pub record StaysShut (door left : D) : Type 0 where
+    pub counted : CountsFault (counts door) (counts left)
+    pub gave : given left ≡ given door
+
+  -- the door counted nothing, and gave no connection
+  pub record IsUnasked (door left : D) : Type 0 where
+    pub counted : counts left ≡ counts door
+    pub gave : given left ≡ given door
+
+  -- where all were served, the door was opened and the roles have run over it; or the door did not open; or nobody asked it
+  -- for a connection
   abbrev pub Serves : List ℕ → StateValue → Bool → ℕ → ℕ → D → Served → D → Type 0
   Serves address state journal connections workers door (Whole totals entries no_memory door_failed) left =
       OpensAndRuns address state journal connections workers door totals entries no_memory door_failed left
-  Serves address state journal connections workers door DoorFault left = Rose (counts door).faults (counts left).faults
-  Serves address state journal connections workers door others left = ⊤
+  Serves address state journal connections workers door DoorFault left = StaysShut door left
+  Serves address state journal connections workers door others left = IsUnasked door left
 
   -- the door is there, before and after
   pub record ServesOver (address : List ℕ) (state : StateValue) (journal : Bool) (connections workers : ℕ) (old : Option D) (served : Served) (new : Option D) : Type 0 where

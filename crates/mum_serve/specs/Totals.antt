@@ -15,7 +15,7 @@ abbrev pub nothing : WorkerTotals
 nothing = record { looks = 0; copies = 0; full = 0; stale = 0; no_memory = false }
 
 -- what a worker came to is added: its looks, the copies that it sent, those that found a full box, the parcels that were
--- for an earlier session of their slot, and whether memory ran out
+-- for another session of their slot, and whether memory ran out
 abbrev pub with_worker : {L : Type 0} → WorkerFacts L → WorkerTotals → WorkerTotals
 with_worker worker totals = record {
   looks = sum_64 totals.looks (looks_of worker.common.router.pass);

@@ -1,9 +1,11 @@
 //! From the roles that have ended back to what they were given, and to what they came to.
 
 ghost use Rattle.std.specs.Prelude.{◌≡◌, ◌+◌, ◌≤◌, ◌∷◌, [], length, map, vec_capacity};
+ghost use Rattle.std.specs.List.{AllByRecursion};
 ghost use Rattle.mum_record.specs.Journal.{Each, IsWritableEntry};
+ghost use Rattle.mum_serve.specs.Joined.{HasDoor};
 ghost use Rattle.mum_serve.specs.Journals.{entries_of};
-ghost use Rattle.mum_serve.specs.Roles.{AreLed, AreWorkers, Collects, with_workers, workers_in};
+ghost use Rattle.mum_serve.specs.Roles.{AreLed, AreWorkers, Collects, owners_in, with_workers, workers_in};
 ghost use Rattle.mum_serve.specs.Totals.{nothing};
 ghost use Rattle.mum_serve.specs.declared.roles.Roles.TheVariants as kinds;
 
@@ -67,11 +69,12 @@ fn end_workers<D: Door + Send, G: Gate, N: Serving, R: Wait + Copy + Send>(
     (totals, Items::from_vec(by_worker))
 }
 
-/// Takes the door back from roles that made no turn.
+/// Takes the door back from the owner of roles that made no turn.
 pub(crate) fn door_of<D: Door + Send, G: Gate, N: Serving, R: Wait + Copy + Send>(
     roles: Vec<Roles<'_, D, G, N, R>>,
 ) -> D
     requires { AreLed roles.items }
+    ensures { AllByRecursion (HasDoor result) (owners_in roles.entry.items) }
 {
     let mut roles = roles;
     let owner = take_owner(&mut roles);

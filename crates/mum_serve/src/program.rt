@@ -282,7 +282,7 @@ fn serve_input<R: Wait + Copy + Send, O: Sink, D: Door + Send, C: Crew>(
     requires door { is_some door.old ≡ true }
     requires connections { 0 < connections }
     ensures ends { EndsWith D.Conn D.counts D.given D.opened_at address.now journal connections said
-        result door.old door.new (O.written output.old) (O.written output.new) }
+        result door.old door.new (O.written output.old) (O.written output.new) (C.counts crew.old) (C.counts crew.new) }
     ensures runs { RunsInCrew result (C.counts crew.old) (C.counts crew.new) }
     ensures writes { WritesCounted result (O.faults output.old) (O.faults output.new) }
 {
@@ -329,7 +329,7 @@ pub fn run_server<R: Wait + Copy + Send, I: Source, O: Sink, D: Door + Send, C: 
     requires door { is_some door.old ≡ true }
     requires connections { 0 < connections }
     ensures ends { EndsAt D.Conn D.counts D.given D.opened_at address.now journal connections (I.left input.old)
-        result door.old door.new (O.written output.old) (O.written output.new) }
+        result door.old door.new (O.written output.old) (O.written output.new) (C.counts crew.old) (C.counts crew.new) }
     ensures runs { RunsInCrew result (C.counts crew.old) (C.counts crew.new) }
     ensures reads { ReadsCounted result (I.faults input.old) (I.faults input.new) }
     ensures writes { WritesCounted result (O.faults output.old) (O.faults output.new) }

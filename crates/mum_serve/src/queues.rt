@@ -1,14 +1,15 @@
 //! The queues between the roles of a server.
 
 ghost use Rattle.std.specs.Prelude.{◌≡◌, ◌+◌, ◌<◌, IfOk, OnOk, length};
-ghost use Rattle.std.specs.List.{All};
+ghost use Rattle.std.specs.List.{All, AllByRecursion};
 ghost use Rattle.mum_base.specs.declared.number.TheConstants.{SLOTS};
-ghost use Rattle.mum_serve.specs.Queues.{AreFor, HasBoxes};
+ghost use Rattle.mum_serve.specs.Queues.{AreFor, HasBoxes, SharesQueues, bells_of};
+ghost use Rattle.mum_worker.specs.Boxes.{queues as queues_of};
 
 use mum_base::{OutOfMemory, SLOTS};
 use mum_outbox::{Bell, Desk, PostBox, Queue, VoiceBox};
 use mum_published::{BellItem, Naming};
-use mum_worker::{DeskItem, Shared};
+use mum_worker::{DeskItem, Shared, share_each};
 use std::alloc::Global;
 
 /// Owners of all queues: what the owner of the connections and the control owner hold, and what each worker does.
@@ -37,24 +38,6 @@ fn boxes<I: Drop, const CAPACITY: usize>(
     Ok(boxes)
 }
 
-// These boxes, and one more owner of each.
-fn share_each<I: Drop, const CAPACITY: usize>(
-    alloc: Global,
-    boxes: Vec<Queue<I, CAPACITY>>,
-) -> Result<(Vec<Queue<I, CAPACITY>>, Vec<Queue<I, CAPACITY>>), OutOfMemory>
-    ensures { IfOk result (λ both. (length both.0.items ≡ length boxes.items) × (length both.1.items ≡ length boxes.items)) }
-{
-    let mut owners = Vec::new(alloc);
-    let mut shares = Vec::new(alloc);
-    for queue in boxes {
-        let mut queue = queue;
-        let share = queue.share()?;
-        owners.push(queue)?;
-        shares.push(share)?;
-    }
-    Ok((owners, shares))
-}
-
 // The ends of the queues while workers get theirs: a box of each kind for each slot, and the desk.
 #[derive(Drop)]
 struct Ends {
@@ -63,7 +46,7 @@ struct Ends {
     desk: Desk<DeskItem>,
 }
 
-// What one worker shares, over this bell.
+// What one worker shares: these queues, and this bell.
 fn share<L: Drop, N: Naming>(
     alloc: Global,
     ends: Ends,
@@ -74,6 +57,12 @@ fn share<L: Drop, N: Naming>(
     ensures voices { IfOk result (λ both. length both.0.voices.items ≡ SLOTS) }
     ensures posts { IfOk result (λ both. length both.0.posts.items ≡ SLOTS) }
     ensures boxes { IfOk result (λ both. HasBoxes both.1) }
+    ensures same_voices { IfOk result (λ both. queues_of both.0.voices.items ≡ queues_of ends.voices.items) }
+    ensures same_posts { IfOk result (λ both. queues_of both.0.posts.items ≡ queues_of ends.posts.items) }
+    ensures same_desk { IfOk result (λ both. both.0.desk.queue ≡ ends.desk.queue) }
+    ensures shared { IfOk result (λ both.
+        SharesQueues (queues_of ends.posts.items) (queues_of ends.voices.items) ends.desk.queue both.1) }
+    ensures bell { IfOk result (λ both. both.1.bell.queue ≡ bell.queue) }
 {
     let Ends {
         voices,
@@ -107,11 +96,16 @@ fn add_worker<L: Drop, N: Naming>(
     requires voices { length ends.voices.items ≡ SLOTS }
     requires posts { length ends.posts.items ≡ SLOTS }
     requires boxes { All HasBoxes shared.old.items }
+    requires shared { AllByRecursion (SharesQueues (queues_of ends.posts.items) (queues_of ends.voices.items) ends.desk.queue) shared.old.items }
+    requires bells { bells_of shared.old.items ≡ queues_of bells.old.items }
     ensures voices { IfOk result (λ ends. length ends.voices.items ≡ SLOTS) }
     ensures posts { IfOk result (λ ends. length ends.posts.items ≡ SLOTS) }
     ensures boxes { All HasBoxes shared.new.items }
-    ensures bells { OnOk result (length bells.new.items ≡ length bells.old.items + 1) }
-    ensures shared { OnOk result (length shared.new.items ≡ length shared.old.items + 1) }
+    ensures shared { IfOk result (λ ends.
+        AllByRecursion (SharesQueues (queues_of ends.posts.items) (queues_of ends.voices.items) ends.desk.queue) shared.new.items) }
+    ensures bells { OnOk result (bells_of shared.new.items ≡ queues_of bells.new.items) }
+    ensures one_bell { OnOk result (length bells.new.items ≡ length bells.old.items + 1) }
+    ensures one_more { OnOk result (length shared.new.items ≡ length shared.old.items + 1) }
 {
     let mut bell = Bell::new(alloc)?;
     let (ends, one) = share(alloc, ends, bell.share()?)?;
@@ -121,7 +115,8 @@ fn add_worker<L: Drop, N: Naming>(
 }
 
 impl<L: Drop, N: Naming> Queues<L, N> {
-    /// Empty queues for this many workers: two boxes for each slot, a desk, and a bell for each worker.
+    /// Empty queues for this many workers: two boxes for each slot, a desk, and a bell for each worker. All workers
+    /// share the boxes and the desk, and each has the bell at its place.
     pub(crate) fn new(alloc: Global, workers: usize) -> Result<Queues<L, N>, OutOfMemory>
         ensures { IfOk result (AreFor workers) }
     {

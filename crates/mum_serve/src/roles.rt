@@ -19,13 +19,15 @@ pub enum RoleOpening {
 }
 
 impl<'a, D: Entrance, G: Gate, N: Serving, R: Wait + Copy> Role for Roles<'a, D, G, N, R> {
-    ghost use Rattle.mum_serve.specs.Roles.{has_ended, opening_of};
+    ghost use Rattle.mum_serve.specs.Roles.{RoleTurned, has_ended, opening_of};
 
     type Opening = RoleOpening;
 
     ghost opening = { opening_of N.opening.state N.door };
 
     ghost has_ended = { has_ended };
+
+    ghost turned = { RoleTurned D.counts D.given D.Peer.counts D.Peer.left D.Peer.written D.Peer.is_shut N.opening };
 
     fn turn(&mut self) -> Turn {
         match self {

@@ -1,12 +1,15 @@
 //! The roles of a server before their first turn.
 
-ghost use Rattle.std.specs.Prelude.{◌≡◌, ◌<◌, ◌≤◌, ◌++◌, ◌∷◌, [], IfOk, OnOk, is_some, length, map, vec_capacity};
-ghost use Rattle.std.specs.List.{All};
+ghost use Rattle.std.specs.Prelude.{◌≡◌, ◌<◌, ◌≤◌, ◌++◌, ◌∷◌, [], IfErr, IfOk, OnOk, is_some, length, map, vec_capacity};
+ghost use Rattle.std.specs.List.{All, AllByRecursion};
 ghost use Rattle.mum_published.specs.Calls.{IsFresh, appended, latest};
-ghost use Rattle.mum_serve.specs.Queues.{HasBoxes};
-ghost use Rattle.mum_serve.specs.Roles.{AreLed, opening_of, role_openings, worker_openings};
+ghost use Rattle.mum_serve.specs.Joined.{AreJoined, AreOver, HasDoor, IsOver, KeepsFor, OpensOver, post_queues};
+ghost use Rattle.mum_serve.specs.Journals.{closing_room as room_for};
+ghost use Rattle.mum_serve.specs.Queues.{AreShared, HasBoxes};
+ghost use Rattle.mum_serve.specs.Roles.{AreLed, opening_of, owners_in, role_openings, worker_openings, workers_in};
 ghost use Rattle.mum_serve.specs.declared.roles.RoleOpening.TheVariants as openings;
 ghost use Rattle.mum_state.specs.Proper.{IsProper};
+ghost use Rattle.mum_worker.specs.Boxes.{queues as queues_of};
 
 use crate::collect::door_of;
 use crate::entries::closing_room;
@@ -58,6 +61,8 @@ fn make_parts<'a, D: Door + Send, N: Serving, R: Wait + Copy + Send>(
     ensures bells { IfOk result (λ parts. length parts.bells.items ≡ workers) }
     ensures shared { IfOk result (λ parts. length parts.shared.items ≡ workers) }
     ensures boxes { IfOk result (λ parts. All HasBoxes parts.shared.items) }
+    ensures joined { IfOk result (λ parts.
+        AreShared (post_queues parts.control.posts) parts.desk.queue (queues_of parts.bells.items) parts.shared.items) }
     ensures nobody { IfOk result (λ parts. parts.roles.items ≡ []) }
     ensures room { IfOk result (λ parts. 0 < vec_capacity parts.roles) }
     ensures entries { IfOk result (λ parts. (parts.room.items ≡ []) × (workers ≤ vec_capacity parts.room)) }
@@ -104,6 +109,10 @@ fn lead<'a, D: Door + Send, N: Serving, R: Wait + Copy + Send>(
     ensures led { OnOk result (AreLed roles.new.items) }
     ensures openings { OnOk result (map (opening_of N.opening.state N.door) roles.new.items
         ≡ role_openings N.opening.state N.door journal connections 0) }
+    ensures over { OnOk result (AllByRecursion
+        (IsOver door (post_queues control.entry.posts) desk.queue (queues_of bells.items)) (owners_in roles.new.items)) }
+    ensures alone { OnOk result (workers_in roles.new.items ≡ []) }
+    ensures back { IfErr result (λ back. back ≡ door) }
 {
     let owner = Owner::open(*rt, alloc, control, desk, bells, door, connections, journal)?;
     roles.push_reserved(Roles::Owner(owner));
@@ -127,6 +136,8 @@ fn push_worker<'a, D: Door + Send, N: Serving, R: Wait + Copy + Send>(
     ensures led { AreLed roles.new.items }
     ensures pushed { OnOk result (map (opening_of N.opening.state N.door) roles.new.items
         ≡ map (opening_of N.opening.state N.door) roles.old.items ++ openings.Worker (record { number = number; journal = is_some closings }) ∷ []) }
+    ensures owners { owners_in roles.new.items ≡ owners_in roles.old.items }
+    ensures over { OnOk result (OpensOver ends closings (workers_in roles.old.items) (workers_in roles.new.items)) }
 {
     let worker = Worker::open(*rt, alloc, number, pass, ends, FreeGate, closings)?;
     roles.push(Roles::Worker(worker))?;
@@ -149,9 +160,13 @@ fn push_workers<'a, D: Door + Send, N: Serving, R: Wait + Copy + Send>(
     requires boxes { All HasBoxes shared.items }
     requires shared { length shared.items ≡ workers }
     requires led { AreLed roles.old.items }
+    requires alone { workers_in roles.old.items ≡ [] }
     ensures led { AreLed roles.new.items }
     ensures pushed { OnOk result (map (opening_of N.opening.state N.door) roles.new.items
         ≡ map (opening_of N.opening.state N.door) roles.old.items ++ map openings.Worker (worker_openings (is_some closings) 0 workers)) }
+    ensures owners { owners_in roles.new.items ≡ owners_in roles.old.items }
+    ensures over { OnOk result (AreOver [] shared.items (workers_in roles.new.items)) }
+    ensures rooms { OnOk result (AllByRecursion (KeepsFor closings) (workers_in roles.new.items)) }
 {
     let mut passes = passes.into_iter();
     let mut shared = shared.into_iter();
@@ -165,8 +180,8 @@ fn push_workers<'a, D: Door + Send, N: Serving, R: Wait + Copy + Send>(
 }
 
 /// All roles of a server over a publisher and the passes of its workers: the owner first, and then the workers in
-/// the order of their numbers. Where a journal is asked for, there is room for one closing entry of each connection
-/// that a worker may get. Where memory runs out, the door comes back.
+/// the order of their numbers, joined by the same queues. Where a journal is asked for, each worker has room for one
+/// closing entry of each connection that it may get. Where memory runs out, the door comes back as it was.
 pub(crate) fn roles<'a, D: Door + Send, N: Serving, R: Wait + Copy + Send>(
     rt: &R,
     alloc: Global,
@@ -192,6 +207,12 @@ pub(crate) fn roles<'a, D: Door + Send, N: Serving, R: Wait + Copy + Send>(
     ensures openings { IfOk result (λ started. map (opening_of N.opening.state N.door) started.roles.items
         ≡ role_openings N.opening.state N.door journal connections workers) }
     ensures room { IfOk result (λ started. (started.room.items ≡ []) × (workers ≤ vec_capacity started.room)) }
+    ensures joined { IfOk result (λ started. AreJoined started.roles.items) }
+    ensures rooms { IfOk result (λ started.
+        AllByRecursion (KeepsFor (room_for journal connections workers)) (workers_in started.roles.items)) }
+    ensures door { IfOk result (λ started.
+        AllByRecursion (HasDoor door) (owners_in started.roles.items)) }
+    ensures back { IfErr result (λ back. back ≡ door) }
 {
     let Ok(parts) = make_parts::<D, N, R>(alloc, publisher, state, usize::from(workers)) else {
         drop(passes);

@@ -27,7 +27,7 @@ pub struct Totals {
     pub copies: u64,
     /// How many were not, since their box was full.
     pub full: u64,
-    /// How many parcels a port took that were for an earlier session of its slot.
+    /// How many parcels a port took that were for another session of its slot.
     pub stale: u64,
 }
 

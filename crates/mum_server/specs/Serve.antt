@@ -38,7 +38,7 @@ module _ {D : Type 0} (L : Type 0) (counts : D → Counts) (given : D → ℕ) (
   -- answered and said of that
   pub record RunsServer (address : List ℕ) (connections : ℕ) (journal : Bool) (input input_after : InputFacts) (output output_after errors errors_after : SinkFacts) (door left : Option D) (crew crew_after : CrewCounts) (status : ℕ) : Type 0 where
     pub end : ServerEnd
-    pub ends : EndsAt L counts given opened_at address journal connections input.left end door left output.written output_after.written
+    pub ends : EndsAt L counts given opened_at address journal connections input.left end door left output.written output_after.written crew crew_after
     pub runs : RunsInCrew end crew crew_after
     pub reads : ReadsCounted end input.faults input_after.faults
     pub writes : WritesCounted end output.faults output_after.faults

@@ -40,9 +40,12 @@ returns g c =
         sums = rw (c.of.ensures, end.connections, end.accepted, ended.totals) refl;
         memory = memory ∙ rw (end.no_memory, ap (λ (t : WorkerTotals). t.no_memory) ended.totals) refl;
         counted = end.counts;
+        failed_is = end.door_failed;
         failed = end.failed;
+        steady = end.steady;
         gave = subst (λ (n : ℕ). g.D.Door.given left ≡ given_after_all g.N.Serving.door.given n) end.connections end.given;
         address = end.address;
+        door_is = end.door;
         over = subst (λ (n : ℕ). has_ended owner ≡ true → NoMoreCome n owner.guests.limit g.N.Serving.door.counts (g.D.Door.counts left)) end.connections end.over;
       };
     }

@@ -1,6 +1,7 @@
--- The owner is the only one of the roles.
+-- The owner is the only one of the roles, and it has the queues that it was given.
 use Rattle.std.proofs.Common.{ap}
 use Rattle.mum_owner.specs.Facts.{OwnerFacts}
+use Rattle.mum_serve.proofs.Joining.{is_over, no_worker_yet, over_alone}
 use Rattle.mum_serve.proofs.Leading.{led_alone, opened_alone}
 use Rattle.mum_serve.proofs.start.lead.Goals as goal
 
@@ -12,3 +13,11 @@ returns-clause-openings g c =
     opened_alone g.N.Naming.opening.state g.N.Serving.door c.args.journal c.args.connections c.args.roles.now.items c.push_reserved.new.self.items _ c.requires.nobody c.push_reserved.ensures.items
     (ap (λ (o : OwnerFacts _). o.guests.limit) c.in_ok-owner.ensures.owner)
     (ap (λ (o : OwnerFacts _). o.scribe.is_asked) c.in_ok-owner.ensures.owner)
+
+pub returns-clause-over : goal.returns-clause-over
+returns-clause-over g c =
+    over_alone c.args.door _ _ _ c.args.roles.now.items c.push_reserved.new.self.items c.in_ok-owner.owner c.requires.nobody c.push_reserved.ensures.items
+    (is_over c.args.control c.args.door c.args.connections c.args.journal c.args.bells.items c.args.desk c.in_ok-owner.owner c.in_ok-owner.ensures.owner c.in_ok-owner.ensures.desk)
+
+pub returns-clause-alone : goal.returns-clause-alone
+returns-clause-alone g c = no_worker_yet c.args.roles.now.items c.push_reserved.new.self.items c.in_ok-owner.owner c.requires.nobody c.push_reserved.ensures.items

@@ -1,0 +1,160 @@
+-- The roles that are opened over the queues, one after another.
+use Rattle.std.proofs.Common.{◌≡◌, ◌∙◌, ℕ, Bool, List, [], ◌∷◌, ◌++◌, length, map, Option, refl, sym, ap, subst, arith}
+use Rattle.std.specs.List.{AllByRecursion}
+use Rattle.atomic_table.specs.Seated.{TableId}
+use Rattle.mum_control.specs.Facts.{ControlFacts}
+use Rattle.mum_outbox.specs.Calls.{IsNewPass}
+use Rattle.mum_outbox.specs.Facts.{PassFacts, QueueFacts}
+use Rattle.mum_owner.specs.Bell.{new_side}
+use Rattle.mum_owner.specs.Facts.{OwnerFacts}
+use Rattle.mum_owner.specs.Opened.{IsOpened}
+use Rattle.mum_port.specs.declared.item.DeskItem.{DeskItem}
+use Rattle.mum_published.specs.declared.naming.Naming.{Ghosts}
+use Rattle.mum_worker.specs.Bell.{BellFacts}
+use Rattle.mum_worker.specs.Boxes.{queues as queues_of}
+use Rattle.mum_worker.specs.Facts.{WorkerFacts}
+use Rattle.mum_worker.specs.Opening.{JoinsShared}
+use Rattle.mum_worker.specs.declared.worker.Shared.{Shared}
+use Rattle.mum_serve.specs.Joined.{AreJoined, AreOver, HasDoor, IsJoinedTo, IsOver, KeepsFor, OpensOver, bell_queues, post_queues, side_queues}
+use Rattle.mum_serve.specs.Queues.{AreShared, SharesQueues, bells_of}
+use Rattle.mum_serve.specs.Roles.{AreLed, AreWorkers, owners_in, workers_in}
+use Rattle.mum_serve.specs.declared.roles.Roles.{Roles}
+use Rattle.mum_serve.specs.declared.roles.Roles.TheVariants as roles
+use Rattle.mum_serve.proofs.Sharing.{all_behind}
+
+-- ---- the owner
+
+named : (names : List TableId) → side_queues (map new_side names) ≡ names
+named [] = refl
+named (name ∷ names) = ap (λ (more : List TableId). name ∷ more) (named names)
+
+module _ {D : Type 0} where
+  -- an owner that was opened has the queues that it was given
+  pub is_over : (control : ControlFacts) (door : D) (connections : ℕ) (journal : Bool) (bells : List QueueFacts) (desk : QueueFacts) (owner : OwnerFacts D)
+      → IsOpened control door connections journal (queues_of bells) owner → IsNewPass desk owner.desk.pass
+      → IsOver door (post_queues control.posts) desk.queue (queues_of bells) owner
+  is_over control door connections journal bells desk owner opened new = record {
+    door_is = ap (λ (o : OwnerFacts D). o.doorway.door) opened;
+    posts_are = ap (λ (o : OwnerFacts D). post_queues o.control.posts) opened;
+    desk_is = ap (λ (p : PassFacts DeskItem). p.queue) new;
+    bells_are = ap (λ (o : OwnerFacts D). side_queues o.bells) opened ∙ named (queues_of bells);
+  }
+
+  -- it has the door
+  pub has_door : (door : D) (posts : List TableId) (desk : TableId) (bells : List TableId) (owners : List (OwnerFacts D)) → AllByRecursion (IsOver door posts desk bells) owners
+      → AllByRecursion (HasDoor door) owners
+  has_door door posts desk bells [] over = tt
+  has_door door posts desk bells (owner ∷ owners) over = (over.0.door_is, has_door door posts desk bells owners over.1)
+
+module _ {D G N R L : Type 0} where
+  pub over_alone : (door : D) (posts : List TableId) (desk : TableId) (bells : List TableId) (old new : List (Roles D G N R L)) (owner : OwnerFacts D)
+      → old ≡ [] → new ≡ old ++ roles.Owner owner ∷ [] → IsOver door posts desk bells owner → AllByRecursion (IsOver door posts desk bells) (owners_in new)
+  over_alone door posts desk bells old new owner nobody pushed over = rw (pushed, nobody) (over, tt)
+
+  pub no_worker_yet : (old new : List (Roles D G N R L)) (owner : OwnerFacts D) → old ≡ [] → new ≡ old ++ roles.Owner owner ∷ [] → workers_in new ≡ []
+  no_worker_yet old new owner nobody pushed = rw (pushed, nobody) refl
+
+  no_owners : (others : List (Roles D G N R L)) → AreWorkers others → owners_in others ≡ []
+  no_owners [] are = refl
+  no_owners (roles.Owner owner ∷ others) are = absurd are
+  no_owners (roles.Worker worker ∷ others) are = no_owners others are
+
+  -- the owner at the front is the only one
+  pub one_owner : (all others : List (Roles D G N R L)) (owner : OwnerFacts D) → all ≡ roles.Owner owner ∷ others → AreWorkers others → owners_in all ≡ owner ∷ []
+  one_owner all others owner are workers =
+      ap (λ (xs : List (Roles D G N R L)). owners_in xs) are ∙ ap (λ (more : List (OwnerFacts D)). owner ∷ more) (no_owners others workers)
+
+  -- the door that comes back is the one that was handed in
+  pub same_door : (all : List (Roles D G N R L)) (owners : List (OwnerFacts D)) (door back : D) (posts : List TableId) (desk : TableId) (bells : List TableId)
+      → AreLed all → owners_in all ≡ owners → AllByRecursion (IsOver door posts desk bells) owners
+      → AllByRecursion (HasDoor back) (owners_in all) → back ≡ door
+  same_door [] owners door back posts desk bells led same over backs = absurd led
+  same_door (roles.Worker worker ∷ others) owners door back posts desk bells led same over backs = absurd led
+  same_door (roles.Owner owner ∷ others) owners door back posts desk bells led same over backs =
+      let now : AllByRecursion (IsOver door posts desk bells) (owner ∷ owners_in others) = subst (AllByRecursion (IsOver door posts desk bells)) (sym same) over in
+      sym backs.0 ∙ now.0.door_is
+
+  -- ---- one worker more
+
+  owners_with : (old : List (Roles D G N R L)) (worker : WorkerFacts L) → owners_in (old ++ roles.Worker worker ∷ []) ≡ owners_in old
+  owners_with [] worker = refl
+  owners_with (roles.Owner owner ∷ old) worker = ap (λ (more : List (OwnerFacts D)). owner ∷ more) (owners_with old worker)
+  owners_with (roles.Worker other ∷ old) worker = owners_with old worker
+
+  workers_with : (old : List (Roles D G N R L)) (worker : WorkerFacts L) → workers_in (old ++ roles.Worker worker ∷ []) ≡ workers_in old ++ worker ∷ []
+  workers_with [] worker = refl
+  workers_with (roles.Owner owner ∷ old) worker = workers_with old worker
+  workers_with (roles.Worker other ∷ old) worker = ap (λ (more : List (WorkerFacts L)). other ∷ more) (workers_with old worker)
+
+  pub owners_stay : (old new : List (Roles D G N R L)) (worker : WorkerFacts L) → new ≡ old ++ roles.Worker worker ∷ [] → owners_in new ≡ owners_in old
+  owners_stay old new worker pushed = ap (λ (xs : List (Roles D G N R L)). owners_in xs) pushed ∙ owners_with old worker
+
+  pub worker_behind : (old new : List (Roles D G N R L)) (worker : WorkerFacts L) → new ≡ old ++ roles.Worker worker ∷ [] → workers_in new ≡ workers_in old ++ worker ∷ []
+  worker_behind old new worker pushed = ap (λ (xs : List (Roles D G N R L)). workers_in xs) pushed ∙ workers_with old worker
+
+module _ {L N : Type 0} {naming : Ghosts N} where
+  over_behind : (one : Shared L N naming) (rest all : List (Shared L N naming)) (old : List (WorkerFacts L)) (worker : WorkerFacts L)
+      → AreOver (one ∷ rest) all old → JoinsShared one worker → AreOver rest all (old ++ worker ∷ [])
+  over_behind one rest all [] worker over joins = subst (λ (xs : List (Shared L N naming)). AreOver rest xs (worker ∷ [])) (sym over) (joins, refl)
+  over_behind one rest [] (first ∷ old) worker over joins = absurd over
+  over_behind one rest (top ∷ all) (first ∷ old) worker over joins = (over.0, over_behind one rest all old worker over.1 joins)
+
+  -- the next worker works over what is next
+  pub over_more : (closings : Option ℕ) (one : Shared L N naming) (left rest all : List (Shared L N naming)) (old new : List (WorkerFacts L))
+      → left ≡ one ∷ rest → AreOver left all old → OpensOver one closings old new → AreOver rest all new
+  over_more closings one left rest all old new is over opens =
+      let now = subst (λ (xs : List (Shared L N naming)). AreOver xs all old) is over in
+      subst (AreOver rest all) (sym opens.behind) (over_behind one rest all old opens.worker now opens.joins)
+
+  pub keeps_more : (closings : Option ℕ) (one : Shared L N naming) (old new : List (WorkerFacts L)) → AllByRecursion (KeepsFor closings) old → OpensOver one closings old new → AllByRecursion (KeepsFor closings) new
+  keeps_more closings one old new keeps opens =
+      subst (AllByRecursion (KeepsFor closings)) (sym opens.behind) (all_behind (KeepsFor closings) old opens.worker keeps opens.keeps)
+
+  -- nothing is left for others
+  pub over_all : (rest all : List (Shared L N naming)) (workers : List (WorkerFacts L)) → length rest ≡ 0 → AreOver rest all workers → AreOver [] all workers
+  over_all [] all workers none over = over
+  over_all (one ∷ rest) all workers none over = absurd (omega (arith, none))
+
+  -- nobody works yet
+  pub over_nobody : (all rest : List (Shared L N naming)) (workers : List (WorkerFacts L)) → workers ≡ [] → all ≡ rest → AreOver rest all workers
+  over_nobody all rest workers nobody same = subst (AreOver rest all) (sym nobody) same
+
+  -- ---- all of them
+
+  each_joined : (posts voices : List TableId) (desk : TableId) (shared : List (Shared L N naming)) (workers : List (WorkerFacts L))
+      → AllByRecursion (SharesQueues posts voices desk) shared → AreOver [] shared workers → AllByRecursion (IsJoinedTo posts voices desk) workers
+  each_joined posts voices desk shared [] each over = tt
+  each_joined posts voices desk [] (worker ∷ workers) each over = absurd over
+  each_joined posts voices desk (one ∷ shared) (worker ∷ workers) each over = (
+    record {
+      desk_is = ap (λ (p : PassFacts DeskItem). p.queue) over.0.desk ∙ each.0.desk_is;
+      posts_are = over.0.posts ∙ each.0.posts_are;
+      voices_are = over.0.voices ∙ each.0.voices_are;
+      outs_are = over.0.outs ∙ each.0.voices_are;
+    },
+    each_joined posts voices desk shared workers each.1 over.1,
+  )
+
+  bells_joined : (shared : List (Shared L N naming)) (workers : List (WorkerFacts L)) → AreOver [] shared workers → bell_queues workers ≡ bells_of shared
+  bells_joined [] [] over = refl
+  bells_joined (one ∷ shared) [] over = absurd (cc)
+  bells_joined [] (worker ∷ workers) over = absurd over
+  bells_joined (one ∷ shared) (worker ∷ workers) over =
+      ap (λ (name : TableId). name ∷ bell_queues workers) (ap (λ (bell : BellFacts L). bell.queue) over.0.bell)
+      ∙ ap (λ (names : List TableId). one.bell.queue ∷ names) (bells_joined shared workers over.1)
+
+  pub are_joined : {D G M R : Type 0} (all : List (Roles D G M R L)) (owners : List (OwnerFacts D)) (door : D) (posts : List TableId) (desk : TableId) (bells : List TableId) (shared : List (Shared L N naming))
+      → AreLed all → owners_in all ≡ owners → AllByRecursion (IsOver door posts desk bells) owners → AreShared posts desk bells shared → AreOver [] shared (workers_in all) → AreJoined all
+  are_joined [] owners door posts desk bells shared led same over are works = absurd led
+  are_joined (roles.Worker worker ∷ others) owners door posts desk bells shared led same over are works = absurd led
+  are_joined (roles.Owner owner ∷ others) owners door posts desk bells shared led same over are works =
+      let now : AllByRecursion (IsOver door posts desk bells) (owner ∷ owners_in others) = subst (AllByRecursion (IsOver door posts desk bells)) (sym same) over in
+      let it = now.0 in
+      record {
+        bells_are = bells_joined shared (workers_in others) works ∙ are.bells_are ∙ sym it.bells_are;
+        voices = are.voices;
+        each =
+            subst (λ (names : List TableId). AllByRecursion (IsJoinedTo names are.voices owner.desk.pass.queue) (workers_in others)) (sym it.posts_are)
+            (subst (λ (name : TableId). AllByRecursion (IsJoinedTo posts are.voices name) (workers_in others)) (sym it.desk_is)
+            (each_joined posts are.voices desk shared (workers_in others) are.each works));
+      }

@@ -1,0 +1,6 @@
+-- The control owner has passes of the boxes that the workers share.
+use Rattle.mum_serve.proofs.Sharing.{shared_by}
+use Rattle.mum_serve.proofs.start.make_parts.Goals as goal
+
+pub returns-clause-joined : goal.returns-clause-joined
+returns-clause-joined g c = shared_by _ _ _ _ _ c.in_ok-control.ensures.boxes c.in_ok-posts.ensures.shared

@@ -29,6 +29,8 @@ HEADER_PATIENCE = 10
 # What comes before a client's address in a PROXY header, version 2.
 SIGNATURE = bytes.fromhex("0d0a0d0a000d0a515549540a")
 TCP_OVER_IPV4, TCP_OVER_IPV6 = 0x11, 0x21
+# The longest header that is taken: 16 bytes, addresses and ports, further fields.
+LONGEST_HEADER = 536
 
 
 class Server:
@@ -100,9 +102,10 @@ def test(function):
 
 
 def header(source, family=TCP_OVER_IPV4, command=0x21, extra=b""):
-    """The header of a relay for a client at this address."""
-    kind = socket.AF_INET if family == TCP_OVER_IPV4 else socket.AF_INET6
-    addresses = socket.inet_pton(kind, source) * 2 + struct.pack(">HH", 40000, 64738) + extra
+    """The header of a relay for a client at this address, which came to another."""
+    kind, destination = (socket.AF_INET, "192.0.2.1") if family == TCP_OVER_IPV4 else (socket.AF_INET6, "2001:db8::1")
+    addresses = b"".join(socket.inet_pton(kind, address) for address in (source, destination))
+    addresses += struct.pack(">HH", 40000, 64738) + extra
     return SIGNATURE + bytes([command, family]) + struct.pack(">H", len(addresses)) + addresses
 
 
@@ -198,14 +201,16 @@ def headers_come_in_any_pieces(folder):
                 stream.sendall(whole[at:at + length])
                 time.sleep(0.01)
             PlainClient(stream).log_in(f"in {pieces}").close()
-        # further fields are skipped, and of one that is the relay's own nothing is said
-        for first in (SIGNATURE + bytes([0x20, 0, 0, 0]), header("198.51.100.24", extra=bytes(500))):
+        # further fields are skipped, as many as there may be, and of one that is the relay's own nothing is said
+        longest = header("2001:db8::8", TCP_OVER_IPV6, extra=bytes(LONGEST_HEADER - 16 - 36))
+        assert len(longest) == LONGEST_HEADER
+        for first in (SIGNATURE + bytes([0x20, 0, 0, 0]), longest):
             stream = server.connect()
             stream.sendall(first)
             PlainClient(stream).log_in(f"of {len(first)}").close()
         assert server.totals()["connections"] == 5
         sources = re.findall(r"^murmur: \d+ from (.*)$", server.log(), re.M)
-        assert sources == ["198.51.100.23"] * 3 + ["198.51.100.24"], server.log()
+        assert sources == ["198.51.100.23"] * 3 + ["2001:db8::8"], server.log()
         assert server.log().count(" closed after ") == 4, server.log()
 
 
@@ -213,7 +218,7 @@ def headers_come_in_any_pieces(folder):
 def false_headers_are_closed_and_are_no_connections(folder):
     port = free_port()
     false = [b"\x00\x00\x00\x00\x00\x05", SIGNATURE[:11] + b"!", header("198.51.100.25", command=0x31),
-             header("198.51.100.25", extra=bytes(509))]
+             header("198.51.100.25", extra=bytes(LONGEST_HEADER - 16 - 12 + 1))]
     with Server(folder, 1, f"proxy:127.0.0.1:{port}") as server:
         server.port = port
         for first in false:
@@ -430,8 +435,8 @@ def who_is_held_up_is_not_held_up_longer(folder):
 
 @test
 def the_bytes_of_messages_are_held_up_too(folder):
-    # a text of 20,000 bytes counts as 21 messages
-    each_second, at_once, texts = 20, 40, 3
+    # a text of 20,000 bytes counts as 21 messages; with the two numbers changed about the third would come sooner
+    each_second, at_once, texts = 10, 50, 3
     with Server(folder, 2, MURMUR_PACE=f"{each_second}/{at_once},200/400") as server:
         ann, bob = server.client().log_in("ann"), server.client().log_in("bob")
         ann.wait_until(lambda: ann.user("bob"))

@@ -196,9 +196,10 @@ impl<X: Net + Files + Eprint + Copy> Entrance<X> {
         }
     }
 
-    // Who waits for a header, and a listener that is to be asked again, need the door asked before long.
+    // Who waits for a header, and a listener that is to be asked again, need the door asked before long. So does one that
+    // still is ready, since too many attempts came to nothing: it reports no second time what it has.
     fn watch_time(&self) {
-        if self.stuck.is_some() || !self.waiting.is_empty() {
+        if self.stuck.is_some() || !self.waiting.is_empty() || self.hub.is_door_ready() {
             if let Some(post) = self.posts.first() {
                 post.board.slow_down();
             }
@@ -396,6 +397,7 @@ impl<X: Net + Files + Eprint + Copy> Entrance<X> {
             is_broken: false,
             has_ended: false,
             awaits_room: false,
+            was_refused: false,
             bytes_read: 0,
             bytes_written: 0,
         };

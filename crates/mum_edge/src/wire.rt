@@ -39,6 +39,7 @@ pub struct Wire {
     pub is_broken: bool,
     pub has_ended: bool,
     pub awaits_room: bool,
+    pub was_refused: bool,
     pub bytes_read: u64,
     pub bytes_written: u64,
 }
@@ -157,10 +158,22 @@ impl Wire {
         ensures { PollWriteLeaves result None None piece.now }
     {
         let written = self.send_or_keep(piece);
-        if matches!(written, PollWrite::Failed) {
+        if self.is_news(written) {
             self.board.note_news();
         }
         written
+    }
+
+    // Whether other threads may have to hear of an answer: the link failed, or it takes bytes again. Then frames are
+    // handled that came long ago, and were not while too much was unwritten.
+    fn is_news(&mut self, written: PollWrite) -> bool {
+        let was_refused = self.was_refused;
+        self.was_refused = matches!(written, PollWrite::NotYet);
+        match written {
+            PollWrite::Took(_) => was_refused,
+            PollWrite::NotYet => false,
+            PollWrite::Failed => true,
+        }
     }
 
     fn send_or_keep(&mut self, piece: &[u8]) -> PollWrite

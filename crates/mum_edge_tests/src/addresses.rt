@@ -52,7 +52,7 @@ fn a_name_is_no_address(rt: HostRuntime) -> Result<(), Fail> {
 }
 
 /// A file's path that no other test has.
-fn path_of<X: AllocGlobal + Env>(rt: &X, number: u32, name: &str) -> Result<String, Fail> {
+pub fn path_of<X: AllocGlobal + Env>(rt: &X, number: u32, name: &str) -> Result<String, Fail> {
     let folder = env::temp_dir(rt)?;
     Ok(format!(in rt.alloc(); "{}/murmur-{number}-{name}", folder.display())?)
 }
@@ -131,6 +131,20 @@ fn send<X: AllocGlobal + Net + Clock>(
     Ok(back)
 }
 
+/// A client of the IPv6 address 2001:db8::7 that came to another. Its header is as long as one may be.
+fn send_long<X: AllocGlobal + Net + Clock>(rt: &X, address: SocketAddr) -> io::Result<Vec<u8>> {
+    let addresses: [u8; 36] = [
+        0x20, 1, 0xd, 0xb8, 0, 0, 0, 0, 0, 0, 0, 0, 0, 0, 0, 7, //
+        0, 0, 0, 0, 0, 0, 0, 0, 0, 0, 0, 0, 0, 0, 0, 1, 200, 0, 251, 0,
+    ];
+    let front = [0x21, 0x21, 2, 8];
+    send(
+        rt,
+        address,
+        &[&SIGNATURE, &front, &addresses, &[0; 520 - 36], b"there"],
+    )
+}
+
 fn send_all<X: AllocGlobal + Net + Clock>(
     rt: &X,
     address: SocketAddr,
@@ -173,20 +187,30 @@ fn a_relay_tells_the_address(rt: HostRuntime) -> Result<(), Fail> {
     let Some(address) = door.local_address() else {
         return Err(Fail::from("the door has no address"));
     };
-    let roles = parts(rt, alloc, door, 2, 2, Manner::Echo)?;
-    let clients = thread::spawn(&rt, move || send_all(&rt, address))?;
+    let roles = parts(rt, alloc, door, 3, 2, Manner::Echo)?;
+    let clients = thread::spawn(&rt, move || {
+        let (both_closed, told, own) = send_all(&rt, address)?;
+        Ok::<(bool, Vec<u8>, Vec<u8>, Vec<u8>), io::Error>((
+            both_closed,
+            told,
+            own,
+            send_long(&rt, address)?,
+        ))
+    })?;
     let run = crew.run(alloc, roles);
     assert_eq!(rt; run.end, CrewEnd::Ran);
-    let (both_closed, told, own) = clients.join(&rt)?;
+    let (both_closed, told, own, long) = clients.join(&rt)?;
     assert!(rt; both_closed);
+    assert_eq!(rt; long.as_slice(), b"there".as_slice());
     assert_eq!(rt; told.as_slice(), b"hello".as_slice());
     assert_eq!(rt; own.as_slice(), b"world".as_slice());
     let all = all_heard(alloc, &run.roles)?;
     let addresses = [
         [0, 0, 0, 0, 0, 0, 0, 0, 0, 0, 255, 255, 203, 0, 113, 7],
         [0, 0, 0, 0, 0, 0, 0, 0, 0, 0, 255, 255, 127, 0, 0, 1],
+        [0x20, 1, 0xd, 0xb8, 0, 0, 0, 0, 0, 0, 0, 0, 0, 0, 0, 7],
     ];
-    assert_eq!(rt; all.len(), 2);
+    assert_eq!(rt; all.len(), 3);
     for address in addresses {
         assert!(rt; all.iter().any(|heard| heard.address == address));
     }

@@ -8,8 +8,16 @@ mod echo;
 #[cfg(test)]
 mod hang_ups;
 #[cfg(test)]
+mod kept;
+#[cfg(test)]
 mod lines;
 #[cfg(test)]
 mod long_frames;
 #[cfg(test)]
 mod paces;
+#[cfg(test)]
+mod slots;
+#[cfg(test)]
+mod together;
+#[cfg(test)]
+mod wakes;

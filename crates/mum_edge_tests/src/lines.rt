@@ -22,8 +22,18 @@ pub fn open<X: AllocGlobal + Net + Files + Env + Eprint + Threads + time::Clock 
     threads: usize,
     pace: Pace,
 ) -> Result<(Machine<X>, SocketAddr), Fail> {
+    open_at(rt, "127.0.0.1:0", threads, pace)
+}
+
+/// The same, in this form of an address.
+pub fn open_at<X: AllocGlobal + Net + Files + Env + Eprint + Threads + time::Clock + Copy + Send>(
+    rt: X,
+    address: &str,
+    threads: usize,
+    pace: Pace,
+) -> Result<(Machine<X>, SocketAddr), Fail> {
     let mut machine = Machine::quiet(rt, rt.alloc(), threads, 0, pace)?;
-    if machine.door.open("127.0.0.1:0") != DoorOpen::Opened {
+    if machine.door.open(address) != DoorOpen::Opened {
         return Err(Fail::from("the door does not open"));
     }
     match machine.door.local_address() {
@@ -33,7 +43,7 @@ pub fn open<X: AllocGlobal + Net + Files + Env + Eprint + Threads + time::Clock 
 }
 
 /// Sends a word and reads it back, this many times, and ends. Whether the server ended then, too.
-fn talk<X: Net>(rt: &X, address: SocketAddr, times: usize) -> io::Result<bool> {
+pub fn talk<X: Net>(rt: &X, address: SocketAddr, times: usize) -> io::Result<bool> {
     let mut stream = TcpStream::connect(rt, address)?;
     let mut buf = [0u8; 5];
     for _ in 0..times {
@@ -187,39 +197,5 @@ fn the_clock_counts_seconds_of_this_century(rt: HostRuntime) -> Result<(), Fail>
     let first = clock.now();
     assert!(rt; (946_684_800..4_102_444_800).contains(&first), "{first}");
     assert!(rt; first <= clock.now());
-    Ok(())
-}
-
-/// Sends several frames at once, to which the answers are kept back, and reads all of them.
-#[test]
-fn what_is_kept_back_is_sent(rt: HostRuntime) -> Result<(), Fail> {
-    let alloc: Global = rt.alloc();
-    let (machine, address) = open(rt, 2, Pace::Unlimited)?;
-    let Machine { mut crew, door, .. } = machine;
-    let roles = parts(rt, alloc, door, 1, 1, Manner::Echo)?;
-    let client = thread::spawn(&rt, move || {
-        let mut stream = TcpStream::connect(&rt, address)?;
-        let mut buf = [0u8; 54];
-        for _ in 0..100u32 {
-            stream.write_all(&[0; 54])?;
-            stream.read_exact(&mut buf)?;
-        }
-        // more than a link keeps, while nobody reads it
-        flood(&mut stream, 1, 10_000)?;
-        stream.shutdown(Shutdown::Write)?;
-        let mut count = 0usize;
-        for _ in 0..60_001u32 {
-            let got = stream.read(&mut buf)?;
-            if got == 0 {
-                break;
-            }
-            count = count.saturating_add(got);
-        }
-        Ok::<usize, io::Error>(count)
-    })?;
-    let run = crew.run(alloc, roles);
-    assert_eq!(rt; run.end, CrewEnd::Ran);
-    assert_eq!(rt; client.join(&rt)?, 60_000);
-    assert_eq!(rt; crew.late_rounds(), 0);
     Ok(())
 }

@@ -169,3 +169,23 @@ fn without_a_limit_all_may_be_read(rt: HostRuntime) -> Result<(), Fail> {
     assert_eq!(rt; meter.allowance(0), usize::MAX);
     Ok(())
 }
+
+#[test]
+fn a_pace_has_two_rates_without_a_zero(rt: HostRuntime) -> Result<(), Fail> {
+    assert_eq!(rt; Pace::from_text("20/200,200/400"), Some(Pace::usual()));
+    assert_eq!(rt; Pace::from_text("none"), Some(Pace::Unlimited));
+    for text in [
+        "",
+        "20/200",
+        "0/1,1/1",
+        "1/0,1/1",
+        "1/1,0/1",
+        "1/1,1/0",
+        "1/1,1/1,1/1",
+        "a/1,1/1",
+        "1,1",
+    ] {
+        assert!(rt; Pace::from_text(text).is_none(), "{text}");
+    }
+    Ok(())
+}

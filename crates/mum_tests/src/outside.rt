@@ -193,11 +193,15 @@ struct Writer {
 }
 
 impl Role for Writer {
+    ghost use Rattle.std.specs.Prelude.{⊤};
+
     type Opening = u64;
 
     ghost opening = { λ w. w.number };
 
     ghost has_ended = { λ w. w.turns == 0 };
+
+    ghost turned = { λ _ _ _. ⊤ };
 
     fn turn(&mut self) -> Turn {
         let word = self.word.load(Ordering::SeqCst);

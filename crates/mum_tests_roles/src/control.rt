@@ -78,6 +78,18 @@ struct Seen {
     second: Posted,
 }
 
+/// How a login at a control owner that is opened for it ended.
+#[derive(Clone, Copy, Debug, PartialEq)]
+enum Ended {
+    /// Memory ran out before the control owner was opened.
+    Early,
+    /// Memory ran out as it was opened. How many edits its publisher had appended then, and how many of these it had
+    /// not published.
+    AtOpening { appended: u64, pending: u64 },
+    /// It was opened.
+    Seen(Seen),
+}
+
 /// Publishes again, and gives the revision of the note.
 fn publish_again<N: Naming, R: Wait>(rt: &R, control: &mut Control<'_, N>) -> Option<u64> {
     match control.publish(rt) {
@@ -206,30 +218,36 @@ fn see_at<R: Wait>(
     open_and_see::<Brand, R>(rt, alloc, publisher, state, boxes, login)
 }
 
-/// What becomes of a login at an empty state.
-fn seen_by<R: Wait>(rt: &R, alloc: Global, boxes: Vec<PostBox>, login: Command) -> Option<Seen>
+/// How a login at an empty state ends.
+fn ended_by<R: Wait>(rt: &R, alloc: Global, boxes: Vec<PostBox>, login: Command) -> Ended
     requires { length boxes.items ≡ slots }
 {
     match begin(rt, alloc) {
         Ok((mut publisher, state)) => {
-            let seen = see_at(rt, alloc, &mut publisher, state, boxes, login);
+            let ended = match see_at(rt, alloc, &mut publisher, state, boxes, login) {
+                Some(seen) => Ended::Seen(seen),
+                None => Ended::AtOpening {
+                    appended: publisher.revision(),
+                    pending: publisher.pending(),
+                },
+            };
             publisher.finish(rt);
-            seen
+            ended
         }
         Err(_) => {
             drop(boxes);
             drop(login);
-            None
+            Ended::Early
         }
     }
 }
 
-/// How many parcels the box took before, and what became of the login; none where memory ran out before it.
-fn log_in<R: Wait>(rt: &R, alloc: Global) -> Result<(usize, Option<Seen>), OutOfMemory> {
+/// How many parcels the box took before, and how the login ended.
+fn log_in<R: Wait>(rt: &R, alloc: Global) -> Result<(usize, Ended), OutOfMemory> {
     let login = login(alloc)?;
     let (boxes, own) = boxes_of(alloc)?;
     let filled = fill(rt, alloc, own);
-    Ok((filled, seen_by(rt, alloc, boxes, login)))
+    Ok((filled, ended_by(rt, alloc, boxes, login)))
 }
 
 #[test]
@@ -242,20 +260,37 @@ fn a_session_whose_box_is_full_lags(rt: HostRuntime) -> Result<(), Fail> {
         lagged: Some(session),
         second: Posted::Posted(session),
     };
-    assert_eq!(rt; log_in(&rt, rt.alloc())?, (POST_CAPACITY, Some(expected)));
+    assert_eq!(rt;
+        log_in(&rt, rt.alloc())?,
+        (POST_CAPACITY, Ended::Seen(expected))
+    );
     Ok(())
+}
+
+// That an edit was published at once, and else where.
+fn published_at_once(published: Published) -> Result<(), Fail> {
+    match published {
+        Published::AtOnce => Ok(()),
+        Published::Later => Err(Fail::from("refused after the edit was appended")),
+        Published::Never => Err(Fail::from("refused before the edit was appended")),
+        Published::Wrong => Err(Fail::from("the edit was published wrongly")),
+    }
 }
 
 // It passes only where no allocation is refused. `rt try --test --fail-alloc N` refuses the Nth, and the error says what
 // came of it.
 #[test]
 fn an_edit_whose_publish_was_refused_is_in_the_next_note(rt: HostRuntime) -> Result<(), Fail> {
-    let (_filled, seen) = log_in(&rt, rt.alloc())?;
-    let published = seen.ok_or("refused before the login")?.published;
-    assert_ne!(rt; published, Published::Wrong);
-    match published {
-        Published::Later => Err(Fail::from("refused after the edit was appended")),
-        Published::Never => Err(Fail::from("refused before the edit was appended")),
-        _ => Ok(()),
+    let (_filled, ended) = log_in(&rt, rt.alloc())?;
+    match ended {
+        Ended::Early => Err(Fail::from("refused before the opening")),
+        Ended::AtOpening {
+            appended: 0,
+            pending: 0,
+        } => Err(Fail::from("refused at the opening, with the publisher as it was")),
+        Ended::AtOpening { .. } => Err(Fail::from(
+            "an opening that was refused changed the publisher",
+        )),
+        Ended::Seen(seen) => published_at_once(seen.published),
     }
 }

@@ -1,4 +1,5 @@
-//! A session that hears a packet, with what its copy needs.
+//! A session that hears a packet, with what its copy needs. Calls for each of them would cost as much as what they do,
+//! so these are inlined.
 
 ghost use Rattle.std.specs.Prelude.{◌≡◌, Some};
 ghost use Rattle.mum_route.specs.Aims.{hearer_by};
@@ -22,6 +23,7 @@ pub struct Hearer {
 }
 
 /// Whether a speaker is in the same context of its plugins.
+#[inline(always)]
 fn shares(speaker: &User, user: &User) -> bool
     ensures { result ≡ shares (Some speaker.now) user.now }
 {
@@ -29,6 +31,7 @@ fn shares(speaker: &User, user: &User) -> bool
 }
 
 /// A session that a speaker's packet reaches in this context.
+#[inline(always)]
 pub(crate) fn hearer_by(speaker: &User, user: &User, context: Context) -> Hearer
     ensures { result ≡ hearer_by speaker.now user.now context }
 {

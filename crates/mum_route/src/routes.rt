@@ -126,6 +126,7 @@ fn reached_by<T: Rights, L: Ledger>(
 }
 
 /// Appends a session, if the speaker's packet reaches it.
+#[inline(always)]
 fn push_reached(audience: &mut Audience, speaker: &User, user: &User, reached: Option<Context>)
     requires room { length audience.old < SLOTS }
     requires slot { user.now.slot.0 < SLOTS }

@@ -4,6 +4,7 @@
 #![tactic(auto)]
 
 pub mod crossing;
+mod draft;
 pub mod laws;
 mod marks;
 mod offering;

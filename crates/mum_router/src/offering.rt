@@ -6,8 +6,10 @@ ghost use Rattle.mum_outbox.specs.declared.queue.Offered.{Offered};
 ghost use Rattle.mum_outbox.specs.declared.parcel.VoiceParcel.{VoiceParcel};
 ghost use Rattle.mum_voice.specs.Packet.{IsPacket, plain_parts};
 ghost use Rattle.mum_route.specs.Hearers.{IsInRange};
+ghost use Rattle.mum_router.specs.Drafts.{IsDraft};
 ghost use Rattle.mum_router.specs.Offering.{Delivers, DeliversEach, copies_of, full_of, is_sent};
 
+use crate::draft::Draft;
 use crate::marks::Marks;
 use crate::outlet::Out;
 use mum_base::{SLOTS, SessionId};
@@ -33,17 +35,21 @@ fn deliver<W: Wait>(
     speaker: SessionId,
     packet: &Packet,
     hearer: &Hearer,
+    draft: &mut Draft,
     outs: &mut Vec<Out>,
 ) -> bool
     requires packet { IsPacket (plain_parts packet.now) }
     requires range { IsInRange hearer.now }
+    requires draft { IsDraft speaker (plain_parts packet.now) draft.old }
     requires boxes { length outs.old.items ≡ SLOTS }
+    ensures draft { IsDraft speaker (plain_parts packet.now) draft.new }
     ensures boxes { length outs.new.items ≡ SLOTS }
     ensures delivers { (answer : Offered VoiceParcel) × Delivers speaker (plain_parts packet.now) outs.old.items
         (record { hearer = hearer.now; answer = answer }) outs.new.items × (result ≡ is_sent answer) }
 {
+    draft.prepare(speaker, packet, hearer);
     let out = &mut outs[usize::from(hearer.slot.0)];
-    out.offer(rt, speaker, packet, hearer)
+    out.offer(rt, hearer.session, draft.as_slice())
 }
 
 /// Offers a copy to each who hears a packet, in their order, and answers how many were sent.
@@ -64,9 +70,10 @@ pub(crate) fn deliver_each<W: Wait>(
     ensures each { DeliversEach speaker (plain_parts packet.now) hearers.now outs.old.items outs.new.items marks.new result }
 {
     marks.clear();
+    let mut draft = Draft::new();
     let mut sent = 0;
     for hearer in hearers {
-        let was_sent = deliver(rt, speaker, packet, hearer, outs);
+        let was_sent = deliver(rt, speaker, packet, hearer, &mut draft, outs);
         marks.push(Marked {
             session: hearer.session,
             context: hearer.context,

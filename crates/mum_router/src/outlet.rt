@@ -1,20 +1,17 @@
 //! The voice box of one slot, as a worker offers to it.
 
-ghost use Rattle.std.specs.Prelude.{◌≡◌, ◌≤◌, length, min};
+ghost use Rattle.std.specs.Prelude.{◌≡◌, ◌≤◌, [], length, min};
 ghost use Rattle.mum_outbox.specs.Calls.{Offers};
 ghost use Rattle.mum_base.specs.declared.number.TheConstants.{VOICE_CAPACITY};
 ghost use Rattle.mum_outbox.specs.declared.parcel.VoiceParcel.{VoiceParcel};
 ghost use Rattle.mum_outbox.specs.declared.queue.Offered.{Offered};
 ghost use Rattle.mum_outbox.specs.declared.rule.TheConstants.{LAST};
-ghost use Rattle.mum_route.specs.Hearers.{IsInRange};
-ghost use Rattle.mum_voice.specs.Packet.{IsPacket, plain_parts};
-ghost use Rattle.mum_router.specs.Offering.{is_sent, new_pass, parcel_for};
+ghost use Rattle.mum_router.specs.Offering.{is_sent, new_pass};
 
 use arrayvec::ArrayVec;
 use mum_base::SessionId;
 use mum_outbox::{BoxPass, VoiceBox, VoiceParcel};
-use mum_route::Hearer;
-use mum_voice::Packet;
+use mum_voice::COPY_LIMIT;
 use std::marker::Model;
 use std::sync::Wait;
 
@@ -40,6 +37,17 @@ impl Model for Out {
     ghost invariant = { λ o. (o.pass.queue ≡ o.queue.queue) × (o.sent ≡ min (length o.pass.offered) LAST) };
 }
 
+// Puts these bytes into an empty list.
+// Inlined, the whole list would be moved once more.
+#[inline(never)]
+fn fill(list: &mut ArrayVec<u8, COPY_LIMIT>, bytes: &[u8])
+    requires empty { list.old.items ≡ [] }
+    requires fits { length bytes.now ≤ COPY_LIMIT }
+    ensures { list.new.items ≡ bytes.now }
+{
+    list.try_extend_from_slice(bytes).unwrap();
+}
+
 impl Out {
     /// The box with a new pass of it.
     pub(crate) fn new(queue: VoiceBox) -> Out
@@ -54,26 +62,19 @@ impl Out {
         }
     }
 
-    /// Offers the copy of a packet for one who hears it, and answers whether it was sent; else the box was
-    /// full, and the copy is dropped.
-    pub(crate) fn offer<W: Wait>(
-        &mut self,
-        rt: &W,
-        speaker: SessionId,
-        packet: &Packet,
-        hearer: &Hearer,
-    ) -> bool
-        requires packet { IsPacket (plain_parts packet.now) }
-        requires range { IsInRange hearer.now }
+    /// Offers a copy of these bytes to a session, and answers whether it was sent; else the box was full, and the copy is
+    /// dropped.
+    pub(crate) fn offer<W: Wait>(&mut self, rt: &W, to: SessionId, bytes: &[u8]) -> bool
+        requires { length bytes.now ≤ COPY_LIMIT }
         ensures { (answer : Offered VoiceParcel)
-            × Offers VOICE_CAPACITY self.old (parcel_for speaker (plain_parts packet.now) hearer.now) answer self.new
+            × Offers VOICE_CAPACITY self.old (record { to = to; bytes = record { items = bytes.now } }) answer self.new
             × (result ≡ is_sent answer) }
     {
         let mut parcel = VoiceParcel {
-            to: hearer.session,
+            to,
             bytes: ArrayVec::new(),
         };
-        packet.copy_into(speaker, hearer.context, hearer.same, &mut parcel.bytes);
+        fill(&mut parcel.bytes, bytes);
         if !self.queue.put_as(rt, &mut self.pass, parcel) {
             return false;
         }

@@ -9,4 +9,4 @@ loop-hearer-preserved g c =
     let told = c.deliver-was_sent.ensures.delivers in
     let more = delivers_next c.args.speaker (plain_parts c.args.packet.now) c.args.hearers.now c.loop-hearer.hearer-index _ c.args.outs.now.items c.loop-hearer.outs.items c.deliver-was_sent.new.outs.items c.loop-hearer.marks c.loop-hearer.sent told.0 c.deliver-was_sent.result (omega arith) told.2 inv.0 told.1 in
     let marked = ap length c.push.ensures ∙ length-append c.loop-hearer.marks _ in
-    (rw c.push.ensures (rw c.from-sent.ensures more), c.deliver-was_sent.ensures.boxes, omega (arith, marked, inv.2), search rules)
+    (rw c.push.ensures (rw c.from-sent.ensures more), c.deliver-was_sent.ensures.draft, c.deliver-was_sent.ensures.boxes, omega (arith, marked, inv.3), search rules)

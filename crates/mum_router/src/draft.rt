@@ -1,0 +1,59 @@
+//! The copy of a packet that was made last.
+
+ghost use Rattle.std.specs.Prelude.{◌≡◌, ◌≤◌, [], length};
+ghost use Rattle.mum_voice.specs.Packet.{IsPacket, copy, plain_parts};
+ghost use Rattle.mum_route.specs.Hearers.{IsInRange};
+ghost use Rattle.mum_router.specs.Drafts.{IsDraft};
+
+use arrayvec::ArrayVec;
+use mum_base::SessionId;
+use mum_route::Hearer;
+use mum_voice::{COPY_LIMIT, Packet};
+
+/// A copy with what it was made for: all hearers in one context, with the position or without, get the same bytes. It
+/// has none before the first.
+#[derive(Drop)]
+pub(crate) struct Draft {
+    context: u8,
+    same: bool,
+    bytes: ArrayVec<u8, COPY_LIMIT>,
+}
+
+impl Draft {
+    /// No copy yet.
+    pub(crate) fn new() -> Draft
+        ensures { result.bytes.items ≡ [] }
+    {
+        Draft {
+            context: 0,
+            same: false,
+            bytes: ArrayVec::new(),
+        }
+    }
+
+    /// The copy for a hearer of this packet, which is made unless the one before is the same.
+    pub(crate) fn prepare(&mut self, speaker: SessionId, packet: &Packet, hearer: &Hearer)
+        requires packet { IsPacket (plain_parts packet.now) }
+        requires range { IsInRange hearer.now }
+        requires draft { IsDraft speaker (plain_parts packet.now) self.old }
+        ensures draft { IsDraft speaker (plain_parts packet.now) self.new }
+        ensures bytes { self.new.bytes.items ≡ copy (plain_parts packet.now) speaker.0 hearer.now.context hearer.now.same }
+    {
+        let is_made = !self.bytes.is_empty();
+        if is_made && self.context == hearer.context && self.same == hearer.same {
+            return;
+        }
+        self.bytes.clear();
+        packet.copy_into(speaker, hearer.context, hearer.same, &mut self.bytes);
+        self.context = hearer.context;
+        self.same = hearer.same;
+    }
+
+    /// Its bytes.
+    pub(crate) fn as_slice(&self) -> &[u8]
+        ensures all { result.now ≡ self.now.bytes.items }
+        ensures few { length result.now ≤ COPY_LIMIT }
+    {
+        self.bytes.as_slice()
+    }
+}

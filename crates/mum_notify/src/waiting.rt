@@ -9,7 +9,8 @@ use std::alloc::{AllocError, Global};
 use std::collections::VecDeque;
 use std::marker::Model;
 
-/// The same notice once more. It takes no memory: its bytes stand once.
+/// The same notice once more. Its bytes are shared, not copied; only the first time that they are shared is memory taken
+/// for that.
 pub fn shared(notice: &Notice) -> Result<Notice, OutOfMemory>
     ensures { IfOk result (λ shared. shared ≡ notice.now) }
 {

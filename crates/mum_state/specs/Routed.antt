@@ -1,4 +1,4 @@
--- What a route reads of a state.
+-- What a route depends on in a state.
 use Rattle.std.specs.Prelude.{false, List, [], map}
 use Rattle.mum_tree.specs.declared.channel.Row.{Row}
 use Rattle.mum_tree.specs.State.{TreeState, plain_info}
@@ -6,7 +6,7 @@ use Rattle.mum_users.specs.declared.user.User.{User}
 use Rattle.mum_users.specs.State.{RosterState}
 use Rattle.mum_state.specs.State.{PolicyRow, StateValue}
 
--- the parts of a state that a route reads, and nothing else of them
+-- the parts of a state on which a route depends: it reads nothing else, and not all of these
 pub record RouteInputs : Type 0 where
   pub tree : TreeState
   pub policies : List PolicyRow

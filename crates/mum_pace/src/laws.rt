@@ -1,0 +1,83 @@
+//! What the contracts of a meter come to. These functions do nothing: each contract is a theorem.
+
+ghost use Rattle.std.specs.Prelude.{◌≡◌, ◌+◌, ◌-◌, ◌^◌, ◌<◌, ◌≤◌, ◌↔◌, ◌++◌, ◌∷◌, ℕ, List, length, false, if◌then◌else◌};
+ghost use Rattle.mum_pace.specs.Laws.{AreWithin, IsNotZero, KeepAllowances, KeepsPace, Read, all_bytes, asked_and_read, last_time};
+ghost use Rattle.mum_pace.specs.Meters.{MeterState, allowance_of, at_time, new_meter, room};
+ghost use Rattle.mum_pace.specs.Pieces.{begins_piece, bytes_within, pieces_in};
+ghost use Rattle.mum_pace.specs.Places.{Place, after_bytes, cost_in, is_message, plus};
+ghost use Rattle.mum_pace.specs.declared.pace.Pace.{Pace};
+ghost use Rattle.mum_pace.specs.declared.pace.Pace.TheVariants.{Limited};
+ghost use Rattle.mum_pace.specs.declared.pace.Rate.{Rate};
+
+use crate::frames::{HEADER_LENGTH, PING, VOICE};
+use crate::hang_up::LEFT_BEHIND_LIMIT;
+use crate::long::{LONG_FRAMES_LIMIT, SHORT_LIMIT};
+use crate::pieces::{LONG_PIECE, PIECE};
+use crate::used::FRAME;
+
+/// The numbers for which the names of types and limits stand.
+pub fn limits()
+    ensures header { HEADER_LENGTH ≡ 6 }
+    ensures voice { VOICE ≡ 1 }
+    ensures ping { PING ≡ 3 }
+    ensures piece { PIECE ≡ 1000 }
+    ensures long_piece { LONG_PIECE ≡ 65536 }
+    ensures frame { FRAME ≡ 1000 }
+    ensures short { SHORT_LIMIT ≡ 131072 }
+    ensures long_frames { LONG_FRAMES_LIMIT ≡ 67108864 }
+    ensures left_behind { LEFT_BEHIND_LIMIT ≡ 10000 }
+{}
+
+/// The pieces of a message are those that begin with one of its bytes, and a length within so many pieces is the
+/// greatest.
+pub fn pieces_begin_one_by_one()
+    ensures none { pieces_in 0 ≡ 0 }
+    ensures next { (bytes : ℕ) →
+        pieces_in (bytes + 1) ≡ pieces_in bytes + (if begins_piece bytes then 1 else 0) }
+    ensures greatest { (bytes pieces : ℕ) → ((bytes ≤ bytes_within pieces) ↔ (pieces_in bytes ≤ pieces)) }
+{}
+
+/// However a stream is cut into reads, it leads to the same place and counts for as much.
+pub fn reads_count_as_one()
+    ensures place { (place : Place) (bytes more : List ℕ) →
+        after_bytes place (bytes ++ more) ≡ after_bytes (after_bytes place bytes) more }
+    ensures cost { (place : Place) (bytes more : List ℕ) →
+        cost_in place (bytes ++ more)
+        ≡ plus (cost_in place bytes) (cost_in (after_bytes place bytes) more) }
+{}
+
+/// Pace is kept: whoever reads no more than a meter allows never has a client use up more than its rates allow at once,
+/// whatever it sends and whenever.
+pub fn pace_is_kept()
+    ensures at_first { (pace : Pace) (time : ℕ) → KeepsPace (new_meter pace time) }
+    ensures then { (meter : MeterState) (time : ℕ) (bytes : List ℕ) → KeepsPace meter →
+        length bytes ≤ allowance_of (at_time meter time) →
+        KeepsPace (asked_and_read meter time bytes) }
+{}
+
+/// Somebody is read: where each rate has room for a frame, a byte may be read; and so it has after a second at the latest,
+/// if no rate is 0. A payload that is no message's may be read to its end whatever is used up.
+pub fn room_is_read()
+    ensures some { (meter : MeterState) (messages voice : Rate) →
+        meter.pace ≡ Limited messages voice → 0 < room messages meter.messages →
+        0 < room voice meter.voice → 0 < allowance_of meter }
+    ensures after_a_second { (meter : MeterState) (messages voice : Rate) → KeepsPace meter →
+        meter.pace ≡ Limited messages voice → IsNotZero messages → IsNotZero voice →
+        0 < allowance_of (at_time meter (meter.milliseconds + 1000)) }
+    ensures payload { (meter : MeterState) (messages voice : Rate) →
+        meter.pace ≡ Limited messages voice → is_message meter.place.kind ≡ false →
+        meter.place.left ≤ allowance_of meter }
+{}
+
+/// In the long run a client sends no more than its rates allow: what it sends from one read to another is at most what
+/// they allow at once, and in the time between the two.
+pub fn the_long_run_is_within_the_rates()
+    ensures { (meter : MeterState) (messages voice : Rate) (read : Read) (reads : List Read) →
+        messages.at_once < 2 ^ 32 → voice.at_once < 2 ^ 32 →
+        KeepsPace meter → meter.pace ≡ Limited messages voice →
+        KeepAllowances meter read.time (read ∷ reads) →
+        AreWithin messages (last_time read.time reads - read.time)
+        (cost_in meter.place (all_bytes (read ∷ reads))).messages
+        × AreWithin voice (last_time read.time reads - read.time)
+        (cost_in meter.place (all_bytes (read ∷ reads))).voice }
+{}

@@ -1,0 +1,6 @@
+mod Apart
+mod Fronts
+mod Octets
+mod Pieces
+mod StandardAddresses
+mod StandardFacts

@@ -1,0 +1,6 @@
+use Rattle.std.proofs.Common.{sym, subst}
+use Rattle.mum_address.specs.Reader.{IsRead}
+use Rattle.mum_address.proofs.reader.HeaderReader.new.Goals as goal
+
+pub invariant_of-result : goal.invariant_of-result
+invariant_of-result c = subst IsRead (sym c.new.ensures) IsRead.nothing

@@ -1,0 +1,424 @@
+//! How connections come in: from a listener, behind the header of a relay where there is one, to the thread of the worker
+//! that gets them.
+
+ghost use Rattle.std.specs.Prelude.{◌≡◌, [], false, IfOk, IfSome, is_some, slice_get, unwrap_or};
+ghost use Rattle.std.specs.Io.KnownBytes.{Keeps};
+ghost use Rattle.std.specs.Option.{ForSome, option_map};
+ghost use Rattle.std.specs.Result.{ForOk};
+ghost use Rattle.std.specs.Net.Addr.{ipv6_octets};
+ghost use Rattle.mum_address.specs.Header.{IsHeader};
+ghost use Rattle.mum_link.specs.Headers.{HoldsAnswer, IsOf, TakesOut, refused_after};
+
+use crate::board::Board;
+use crate::hub::{Hub, READABLE};
+use crate::kept::Kept;
+use crate::link::SocketLink;
+use crate::listener::Listener;
+use crate::seat::Seat;
+use crate::socket::Socket;
+use crate::waiting::Waiting;
+use mum_address::Header;
+use mum_pace::{Meter, Pace, Reservation};
+use std::alloc::Global;
+use std::io;
+use std::io::ErrorKind;
+use std::net::Ipv6Addr;
+use std::sync::Arc;
+
+/// The thread of the door, the first of the crew.
+pub const DOOR_THREAD: usize = 0;
+
+/// How many connections may wait for their headers.
+const WAITING_LIMIT: usize = 64;
+
+/// After how many milliseconds a listener that had no descriptor or no slot is asked again.
+const PAUSE: u64 = 1000;
+
+/// How many connections are taken from the listener in one call, and how often it is asked for one.
+const ARRIVALS: usize = 256;
+
+const ATTEMPTS: usize = 16;
+
+// A connection that came, with its slot and the address of its peer.
+#[derive(Drop)]
+struct Arrival<S> {
+    socket: S,
+    slot: usize,
+    address: Ipv6Addr,
+}
+
+// How many links were shut, and the time in milliseconds, when the listener could not be asked.
+#[derive(Clone, Copy)]
+struct Stuck {
+    links_shut: u64,
+    since: u64,
+}
+
+/// A listener, those who wait behind it, and the boards of the crew's threads. The first thread asks it.
+#[derive(Drop)]
+pub struct Entrance<L, S> {
+    alloc: Global,
+    hub: Arc<Hub>,
+    boards: Vec<Arc<Board>>,
+    pace: Pace,
+    listener: L,
+    has_headers: bool,
+    waiting: Vec<Waiting<S>>,
+    stuck: Option<Stuck>,
+    refused: u64,
+}
+
+impl<L, S> Entrance<L, S> {
+    /// Behind this listener, which is still to be opened.
+    pub fn new(
+        alloc: Global,
+        hub: Arc<Hub>,
+        boards: Vec<Arc<Board>>,
+        pace: Pace,
+        listener: L,
+    ) -> Entrance<L, S>
+        ensures headers { result.has_headers ≡ false }
+        ensures waiting { result.waiting.items ≡ [] }
+        ensures refused { result.refused ≡ 0 }
+    {
+        Entrance {
+            alloc,
+            hub,
+            boards,
+            pace,
+            listener,
+            has_headers: false,
+            waiting: Vec::new(alloc),
+            stuck: None,
+            refused: 0,
+        }
+    }
+
+    pub fn listener(&self) -> &L {
+        &self.listener
+    }
+}
+
+impl<S: Socket, L: Listener<Socket = S>> Entrance<L, S> {
+    /// Listens at this address. Whether it does.
+    pub fn open(&mut self, address: &str) -> bool
+        ensures { result ≡ false → self.new.has_headers ≡ self.old.has_headers }
+    {
+        let answer = self.listener.listen(address);
+        self.begin(answer)
+    }
+
+    // The listener answered this. Whether it listens.
+    fn begin(&mut self, answer: Option<bool>) -> bool
+        ensures listens { result ≡ is_some answer }
+        ensures has_headers { self.new.has_headers ≡ unwrap_or answer self.old.has_headers }
+    {
+        let Some(has_headers) = answer else {
+            return false;
+        };
+        self.has_headers = has_headers;
+        self.hub.set_door_ready(true);
+        true
+    }
+
+    /// The next connection, which gets this number.
+    pub fn next(&mut self, connection: u64) -> Option<SocketLink<S>>
+        ensures has_headers { self.new.has_headers ≡ self.old.has_headers }
+    {
+        self.try_again();
+        let link = self.next_of_all(connection);
+        self.watch_time();
+        link
+    }
+
+    fn next_of_all(&mut self, connection: u64) -> Option<SocketLink<S>>
+        ensures has_headers { self.new.has_headers ≡ self.old.has_headers }
+    {
+        for _ in 0..ARRIVALS {
+            if let Some(link) = self.next_waiting(connection) {
+                return Some(link);
+            }
+            if self.waiting.len() >= WAITING_LIMIT {
+                return None;
+            }
+            let arrival = self.arrive()?;
+            if self.has_headers {
+                self.await_header(arrival);
+                continue;
+            }
+            if let Some(link) = self.admit_client(arrival, connection) {
+                return Some(link);
+            }
+        }
+        None
+    }
+
+    // The time in milliseconds.
+    fn now(&self) -> u64 {
+        match self.boards.get(DOOR_THREAD) {
+            Some(board) => board.milliseconds(),
+            None => 0,
+        }
+    }
+
+    // The listener reports no second time what it could not be asked for.
+    fn try_again(&mut self)
+        ensures has_headers { self.new.has_headers ≡ self.old.has_headers }
+    {
+        if let Some(stuck) = self.stuck {
+            let is_over = self.now() >= stuck.since.saturating_add(PAUSE);
+            if is_over || self.hub.links_shut() != stuck.links_shut {
+                self.stuck = None;
+                self.hub.set_door_ready(true);
+            }
+        }
+    }
+
+    // Who waits for a header, and a listener that is to be asked again, need the door asked before long. So does one that
+    // still is ready, since too many attempts came to nothing: it reports no second time what it has.
+    fn watch_time(&self) {
+        if self.stuck.is_some() || !self.waiting.is_empty() || self.hub.is_door_ready() {
+            if let Some(board) = self.boards.get(DOOR_THREAD) {
+                board.slow_down();
+            }
+        }
+    }
+
+    fn pause(&mut self)
+        ensures has_headers { self.new.has_headers ≡ self.old.has_headers }
+    {
+        self.hub.set_door_ready(false);
+        self.stuck = Some(Stuck {
+            links_shut: self.hub.links_shut(),
+            since: self.now(),
+        });
+    }
+
+    // The next connection of the listener, in a slot of its own.
+    fn arrive(&mut self) -> Option<Arrival<S>>
+        ensures has_headers { self.new.has_headers ≡ self.old.has_headers }
+    {
+        if !self.hub.is_door_ready() {
+            return None;
+        }
+        let Some(slot) = self.hub.take_slot() else {
+            self.pause();
+            return None;
+        };
+        match self.accept() {
+            Some((socket, address)) => Some(Arrival {
+                socket,
+                slot,
+                address,
+            }),
+            None => {
+                self.hub.free_slot(slot);
+                None
+            }
+        }
+    }
+
+    fn accept(&mut self) -> Option<(S, Ipv6Addr)>
+        ensures has_headers { self.new.has_headers ≡ self.old.has_headers }
+    {
+        for _ in 0..ATTEMPTS {
+            match self.listener.accept() {
+                Ok(accepted) => return Some(accepted),
+                Err(error) => match error.kind() {
+                    ErrorKind::WouldBlock => {
+                        self.hub.set_door_ready(false);
+                        return None;
+                    }
+                    ErrorKind::Interrupted | ErrorKind::ConnectionAborted => {}
+                    _ => {
+                        self.pause();
+                        return None;
+                    }
+                },
+            }
+        }
+        None
+    }
+
+    // Keeps a connection until its header has come.
+    fn await_header(&mut self, arrival: Arrival<S>)
+        ensures has_headers { self.new.has_headers ≡ self.old.has_headers }
+    {
+        let slot = arrival.slot;
+        if self.watch_waiting(arrival).is_err() {
+            self.hub.free_slot(slot);
+        }
+    }
+
+    fn watch_waiting(&mut self, arrival: Arrival<S>) -> io::Result<()>
+        ensures has_headers { self.new.has_headers ≡ self.old.has_headers }
+    {
+        let Arrival {
+            mut socket,
+            slot,
+            address,
+        } = arrival;
+        self.listener.watch(&mut socket, DOOR_THREAD, slot)?;
+        let waiting = Waiting::new(socket, slot, address, self.now());
+        self.waiting.push(waiting)?;
+        Ok(())
+    }
+
+    // The first connection whose header is whole. Those without one are closed.
+    fn next_waiting(&mut self, connection: u64) -> Option<SocketLink<S>>
+        ensures has_headers { self.new.has_headers ≡ self.old.has_headers }
+    {
+        let mut place = 0usize;
+        for _ in 0..WAITING_LIMIT {
+            match self.read_waiting(place)? {
+                Header::Needs(_) => place = place.saturating_add(1),
+                Header::Refused => self.refuse(place),
+                Header::Whole(client) => {
+                    if let Some(link) = self.admit_waiting(place, connection, client) {
+                        return Some(link);
+                    }
+                }
+            }
+        }
+        None
+    }
+
+    // What has come of the header of who waits at this place. None: nobody does.
+    fn read_waiting(&mut self, place: usize) -> Option<Header>
+        ensures answer { ForSome result (λ answer. HoldsAnswer answer (slice_get self.new.waiting.items place)) }
+        ensures has_headers { self.new.has_headers ≡ self.old.has_headers }
+    {
+        let now = self.now();
+        match self.waiting.get_mut(place) {
+            Some(waiting) => Some(waiting.read_on(&self.hub, now)),
+            None => None,
+        }
+    }
+
+    // Makes the link of who waits at this place, whose header is whole.
+    fn admit_waiting(
+        &mut self,
+        place: usize,
+        connection: u64,
+        client: Option<Ipv6Addr>,
+    ) -> Option<SocketLink<S>>
+        requires { ForSome (slice_get self.old.waiting.items place)
+            (λ waiting. IsHeader waiting.reader (option_map ipv6_octets client)) }
+        ensures same { ForSome result (λ link. IsOf S.left link.wire.line.socket (slice_get self.old.waiting.items place)) }
+        ensures address { ForSome result (λ link. ForSome (slice_get self.old.waiting.items place)
+            (λ waiting. link.address ≡ unwrap_or client waiting.address)) }
+        ensures taken { TakesOut place self.old.waiting.items self.new.waiting.items (slice_get self.old.waiting.items place) }
+        ensures has_headers { self.new.has_headers ≡ self.old.has_headers }
+    {
+        let Waiting {
+            socket,
+            slot,
+            address,
+            ..
+        } = self.take_waiting(place)?;
+        let arrival = Arrival {
+            socket,
+            slot,
+            address,
+        };
+        self.admit(arrival, connection, client)
+    }
+
+    // Closes who waits at this place, and counts it.
+    fn refuse(&mut self, place: usize)
+        ensures taken { TakesOut place self.old.waiting.items self.new.waiting.items (slice_get self.old.waiting.items place) }
+        ensures refused { self.new.refused ≡ refused_after (slice_get self.old.waiting.items place) self.old.refused }
+        ensures has_headers { self.new.has_headers ≡ self.old.has_headers }
+    {
+        if let Some(waiting) = self.take_waiting(place) {
+            self.hub.free_slot(waiting.slot);
+            self.refused = self.refused.saturating_add(1);
+            self.listener.refuse(self.refused);
+        }
+    }
+
+    // Takes out who waits at this place.
+    fn take_waiting(&mut self, place: usize) -> Option<Waiting<S>>
+        ensures taken { TakesOut place self.old.waiting.items self.new.waiting.items result }
+        ensures refused { self.new.refused ≡ self.old.refused }
+        ensures has_headers { self.new.has_headers ≡ self.old.has_headers }
+    {
+        if self.waiting.len() <= place {
+            return None;
+        }
+        Some(self.waiting.remove(place))
+    }
+
+    // Makes the link of a client that came by itself, where connections begin without headers.
+    fn admit_client(&mut self, arrival: Arrival<S>, connection: u64) -> Option<SocketLink<S>>
+        requires { self.old.has_headers ≡ false }
+        ensures address { IfSome result (λ link. link.address ≡ arrival.address) }
+        ensures left { ForSome result (λ link. Keeps (S.left arrival.socket) (S.left link.wire.line.socket)) }
+        ensures has_headers { self.new.has_headers ≡ self.old.has_headers }
+    {
+        let client = Some(arrival.address);
+        self.admit(arrival, connection, client)
+    }
+
+    // Makes the link of this number on the thread of its worker, for a client at this address, or for a relay. None:
+    // something is missing for it, and it is closed.
+    fn admit(
+        &mut self,
+        arrival: Arrival<S>,
+        connection: u64,
+        client: Option<Ipv6Addr>,
+    ) -> Option<SocketLink<S>>
+        ensures address { IfSome result (λ link. link.address ≡ unwrap_or client arrival.address) }
+        ensures left { ForSome result (λ link. Keeps (S.left arrival.socket) (S.left link.wire.line.socket)) }
+        ensures waiting { self.new.waiting ≡ self.old.waiting }
+        ensures has_headers { self.new.has_headers ≡ self.old.has_headers }
+    {
+        let slot = arrival.slot;
+        match self.link(arrival, connection, client) {
+            Ok(link) => Some(link),
+            Err(_) => {
+                self.hub.free_slot(slot);
+                None
+            }
+        }
+    }
+
+    fn link(
+        &mut self,
+        arrival: Arrival<S>,
+        connection: u64,
+        client: Option<Ipv6Addr>,
+    ) -> io::Result<SocketLink<S>>
+        ensures address { IfOk result (λ link. link.address ≡ unwrap_or client arrival.address) }
+        ensures left { ForOk result (λ link. Keeps (S.left arrival.socket) (S.left link.wire.line.socket)) }
+        ensures waiting { self.new.waiting ≡ self.old.waiting }
+        ensures has_headers { self.new.has_headers ≡ self.old.has_headers }
+    {
+        let Arrival {
+            mut socket,
+            slot,
+            address,
+        } = arrival;
+        let thread = self.hub.thread_of(connection);
+        let Some(board) = self.boards.get(thread) else {
+            return Err(io::Error::from(ErrorKind::NotFound));
+        };
+        let seat = Seat {
+            hub: self.hub.clone()?,
+            board: board.clone()?,
+            slot,
+        };
+        let kept = Kept::new(self.alloc)?;
+        let reservation = Reservation::new(self.hub.long_frames.clone()?);
+        let opened = self.now();
+        // it may be readable by now, which watching reports again
+        self.hub.set(slot, READABLE);
+        self.listener.watch(&mut socket, thread, slot)?;
+        self.listener
+            .begin(&mut socket, connection, opened, client)?;
+        seat.take();
+        let meter = Meter::new(self.pace, opened);
+        let address = client.unwrap_or(address);
+        Ok(SocketLink::new(socket, seat, address, meter, reservation, kept))
+    }
+}

@@ -1,0 +1,136 @@
+//! A socket that is asked only where it may be ready.
+
+ghost use Rattle.std.specs.Prelude.{◌≡◌, ◌<◌, ◌⊎◌, length};
+ghost use Rattle.std.specs.Io.KnownBytes.{Keeps};
+ghost use Rattle.mum_io.specs.Link.{PollReadLeaves, PollWriteLeaves};
+ghost use Rattle.mum_io.specs.declared.link.PollRead.TheVariants as read;
+ghost use Rattle.mum_io.specs.declared.link.PollWrite.TheVariants as write;
+
+use crate::seat::Seat;
+use crate::socket::Socket;
+use mum_io::{PollRead, PollWrite};
+use std::io::ErrorKind;
+
+/// A socket, the place of its link, and how many bytes went over it.
+#[derive(Drop)]
+pub(crate) struct Line<S> {
+    pub(crate) socket: S,
+    pub(crate) seat: Seat,
+    pub(crate) is_broken: bool,
+    awaits_room: bool,
+    pub(crate) bytes_read: u64,
+    pub(crate) bytes_written: u64,
+}
+
+impl<S: Socket> Line<S> {
+    /// A line over which nothing went yet.
+    pub(crate) fn new(socket: S, seat: Seat) -> Line<S>
+        ensures { result.socket ≡ socket }
+    {
+        Line {
+            socket,
+            seat,
+            is_broken: false,
+            awaits_room: false,
+            bytes_read: 0,
+            bytes_written: 0,
+        }
+    }
+
+    /// Reads what has come. The flag is left where there may be more: the system reports no change of that.
+    pub(crate) fn read(&mut self, buf: &mut [u8]) -> PollRead
+        requires { 0 < length buf.old }
+        ensures left { PollReadLeaves result (S.left self.old.socket) (S.left self.new.socket) buf.new }
+        ensures written { Keeps (S.written self.old.socket) (S.written self.new.socket) }
+    {
+        self.seat.clear_readable();
+        match self.socket.read(buf) {
+            Ok(0) => {
+                self.seat.set_readable();
+                PollRead::End
+            }
+            Ok(count) => {
+                self.bytes_read = self.bytes_read.saturating_add(count as u64);
+                if count == buf.len() || self.seat.has_hung_up() {
+                    self.seat.set_readable();
+                }
+                PollRead::Got(count)
+            }
+            Err(error) => self.after_failed_read(error.kind()),
+        }
+    }
+
+    // Nothing has come yet, or the read failed.
+    fn after_failed_read(&mut self, kind: ErrorKind) -> PollRead
+        ensures answer { (result ≡ read.NotYet) ⊎ (result ≡ read.Failed) }
+        ensures socket { self.new.socket ≡ self.old.socket }
+    {
+        match kind {
+            ErrorKind::WouldBlock => PollRead::NotYet,
+            ErrorKind::Interrupted => {
+                self.seat.set_readable();
+                PollRead::NotYet
+            }
+            _ => {
+                self.is_broken = true;
+                PollRead::Failed
+            }
+        }
+    }
+
+    /// Writes a front of the piece, where there may be room.
+    pub(crate) fn write(&mut self, piece: &[u8]) -> PollWrite
+        ensures written { PollWriteLeaves result (S.written self.old.socket) (S.written self.new.socket) piece.now }
+        ensures left { Keeps (S.left self.old.socket) (S.left self.new.socket) }
+    {
+        if self.is_broken {
+            return PollWrite::Failed;
+        }
+        if !self.seat.is_writable() {
+            return PollWrite::NotYet;
+        }
+        match self.socket.write(piece) {
+            Ok(0) => self.fail(),
+            Ok(count) => {
+                self.bytes_written = self.bytes_written.saturating_add(count as u64);
+                PollWrite::Took(count)
+            }
+            Err(error) => self.after_failed_write(error.kind()),
+        }
+    }
+
+    fn fail(&mut self) -> PollWrite
+        ensures answer { result ≡ write.Failed }
+        ensures socket { self.new.socket ≡ self.old.socket }
+    {
+        self.is_broken = true;
+        PollWrite::Failed
+    }
+
+    // There is no room yet, or the write failed.
+    fn after_failed_write(&mut self, kind: ErrorKind) -> PollWrite
+        ensures answer { (result ≡ write.NotYet) ⊎ (result ≡ write.Failed) }
+        ensures left { Keeps (S.left self.old.socket) (S.left self.new.socket) }
+        ensures written { Keeps (S.written self.old.socket) (S.written self.new.socket) }
+    {
+        match kind {
+            ErrorKind::WouldBlock => self.await_room(),
+            ErrorKind::Interrupted => PollWrite::NotYet,
+            _ => self.fail(),
+        }
+    }
+
+    // Has the system report room. It stays asked.
+    fn await_room(&mut self) -> PollWrite
+        ensures answer { (result ≡ write.NotYet) ⊎ (result ≡ write.Failed) }
+        ensures left { Keeps (S.left self.old.socket) (S.left self.new.socket) }
+        ensures written { Keeps (S.written self.old.socket) (S.written self.new.socket) }
+    {
+        self.seat.clear_writable();
+        if self.awaits_room || self.socket.await_room() {
+            self.awaits_room = true;
+            return PollWrite::NotYet;
+        }
+        self.fail()
+    }
+}

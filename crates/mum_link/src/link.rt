@@ -1,0 +1,108 @@
+//! A link over a socket.
+
+ghost use Rattle.std.specs.Prelude.{◌≡◌, false};
+ghost use Rattle.std.specs.Net.Addr.{ipv6_octets};
+ghost use Rattle.mum_io.specs.Counts.{no_counts};
+ghost use Rattle.mum_io.specs.Link.{PollReadCounts, PollWriteCounts};
+ghost use Rattle.mum_link.specs.Wires.{taken};
+
+use crate::kept::Kept;
+use crate::seat::Seat;
+use crate::socket::Socket;
+use crate::wire::Wire;
+use mum_io::{Link, PollRead, PollWrite, Tally};
+use mum_pace::{Meter, Reservation};
+use std::net::Ipv6Addr;
+
+/// A connection. The bytes that are left are those of its socket; those that were written are those of its socket, and
+/// behind them what is kept back.
+#[derive(Drop)]
+pub struct SocketLink<S> {
+    tally: Tally,
+    address: Ipv6Addr,
+    is_shut: bool,
+    wire: Wire<S>,
+}
+
+// Counts the answer of a read.
+fn count_read(tally: &mut Tally, answer: PollRead)
+    ensures { PollReadCounts answer tally.old tally.new }
+{
+    match answer {
+        PollRead::Got(_) => {}
+        PollRead::End => tally.count_end(),
+        PollRead::NotYet => tally.count_stall(),
+        PollRead::Failed => tally.count_fault(),
+    }
+}
+
+// Counts the answer of a write.
+fn count_write(tally: &mut Tally, answer: PollWrite)
+    ensures { PollWriteCounts answer tally.old tally.new }
+{
+    match answer {
+        PollWrite::Took(_) => {}
+        PollWrite::NotYet => tally.count_stall(),
+        PollWrite::Failed => tally.count_fault(),
+    }
+}
+
+impl<S: Socket> SocketLink<S> {
+    /// An open link to the peer at this address, over which nothing went yet.
+    pub fn new(
+        socket: S,
+        seat: Seat,
+        address: Ipv6Addr,
+        meter: Meter,
+        reservation: Reservation,
+        kept: Kept,
+    ) -> SocketLink<S>
+        ensures address { result.address ≡ address }
+        ensures open { result.is_shut ≡ false }
+        ensures counts { result.tally ≡ no_counts }
+        ensures socket { result.wire.line.socket ≡ socket }
+        ensures kept { result.wire.kept ≡ kept }
+    {
+        SocketLink {
+            tally: Tally::new(),
+            address,
+            is_shut: false,
+            wire: Wire::new(socket, seat, meter, reservation, kept),
+        }
+    }
+}
+
+impl<S: Socket> Link for SocketLink<S> {
+    ghost counts = { λ l. l.tally };
+
+    ghost left = { λ l. S.left l.wire.line.socket };
+
+    ghost written = { λ l. taken (S.written l.wire.line.socket) l.wire.kept };
+
+    ghost address = { λ l. ipv6_octets l.address };
+
+    ghost is_shut = { λ l. l.is_shut };
+
+    fn poll_read(&mut self, buf: &mut [u8]) -> PollRead {
+        let answer = self.wire.read(buf);
+        count_read(&mut self.tally, answer);
+        answer
+    }
+
+    fn poll_write(&mut self, piece: &[u8]) -> PollWrite {
+        let answer = self.wire.write(piece);
+        count_write(&mut self.tally, answer);
+        answer
+    }
+
+    fn shut(&mut self) {
+        if !self.is_shut {
+            self.wire.shut();
+        }
+        self.is_shut = true;
+    }
+
+    fn address(&self) -> [u8; 16] {
+        self.address.octets()
+    }
+}

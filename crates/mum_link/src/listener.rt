@@ -1,0 +1,38 @@
+//! A listening socket, as an entrance uses it.
+
+ghost use Rattle.std.specs.Io.KnownBytes.{Keeps};
+
+use crate::socket::Socket;
+use std::io;
+use std::net::Ipv6Addr;
+
+/// A listening socket, and the polls of the threads on which its connections are. No call waits.
+pub trait Listener: Drop {
+    type Socket: Socket;
+
+    /// Listens at this address. Whether each connection begins with the header of a relay. None: it cannot listen there.
+    fn listen(&mut self, address: &str) -> Option<bool>;
+
+    /// The next connection, with the address of its peer. An error of the kind `WouldBlock`: none has come yet.
+    fn accept(&mut self) -> io::Result<(Self::Socket, Ipv6Addr)>;
+
+    /// Has what a connection is ready for reported on this thread, for this slot, and no longer where it was before.
+    fn watch(&mut self, socket: &mut Self::Socket, thread: usize, slot: usize) -> io::Result<()>
+        ensures left { Keeps (Self.Socket.left socket.old) (Self.Socket.left socket.new) }
+        ensures written { Keeps (Self.Socket.written socket.old) (Self.Socket.written socket.new) };
+
+    /// The connection of this number begins, at this time in milliseconds. It is that of a client at this address, or of
+    /// a relay for itself.
+    fn begin(
+        &mut self,
+        socket: &mut Self::Socket,
+        connection: u64,
+        milliseconds: u64,
+        client: Option<Ipv6Addr>,
+    ) -> io::Result<()>
+        ensures left { Keeps (Self.Socket.left socket.old) (Self.Socket.left socket.new) }
+        ensures written { Keeps (Self.Socket.written socket.old) (Self.Socket.written socket.new) };
+
+    /// So many connections began without a header until now; the last of them was closed.
+    fn refuse(&mut self, refused: u64);
+}

@@ -1,0 +1,212 @@
+//! How a link reads and writes: it reads as its pace and the allowance for long frames allow, and keeps what is written in
+//! batches where more is coming.
+
+ghost use Rattle.std.specs.Prelude.{◌≡◌, ◌<◌, ◌⊎◌, [], length};
+ghost use Rattle.std.specs.Io.KnownBytes.{Keeps};
+ghost use Rattle.mum_io.specs.Link.{PollReadLeaves, PollWriteLeaves};
+ghost use Rattle.mum_io.specs.declared.link.PollRead.TheVariants as read;
+ghost use Rattle.mum_link.specs.Wires.{taken};
+
+use crate::kept::{KEPT_LIMIT, Kept};
+use crate::line::Line;
+use crate::seat::Seat;
+use crate::socket::Socket;
+use mum_io::{PollRead, PollWrite};
+use mum_pace::{HangUp, Meter, Reservation};
+
+/// A line, how fast it may be read, and what is kept back of what was written.
+#[derive(Drop)]
+pub(crate) struct Wire<S> {
+    pub(crate) line: Line<S>,
+    meter: Meter,
+    hang_up: HangUp,
+    reservation: Reservation,
+    pub(crate) kept: Kept,
+    was_refused: bool,
+}
+
+impl<S: Socket> Wire<S> {
+    /// A wire over which nothing went yet.
+    pub(crate) fn new(
+        socket: S,
+        seat: Seat,
+        meter: Meter,
+        reservation: Reservation,
+        kept: Kept,
+    ) -> Wire<S>
+        ensures socket { result.line.socket ≡ socket }
+        ensures kept { result.kept ≡ kept }
+    {
+        Wire {
+            line: Line::new(socket, seat),
+            meter,
+            hang_up: HangUp::new(),
+            reservation,
+            kept,
+            was_refused: false,
+        }
+    }
+
+    /// Reads what has come, if its pace and the allowance for long frames allow that. What was kept in an earlier batch
+    /// is sent before.
+    pub(crate) fn read(&mut self, buf: &mut [u8]) -> PollRead
+        requires { 0 < length buf.old }
+        ensures left { PollReadLeaves result (S.left self.old.line.socket) (S.left self.new.line.socket) buf.new }
+        ensures taken { Keeps (taken (S.written self.old.line.socket) self.old.kept)
+            (taken (S.written self.new.line.socket) self.new.kept) }
+    {
+        self.line.seat.board.ask();
+        if self.keeps_an_earlier_batch() {
+            self.send_kept();
+        }
+        let read = self.read_in_pace(buf);
+        if matches!(read, PollRead::End | PollRead::Failed) {
+            self.line.seat.board.note_news();
+        }
+        read
+    }
+
+    fn read_in_pace(&mut self, buf: &mut [u8]) -> PollRead
+        requires { 0 < length buf.old }
+        ensures left { PollReadLeaves result (S.left self.old.line.socket) (S.left self.new.line.socket) buf.new }
+        ensures written { Keeps (S.written self.old.line.socket) (S.written self.new.line.socket) }
+        ensures kept { self.new.kept ≡ self.old.kept }
+    {
+        if self.line.is_broken {
+            return PollRead::Failed;
+        }
+        if !self.line.seat.is_readable() {
+            return PollRead::NotYet;
+        }
+        let allowance = self.meter.allowance(self.line.seat.board.milliseconds());
+        if allowance == 0 || !self.reservation.covers(self.meter.payload()) {
+            return self.wait();
+        }
+        let length = buf.len().min(allowance);
+        let read = self.line.read(&mut buf[..length]);
+        if let PollRead::Got(count) = read {
+            self.note_read(&buf[..count]);
+        }
+        read
+    }
+
+    // No byte may be read now, by the pace or because a long frame finds no room beside those of other links. What a
+    // client that has hung up left behind is not waited for for long: else it would keep its slot. It is lost then, and
+    // so the link fails.
+    fn wait(&mut self) -> PollRead
+        ensures answer { (result ≡ read.NotYet) ⊎ (result ≡ read.Failed) }
+        ensures socket { self.new.line.socket ≡ self.old.line.socket }
+        ensures kept { self.new.kept ≡ self.old.kept }
+    {
+        let has_hung_up = self.line.seat.has_hung_up();
+        let milliseconds = self.line.seat.board.milliseconds();
+        if self.hang_up.is_over(has_hung_up, milliseconds) {
+            self.line.is_broken = true;
+            return PollRead::Failed;
+        }
+        self.line.seat.board.slow_down();
+        PollRead::NotYet
+    }
+
+    // Links hold back where more is coming; other threads may have to hear of everything but Pings.
+    fn note_read(&mut self, bytes: &[u8])
+        ensures line { self.new.line.socket ≡ self.old.line.socket }
+        ensures kept { self.new.kept ≡ self.old.kept }
+    {
+        let counted = self.meter.count(bytes);
+        if counted.frames > 1 {
+            self.line.seat.board.hold();
+        }
+        if !counted.is_pings {
+            self.line.seat.board.note_news();
+        }
+        self.reservation.leave_frames_before(self.meter.payload());
+    }
+
+    /// Sends the piece where nothing is kept and nobody holds back, and else keeps it as far as there is room.
+    pub(crate) fn write(&mut self, piece: &[u8]) -> PollWrite
+        requires { 0 < length piece.now }
+        ensures taken { PollWriteLeaves result (taken (S.written self.old.line.socket) self.old.kept)
+            (taken (S.written self.new.line.socket) self.new.kept) piece.now }
+        ensures left { Keeps (S.left self.old.line.socket) (S.left self.new.line.socket) }
+    {
+        if self.keeps_an_earlier_batch() || self.kept.room() < piece.len() {
+            self.send_kept();
+        }
+        let written = self.send_or_keep(piece);
+        if self.is_news(written) {
+            self.line.seat.board.note_news();
+        }
+        written
+    }
+
+    // Whether other threads may have to hear of an answer: the link failed, or it takes bytes again. Then frames are
+    // handled that came long ago, and were not while too much was unwritten.
+    fn is_news(&mut self, written: PollWrite) -> bool
+        ensures line { self.new.line ≡ self.old.line }
+        ensures kept { self.new.kept ≡ self.old.kept }
+    {
+        let was_refused = self.was_refused;
+        self.was_refused = matches!(written, PollWrite::NotYet);
+        match written {
+            PollWrite::Took(_) => was_refused,
+            PollWrite::NotYet => false,
+            PollWrite::Failed => true,
+        }
+    }
+
+    fn send_or_keep(&mut self, piece: &[u8]) -> PollWrite
+        requires { 0 < length piece.now }
+        ensures taken { PollWriteLeaves result (taken (S.written self.old.line.socket) self.old.kept)
+            (taken (S.written self.new.line.socket) self.new.kept) piece.now }
+        ensures left { Keeps (S.left self.old.line.socket) (S.left self.new.line.socket) }
+    {
+        if self.line.is_broken {
+            return PollWrite::Failed;
+        }
+        let is_sent_now = KEPT_LIMIT < piece.len() || !self.line.seat.board.is_holding();
+        if is_sent_now && self.kept.is_empty() {
+            return self.line.write(piece);
+        }
+        match self.kept.put(piece, self.line.seat.board.batch()) {
+            0 => PollWrite::NotYet,
+            count => PollWrite::Took(count),
+        }
+    }
+
+    fn keeps_an_earlier_batch(&self) -> bool {
+        !self.kept.is_empty() && self.kept.batch() != self.line.seat.board.batch()
+    }
+
+    // Sends what is kept, as far as the socket takes it.
+    fn send_kept(&mut self)
+        ensures taken { Keeps (taken (S.written self.old.line.socket) self.old.kept)
+            (taken (S.written self.new.line.socket) self.new.kept) }
+        ensures left { Keeps (S.left self.old.line.socket) (S.left self.new.line.socket) }
+    {
+        for _ in 0..KEPT_LIMIT {
+            if self.kept.is_empty() {
+                break;
+            }
+            let PollWrite::Took(count) = self.line.write(self.kept.as_slice()) else {
+                break;
+            };
+            self.kept.pass(count);
+        }
+    }
+
+    /// Sends what is kept, takes the socket out of its poll and the link out of its slot.
+    pub(crate) fn shut(&mut self)
+        ensures taken { Keeps (taken (S.written self.old.line.socket) self.old.kept)
+            (taken (S.written self.new.line.socket) self.new.kept) }
+        ensures left { Keeps (S.left self.old.line.socket) (S.left self.new.line.socket) }
+    {
+        self.send_kept();
+        let milliseconds = self.line.seat.board.milliseconds();
+        let (received, sent) = (self.line.bytes_read, self.line.bytes_written);
+        self.line.socket.leave(milliseconds, received, sent);
+        self.line.is_broken = true;
+        self.reservation.give_back();
+        self.line.seat.leave();
+    }
+}

@@ -2,14 +2,12 @@
 
 ghost use Rattle.std.specs.Prelude.{◌≡◌};
 
-use crate::board::Board;
-use crate::entrance::Post;
-use crate::hub::{Hub, THREAD_LIMIT};
 use crate::life::Life;
 use crate::station::{SocketStation, WAKER};
-use mio::{Events, Poll, Token, Waker};
+use mio::{Events, Poll, Registry, Token, Waker};
 use mum_crew::{Crew, CrewEnd, Plan, RunTally};
-use std::alloc::Global;
+use mum_link::{Board, Hub, THREAD_LIMIT};
+use std::alloc::{AllocError, Global};
 use std::io::Eprint;
 use std::net::Net;
 use std::sync::{Arc, Wait};
@@ -34,10 +32,7 @@ pub struct ThreadCrew<X> {
 
 /// How many threads a crew has on this machine: the owner's, and one for each two processors.
 pub fn thread_count<X: Threads>(rt: &X) -> usize {
-    let processors = match thread::available_parallelism(rt) {
-        Ok(count) => count.get(),
-        Err(_) => 1,
-    };
+    let processors = thread::available_parallelism(rt).map_or(1, |count| count.get());
     (processors / 2).clamp(1, THREAD_LIMIT - 1) + 1
 }
 
@@ -62,16 +57,22 @@ impl<X: Net + Clock + Copy> ThreadCrew<X> {
         })
     }
 
-    /// What links on each of its threads need.
-    pub(crate) fn posts(&self, alloc: Global) -> io::Result<Vec<Post>> {
-        let mut posts = Vec::with_capacity(alloc, self.stations.len())?;
+    /// The boards of its threads.
+    pub(crate) fn boards(&self, alloc: Global) -> Result<Vec<Arc<Board>>, AllocError> {
+        let mut boards = Vec::with_capacity(alloc, self.stations.len())?;
         for station in self.stations.iter() {
-            posts.push(Post {
-                board: station.board.clone()?,
-                registry: Arc::new(alloc, station.poll.registry().try_clone()?)?,
-            })?;
+            boards.push(station.board.clone()?)?;
         }
-        Ok(posts)
+        Ok(boards)
+    }
+
+    /// Where sockets are registered at the polls of its threads.
+    pub(crate) fn registries(&self, alloc: Global) -> io::Result<Arc<Vec<Registry>>> {
+        let mut registries = Vec::with_capacity(alloc, self.stations.len())?;
+        for station in self.stations.iter() {
+            registries.push(station.poll.registry().try_clone()?)?;
+        }
+        Ok(Arc::new(alloc, registries)?)
     }
 }
 
@@ -79,15 +80,6 @@ impl<X> ThreadCrew<X> {
     /// How many rounds worked although their thread slept to the end: wakes that were missed.
     pub fn late_rounds(&self) -> u64 {
         self.hub.late_rounds()
-    }
-}
-
-impl<X: Eprint> ThreadCrew<X> {
-    fn report_late(&self) {
-        let times = self.hub.late_rounds();
-        if times > 0 {
-            self.life.overslept(times);
-        }
     }
 }
 
@@ -169,7 +161,10 @@ impl<X: Net + Wait + Threads + Clock + Eprint + Copy + Sync + Send> Crew for Thr
     {
         match plan {
             Plan::Threads { stations, .. } => {
-                self.report_late();
+                let times = self.hub.late_rounds();
+                if times > 0 {
+                    self.life.overslept(times);
+                }
                 drop(std::mem::replace(&mut self.stations, stations));
                 move_last(&mut self.spare, &mut self.stations, 0);
             }

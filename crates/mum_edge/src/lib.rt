@@ -3,27 +3,17 @@
 //! trusted: the calls are safe by proof, their counts are those of the traits, and of bytes they promise nothing.
 #![tactic(auto)]
 
-mod address;
-mod board;
 pub mod clock;
 pub mod crew;
-pub mod door;
-mod entrance;
-mod hub;
 pub mod life;
-pub mod link;
-mod listener;
-pub mod long;
+pub mod listener;
 pub mod machine;
-pub mod pace;
-mod proxy;
+pub mod peer;
 pub mod station;
 mod stream;
-mod wire;
 
 pub use clock::SystemClock;
 pub use crew::ThreadCrew;
-pub use door::SocketDoor;
-pub use link::SocketLink;
-pub use machine::Machine;
-pub use pace::{Pace, Rate};
+pub use listener::SocketListener;
+pub use machine::{Machine, MachineDoor};
+pub use peer::Peer;

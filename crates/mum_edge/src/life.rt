@@ -1,6 +1,6 @@
 //! The lines on standard error by which an administrator sees who comes and goes.
 
-use crate::address::FORMS;
+use mum_address::FORMS;
 use std::alloc::{AllocError, Global};
 use std::io;
 use std::io::Eprint;

@@ -2,10 +2,11 @@
 
 use crate::clock::SystemClock;
 use crate::crew::{ThreadCrew, thread_count};
-use crate::door::SocketDoor;
-use crate::hub::Hub;
 use crate::life::Life;
-use crate::pace::Pace;
+use crate::listener::SocketListener;
+use crate::peer::Peer;
+use mum_link::{Entrance, Hub, SocketDoor};
+use mum_pace::Pace;
 use std::alloc::Global;
 use std::fs::Files;
 use std::io::Eprint;
@@ -15,6 +16,10 @@ use std::sync::Arc;
 use std::thread::Threads;
 use std::time::Clock;
 use std::{env, io};
+
+/// A door at a socket: `IP:PORT`, `[IPv6]:PORT` or `unix:PATH`, and with `proxy:` before it a relay that begins each
+/// connection with a PROXY header.
+pub type MachineDoor<X> = SocketDoor<SocketListener<X>, Peer<X>>;
 
 /// A crew, a door and a clock that belong together. The caller takes them apart and hands them on:
 ///
@@ -28,7 +33,7 @@ use std::{env, io};
 #[derive(Drop)]
 pub struct Machine<X> {
     pub crew: ThreadCrew<X>,
-    pub door: SocketDoor<X>,
+    pub door: MachineDoor<X>,
     pub clock: SystemClock<X>,
 }
 
@@ -65,20 +70,18 @@ impl<X: AllocGlobal + Net + Files + Env + Eprint + Threads + Clock + Copy> Machi
     ) -> io::Result<Machine<X>> {
         let hub = Arc::new(alloc, Hub::new(alloc)?)?;
         let crew = ThreadCrew::new(rt, alloc, hub.clone()?, threads, later_roles, life)?;
-        let posts = crew.posts(alloc)?;
+        let listener = SocketListener::new(rt, crew.registries(alloc)?, life);
+        let entrance = Entrance::new(alloc, hub, crew.boards(alloc)?, pace, listener);
         Ok(Machine {
             crew,
-            door: SocketDoor::new(rt, alloc, hub, posts, pace, life),
+            door: SocketDoor::new(entrance),
             clock: SystemClock::new(rt),
         })
     }
 }
 
 fn has_signs<X: Env + AllocGlobal>(rt: &X) -> bool {
-    match env::var(rt, "MURMUR_LOG") {
-        Ok(value) => value.as_str() != "none",
-        Err(_) => true,
-    }
+    !matches!(env::var(rt, "MURMUR_LOG"), Ok(value) if value.as_str() == "none")
 }
 
 fn pace<X: Env + AllocGlobal + Eprint>(rt: &X, life: &Life<X>) -> Pace {

@@ -1,11 +1,10 @@
 //! What a thread sleeps on.
 
-use crate::board::Board;
-use crate::entrance::DOOR;
-use crate::hub::{HUNG_UP, Hub, READABLE, WRITABLE};
+use crate::listener::DOOR;
 use mio::event::Event;
 use mio::{Events, Poll, Waker};
 use mum_crew::{Look, Station};
+use mum_link::{Board, HUNG_UP, Hub, READABLE, WRITABLE};
 use std::sync::Arc;
 use std::time::{Clock, Duration, Instant};
 

@@ -5,7 +5,7 @@ ghost use Rattle.std.specs.Io.{ReadsAtMost, WritesAtMost};
 use mio::net::{TcpStream, UnixStream};
 use mio::{Interest, Registry, Token};
 use std::io;
-use std::io::{ErrorKind, Read, Write};
+use std::io::{Read, Write};
 use std::net::Shutdown;
 
 /// A connected socket whose calls do not wait.
@@ -39,20 +39,6 @@ impl Stream {
         match self {
             Stream::Tcp(stream) => stream.set_nodelay(true),
             Stream::Unix(_) => Ok(()),
-        }
-    }
-
-    /// Whether the peer that has hung up closed the connection: else it was reset. A peer that closed and got something
-    /// afterwards shows a broken pipe.
-    pub fn was_closed(&self) -> bool {
-        let error = match self {
-            Stream::Tcp(stream) => stream.take_error(),
-            Stream::Unix(stream) => stream.take_error(),
-        };
-        match error {
-            Ok(None) => true,
-            Ok(Some(error)) => error.kind() == ErrorKind::BrokenPipe,
-            Err(_) => false,
         }
     }
 

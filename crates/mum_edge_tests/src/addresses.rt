@@ -1,9 +1,11 @@
 //! Where a door listens: the forms of an address, files of sockets, headers of a relay.
 
 use crate::echo::{Manner, all_heard, parts};
-use mum_crew::{Crew, CrewEnd};
-use mum_edge::{Machine, Pace};
+use crate::run::run;
+use mum_crew::CrewEnd;
+use mum_edge::Machine;
 use mum_io::{Door, DoorOpen};
+use mum_pace::Pace;
 use std::alloc::Global;
 use std::fs::Files;
 use std::io::{Eprint, Read, Write};
@@ -30,6 +32,19 @@ fn opens<X: AllocGlobal + Net + Files + Env + Eprint + Threads + Clock + Copy + 
 ) -> Result<bool, Fail> {
     let mut machine = machine(rt)?;
     Ok(machine.door.open(address) == DoorOpen::Opened)
+}
+
+/// A machine that is open at this path.
+pub fn machine_at<X: AllocGlobal + Net + Files + Env + Eprint + Threads + Clock + Copy + Send>(
+    rt: X,
+    path: &str,
+) -> Result<Machine<X>, Fail> {
+    let mut machine = machine(rt)?;
+    let address = format!(in rt.alloc(); "unix:{path}")?;
+    if machine.door.open(address.as_str()) != DoorOpen::Opened {
+        return Err(Fail::from("the door does not open"));
+    }
+    Ok(machine)
 }
 
 #[test]
@@ -81,13 +96,7 @@ fn the_socket_of_a_server_that_ended_is_removed(rt: HostRuntime) -> Result<(), F
 fn a_door_at_a_path_serves(rt: HostRuntime) -> Result<(), Fail> {
     let alloc: Global = rt.alloc();
     let path = path_of(&rt, process::id(rt.process()), "serves")?;
-    let address = format!(in alloc; "unix:{path}")?;
-    let Machine {
-        mut crew,
-        mut door,
-        ..
-    } = machine(rt)?;
-    assert_eq!(rt; door.open(address.as_str()), DoorOpen::Opened);
+    let Machine { mut crew, door, .. } = machine_at(rt, path.as_str())?;
     let roles = parts(rt, alloc, door, 1, 1, Manner::Echo)?;
     let mut stream = UnixStream::connect(&rt, path.as_str())?;
     stream.write_all(b"hello")?;
@@ -97,7 +106,7 @@ fn a_door_at_a_path_serves(rt: HostRuntime) -> Result<(), Fail> {
         stream.read_exact(&mut buf)?;
         Ok::<[u8; 5], io::Error>(buf)
     })?;
-    let run = crew.run(alloc, roles);
+    let run = run(&mut crew, alloc, roles);
     fs::remove_file(&rt, path.as_str())?;
     assert_eq!(rt; run.end, CrewEnd::Ran);
     assert_eq!(rt; client.join(&rt)?, *b"hello");
@@ -184,7 +193,7 @@ fn a_relay_tells_the_address(rt: HostRuntime) -> Result<(), Fail> {
         ..
     } = machine(rt)?;
     assert_eq!(rt; door.open("proxy:127.0.0.1:0"), DoorOpen::Opened);
-    let Some(address) = door.local_address() else {
+    let Some(address) = door.listener().local_address() else {
         return Err(Fail::from("the door has no address"));
     };
     let roles = parts(rt, alloc, door, 3, 2, Manner::Echo)?;
@@ -197,7 +206,7 @@ fn a_relay_tells_the_address(rt: HostRuntime) -> Result<(), Fail> {
             send_long(&rt, address)?,
         ))
     })?;
-    let run = crew.run(alloc, roles);
+    let run = run(&mut crew, alloc, roles);
     assert_eq!(rt; run.end, CrewEnd::Ran);
     let (both_closed, told, own, long) = clients.join(&rt)?;
     assert!(rt; both_closed);

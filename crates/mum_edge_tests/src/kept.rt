@@ -1,14 +1,16 @@
 //! What a link keeps, and what a full socket does not take, comes whole and in its order.
 
-use crate::addresses::path_of;
+use crate::addresses::{machine_at, path_of};
 use crate::echo::{Manner, parts};
 use crate::lines::open;
-use mum_crew::{Crew, CrewEnd};
-use mum_edge::{Machine, Pace};
-use mum_io::{Door, DoorOpen};
+use crate::run::run;
+use mum_crew::CrewEnd;
+use mum_edge::Machine;
+use mum_pace::Pace;
 use std::alloc::{AllocError, Global};
+use std::fs::Files;
 use std::io::{Read, Write};
-use std::net::{OpenStream, TcpStream};
+use std::net::{Net, OpenStream, TcpStream};
 use std::os::unix::net::UnixStream;
 use std::test::Fail;
 use std::thread::Threads;
@@ -73,11 +75,25 @@ fn what_is_kept_back_is_sent(rt: HostRuntime) -> Result<(), Fail> {
         let mut reader = stream.try_clone()?;
         send_through(&rt, &mut stream, &mut reader, 80_000)
     })?;
-    let run = crew.run(alloc, roles);
+    let run = run(&mut crew, alloc, roles);
     assert!(rt; client.join(&rt)?);
     assert_eq!(rt; run.end, CrewEnd::Ran);
     assert_eq!(rt; crew.late_rounds(), 0);
     Ok(())
+}
+
+/// The same through the server at this path, whose file is removed.
+fn send_to<X: AllocGlobal + Net + Files + Threads + Clock + Sync>(
+    rt: &X,
+    path: &str,
+    frames: u32,
+) -> io::Result<bool> {
+    let mut writer = UnixStream::connect(rt, path)?;
+    fs::remove_file(rt, path)?;
+    writer.set_read_timeout(Some(Duration::from_secs(PATIENCE)))?;
+    writer.set_write_timeout(Some(Duration::from_secs(PATIENCE)))?;
+    let mut reader = writer.try_clone()?;
+    send_through(rt, &mut writer, &mut reader, frames)
 }
 
 /// A megabyte, each piece of which the owner is told once it is sent: with no thread of whom it may sleep till then.
@@ -85,21 +101,10 @@ fn what_is_kept_back_is_sent(rt: HostRuntime) -> Result<(), Fail> {
 fn what_a_full_socket_refuses_is_sent_later(rt: HostRuntime) -> Result<(), Fail> {
     let alloc: Global = rt.alloc();
     let path = path_of(&rt, process::id(rt.process()), "full")?;
-    let mut machine = Machine::quiet(rt, alloc, 2, 0, Pace::Unlimited)?;
-    let address = format!(in alloc; "unix:{path}")?;
-    assert_eq!(rt; machine.door.open(address.as_str()), DoorOpen::Opened);
-    let Machine { mut crew, door, .. } = machine;
+    let Machine { mut crew, door, .. } = machine_at(rt, path.as_str())?;
     let roles = parts(rt, alloc, door, 1, 1, Manner::Tell)?;
-    let mut stream = UnixStream::connect(&rt, path.as_str())?;
-    stream.set_read_timeout(Some(Duration::from_secs(PATIENCE)))?;
-    stream.set_write_timeout(Some(Duration::from_secs(PATIENCE)))?;
-    let client = thread::spawn(&rt, move || {
-        let mut writer = stream;
-        let mut reader = writer.try_clone()?;
-        send_through(&rt, &mut writer, &mut reader, 10_000)
-    })?;
-    let run = crew.run(alloc, roles);
-    fs::remove_file(&rt, path.as_str())?;
+    let client = thread::spawn(&rt, move || send_to(&rt, path.as_str(), 10_000))?;
+    let run = run(&mut crew, alloc, roles);
     assert!(rt; client.join(&rt)?);
     assert_eq!(rt; run.end, CrewEnd::Ran);
     assert_eq!(rt; crew.late_rounds(), 0);

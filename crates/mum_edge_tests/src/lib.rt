@@ -14,7 +14,7 @@ mod lines;
 #[cfg(test)]
 mod long_frames;
 #[cfg(test)]
-mod paces;
+mod run;
 #[cfg(test)]
 mod slots;
 #[cfg(test)]

@@ -1,9 +1,11 @@
 //! Connections over TCP: bytes both ways, many clients, a client that floods, one that is dismissed.
 
 use crate::echo::{Heard, Manner, all_heard, parts};
-use mum_crew::{Crew, CrewEnd};
-use mum_edge::{Machine, Pace, Rate};
+use crate::run::run;
+use mum_crew::CrewEnd;
+use mum_edge::Machine;
 use mum_io::{Clock, Door, DoorOpen};
+use mum_pace::{Pace, Rate};
 use std::alloc::Global;
 use std::fs::Files;
 use std::io::{Eprint, Read, Write};
@@ -36,7 +38,7 @@ pub fn open_at<X: AllocGlobal + Net + Files + Env + Eprint + Threads + time::Clo
     if machine.door.open(address) != DoorOpen::Opened {
         return Err(Fail::from("the door does not open"));
     }
-    match machine.door.local_address() {
+    match machine.door.listener().local_address() {
         Some(address) => Ok((machine, address)),
         None => Err(Fail::from("the door has no address")),
     }
@@ -70,7 +72,7 @@ fn a_crew_of_threads_sends_back_what_comes(rt: HostRuntime) -> Result<(), Fail> 
             talk(&rt, address, 0).unwrap_or(false),
         )
     })?;
-    let run = crew.run(alloc, roles);
+    let run = run(&mut crew, alloc, roles);
     assert_eq!(rt; clients.join(&rt), (true, true, true));
     assert_eq!(rt; run.end, CrewEnd::Ran);
     let all = all_heard(alloc, &run.roles)?;
@@ -127,7 +129,7 @@ fn who_floods_is_held_up_and_others_are_not(rt: HostRuntime) -> Result<(), Fail>
         other.read_exact(&mut buf)?;
         Ok::<bool, io::Error>(buf[2999] == 0)
     })?;
-    let run = crew.run(alloc, roles);
+    let run = run(&mut crew, alloc, roles);
     assert!(rt; clients.join(&rt)?);
     assert_eq!(rt; run.end, CrewEnd::Ran);
     let all: Vec<Heard> = all_heard(alloc, &run.roles)?;
@@ -154,7 +156,7 @@ fn the_bytes_of_a_message_are_held_up_too(rt: HostRuntime) -> Result<(), Fail> {
         stream.read_exact(&mut buf)?;
         Ok::<bool, io::Error>(talk(&rt, address, 0).unwrap_or(false))
     })?;
-    let run = crew.run(alloc, roles);
+    let run = run(&mut crew, alloc, roles);
     assert!(rt; client.join(&rt)?);
     assert_eq!(rt; run.end, CrewEnd::Ran);
     let all: Vec<Heard> = all_heard(alloc, &run.roles)?;
@@ -184,7 +186,7 @@ fn who_is_dismissed_reads_why(rt: HostRuntime) -> Result<(), Fail> {
         stream.read_exact(&mut buf)?;
         Ok::<[u8; 2], io::Error>(buf)
     })?;
-    let run = crew.run(alloc, roles);
+    let run = run(&mut crew, alloc, roles);
     assert_eq!(rt; run.end, CrewEnd::Ran);
     assert_eq!(rt; client.join(&rt)?, *b"no");
     Ok(())

@@ -2,9 +2,10 @@
 
 use crate::echo::{Heard, Manner, all_heard, parts};
 use crate::lines::open;
-use mum_crew::{Crew, CrewEnd};
-use mum_edge::long::{LONG_FRAMES_LIMIT, LongFrames, Reservation, SHORT_LIMIT};
-use mum_edge::{Machine, Pace};
+use crate::run::run;
+use mum_crew::CrewEnd;
+use mum_edge::Machine;
+use mum_pace::{LONG_FRAMES_LIMIT, LongFrames, Pace, Reservation, SHORT_LIMIT};
 use std::alloc::{AllocError, Global};
 use std::io::{Read, Write};
 use std::net::{Net, OpenStream, Shutdown, SocketAddr, TcpStream};
@@ -114,7 +115,7 @@ fn a_long_frame_comes_once_another_link_is_closed(rt: HostRuntime) -> Result<(),
     let Machine { mut crew, door, .. } = machine;
     let roles = parts(rt, alloc, door, 10, 2, Manner::Echo)?;
     let client = thread::spawn(&rt, move || wait_for_room(&rt, address))?;
-    let run = crew.run(alloc, roles);
+    let run = run(&mut crew, alloc, roles);
     assert!(rt; client.join(&rt)?);
     assert_eq!(rt; run.end, CrewEnd::Ran);
     let all: Vec<Heard> = all_heard(alloc, &run.roles)?;

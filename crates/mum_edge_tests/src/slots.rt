@@ -2,8 +2,10 @@
 
 use crate::echo::{Manner, all_heard, parts};
 use crate::lines::{open, open_at, talk};
-use mum_crew::{Crew, CrewEnd};
-use mum_edge::{Machine, Pace};
+use crate::run::run;
+use mum_crew::CrewEnd;
+use mum_edge::Machine;
+use mum_pace::Pace;
 use std::alloc::Global;
 use std::io::{Read, Write};
 use std::net::{Net, SocketAddr, TcpStream};
@@ -30,7 +32,7 @@ fn who_has_gone_leaves_the_slot_free(rt: HostRuntime) -> Result<(), Fail> {
     let Machine { mut crew, door, .. } = machine;
     let roles = parts(rt, alloc, door, MANY, 2, Manner::Echo)?;
     let clients = thread::spawn(&rt, move || come_and_go(&rt, address))?;
-    let run = crew.run(alloc, roles);
+    let run = run(&mut crew, alloc, roles);
     assert!(rt; clients.join(&rt)?);
     assert_eq!(rt; run.end, CrewEnd::Ran);
     assert_eq!(rt; all_heard(alloc, &run.roles)?.len(), MANY);
@@ -62,7 +64,7 @@ fn a_false_header_leaves_the_slot_free(rt: HostRuntime) -> Result<(), Fail> {
     let Machine { mut crew, door, .. } = machine;
     let roles = parts(rt, alloc, door, 1, 1, Manner::Echo)?;
     let clients = thread::spawn(&rt, move || come_behind_false_headers(&rt, address))?;
-    let run = crew.run(alloc, roles);
+    let run = run(&mut crew, alloc, roles);
     assert!(rt; clients.join(&rt)?);
     assert_eq!(rt; run.end, CrewEnd::Ran);
     Ok(())

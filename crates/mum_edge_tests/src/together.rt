@@ -2,8 +2,10 @@
 
 use crate::echo::{Manner, parts, set_gate};
 use crate::lines::{open, talk};
-use mum_crew::{Crew, CrewEnd, Gate};
-use mum_edge::{Machine, Pace};
+use crate::run::run;
+use mum_crew::{CrewEnd, Gate};
+use mum_edge::Machine;
+use mum_pace::Pace;
 use std::alloc::Global;
 use std::io::{Read, Write};
 use std::net::{Net, SocketAddr, TcpStream};
@@ -74,7 +76,7 @@ fn crew_runs_workers_together(rt: HostRuntime) -> Result<(), Fail> {
     set_gate(&mut roles, &hold)?;
     let clients = hold.clone()?;
     let clients = thread::spawn(&rt, move || talk_beside(&rt, address, &clients))?;
-    let run = crew.run(alloc, roles);
+    let run = run(&mut crew, alloc, roles);
     assert!(rt; clients.join(&rt)?);
     assert_eq!(rt; run.end, CrewEnd::Ran);
     assert!(rt; !hold.was_in_vain.load(Ordering::SeqCst));

@@ -2,8 +2,10 @@
 
 use crate::echo::{Manner, parts};
 use crate::lines::open;
-use mum_crew::{Crew, CrewEnd};
-use mum_edge::{Machine, Pace};
+use crate::run::run;
+use mum_crew::CrewEnd;
+use mum_edge::Machine;
+use mum_pace::Pace;
 use std::alloc::Global;
 use std::io::{Read, Write};
 use std::net::{Net, SocketAddr, TcpStream};
@@ -38,7 +40,7 @@ fn a_worker_wakes_the_owner_and_the_owner_another_worker(rt: HostRuntime) -> Res
     let Machine { mut crew, door, .. } = machine;
     let roles = parts(rt, alloc, door, 2, 2, Manner::Tell)?;
     let clients = thread::spawn(&rt, move || tell_each_other(&rt, address))?;
-    let run = crew.run(alloc, roles);
+    let run = run(&mut crew, alloc, roles);
     assert!(rt; clients.join(&rt)?);
     assert_eq!(rt; run.end, CrewEnd::Ran);
     assert_eq!(rt; crew.late_rounds(), 0);

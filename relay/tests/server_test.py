@@ -218,6 +218,7 @@ def headers_come_in_any_pieces(folder):
 def false_headers_are_closed_and_are_no_connections(folder):
     port = free_port()
     false = [b"\x00\x00\x00\x00\x00\x05", SIGNATURE[:11] + b"!", header("198.51.100.25", command=0x31),
+             header("2001:db8::9", family=0x23),
              header("198.51.100.25", extra=bytes(LONGEST_HEADER - 16 - 12 + 1))]
     with Server(folder, 1, f"proxy:127.0.0.1:{port}") as server:
         server.port = port

@@ -72,7 +72,7 @@ fn check_lines(
     requires view { IsViewOf past.old.opening [] hearing.old.view }
     ensures { IfOk result (λ found. found ≡ first_wrong (first_line journal.now) (findings journal.now)) }
 {
-    let mut line = Version::with_limits(journal.limits).first_step_line();
+    let mut line = Version::with_limits(&journal.limits).first_step_line();
     let controls = journal.controls.as_slice();
     if let Some(wrong) = check_controls(alloc, past, &mut line, controls)? {
         return Ok(Some(wrong));
@@ -113,7 +113,7 @@ pub fn audit(alloc: Global, journal: &Journal) -> Result<Audited, OutOfMemory>
     // The answer is the counts exactly for a legal journal.
     ensures legal { IfOk result (λ answer. (answer ≡ spec.counts_of journal.now) ↔ IsLegal journal.now) }
 {
-    let opening = open(alloc, journal.limits, journal.config.as_slice())?;
+    let opening = open(alloc, &journal.limits, journal.config.as_slice())?;
     let (mut past, mut hearing) = begin(alloc, opening)?;
     let found = check_lines(alloc, journal, &mut past, &mut hearing);
     drop(past);

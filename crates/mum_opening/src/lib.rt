@@ -2,8 +2,7 @@
 //! that its head names, and after the edits that its document describes.
 #![tactic(auto)]
 
-ghost use Rattle.std.specs.Prelude.{◌≡◌, ◌++◌, IfOk, IfSome, IsTrue, None};
-ghost use Rattle.mum_record.specs.Head.{AreLimits};
+ghost use Rattle.std.specs.Prelude.{◌≡◌, ◌++◌, IfOk, IsTrue, None};
 ghost use Rattle.mum_config.specs.Limits.{FitAfterLimits};
 ghost use Rattle.mum_state.specs.declared.edit.Edit.TheVariants.{SetLimits};
 ghost use Rattle.mum_state.specs.After.{after, all_fit};
@@ -16,6 +15,7 @@ ghost use Rattle.mum_opening.specs.Reading.{ReadsDocument};
 use mum_base::{Items, OutOfMemory};
 use mum_config::{BadConfig, Config, read_config};
 use mum_history::{state_after, state_from};
+use mum_record::Limits;
 use mum_state::{Edit, State};
 use std::alloc::{AllocError, Global};
 
@@ -36,25 +36,25 @@ pub fn document_edits(alloc: Global, document: &[u8]) -> Result<Items<Edit>, Bad
 }
 
 // The edit that sets limits. It fits the empty state.
-fn limits_edit(limits: (u16, u32)) -> Edit
-    requires { AreLimits limits }
-    ensures edit { result ≡ SetLimits limits.0 limits.1 }
-    ensures fits { IsTrue (fits empty_state (SetLimits limits.0 limits.1)) }
+fn limits_edit(limits: &Limits) -> Edit
+    ensures edit { result ≡ SetLimits limits.now.0 limits.now.1 }
+    ensures fits { IsTrue (fits empty_state (SetLimits limits.now.0 limits.now.1)) }
 {
-    let (sessions, channels) = limits;
-    Edit::SetLimits { sessions, channels }
+    Edit::SetLimits {
+        sessions: limits.sessions(),
+        channels: limits.channels(),
+    }
 }
 
 /// The state after the limits, where there are any, and then these edits, which are those of a document.
 pub fn opening_state(
     alloc: Global,
-    limits: Option<(u16, u32)>,
+    limits: &Option<Limits>,
     edits: &[Edit],
 ) -> Result<State, OutOfMemory>
-    requires limits { IfSome limits AreLimits }
     requires fit { IsTrue (all_fit empty_state edits.now) }
     requires limited { FitAfterLimits edits.now }
-    ensures { IfOk result (λ state. state ≡ after (limits_edits limits ++ edits.now)) }
+    ensures { IfOk result (λ state. state ≡ after (limits_edits limits.now ++ edits.now)) }
 {
     let Some(limits) = limits else {
         return state_after(alloc, edits);
@@ -78,14 +78,9 @@ fn described_edits(alloc: Global, document: &[u8]) -> Result<Items<Edit>, OutOfM
 
 /// The state at which steps or entries begin, by the limits that a head names, if it names any, and by
 /// its document, which has no bytes where there is none.
-pub fn open(
-    alloc: Global,
-    limits: Option<(u16, u32)>,
-    document: &[u8],
-) -> Result<State, OutOfMemory>
-    requires limits { IfSome limits AreLimits }
+pub fn open(alloc: Global, limits: &Option<Limits>, document: &[u8]) -> Result<State, OutOfMemory>
     requires faultless { document_fault document.now ≡ None }
-    ensures { IfOk result (λ state. state ≡ opening limits document.now) }
+    ensures { IfOk result (λ state. state ≡ opening limits.now document.now) }
 {
     let edits = described_edits(alloc, document)?;
     opening_state(alloc, limits, edits.as_slice())

@@ -9,7 +9,7 @@ ghost use Rattle.mum_record.specs.JournalAnswers.{Takes, TakesAt, EndsEntries};
 
 use crate::control::control_in;
 use crate::entry::entry_in;
-use crate::head::{Version, config_in, journal_version_in, limits_in, workers_in};
+use crate::head::{Limits, Version, config_in, journal_version_in, limits_in, workers_in};
 use crate::journal::{ControlEntry, Journal, WorkerEntry};
 use crate::step::LineFault;
 use crate::words::{Words, number_in, words_in};
@@ -41,7 +41,7 @@ pub(crate) enum Stage {
 pub(crate) struct Draft {
     pub(crate) stage: Stage,
     pub(crate) workers: u8,
-    pub(crate) limits: Option<(u16, u32)>,
+    pub(crate) limits: Option<Limits>,
     pub(crate) config: Octets,
     pub(crate) controls: Items<ControlEntry>,
     /// The entries of the workers that are read to their ends.

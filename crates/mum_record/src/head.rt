@@ -12,6 +12,7 @@ use crate::step::LineFault;
 use crate::words::{Words, bytes_in, number_within, words_in};
 use mum_base::{Octets, OutOfMemory};
 use std::alloc::Global;
+use std::marker::Model;
 
 /// The most workers of a recording or a journal.
 pub const WORKERS_LIMIT: u64 = 8;
@@ -28,6 +29,58 @@ pub const LEAST_CHANNELS: u64 = 1_024;
 /// The greatest limit of channels that a line may name.
 pub const MOST_CHANNELS: u64 = 2_048;
 
+/// Limits of sessions and of channels that a line may name: 128 to 512 sessions, and 1,024 to 2,048
+/// channels.
+#[derive(Clone, Copy)]
+pub struct Limits {
+    sessions: u16,
+    channels: u32,
+}
+
+impl Model for Limits {
+    ghost use Rattle.std.specs.Prelude.{ℕ};
+    ghost use Rattle.mum_record.specs.Head.{AreLimits};
+
+    ghost Value = { ℕ × ℕ };
+
+    ghost view = { λ l. (l.sessions, l.channels) };
+
+    ghost invariant = { λ l. AreLimits (l.sessions, l.channels) };
+
+    ghost inverse = { λ l. record { sessions = l.0; channels = l.1 } };
+}
+
+impl Limits {
+    ghost use Rattle.std.specs.Prelude.{◌≡◌, ◌≤◌};
+    ghost use Rattle.mum_record.specs.declared.head.TheConstants.{MOST_SESSIONS, MOST_CHANNELS};
+
+    /// The greatest limits.
+    pub fn greatest() -> Limits
+        ensures { result ≡ (MOST_SESSIONS, MOST_CHANNELS) }
+    {
+        Limits {
+            sessions: MOST_SESSIONS as u16,
+            channels: MOST_CHANNELS as u32,
+        }
+    }
+
+    /// The limit of sessions.
+    pub fn sessions(&self) -> u16
+        ensures value { result ≡ self.now.0 }
+        ensures range { (LEAST_SESSIONS ≤ result) × (result ≤ MOST_SESSIONS) }
+    {
+        self.sessions
+    }
+
+    /// The limit of channels.
+    pub fn channels(&self) -> u32
+        ensures value { result ≡ self.now.1 }
+        ensures range { (LEAST_CHANNELS ≤ result) × (result ≤ MOST_CHANNELS) }
+    {
+        self.channels
+    }
+}
+
 /// A version of recordings and journals.
 #[derive(Clone, Copy, Debug, PartialEq, Eq)]
 pub enum Version {
@@ -39,8 +92,8 @@ pub enum Version {
 
 impl Version {
     /// The version in which a text with these limits of sessions and channels, or without any, is written.
-    pub fn with_limits(limits: Option<(u16, u32)>) -> Version
-        ensures { result ≡ version_with limits }
+    pub fn with_limits(limits: &Option<Limits>) -> Version
+        ensures { result ≡ version_with limits.now }
     {
         match limits {
             None => Version::One,
@@ -119,7 +172,7 @@ pub fn read_workers(line: &[u8]) -> Option<u8>
 
 /// The limits that a line which is a text names.
 #[tactic(auto, unfolding(crate::specs::Head::limits_of))]
-pub(crate) fn limits_in(line: &str) -> Option<(u16, u32)>
+pub(crate) fn limits_in(line: &str) -> Option<Limits>
     ensures { result ≡ limits_of line.now }
 {
     let Words::Three("limits", sessions, channels) = words_in(line) else {
@@ -127,12 +180,15 @@ pub(crate) fn limits_in(line: &str) -> Option<(u16, u32)>
     };
     let sessions = number_within(LEAST_SESSIONS, MOST_SESSIONS, sessions)?;
     let channels = number_within(LEAST_CHANNELS, MOST_CHANNELS, channels)?;
-    Some((sessions as u16, channels as u32))
+    Some(Limits {
+        sessions: sessions as u16,
+        channels: channels as u32,
+    })
 }
 
 /// The limit of sessions, 128 to 512, and that of channels, 1,024 to 2,048, that the third line of a
 /// recording or a journal of version 2 names: `limits SESSIONS CHANNELS`.
-pub fn read_limits(line: &[u8]) -> Option<(u16, u32)>
+pub fn read_limits(line: &[u8]) -> Option<Limits>
     ensures exact { result ≡ limits_of line.now }
     ensures found { IfSome result (IsLimitsLine line.now) }
     ensures only { IfNone result ((limits : ℕ × ℕ) → IsLimitsLine line.now limits → ⊥) }
@@ -149,12 +205,14 @@ pub fn read_limits(line: &[u8]) -> Option<(u16, u32)>
 pub fn push_limits_line(
     alloc: Global,
     text: &mut String,
-    limits: (u16, u32),
+    limits: &Limits,
 ) -> Result<(), OutOfMemory>
-    ensures { IfOk result (λ _. string_bytes text.new ≡ string_bytes text.old ++ limits_line limits) }
+    ensures { IfOk result (λ _. string_bytes text.new ≡ string_bytes text.old ++ limits_line limits.now) }
 {
-    let (sessions, channels) = limits;
-    let words = [place_word(u32::from(sessions)), place_word(channels)];
+    let words = [
+        place_word(u32::from(limits.sessions())),
+        place_word(limits.channels()),
+    ];
     push_line(alloc, text, "limits", &words)
 }
 

@@ -3,6 +3,7 @@
 ghost use Rattle.std.specs.Prelude.{◌≡◌};
 ghost use Rattle.mum_record.specs.declared.journal.JournalFault.TheVariants.{OutOfMemory};
 
+use crate::head::Limits;
 use mum_base::{Cause, Items, Mark, Octets, SessionId};
 use std::alloc::AllocError;
 use thiserror::Error;
@@ -12,9 +13,8 @@ use thiserror::Error;
 pub struct Journal {
     /// How many workers there were, 1 to 8.
     pub workers: u8,
-    /// The limit of sessions, 128 to 512, and that of channels, 1,024 to 2,048, in version 2; in version 1
-    /// none are named.
-    pub limits: Option<(u16, u32)>,
+    /// The limits of sessions and of channels in version 2; in version 1 none are named.
+    pub limits: Option<Limits>,
     /// The document of the configuration, or no bytes where there was none.
     pub config: Octets,
     /// What was decided, in the order of the control owner.

@@ -8,7 +8,7 @@ ghost use Rattle.mum_record.specs.JournalReading.{journal_of};
 
 use crate::control::push_control;
 use crate::entry::push_entry;
-use crate::head::{Version, push_config_line, push_limits_line};
+use crate::head::{Limits, Version, push_config_line, push_limits_line};
 use crate::journal::{ControlEntry, Journal, WorkerEntry};
 use crate::line::{Word, byte_word, push_line};
 use mum_base::{Items, Octets, OutOfMemory};
@@ -25,12 +25,8 @@ fn first_line(version: Version) -> &'static str
 }
 
 // Appends the line of the limits, where there are any.
-fn push_limits(
-    alloc: Global,
-    text: &mut String,
-    limits: Option<(u16, u32)>,
-) -> Result<(), OutOfMemory>
-    ensures { IfOk result (λ _. string_bytes text.new ≡ string_bytes text.old ++ ended_lines (limits_lines limits)) }
+fn push_limits(alloc: Global, text: &mut String, limits: &Option<Limits>) -> Result<(), OutOfMemory>
+    ensures { IfOk result (λ _. string_bytes text.new ≡ string_bytes text.old ++ ended_lines (limits_lines limits.now)) }
 {
     let Some(limits) = limits else {
         return Ok(());
@@ -44,11 +40,11 @@ fn push_head(
     alloc: Global,
     text: &mut String,
     workers: u8,
-    limits: Option<(u16, u32)>,
+    limits: &Option<Limits>,
     config: &[u8],
 ) -> Result<(), OutOfMemory>
     ensures text { IfOk result (λ _. string_bytes text.new ≡ string_bytes text.old
-        ++ ended_lines (head_lines journal_line workers limits config.now)) }
+        ++ ended_lines (head_lines journal_line workers limits.now config.now)) }
     ensures fits { OnOk result (IsBytes config.now) }
 {
     text.push_str(first_line(Version::with_limits(limits)))?;
@@ -121,7 +117,7 @@ pub fn write_journal(alloc: Global, journal: &Journal) -> Result<Octets, OutOfMe
         alloc,
         &mut text,
         journal.workers,
-        journal.limits,
+        &journal.limits,
         journal.config.as_slice(),
     )?;
     push_controls(alloc, &mut text, journal.controls.as_slice())?;

@@ -18,15 +18,15 @@ mod words;
 pub mod write;
 
 pub use head::{
-    Version, is_empty_config, push_config_line, push_limits_line, read_config_line, read_limits,
-    read_workers, recording_version, steps_begin_below_the_head,
+    Limits, Version, is_empty_config, push_config_line, push_limits_line, read_config_line,
+    read_limits, read_workers, recording_version, steps_begin_below_the_head,
 };
 pub use journal::{ControlEntry, Journal, JournalFault, Marked, WorkerEntry};
 pub use journal_reader::read_journal;
 pub use journal_writer::write_journal;
 pub use line::{Word, push_line, push_word, push_words};
 pub use read::{read_step, reading_is_the_grammar};
-pub use split::{INPUT_LIMIT, LINE_LIMIT, limits, split_line};
+pub use split::{INPUT_LIMIT, LINE_LIMIT, split_line, text_limits};
 pub use step::{LineFault, Step};
 pub use words::number_within;
 pub use write::{cause_name, write_step};

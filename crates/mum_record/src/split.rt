@@ -10,7 +10,7 @@ pub const LINE_LIMIT: usize = 131_200;
 pub const INPUT_LIMIT: usize = 67_108_864;
 
 /// The limits of texts. This does nothing: its contract is what they are.
-pub fn limits()
+pub fn text_limits()
     ensures line { LINE_LIMIT ≡ 131200 }
     ensures input { INPUT_LIMIT ≡ 67108864 }
 {}

@@ -1,0 +1,13 @@
+use Rattle.std.proofs.Common.{◌∙◌}
+use Rattle.mum_fields.specs.Table.{layout, parts}
+use Rattle.mum_fields.proofs.Sizes.{fields-counted}
+use Rattle.mum_bans.specs.Messages.{ban_list}
+use Rattle.mum_bans.proofs.ban_list.BanListMessage.length.Goals as goal
+
+pub returns : goal.returns
+returns c =
+    c.total.ensures
+    ∙ fields-counted (layout ban_list) (parts ban_list c.args.self.now)
+    _ c.new.ensures
+    _ c.each_message.ensures
+    _ c.number.ensures

@@ -1,0 +1,6 @@
+use Rattle.std.proofs.Common.{◌≡◌, map, take}
+use Rattle.mum_bans.specs.Answer.{entry_of}
+use Rattle.mum_bans.proofs.listing.list_of.Given as goal
+
+abbrev pub invariant-loop-ban : goal.invariant-loop-ban
+invariant-loop-ban l = l.entries.items ≡ map entry_of (take l.ban-index l.bans)

@@ -8,6 +8,7 @@ mod notice;
 mod roster;
 mod stream;
 mod tree;
+mod view;
 
 use anyhow::Result;
 
@@ -20,6 +21,7 @@ fn main(rt: HostRuntime) -> Result<()> {
     tree::call(alloc, &mut told)?;
     roster::call(alloc, &mut told)?;
     notice::call(alloc, &mut told)?;
+    view::call(alloc, &mut told)?;
     rt.print(told.as_str())?;
     Ok(())
 }

@@ -1,6 +1,7 @@
 -- The replies that are made of commands and leaves, over each part of a turn and over turns.
 use Rattle.std.proofs.Common.{◌≡◌, ◌∙◌, ℕ, Bool, true, false, List, [], ◌∷◌, ◌++◌, length, map, Option, Some, None, refl, ap, sym, inl, inr}
-use Rattle.std.specs.Prelude.{◌&&◌, is_some, nat_lt}
+use Rattle.std.specs.Prelude.{◌&&◌, find, is_some, nat_lt}
+use Rattle.std.specs.Option.{option_map}
 use Rattle.std.proofs.lemmas.List.{map-append}
 use Rattle.mum_base.specs.declared.number.SessionId.{SessionId}
 use Rattle.mum_base.specs.declared.number.TheConstants.{CONNECTION_LIMIT}
@@ -15,11 +16,12 @@ use Rattle.mum_session.specs.declared.command.Command.{Command}
 use Rattle.mum_state.specs.declared.verdict.Verdict.{Verdict}
 use Rattle.mum_state.specs.declared.verdict.Verdict.TheVariants.{Accepted, Lacks, Refused, Rejected, Answer, Ignored}
 use Rattle.mum_owner.specs.Facts.{KeptFacts, OwnerFacts}
-use Rattle.mum_owner.specs.Guests.{session_of}
-use Rattle.mum_owner.specs.Laws.{TurnsTo, connections_of, connections_settled, leave_where, listed, made, replies_made, settled, settled_by, settled_going, settled_leaving, settled_of, settled_pending, settled_taking, settled_where}
-use Rattle.mum_owner.specs.Serving.{GoesWhere, IsGiven, LeaveIsGiven, LeavesWhere, PendsWhere, ReceivesBy, ReceivesItem, ServesDesk, ServesWhere, TakesWhere, kept_after, leave_of, may_go, must_wait, with_pass}
+use Rattle.mum_owner.specs.Guests.{is_of, owned, session_of}
+use Rattle.mum_owner.specs.Laws.{TurnsTo, connections_of, connections_settled, leave_where, listed, made, one_login, replies_made, settled, settled_by, settled_going, settled_leaving, settled_of, settled_owned, settled_pending, settled_taking, settled_where}
+use Rattle.mum_owner.specs.Serving.{GivesOwned, GoesWhere, IsGiven, LeaveIsGiven, LeavesWhere, PendsWhere, ReceivesBy, ReceivesItem, ReceivesOwned, ServesDesk, ServesWhere, TakesWhere, kept_after, leave_of, may_go, must_wait, with_pass}
 use Rattle.mum_owner.specs.Written.{is_leave, is_login}
 use Rattle.mum_owner.specs.declared.desk.TheConstants.{PENDING_LIMIT}
+use Rattle.mum_owner.specs.declared.guests.Guest.{Guest}
 
 abbrev pub connection_of : ReplyFacts → ℕ
 connection_of reply = reply.connection
@@ -59,6 +61,17 @@ leave_kept : (decided : Bool) (reply : ReplyFacts) (kept : KeptFacts) (connectio
 leave_kept true reply kept connection none is = ap (λ (n : ℕ). n ∷ []) is
 leave_kept false reply kept connection none is = ap (λ (r : Option ReplyFacts). answered_to r) none
 
+abbrev connection_in : ℕ → Option Command → ℕ
+connection_in other None = other
+connection_in other (Some command) = command.connection
+
+-- a command keeps its connection, whatever session it gets
+owned_connection : (found : Option Guest) (login command : Command) → option_map (λ guest. record login { session = guest.session }) found ≡ Some command
+    → command.connection ≡ login.connection
+owned_connection None login command is = cc
+owned_connection (Some guest) login command is =
+    sym (ap (λ (o : Option Command). connection_in login.connection o) is)
+
 module _ {D : Type 0} where
   given_answered : (old : OwnerFacts D) (command : Command) (new : OwnerFacts D) → IsGiven old command new → answered_to new.kept.reply ≡ command.connection ∷ []
   given_answered old command new (inl gives) =
@@ -85,12 +98,25 @@ module _ {D : Type 0} where
   received_answered false true old command new received none = stays_unanswered old new (ap (λ (o : OwnerFacts D). o.kept.reply) received) none
   received_answered false false old command new received none = given_answered old command new received
 
+  owned_answered : (own : Option Command) (old new : OwnerFacts D) (received : ReceivesOwned old own new) → old.kept.reply ≡ None
+      → answered_to new.kept.reply ≡ connections_of (settled_owned own old new received)
+  owned_answered None old new same none = stays_unanswered old new (ap (λ (o : OwnerFacts D). o.kept.reply) same) none
+  owned_answered (Some command) old new received none =
+      received_answered (is_leave command.what) (is_login command && must_wait old) old command new received none
+
+  -- a login that waited, where this is what was given for it
+  login_answered : (own : Option Command) (old : OwnerFacts D) (login : Command) (new : OwnerFacts D) → old.kept.reply ≡ None → GivesOwned old own new
+      → ((command : Command) → own ≡ Some command → command.connection ≡ login.connection) → answered_to new.kept.reply ≡ connections_of (one_login own login)
+  login_answered None old login new none same of_it = stays_unanswered old new (ap (λ (o : OwnerFacts D). o.kept.reply) same) none
+  login_answered (Some command) old login new none given of_it =
+      given_answered old command new given ∙ ap (λ (n : ℕ). n ∷ []) (of_it command refl)
+
   item_answered : (old : OwnerFacts D) (item : Option DeskItem) (worked : Bool) (new : OwnerFacts D) (received : ReceivesItem old item worked new) → old.kept.reply ≡ None
       → answered_to new.kept.reply ≡ connections_of (settled_of old item worked new received)
   item_answered old None worked new received none = stays_unanswered old new (ap (λ (o : OwnerFacts D). o.kept.reply) received.1) none
   item_answered old (Some (items.Closed connection)) worked new received none = stays_unanswered old new (ap (λ (o : OwnerFacts D). o.kept.reply) received.1) none
   item_answered old (Some (items.Command command)) worked new received none =
-      received_answered (is_leave command.what) (is_login command && must_wait old) old command new received.1 none
+      owned_answered (owned old.guests.rows command) old new received.1 none
 
   taking_answered : (b : Bool) (old : OwnerFacts D) (worked : Bool) (new : OwnerFacts D) (takes : TakesWhere b old worked new) → old.kept.reply ≡ None
       → answered_to new.kept.reply ≡ connections_of (settled_taking b old worked new takes)
@@ -99,7 +125,9 @@ module _ {D : Type 0} where
 
   going_answered : (b : Bool) (old : OwnerFacts D) (worked : Bool) (new : OwnerFacts D) (goes : GoesWhere b old worked new) → old.kept.reply ≡ None
       → answered_to new.kept.reply ≡ connections_of (settled_going b old worked new goes)
-  going_answered true old worked new gives none = given_answered (record old { logins = gives.rest }) gives.login new gives.given
+  going_answered true old worked new gives none =
+      login_answered (owned old.guests.rows gives.login) (record old { logins = gives.rest }) gives.login new none gives.given
+      (owned_connection (find (is_of gives.login.connection) old.guests.rows) gives.login)
   going_answered false old worked new takes none = taking_answered (nat_lt (length old.logins) CONNECTION_LIMIT) old worked new takes none
 
   pending_answered : (b : Bool) (old : OwnerFacts D) (worked : Bool) (new : OwnerFacts D) (pends : PendsWhere b old worked new) → old.kept.reply ≡ None

@@ -19,7 +19,7 @@ use Rattle.mum_control.specs.Facts.{ControlFacts, ReplyFacts}
 use Rattle.mum_base.specs.declared.reply.Mark.{Mark}
 use Rattle.mum_base.specs.declared.reply.ReplyEnd.{ReplyEnd}
 use Rattle.mum_owner.specs.Counted.{HasCounted, HasGiven}
-use Rattle.mum_owner.specs.Doors.{given_after_all}
+use Rattle.mum_doorway.specs.Doors.{given_after_all}
 use Rattle.mum_owner.specs.Facts.{GuestsFacts, ScribeFacts}
 use Rattle.mum_owner.specs.Guests.{joined_by}
 use Rattle.mum_owner.proofs.Steps.{joined_given}

@@ -15,14 +15,21 @@ use Rattle.mum_outbox.specs.Facts.{PassFacts}
 use Rattle.mum_outbox.specs.declared.parcel.TheConstants.{DESK_CAPACITY}
 use Rattle.mum_port.specs.declared.item.DeskItem.{DeskItem}
 use Rattle.mum_port.specs.declared.item.DeskItem.TheVariants as items
+use Rattle.mum_rules_user.specs.declared.message.UserMessage.{UserMessage}
+use Rattle.mum_rules_user.specs.declared.message.UserMessage.TheVariants.{Join, Kick, Leave, Query, Target, Text}
+use Rattle.mum_rules_user.specs.declared.message.UserMessage.TheVariants as about
+use Rattle.mum_session.specs.declared.command.Asked.{Asked}
+use Rattle.mum_session.specs.declared.command.Asked.TheVariants.{Tree, User}
 use Rattle.mum_session.specs.declared.command.Command.{Command}
 use Rattle.mum_owner.specs.Facts.{DeskFacts, OwnerFacts}
-use Rattle.mum_owner.specs.Laws.{TurnsTo, command_in, command_unless, commands_given, is_no_login, items_taken, leave_in, leave_where, leaves_decided, listed, settled, settled_by, settled_going, settled_leaving, settled_of, settled_pending, settled_taking, settled_where}
+use Rattle.mum_owner.specs.Guests.{owned}
+use Rattle.mum_owner.specs.Laws.{Settled, TurnsTo, command_in, commands_given, commands_owned, commands_settled, commands_taken, is_other, items_taken, leave_in, leave_where, leaves_decided, listed, one_login, settled, settled_by, settled_going, settled_leaving, settled_of, settled_owned, settled_pending, settled_taking, settled_where}
 use Rattle.mum_owner.specs.Opened.{IsOpened}
-use Rattle.mum_owner.specs.Serving.{GivesWaiting, GoesWhere, IsGiven, LeaveIsGiven, LeavesWhere, PendsWhere, ReceivesBy, ReceivesItem, ServesDesk, ServesWhere, TakesWhere, leave_after, may_go, must_wait, with_pass}
+use Rattle.mum_owner.specs.Serving.{GivesOwned, GivesWaiting, GoesWhere, IsGiven, LeaveIsGiven, LeavesWhere, PendsWhere, ReceivesBy, ReceivesItem, ReceivesOwned, ServesDesk, ServesWhere, TakesWhere, leave_after, may_go, must_wait, with_pass}
 use Rattle.mum_owner.specs.Turned.{AsksWhere, OwnerTurned, is_not_to_ask, is_over}
-use Rattle.mum_owner.specs.Written.{is_leave, is_login}
+use Rattle.mum_owner.specs.Written.{is_leave, is_login, is_login_by}
 use Rattle.mum_owner.specs.declared.desk.TheConstants.{PENDING_LIMIT}
+use Rattle.mum_owner.specs.declared.guests.Guest.{Guest}
 use Rattle.mum_owner.proofs.Steps.{LagStays, PublishStays, post_stays, press_stays, publish_stays}
 
 -- each is a login
@@ -34,29 +41,40 @@ login_behind : (logins : List Command) (login : Command) → AreLogins logins �
 login_behind [] login are is = (is, are)
 login_behind (first ∷ logins) login are is = (are.0, login_behind logins login are.1 is)
 
--- the commands that were taken, leaves apart
-abbrev pub commands_of : DeskFacts → List Command
-commands_of desk = filter_map command_in (items_taken desk)
-
-abbrev pub leaves_of : DeskFacts → List ℕ
-leaves_of desk = filter_map leave_in (items_taken desk)
-
--- of what was taken from the desk these commands were given and these leaves decided, and the others wait
-pub record IsServed (desk : DeskFacts) (waiting : List Command) (given : List Command) (decided : List ℕ) : Type 0 where
-  pub logins : filter is_login (commands_of desk) ≡ filter is_login given ++ waiting
-  pub others : filter is_no_login (commands_of desk) ≡ filter is_no_login given
-  pub leaves : leaves_of desk ≡ decided ++ listed desk.leave
+-- of the commands of open connections that were taken these were given, these settled and these leaves decided, and the
+-- others wait
+pub record IsServed (leave : Option ℕ) (waiting taken given done : List Command) (decided : List ℕ) : Type 0 where
+  pub logins : filter is_login taken ≡ filter is_login done ++ waiting
+  pub others : filter is_other taken ≡ filter is_other given
+  pub leaves : filter_map leave_in taken ≡ decided ++ listed leave
   pub are_logins : AreLogins waiting
 
-served_as : (old desk : DeskFacts) (were waiting given : List Command) (decided : List ℕ) → desk ≡ old → waiting ≡ were → IsServed old were given decided
-    → IsServed desk waiting given decided
-served_as old desk were waiting given decided same stay served =
-    subst (λ (d : DeskFacts). IsServed d waiting given decided) (sym same) (subst (λ (w : List Command). IsServed old w given decided) (sym stay) served)
+-- the same, and what a part of a turn took and settled, where these were the guests
+abbrev pub IsServedBy : Option ℕ → List Command → List Command → List Command → List Command → List ℕ → List Guest → Settled → Type 0
+IsServedBy leave waiting taken given done decided rows what =
+    IsServed leave waiting (taken ++ filter_map (owned rows) what.taken) (given ++ what.commands) (done ++ (what.commands ++ what.dropped)) (decided ++ what.leaves)
 
-served_more : (desk : DeskFacts) (waiting given : List Command) (decided : List ℕ) → IsServed desk waiting given decided → IsServed desk waiting (given ++ []) (decided ++ [])
-served_more desk waiting given decided served =
-    subst (λ (l : List Command). IsServed desk waiting l (decided ++ [])) (sym (append-nil given))
-    (subst (λ (l : List ℕ). IsServed desk waiting given l) (sym (append-nil decided)) served)
+served_as : (old leave : Option ℕ) (were waiting taken given done : List Command) (decided : List ℕ) → leave ≡ old → waiting ≡ were
+    → IsServed old were taken given done decided → IsServed leave waiting taken given done decided
+served_as old leave were waiting taken given done decided same stay served =
+    subst (λ (o : Option ℕ). IsServed o waiting taken given done decided) (sym same)
+    (subst (λ (w : List Command). IsServed old w taken given done decided) (sym stay) served)
+
+-- nothing more
+served_more : (leave : Option ℕ) (waiting taken given done : List Command) (decided : List ℕ) → IsServed leave waiting taken given done decided
+    → IsServed leave waiting (taken ++ []) (given ++ []) (done ++ []) (decided ++ [])
+served_more leave waiting taken given done decided served = record {
+  logins =
+      ap (λ (l : List Command). filter is_login l) (append-nil taken) ∙ served.logins
+      ∙ ap (λ (l : List Command). filter is_login l ++ waiting) (sym (append-nil done));
+  others =
+      ap (λ (l : List Command). filter is_other l) (append-nil taken) ∙ served.others
+      ∙ ap (λ (l : List Command). filter is_other l) (sym (append-nil given));
+  leaves =
+      ap (λ (l : List Command). filter_map leave_in l) (append-nil taken) ∙ served.leaves
+      ∙ ap (λ (l : List ℕ). l ++ listed leave) (sym (append-nil decided));
+  are_logins = served.are_logins;
+}
 
 -- ---- an item that is taken
 
@@ -76,22 +94,41 @@ items_more desk item pass takes =
 items_same : (desk : DeskFacts) (pass : PassFacts DeskItem) → Takes DESK_CAPACITY desk.pass None pass → items_taken (record desk { pass = pass }) ≡ items_taken desk
 items_same desk pass takes = ap (λ (p : PassFacts DeskItem). items_taken (record desk { pass = p })) takes.0
 
-served_past : (desk : DeskFacts) (pass : PassFacts DeskItem) (waiting given : List Command) (decided : List ℕ)
-    → commands_of (record desk { pass = pass }) ≡ commands_of desk → leaves_of (record desk { pass = pass }) ≡ leaves_of desk
-    → IsServed desk waiting given decided → IsServed (record desk { pass = pass }) waiting given decided
-served_past desk pass waiting given decided commands leaves served = record {
-  logins = ap (λ (l : List Command). filter is_login l) commands ∙ served.logins;
-  others = ap (λ (l : List Command). filter is_no_login l) commands ∙ served.others;
-  leaves = leaves ∙ served.leaves;
-  are_logins = served.are_logins;
-}
-
 -- ---- a leave
 
 leave_split : (decided : Bool) (connection : ℕ) (before : List ℕ)
     → (before ++ listed (leave_where decided connection)) ++ listed (leave_after decided connection) ≡ before ++ connection ∷ []
 leave_split true connection before = append-nil (before ++ connection ∷ [])
 leave_split false connection before = ap (λ (l : List ℕ). l ++ connection ∷ []) (append-nil before)
+
+-- a leave is no login
+leave_no_login : (logged : Bool) (what : Asked) → is_leave what ≡ true → is_login_by logged what ≡ false
+leave_no_login false what is = refl
+leave_no_login true (Tree message) is = refl
+leave_no_login true (User (Join login version)) is = cc
+leave_no_login true (User (about.User message)) is = refl
+leave_no_login true (User (Kick message)) is = refl
+leave_no_login true (User (Text message)) is = refl
+leave_no_login true (User (Target message)) is = refl
+leave_no_login true (User (Query message)) is = refl
+leave_no_login true (User Leave) is = refl
+
+-- a leave, over what is filtered
+leave_dropped : (b : Bool) (command : Command) (front : List Command) → b ≡ false → front ++ cond b (command ∷ []) [] ≡ front
+leave_dropped b command front is = ap (λ (a : Bool). front ++ cond a (command ∷ []) []) is ∙ append-nil front
+
+not_other : (login leave : Bool) → leave ≡ true → (not login && not leave) ≡ false
+not_other true leave is = refl
+not_other false leave is = ap (λ (b : Bool). not b) is
+
+login_not_other : (login leave : Bool) → login ≡ true → (not login && not leave) ≡ false
+login_not_other login leave is = ap (λ (b : Bool). not b && not leave) is
+
+leave_found : (b : Bool) (connection : ℕ) → b ≡ true → listed (leave_where b connection) ≡ connection ∷ []
+leave_found b connection is = ap (λ (a : Bool). listed (leave_where a connection)) is
+
+leave_none : (b : Bool) (connection : ℕ) (before : List ℕ) → b ≡ false → before ++ listed (leave_where b connection) ≡ before
+leave_none b connection before is = ap (λ (a : Bool). before ++ listed (leave_where a connection)) is ∙ append-nil before
 
 -- ---- a login that comes
 
@@ -121,6 +158,14 @@ given_login : (b : Bool) (command : Command) (front waiting : List Command) → 
 given_login true command front waiting none = swapped front waiting (command ∷ []) (none refl)
 given_login false command front waiting none = append-nil (front ++ waiting) ∙ ap (λ (l : List Command). l ++ waiting) (sym (append-nil front))
 
+-- a login that waited goes, and is the last of those that went
+went_logins : (login : Command) (rest taken done : List Command) → is_login login ≡ true → filter is_login taken ≡ filter is_login done ++ (login ∷ rest)
+    → filter is_login (taken ++ []) ≡ filter is_login (done ++ login ∷ []) ++ rest
+went_logins login rest taken done is served =
+    ap (λ (l : List Command). filter is_login l) (append-nil taken) ∙ served ∙ sym (append_assoc (filter is_login done) (login ∷ []) rest)
+    ∙ ap (λ (b : Bool). (filter is_login done ++ cond b (login ∷ []) []) ++ rest) (sym is)
+    ∙ ap (λ (l : List Command). l ++ rest) (sym (filter-append is_login done (login ∷ [])))
+
 module _ {D : Type 0} where
   given_desk : (old : OwnerFacts D) (command : Command) (new : OwnerFacts D) → IsGiven old command new → (new.desk ≡ old.desk) × (new.logins ≡ old.logins)
   given_desk old command new (inl gives) = (ap (λ (o : OwnerFacts D). o.desk) gives.others, ap (λ (o : OwnerFacts D). o.logins) gives.others)
@@ -134,155 +179,250 @@ module _ {D : Type 0} where
     ap (λ (o : OwnerFacts D). o.logins) drops.others,
   )
 
+  pass_by : (leave waits : Bool) (old : OwnerFacts D) (command : Command) (new : OwnerFacts D) → ReceivesBy leave waits old command new → items_taken new.desk ≡ items_taken old.desk
+  pass_by true waits old command new received = ap (λ (d : DeskFacts). items_taken d) (leave_desk old command.connection received.0 new received.1).0
+  pass_by false true old command new received = ap (λ (o : OwnerFacts D). items_taken o.desk) received
+  pass_by false false old command new received = ap (λ (d : DeskFacts). items_taken d) (given_desk old command new received).0
+
   -- what came of a command that was taken
   received_served : (leave waits : Bool) (old : OwnerFacts D) (command : Command) (new : OwnerFacts D) (received : ReceivesBy leave waits old command new)
-      (given : List Command) (decided : List ℕ) → (waits ≡ true → is_login command ≡ true) → (waits ≡ false → is_login command ≡ true → old.logins ≡ [])
-      → old.desk.leave ≡ None
-      → filter is_login (commands_of old.desk) ≡ (filter is_login given ++ old.logins) ++ filter is_login (listed (command_unless leave command))
-      → filter is_no_login (commands_of old.desk) ≡ filter is_no_login given ++ filter is_no_login (listed (command_unless leave command))
-      → leaves_of old.desk ≡ decided ++ listed (leave_where leave command.connection) → AreLogins old.logins
-      → IsServed new.desk new.logins (given ++ (settled_by leave waits old command new received).commands) (decided ++ (settled_by leave waits old command new received).leaves)
-  received_served true waits old command new received given decided login empty none logins others leaves are =
+      (taken given done : List Command) (decided : List ℕ) → is_leave command.what ≡ leave → (waits ≡ true → is_login command ≡ true)
+      → (waits ≡ false → is_login command ≡ true → old.logins ≡ []) → old.desk.leave ≡ None → IsServed old.desk.leave old.logins taken given done decided
+      → IsServed new.desk.leave new.logins (taken ++ command ∷ []) (given ++ (settled_by leave waits old command new received).commands)
+      (done ++ ((settled_by leave waits old command new received).commands ++ (settled_by leave waits old command new received).dropped))
+      (decided ++ (settled_by leave waits old command new received).leaves)
+  received_served true waits old command new received taken given done decided leaves login empty none served =
       let after = leave_desk old command.connection received.0 new received.1 in
-      served_as (record old.desk { leave = leave_after received.0 command.connection }) new.desk old.logins new.logins (given ++ [])
-      (decided ++ listed (leave_where received.0 command.connection)) after.0 after.1 (record {
+      served_as (leave_after received.0 command.connection) new.desk.leave old.logins new.logins (taken ++ command ∷ []) (given ++ []) (done ++ [])
+      (decided ++ listed (leave_where received.0 command.connection)) (ap (λ (d : DeskFacts). d.leave) after.0) after.1 (record {
         logins =
-            logins ∙ append-nil (filter is_login given ++ old.logins) ∙ ap (λ (l : List Command). filter is_login l ++ old.logins) (sym (append-nil given));
-        others = others ∙ append-nil (filter is_no_login given) ∙ ap (λ (l : List Command). filter is_no_login l) (sym (append-nil given));
-        leaves = leaves ∙ sym (leave_split received.0 command.connection decided);
-        are_logins = are;
-      })
-  received_served false true old command new received given decided login empty none logins others leaves are =
-      served_as old.desk new.desk (old.logins ++ command ∷ []) new.logins (given ++ []) (decided ++ []) (ap (λ (o : OwnerFacts D). o.desk) received)
-      (ap (λ (o : OwnerFacts D). o.logins) received) (record {
-        logins =
-            logins ∙ ap (λ (b : Bool). (filter is_login given ++ old.logins) ++ cond b (command ∷ []) []) (login refl)
-            ∙ append_assoc (filter is_login given) old.logins (command ∷ [])
-            ∙ ap (λ (l : List Command). filter is_login l ++ (old.logins ++ command ∷ [])) (sym (append-nil given));
+            filter-append is_login taken (command ∷ [])
+            ∙ leave_dropped (is_login command) command (filter is_login taken) (leave_no_login (is_none command.session) command.what leaves)
+            ∙ served.logins ∙ ap (λ (l : List Command). filter is_login l ++ old.logins) (sym (append-nil done));
         others =
-            others ∙ ap (λ (b : Bool). filter is_no_login given ++ cond (not b) (command ∷ []) []) (login refl) ∙ append-nil (filter is_no_login given)
-            ∙ ap (λ (l : List Command). filter is_no_login l) (sym (append-nil given));
-        leaves = leaves ∙ sym (ap (λ (o : Option ℕ). (decided ++ []) ++ listed o) none ∙ append-nil (decided ++ []));
-        are_logins = login_behind old.logins command are (login refl);
+            filter-append is_other taken (command ∷ [])
+            ∙ leave_dropped (is_other command) command (filter is_other taken) (not_other (is_login command) (is_leave command.what) leaves)
+            ∙ served.others ∙ ap (λ (l : List Command). filter is_other l) (sym (append-nil given));
+        leaves =
+            found_more leave_in taken command ∙ ap (λ (l : List ℕ). filter_map leave_in taken ++ l) (leave_found (is_leave command.what) command.connection leaves)
+            ∙ ap (λ (l : List ℕ). l ++ command.connection ∷ []) (served.leaves ∙ ap (λ (o : Option ℕ). decided ++ listed o) none ∙ append-nil decided)
+            ∙ sym (leave_split received.0 command.connection decided);
+        are_logins = served.are_logins;
       })
-  received_served false false old command new received given decided login empty none logins others leaves are =
+  received_served false true old command new received taken given done decided leaves login empty none served =
+      served_as old.desk.leave new.desk.leave (old.logins ++ command ∷ []) new.logins (taken ++ command ∷ []) (given ++ []) (done ++ []) (decided ++ [])
+      (ap (λ (o : OwnerFacts D). o.desk.leave) received) (ap (λ (o : OwnerFacts D). o.logins) received) (record {
+        logins =
+            filter-append is_login taken (command ∷ [])
+            ∙ ap (λ (b : Bool). filter is_login taken ++ cond b (command ∷ []) []) (login refl)
+            ∙ ap (λ (l : List Command). l ++ command ∷ []) served.logins ∙ append_assoc (filter is_login done) old.logins (command ∷ [])
+            ∙ ap (λ (l : List Command). filter is_login l ++ (old.logins ++ command ∷ [])) (sym (append-nil done));
+        others =
+            filter-append is_other taken (command ∷ [])
+            ∙ leave_dropped (is_other command) command (filter is_other taken) (login_not_other (is_login command) (is_leave command.what) (login refl))
+            ∙ served.others ∙ ap (λ (l : List Command). filter is_other l) (sym (append-nil given));
+        leaves =
+            found_more leave_in taken command ∙ leave_none (is_leave command.what) command.connection (filter_map leave_in taken) leaves ∙ served.leaves
+            ∙ ap (λ (l : List ℕ). l ++ listed old.desk.leave) (sym (append-nil decided));
+        are_logins = login_behind old.logins command served.are_logins (login refl);
+      })
+  received_served false false old command new received taken given done decided leaves login empty none served =
       let after = given_desk old command new received in
-      served_as old.desk new.desk old.logins new.logins (given ++ command ∷ []) (decided ++ []) after.0 after.1 (record {
+      served_as old.desk.leave new.desk.leave old.logins new.logins (taken ++ command ∷ []) (given ++ command ∷ []) (done ++ command ∷ []) (decided ++ [])
+      (ap (λ (d : DeskFacts). d.leave) after.0) after.1 (record {
         logins =
-            logins ∙ given_login (is_login command) command (filter is_login given) old.logins (empty refl)
-            ∙ ap (λ (l : List Command). l ++ old.logins) (sym (filter-append is_login given (command ∷ [])));
-        others = others ∙ sym (filter-append is_no_login given (command ∷ []));
-        leaves = leaves ∙ sym (ap (λ (o : Option ℕ). (decided ++ []) ++ listed o) none ∙ append-nil (decided ++ []));
-        are_logins = are;
-      })
-
-  item_served : (old : OwnerFacts D) (pass : PassFacts DeskItem) (item : Option DeskItem) (worked : Bool) (new : OwnerFacts D) (received : ReceivesItem (with_pass pass old) item worked new)
-      (given : List Command) (decided : List ℕ) → Takes DESK_CAPACITY old.desk.pass item pass → old.desk.leave ≡ None → IsServed old.desk old.logins given decided
-      → IsServed new.desk new.logins (given ++ (settled_of (with_pass pass old) item worked new received).commands)
-      (decided ++ (settled_of (with_pass pass old) item worked new received).leaves)
-  item_served old pass None worked new received given decided takes none served =
-      let same = items_same old.desk pass takes in
-      let past = served_past old.desk pass old.logins given decided (ap (λ (l : List DeskItem). filter_map command_in l) same) (ap (λ (l : List DeskItem). filter_map leave_in l) same) served in
-      served_as (record old.desk { pass = pass }) new.desk old.logins new.logins (given ++ []) (decided ++ []) (ap (λ (o : OwnerFacts D). o.desk) received.1)
-      (ap (λ (o : OwnerFacts D). o.logins) received.1) (served_more (record old.desk { pass = pass }) old.logins given decided past)
-  item_served old pass (Some (items.Closed connection)) worked new received given decided takes none served =
-      let more = items_more old.desk (items.Closed connection) pass takes in
-      let commands = ap (λ (l : List DeskItem). filter_map command_in l) more ∙ found_more command_in (items_taken old.desk) (items.Closed connection) ∙ append-nil (commands_of old.desk) in
-      let leaves = ap (λ (l : List DeskItem). filter_map leave_in l) more ∙ found_more leave_in (items_taken old.desk) (items.Closed connection) ∙ append-nil (leaves_of old.desk) in
-      let past = served_past old.desk pass old.logins given decided commands leaves served in
-      served_as (record old.desk { pass = pass }) new.desk old.logins new.logins (given ++ []) (decided ++ []) (ap (λ (o : OwnerFacts D). o.desk) received.1)
-      (ap (λ (o : OwnerFacts D). o.logins) received.1) (served_more (record old.desk { pass = pass }) old.logins given decided past)
-  item_served old pass (Some (items.Command command)) worked new received given decided takes none served =
-      let mid : OwnerFacts D = with_pass pass old in
-      let more = items_more old.desk (items.Command command) pass takes in
-      let commands : commands_of (record old.desk { pass = pass }) ≡ commands_of old.desk ++ listed (command_unless (is_leave command.what) command) =
-      ap (λ (l : List DeskItem). filter_map command_in l) more ∙ found_more command_in (items_taken old.desk) (items.Command command) in
-      let leaves : leaves_of (record old.desk { pass = pass }) ≡ leaves_of old.desk ++ listed (leave_where (is_leave command.what) command.connection) =
-      ap (λ (l : List DeskItem). filter_map leave_in l) more ∙ found_more leave_in (items_taken old.desk) (items.Command command) in
-      let last = listed (command_unless (is_leave command.what) command) in
-      received_served (is_leave command.what) (is_login command && must_wait mid) mid command new received.1 given decided
-      (both_so (is_login command) (must_wait mid))
-      (λ free login. none_waits (length old.logins == 0) _ old.logins refl (second_so (is_login command) (must_wait mid) free login)) none
-      (ap (λ (l : List Command). filter is_login l) commands ∙ filter-append is_login (commands_of old.desk) last
-      ∙ ap (λ (l : List Command). l ++ filter is_login last) served.logins)
-      (ap (λ (l : List Command). filter is_no_login l) commands ∙ filter-append is_no_login (commands_of old.desk) last
-      ∙ ap (λ (l : List Command). l ++ filter is_no_login last) served.others)
-      (leaves ∙ ap (λ (l : List ℕ). l ++ listed (leave_where (is_leave command.what) command.connection))
-      (served.leaves ∙ ap (λ (o : Option ℕ). decided ++ listed o) none ∙ append-nil decided)) served.are_logins
-
-  rests_served : (old new : OwnerFacts D) (given : List Command) (decided : List ℕ) → new ≡ old → IsServed old.desk old.logins given decided
-      → IsServed new.desk new.logins (given ++ []) (decided ++ [])
-  rests_served old new given decided same served =
-      served_as old.desk new.desk old.logins new.logins (given ++ []) (decided ++ []) (ap (λ (o : OwnerFacts D). o.desk) same) (ap (λ (o : OwnerFacts D). o.logins) same)
-      (served_more old.desk old.logins given decided served)
-
-  taking_served : (b : Bool) (old : OwnerFacts D) (worked : Bool) (new : OwnerFacts D) (takes : TakesWhere b old worked new) (given : List Command) (decided : List ℕ) → old.desk.leave ≡ None
-      → IsServed old.desk old.logins given decided
-      → IsServed new.desk new.logins (given ++ (settled_taking b old worked new takes).commands) (decided ++ (settled_taking b old worked new takes).leaves)
-  taking_served true old worked new takes given decided none served =
-      item_served old takes.pass takes.item worked new takes.received given decided takes.taken none served
-  taking_served false old worked new rests given decided none served = rests_served old new given decided rests.1 served
-
-  waiting_served : (old : OwnerFacts D) (worked : Bool) (new : OwnerFacts D) (gives : GivesWaiting old worked new) (given : List Command) (decided : List ℕ)
-      → IsServed old.desk old.logins given decided → IsServed new.desk new.logins (given ++ gives.login ∷ []) (decided ++ [])
-  waiting_served old worked new gives given decided served =
-      let after = given_desk (record old { logins = gives.rest }) gives.login new gives.given in
-      let are : AreLogins (gives.login ∷ gives.rest) = subst AreLogins gives.first served.are_logins in
-      served_as old.desk new.desk gives.rest new.logins (given ++ gives.login ∷ []) (decided ++ []) after.0 after.1 (record {
-        logins =
-            served.logins ∙ ap (λ (l : List Command). filter is_login given ++ l) gives.first ∙ sym (append_assoc (filter is_login given) (gives.login ∷ []) gives.rest)
-            ∙ ap (λ (b : Bool). (filter is_login given ++ cond b (gives.login ∷ []) []) ++ gives.rest) (sym are.0)
-            ∙ ap (λ (l : List Command). l ++ gives.rest) (sym (filter-append is_login given (gives.login ∷ [])));
+            filter-append is_login taken (command ∷ []) ∙ ap (λ (l : List Command). l ++ filter is_login (command ∷ [])) served.logins
+            ∙ given_login (is_login command) command (filter is_login done) old.logins (empty refl)
+            ∙ ap (λ (l : List Command). l ++ old.logins) (sym (filter-append is_login done (command ∷ [])));
         others =
-            served.others ∙ sym (append-nil (filter is_no_login given)) ∙ ap (λ (b : Bool). filter is_no_login given ++ cond (not b) (gives.login ∷ []) []) (sym are.0)
-            ∙ sym (filter-append is_no_login given (gives.login ∷ []));
-        leaves = served.leaves ∙ ap (λ (l : List ℕ). l ++ listed old.desk.leave) (sym (append-nil decided));
-        are_logins = are.1;
-      })
-
-  going_served : (b : Bool) (old : OwnerFacts D) (worked : Bool) (new : OwnerFacts D) (goes : GoesWhere b old worked new) (given : List Command) (decided : List ℕ) → old.desk.leave ≡ None
-      → IsServed old.desk old.logins given decided
-      → IsServed new.desk new.logins (given ++ (settled_going b old worked new goes).commands) (decided ++ (settled_going b old worked new goes).leaves)
-  going_served true old worked new gives given decided none served = waiting_served old worked new gives given decided served
-  going_served false old worked new takes given decided none served =
-      taking_served (nat_lt (length old.logins) CONNECTION_LIMIT) old worked new takes given decided none served
-
-  pending_served : (b : Bool) (old : OwnerFacts D) (worked : Bool) (new : OwnerFacts D) (pends : PendsWhere b old worked new) (given : List Command) (decided : List ℕ) → old.desk.leave ≡ None
-      → IsServed old.desk old.logins given decided
-      → IsServed new.desk new.logins (given ++ (settled_pending b old worked new pends).commands) (decided ++ (settled_pending b old worked new pends).leaves)
-  pending_served true old worked new rests given decided none served = rests_served old new given decided rests.1 served
-  pending_served false old worked new goes given decided none served = going_served (may_go old) old worked new goes given decided none served
-
-  leave_served : (old : OwnerFacts D) (connection : ℕ) (worked : Bool) (new : OwnerFacts D) → LeaveIsGiven old connection worked new → (given : List Command) (decided : List ℕ)
-      → old.desk.leave ≡ Some connection → IsServed old.desk old.logins given decided
-      → IsServed new.desk new.logins (given ++ []) (decided ++ listed (leave_where worked connection))
-  leave_served old connection worked new leave given decided keeps served =
-      let after = leave_desk old connection worked new leave in
-      served_as (record old.desk { leave = leave_after worked connection }) new.desk old.logins new.logins (given ++ [])
-      (decided ++ listed (leave_where worked connection)) after.0 after.1 (record {
-        logins = served.logins ∙ ap (λ (l : List Command). filter is_login l ++ old.logins) (sym (append-nil given));
-        others = served.others ∙ ap (λ (l : List Command). filter is_no_login l) (sym (append-nil given));
-        leaves = served.leaves ∙ ap (λ (o : Option ℕ). decided ++ listed o) keeps ∙ sym (leave_split worked connection decided);
+            filter-append is_other taken (command ∷ []) ∙ ap (λ (l : List Command). l ++ filter is_other (command ∷ [])) served.others
+            ∙ sym (filter-append is_other given (command ∷ []));
+        leaves =
+            found_more leave_in taken command ∙ leave_none (is_leave command.what) command.connection (filter_map leave_in taken) leaves ∙ served.leaves
+            ∙ ap (λ (l : List ℕ). l ++ listed old.desk.leave) (sym (append-nil decided));
         are_logins = served.are_logins;
       })
 
-  leaving_served : (leave : Option ℕ) (old : OwnerFacts D) (worked : Bool) (new : OwnerFacts D) (leaves : LeavesWhere leave old worked new) (given : List Command) (decided : List ℕ)
-      → old.desk.leave ≡ leave → IsServed old.desk old.logins given decided
-      → IsServed new.desk new.logins (given ++ (settled_leaving leave old worked new leaves).commands) (decided ++ (settled_leaving leave old worked new leaves).leaves)
-  leaving_served (Some connection) old worked new leave given decided keeps served = leave_served old connection worked new leave given decided keeps served
-  leaving_served None old worked new pends given decided none served =
-      pending_served (nat_lt PENDING_LIMIT (length old.control.pending)) old worked new pends given decided none served
+  rests_served : (old new : OwnerFacts D) (taken given done : List Command) (decided : List ℕ) → new ≡ old → IsServed old.desk.leave old.logins taken given done decided
+      → IsServed new.desk.leave new.logins (taken ++ []) (given ++ []) (done ++ []) (decided ++ [])
+  rests_served old new taken given done decided same served =
+      served_as old.desk.leave new.desk.leave old.logins new.logins (taken ++ []) (given ++ []) (done ++ []) (decided ++ [])
+      (ap (λ (o : OwnerFacts D). o.desk.leave) same) (ap (λ (o : OwnerFacts D). o.logins) same)
+      (served_more old.desk.leave old.logins taken given done decided served)
 
-  where_served : (b : Bool) (old : OwnerFacts D) (worked : Bool) (new : OwnerFacts D) (serves : ServesWhere b old worked new) (given : List Command) (decided : List ℕ)
-      → IsServed old.desk old.logins given decided
-      → IsServed new.desk new.logins (given ++ (settled_where b old worked new serves).commands) (decided ++ (settled_where b old worked new serves).leaves)
-  where_served true old worked new rests given decided served = rests_served old new given decided rests.1 served
-  where_served false old worked new leaves given decided served = leaving_served old.desk.leave old worked new leaves given decided refl served
+  -- a command that was taken, where this is what is received for it
+  owned_served : (own : Option Command) (old new : OwnerFacts D) (received : ReceivesOwned old own new) (taken given done : List Command) (decided : List ℕ)
+      → old.desk.leave ≡ None → IsServed old.desk.leave old.logins taken given done decided
+      → IsServed new.desk.leave new.logins (taken ++ cons_option own []) (given ++ (settled_owned own old new received).commands)
+      (done ++ ((settled_owned own old new received).commands ++ (settled_owned own old new received).dropped)) (decided ++ (settled_owned own old new received).leaves)
+  owned_served None old new same taken given done decided none served = rests_served old new taken given done decided same served
+  owned_served (Some command) old new received taken given done decided none served =
+      received_served (is_leave command.what) (is_login command && must_wait old) old command new received taken given done decided refl
+      (both_so (is_login command) (must_wait old))
+      (λ free login. none_waits (length old.logins == 0) _ old.logins refl (second_so (is_login command) (must_wait old) free login)) none served
 
-  desk_served : (old : OwnerFacts D) (worked : Bool) (new : OwnerFacts D) (serves : ServesDesk old worked new) (given : List Command) (decided : List ℕ)
-      → IsServed old.desk old.logins given decided
-      → IsServed new.desk new.logins (given ++ (settled old worked new serves).commands) (decided ++ (settled old worked new serves).leaves)
-  desk_served old worked new serves given decided served = where_served (is_some old.kept.reply) old worked new serves given decided served
+  item_served : (old : OwnerFacts D) (item : Option DeskItem) (worked : Bool) (new : OwnerFacts D) (received : ReceivesItem old item worked new)
+      (taken given done : List Command) (decided : List ℕ) → old.desk.leave ≡ None → IsServed old.desk.leave old.logins taken given done decided
+      → IsServedBy new.desk.leave new.logins taken given done decided old.guests.rows (settled_of old item worked new received)
+  item_served old None worked new received taken given done decided none served = rests_served old new taken given done decided received.1 served
+  item_served old (Some (items.Closed connection)) worked new received taken given done decided none served =
+      served_as old.desk.leave new.desk.leave old.logins new.logins (taken ++ []) (given ++ []) (done ++ []) (decided ++ [])
+      (ap (λ (o : OwnerFacts D). o.desk.leave) received.1) (ap (λ (o : OwnerFacts D). o.logins) received.1)
+      (served_more old.desk.leave old.logins taken given done decided served)
+  item_served old (Some (items.Command command)) worked new received taken given done decided none served =
+      owned_served (owned old.guests.rows command) old new received.1 taken given done decided none served
+
+  taking_served : (b : Bool) (old : OwnerFacts D) (worked : Bool) (new : OwnerFacts D) (takes : TakesWhere b old worked new) (taken given done : List Command) (decided : List ℕ)
+      → old.desk.leave ≡ None → IsServed old.desk.leave old.logins taken given done decided
+      → IsServedBy new.desk.leave new.logins taken given done decided old.guests.rows (settled_taking b old worked new takes)
+  taking_served true old worked new takes taken given done decided none served =
+      item_served (with_pass takes.pass old) takes.item worked new takes.received taken given done decided none served
+  taking_served false old worked new rests taken given done decided none served = rests_served old new taken given done decided rests.1 served
+
+  -- a login that waited goes: it was given, where this is what was given for it, or dropped
+  login_served : (own : Option Command) (old : OwnerFacts D) (login : Command) (rest : List Command) (new : OwnerFacts D) → GivesOwned (record old { logins = rest }) own new
+      → (taken given done : List Command) (decided : List ℕ) → IsServed old.desk.leave (login ∷ rest) taken given done decided
+      → IsServedBy new.desk.leave new.logins taken given done decided old.guests.rows (one_login own login)
+  login_served None old login rest new same taken given done decided served =
+      served_as old.desk.leave new.desk.leave rest new.logins (taken ++ []) (given ++ []) (done ++ login ∷ []) (decided ++ [])
+      (ap (λ (o : OwnerFacts D). o.desk.leave) same) (ap (λ (o : OwnerFacts D). o.logins) same) (record {
+        logins = went_logins login rest taken done served.are_logins.0 served.logins;
+        others = ap (λ (l : List Command). filter is_other l) (append-nil taken) ∙ served.others ∙ ap (λ (l : List Command). filter is_other l) (sym (append-nil given));
+        leaves =
+            ap (λ (l : List Command). filter_map leave_in l) (append-nil taken) ∙ served.leaves
+            ∙ ap (λ (l : List ℕ). l ++ listed old.desk.leave) (sym (append-nil decided));
+        are_logins = served.are_logins.1;
+      })
+  login_served (Some command) old login rest new gives taken given done decided served =
+      let after = given_desk (record old { logins = rest }) command new gives in
+      served_as old.desk.leave new.desk.leave rest new.logins (taken ++ []) (given ++ login ∷ []) (done ++ login ∷ []) (decided ++ [])
+      (ap (λ (d : DeskFacts). d.leave) after.0) after.1 (record {
+        logins = went_logins login rest taken done served.are_logins.0 served.logins;
+        others =
+            ap (λ (l : List Command). filter is_other l) (append-nil taken) ∙ served.others
+            ∙ sym (leave_dropped (is_other login) login (filter is_other given) (login_not_other (is_login login) (is_leave login.what) served.are_logins.0))
+            ∙ sym (filter-append is_other given (login ∷ []));
+        leaves =
+            ap (λ (l : List Command). filter_map leave_in l) (append-nil taken) ∙ served.leaves
+            ∙ ap (λ (l : List ℕ). l ++ listed old.desk.leave) (sym (append-nil decided));
+        are_logins = served.are_logins.1;
+      })
+
+  waiting_served : (old : OwnerFacts D) (worked : Bool) (new : OwnerFacts D) (gives : GivesWaiting old worked new) (taken given done : List Command) (decided : List ℕ)
+      → IsServed old.desk.leave old.logins taken given done decided
+      → IsServedBy new.desk.leave new.logins taken given done decided old.guests.rows (one_login (owned old.guests.rows gives.login) gives.login)
+  waiting_served old worked new gives taken given done decided served =
+      login_served (owned old.guests.rows gives.login) old gives.login gives.rest new gives.given taken given done decided
+      (subst (λ (l : List Command). IsServed old.desk.leave l taken given done decided) gives.first served)
+
+  going_served : (b : Bool) (old : OwnerFacts D) (worked : Bool) (new : OwnerFacts D) (goes : GoesWhere b old worked new) (taken given done : List Command) (decided : List ℕ)
+      → old.desk.leave ≡ None → IsServed old.desk.leave old.logins taken given done decided
+      → IsServedBy new.desk.leave new.logins taken given done decided old.guests.rows (settled_going b old worked new goes)
+  going_served true old worked new gives taken given done decided none served = waiting_served old worked new gives taken given done decided served
+  going_served false old worked new takes taken given done decided none served =
+      taking_served (nat_lt (length old.logins) CONNECTION_LIMIT) old worked new takes taken given done decided none served
+
+  pending_served : (b : Bool) (old : OwnerFacts D) (worked : Bool) (new : OwnerFacts D) (pends : PendsWhere b old worked new) (taken given done : List Command) (decided : List ℕ)
+      → old.desk.leave ≡ None → IsServed old.desk.leave old.logins taken given done decided
+      → IsServedBy new.desk.leave new.logins taken given done decided old.guests.rows (settled_pending b old worked new pends)
+  pending_served true old worked new rests taken given done decided none served = rests_served old new taken given done decided rests.1 served
+  pending_served false old worked new goes taken given done decided none served = going_served (may_go old) old worked new goes taken given done decided none served
+
+  leave_served : (old : OwnerFacts D) (connection : ℕ) (worked : Bool) (new : OwnerFacts D) → LeaveIsGiven old connection worked new → (taken given done : List Command) (decided : List ℕ)
+      → old.desk.leave ≡ Some connection → IsServed old.desk.leave old.logins taken given done decided
+      → IsServed new.desk.leave new.logins (taken ++ []) (given ++ []) (done ++ []) (decided ++ listed (leave_where worked connection))
+  leave_served old connection worked new leave taken given done decided keeps served =
+      let after = leave_desk old connection worked new leave in
+      served_as (leave_after worked connection) new.desk.leave old.logins new.logins (taken ++ []) (given ++ []) (done ++ [])
+      (decided ++ listed (leave_where worked connection)) (ap (λ (d : DeskFacts). d.leave) after.0) after.1 (record {
+        logins =
+            ap (λ (l : List Command). filter is_login l) (append-nil taken) ∙ served.logins
+            ∙ ap (λ (l : List Command). filter is_login l ++ old.logins) (sym (append-nil done));
+        others = ap (λ (l : List Command). filter is_other l) (append-nil taken) ∙ served.others ∙ ap (λ (l : List Command). filter is_other l) (sym (append-nil given));
+        leaves =
+            ap (λ (l : List Command). filter_map leave_in l) (append-nil taken) ∙ served.leaves ∙ ap (λ (o : Option ℕ). decided ++ listed o) keeps
+            ∙ sym (leave_split worked connection decided);
+        are_logins = served.are_logins;
+      })
+
+  leaving_served : (leave : Option ℕ) (old : OwnerFacts D) (worked : Bool) (new : OwnerFacts D) (leaves : LeavesWhere leave old worked new) (taken given done : List Command) (decided : List ℕ)
+      → old.desk.leave ≡ leave → IsServed old.desk.leave old.logins taken given done decided
+      → IsServedBy new.desk.leave new.logins taken given done decided old.guests.rows (settled_leaving leave old worked new leaves)
+  leaving_served (Some connection) old worked new leave taken given done decided keeps served = leave_served old connection worked new leave taken given done decided keeps served
+  leaving_served None old worked new pends taken given done decided none served =
+      pending_served (nat_lt PENDING_LIMIT (length old.control.pending)) old worked new pends taken given done decided none served
+
+  where_served : (b : Bool) (old : OwnerFacts D) (worked : Bool) (new : OwnerFacts D) (serves : ServesWhere b old worked new) (taken given done : List Command) (decided : List ℕ)
+      → IsServed old.desk.leave old.logins taken given done decided
+      → IsServedBy new.desk.leave new.logins taken given done decided old.guests.rows (settled_where b old worked new serves)
+  where_served true old worked new rests taken given done decided served = rests_served old new taken given done decided rests.1 served
+  where_served false old worked new leaves taken given done decided served = leaving_served old.desk.leave old worked new leaves taken given done decided refl served
+
+  desk_served : (old : OwnerFacts D) (worked : Bool) (new : OwnerFacts D) (serves : ServesDesk old worked new) (taken given done : List Command) (decided : List ℕ)
+      → IsServed old.desk.leave old.logins taken given done decided
+      → IsServedBy new.desk.leave new.logins taken given done decided old.guests.rows (settled old worked new serves)
+  desk_served old worked new serves taken given done decided served = where_served (is_some old.kept.reply) old worked new serves taken given done decided served
+
+  -- ---- what was taken of the desk
+
+  pass_stays : (own : Option Command) (old new : OwnerFacts D) → ReceivesOwned old own new → items_taken new.desk ≡ items_taken old.desk
+  pass_stays None old new same = ap (λ (o : OwnerFacts D). items_taken o.desk) same
+  pass_stays (Some command) old new received = pass_by (is_leave command.what) (is_login command && must_wait old) old command new received
+
+  taken_more : (old : OwnerFacts D) (pass : PassFacts DeskItem) (item : Option DeskItem) (worked : Bool) (new : OwnerFacts D) (received : ReceivesItem (with_pass pass old) item worked new)
+      → Takes DESK_CAPACITY old.desk.pass item pass
+      → filter_map command_in (items_taken new.desk) ≡ filter_map command_in (items_taken old.desk) ++ (settled_of (with_pass pass old) item worked new received).taken
+  taken_more old pass None worked new received takes =
+      ap (λ (o : OwnerFacts D). filter_map command_in (items_taken o.desk)) received.1 ∙ ap (λ (l : List DeskItem). filter_map command_in l) (items_same old.desk pass takes)
+      ∙ sym (append-nil (filter_map command_in (items_taken old.desk)))
+  taken_more old pass (Some (items.Closed connection)) worked new received takes =
+      ap (λ (o : OwnerFacts D). filter_map command_in (items_taken o.desk)) received.1
+      ∙ ap (λ (l : List DeskItem). filter_map command_in l) (items_more old.desk (items.Closed connection) pass takes)
+      ∙ found_more command_in (items_taken old.desk) (items.Closed connection)
+  taken_more old pass (Some (items.Command command)) worked new received takes =
+      ap (λ (l : List DeskItem). filter_map command_in l)
+      (pass_stays (owned old.guests.rows command) (with_pass pass old) new received.1 ∙ items_more old.desk (items.Command command) pass takes)
+      ∙ found_more command_in (items_taken old.desk) (items.Command command)
+
+  -- nothing more was taken
+  none_taken : (old new : OwnerFacts D) → items_taken new.desk ≡ items_taken old.desk → filter_map command_in (items_taken new.desk) ≡ filter_map command_in (items_taken old.desk) ++ []
+  none_taken old new same = ap (λ (l : List DeskItem). filter_map command_in l) same ∙ sym (append-nil (filter_map command_in (items_taken old.desk)))
+
+  login_taken : (own : Option Command) (old : OwnerFacts D) (login : Command) (rest : List Command) (new : OwnerFacts D) → GivesOwned (record old { logins = rest }) own new
+      → filter_map command_in (items_taken new.desk) ≡ filter_map command_in (items_taken old.desk) ++ (one_login own login).taken
+  login_taken None old login rest new same = none_taken old new (ap (λ (o : OwnerFacts D). items_taken o.desk) same)
+  login_taken (Some command) old login rest new given =
+      none_taken old new (ap (λ (d : DeskFacts). items_taken d) (given_desk (record old { logins = rest }) command new given).0)
+
+  taking_taken : (b : Bool) (old : OwnerFacts D) (worked : Bool) (new : OwnerFacts D) (takes : TakesWhere b old worked new)
+      → filter_map command_in (items_taken new.desk) ≡ filter_map command_in (items_taken old.desk) ++ (settled_taking b old worked new takes).taken
+  taking_taken true old worked new takes = taken_more old takes.pass takes.item worked new takes.received takes.taken
+  taking_taken false old worked new rests = none_taken old new (ap (λ (o : OwnerFacts D). items_taken o.desk) rests.1)
+
+  going_taken : (b : Bool) (old : OwnerFacts D) (worked : Bool) (new : OwnerFacts D) (goes : GoesWhere b old worked new)
+      → filter_map command_in (items_taken new.desk) ≡ filter_map command_in (items_taken old.desk) ++ (settled_going b old worked new goes).taken
+  going_taken true old worked new gives = login_taken (owned old.guests.rows gives.login) old gives.login gives.rest new gives.given
+  going_taken false old worked new takes = taking_taken (nat_lt (length old.logins) CONNECTION_LIMIT) old worked new takes
+
+  pending_taken : (b : Bool) (old : OwnerFacts D) (worked : Bool) (new : OwnerFacts D) (pends : PendsWhere b old worked new)
+      → filter_map command_in (items_taken new.desk) ≡ filter_map command_in (items_taken old.desk) ++ (settled_pending b old worked new pends).taken
+  pending_taken true old worked new rests = none_taken old new (ap (λ (o : OwnerFacts D). items_taken o.desk) rests.1)
+  pending_taken false old worked new goes = going_taken (may_go old) old worked new goes
+
+  leaving_taken : (leave : Option ℕ) (old : OwnerFacts D) (worked : Bool) (new : OwnerFacts D) (leaves : LeavesWhere leave old worked new)
+      → filter_map command_in (items_taken new.desk) ≡ filter_map command_in (items_taken old.desk) ++ (settled_leaving leave old worked new leaves).taken
+  leaving_taken (Some connection) old worked new leave =
+      none_taken old new (ap (λ (d : DeskFacts). items_taken d) (leave_desk old connection worked new leave).0)
+  leaving_taken None old worked new pends = pending_taken (nat_lt PENDING_LIMIT (length old.control.pending)) old worked new pends
+
+  where_taken : (b : Bool) (old : OwnerFacts D) (worked : Bool) (new : OwnerFacts D) (serves : ServesWhere b old worked new)
+      → filter_map command_in (items_taken new.desk) ≡ filter_map command_in (items_taken old.desk) ++ (settled_where b old worked new serves).taken
+  where_taken true old worked new rests = none_taken old new (ap (λ (o : OwnerFacts D). items_taken o.desk) rests.1)
+  where_taken false old worked new leaves = leaving_taken old.desk.leave old worked new leaves
+
+  desk_taken : (old : OwnerFacts D) (worked : Bool) (new : OwnerFacts D) (serves : ServesDesk old worked new)
+      → filter_map command_in (items_taken new.desk) ≡ filter_map command_in (items_taken old.desk) ++ (settled old worked new serves).taken
+  desk_taken old worked new serves = where_taken (is_some old.kept.reply) old worked new serves
 
   ended_desk : (b : Bool) (owner : OwnerFacts D) → ((cond b (record owner { is_ending = true }) owner).desk ≡ owner.desk) × ((cond b (record owner { is_ending = true }) owner).logins ≡ owner.logins)
   ended_desk true owner = (refl, refl)
@@ -293,48 +433,85 @@ module _ {D : Type 0} (L : Type 0) (counts : D → Counts) (given : D → ℕ) w
   asked_desk true old worked new rests = (ap (λ (o : OwnerFacts D). o.desk) rests.1, ap (λ (o : OwnerFacts D). o.logins) rests.1)
   asked_desk false old worked new asks = (ap (λ (o : OwnerFacts D). o.desk) asks.others, ap (λ (o : OwnerFacts D). o.logins) asks.others)
 
-  turned_served : (old : OwnerFacts D) (turn : Turn) (new : OwnerFacts D) (t : OwnerTurned L counts given old turn new) (commands : List Command) (decided : List ℕ)
-      → IsServed old.desk old.logins commands decided
-      → IsServed new.desk new.logins (commands ++ (settled t.after_offers t.served t.after_desk t.serves).commands)
-      (decided ++ (settled t.after_offers t.served t.after_desk t.serves).leaves)
-  turned_served old turn new t commands decided served =
-      let what = settled t.after_offers t.served t.after_desk t.serves in
+  -- what is served of the desk in a turn is all that a turn does with it
+  turned_desk : (old : OwnerFacts D) (turn : Turn) (new : OwnerFacts D) (t : OwnerTurned L counts given old turn new) → (new.desk ≡ t.after_desk.desk) × (new.logins ≡ t.after_desk.logins)
+  turned_desk old turn new t =
       let press : LagStays t.after_desk t.after_press = press_stays t.after_desk t.pressed t.after_press t.presses in
       let publish : PublishStays t.after_press t.after_publish = publish_stays t.after_press t.published t.after_publish t.publishes in
       let post : LagStays t.after_publish t.after_post = post_stays t.after_publish t.posted t.after_post t.posts in
       let ask = asked_desk (is_not_to_ask t.after_post) t.after_post t.came t.after_door t.asks in
-      let end = ended_desk (is_over t.after_door && is_none t.after_door.kept.coming) t.after_door in
-      let offered = served_as old.desk t.after_offers.desk old.logins t.after_offers.logins commands decided (ap (λ (o : OwnerFacts D). o.desk) t.offers.others)
-      (ap (λ (o : OwnerFacts D). o.logins) t.offers.others) served in
-      let desk : new.desk ≡ t.after_desk.desk = ap (λ (o : OwnerFacts D). o.desk) t.ends ∙ end.0 ∙ ask.0 ∙ post.desk ∙ publish.desk ∙ press.desk in
-      let logins : new.logins ≡ t.after_desk.logins = ap (λ (o : OwnerFacts D). o.logins) t.ends ∙ end.1 ∙ ask.1 ∙ post.logins ∙ publish.logins ∙ press.logins in
-      served_as t.after_desk.desk new.desk t.after_desk.logins new.logins (commands ++ what.commands) (decided ++ what.leaves) desk logins
-      (desk_served t.after_offers t.served t.after_desk t.serves commands decided offered)
+      let end = ended_desk (is_over t.after_door && is_none t.after_door.kept.coming) t.after_door in (
+        ap (λ (o : OwnerFacts D). o.desk) t.ends ∙ end.0 ∙ ask.0 ∙ post.desk ∙ publish.desk ∙ press.desk,
+        ap (λ (o : OwnerFacts D). o.logins) t.ends ∙ end.1 ∙ ask.1 ∙ post.logins ∙ publish.logins ∙ press.logins,
+      )
 
-  all_served : (old : OwnerFacts D) (turns : List Turn) (new : OwnerFacts D) (all : TurnsTo L counts given old turns new) (commands : List Command) (decided : List ℕ)
-      → IsServed old.desk old.logins commands decided
-      → IsServed new.desk new.logins (commands ++ commands_given L counts given old turns new all) (decided ++ leaves_decided L counts given old turns new all)
-  all_served old [] new all commands decided served = rests_served old new commands decided all served
-  all_served old (turn ∷ turns) new all commands decided served =
+  turned_served : (old : OwnerFacts D) (turn : Turn) (new : OwnerFacts D) (t : OwnerTurned L counts given old turn new) (taken commands done : List Command) (decided : List ℕ)
+      → IsServed old.desk.leave old.logins taken commands done decided
+      → IsServedBy new.desk.leave new.logins taken commands done decided t.after_offers.guests.rows (settled t.after_offers t.served t.after_desk t.serves)
+  turned_served old turn new t taken commands done decided served =
+      let what = settled t.after_offers t.served t.after_desk t.serves in
+      let after = turned_desk old turn new t in
+      let offered = served_as old.desk.leave t.after_offers.desk.leave old.logins t.after_offers.logins taken commands done decided
+      (ap (λ (o : OwnerFacts D). o.desk.leave) t.offers.others) (ap (λ (o : OwnerFacts D). o.logins) t.offers.others) served in
+      served_as t.after_desk.desk.leave new.desk.leave t.after_desk.logins new.logins (taken ++ filter_map (owned t.after_offers.guests.rows) what.taken)
+      (commands ++ what.commands) (done ++ (what.commands ++ what.dropped)) (decided ++ what.leaves) (ap (λ (d : DeskFacts). d.leave) after.0) after.1
+      (desk_served t.after_offers t.served t.after_desk t.serves taken commands done decided offered)
+
+  all_served : (old : OwnerFacts D) (turns : List Turn) (new : OwnerFacts D) (all : TurnsTo L counts given old turns new) (taken commands done : List Command) (decided : List ℕ)
+      → IsServed old.desk.leave old.logins taken commands done decided
+      → IsServed new.desk.leave new.logins (taken ++ commands_owned L counts given old turns new all) (commands ++ commands_given L counts given old turns new all)
+      (done ++ commands_settled L counts given old turns new all) (decided ++ leaves_decided L counts given old turns new all)
+  all_served old [] new all taken commands done decided served = rests_served old new taken commands done decided all served
+  all_served old (turn ∷ turns) new all taken commands done decided served =
       let t = all.1 in
       let what = settled t.after_offers t.served t.after_desk t.serves in
+      let own = filter_map (owned t.after_offers.guests.rows) what.taken in
+      let owns = commands_owned L counts given all.0 turns new all.2 in
       let behind = commands_given L counts given all.0 turns new all.2 in
+      let past = commands_settled L counts given all.0 turns new all.2 in
       let left = leaves_decided L counts given all.0 turns new all.2 in
-      subst (λ (l : List Command). IsServed new.desk new.logins l (decided ++ (what.leaves ++ left))) (append_assoc commands what.commands behind)
-      (subst (λ (l : List ℕ). IsServed new.desk new.logins ((commands ++ what.commands) ++ behind) l) (append_assoc decided what.leaves left)
-      (all_served all.0 turns new all.2 (commands ++ what.commands) (decided ++ what.leaves) (turned_served old turn all.0 t commands decided served)))
+      subst (λ (l : List Command). IsServed new.desk.leave new.logins l (commands ++ (what.commands ++ behind)) (done ++ (what.commands ++ what.dropped ++ past)) (decided ++ (what.leaves ++ left)))
+      (append_assoc taken own owns)
+      (subst (λ (l : List Command). IsServed new.desk.leave new.logins ((taken ++ own) ++ owns) l (done ++ (what.commands ++ what.dropped ++ past)) (decided ++ (what.leaves ++ left)))
+      (append_assoc commands what.commands behind)
+      (subst (λ (l : List Command). IsServed new.desk.leave new.logins ((taken ++ own) ++ owns) ((commands ++ what.commands) ++ behind) l (decided ++ (what.leaves ++ left)))
+      (append_assoc done (what.commands ++ what.dropped) past)
+      (subst (λ (l : List ℕ). IsServed new.desk.leave new.logins ((taken ++ own) ++ owns) ((commands ++ what.commands) ++ behind) ((done ++ (what.commands ++ what.dropped)) ++ past) l)
+      (append_assoc decided what.leaves left)
+      (all_served all.0 turns new all.2 (taken ++ own) (commands ++ what.commands) (done ++ (what.commands ++ what.dropped)) (decided ++ what.leaves)
+      (turned_served old turn all.0 t taken commands done decided served)))))
+
+  all_taken : (old : OwnerFacts D) (turns : List Turn) (new : OwnerFacts D) (all : TurnsTo L counts given old turns new)
+      → filter_map command_in (items_taken new.desk) ≡ filter_map command_in (items_taken old.desk) ++ commands_taken L counts given old turns new all
+  all_taken old [] new all = none_taken old new (ap (λ (o : OwnerFacts D). items_taken o.desk) all)
+  all_taken old (turn ∷ turns) new all =
+      let t = all.1 in
+      let what = settled t.after_offers t.served t.after_desk t.serves in
+      let past = commands_taken L counts given all.0 turns new all.2 in
+      let one : filter_map command_in (items_taken all.0.desk) ≡ filter_map command_in (items_taken old.desk) ++ what.taken =
+      ap (λ (d : DeskFacts). filter_map command_in (items_taken d)) (turned_desk old turn all.0 t).0
+      ∙ desk_taken t.after_offers t.served t.after_desk t.serves
+      ∙ ap (λ (o : OwnerFacts D). filter_map command_in (items_taken o.desk) ++ what.taken) t.offers.others in
+      all_taken all.0 turns new all.2 ∙ ap (λ (l : List Command). l ++ past) one
+      ∙ append_assoc (filter_map command_in (items_taken old.desk)) what.taken past
 
   -- from the opening on
   pub given_once : (control : ControlFacts) (door : D) (connections : ℕ) (journal : Bool) (queues : List TableId) (opened owner : OwnerFacts D) (turns : List Turn)
-      → IsOpened control door connections journal queues opened → opened.desk.pass.taken ≡ [] → (all : TurnsTo L counts given opened turns owner)
-      → IsServed owner.desk owner.logins (commands_given L counts given opened turns owner all) (leaves_decided L counts given opened turns owner all)
-  given_once control door connections journal queues opened owner turns new none all =
-      let nothing_taken : items_taken opened.desk ≡ [] = ap (λ l. map (λ tagged. tagged.item) l) none in
+      → IsOpened control door connections journal queues opened → (all : TurnsTo L counts given opened turns owner)
+      → IsServed owner.desk.leave owner.logins (commands_owned L counts given opened turns owner all) (commands_given L counts given opened turns owner all)
+      (commands_settled L counts given opened turns owner all) (leaves_decided L counts given opened turns owner all)
+  given_once control door connections journal queues opened owner turns new all =
       let leave : opened.desk.leave ≡ None = ap (λ (o : OwnerFacts D). o.desk.leave) new in
       let logins : opened.logins ≡ [] = ap (λ (o : OwnerFacts D). o.logins) new in
-      all_served opened turns owner all [] [] (record {
-        logins = ap (λ (l : List DeskItem). filter is_login (filter_map command_in l)) nothing_taken ∙ sym logins;
-        others = ap (λ (l : List DeskItem). filter is_no_login (filter_map command_in l)) nothing_taken;
-        leaves = ap (λ (l : List DeskItem). filter_map leave_in l) nothing_taken ∙ ap (λ (o : Option ℕ). listed o) (sym leave);
+      all_served opened turns owner all [] [] [] [] (record {
+        logins = sym logins;
+        others = refl;
+        leaves = ap (λ (o : Option ℕ). listed o) (sym leave);
         are_logins = subst AreLogins (sym logins) tt;
       })
+
+  pub taken_once : (opened owner : OwnerFacts D) (turns : List Turn) → opened.desk.pass.taken ≡ [] → (all : TurnsTo L counts given opened turns owner)
+      → filter_map command_in (items_taken owner.desk) ≡ commands_taken L counts given opened turns owner all
+  taken_once opened owner turns none all =
+      all_taken opened turns owner all
+      ∙ ap (λ l. filter_map command_in (map (λ tagged. tagged.item) l) ++ commands_taken L counts given opened turns owner all) none

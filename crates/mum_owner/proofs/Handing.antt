@@ -13,8 +13,9 @@ use Rattle.mum_io.specs.declared.door.Accept.{Accept}
 use Rattle.mum_io.specs.declared.door.Accept.TheVariants as accepted
 use Rattle.mum_owner.specs.Bell.{Put, SideFacts, new_side}
 use Rattle.mum_owner.specs.Bell.Put.{Answer, Handed, Lagging}
-use Rattle.mum_owner.specs.Doors.{given_after_all}
-use Rattle.mum_owner.specs.Facts.{DoorwayFacts, GuestsFacts, KeptFacts, OwnerFacts}
+use Rattle.mum_doorway.specs.Doors.{given_after_all}
+use Rattle.mum_doorway.specs.Asking.{DoorwayFacts}
+use Rattle.mum_owner.specs.Facts.{GuestsFacts, KeptFacts, OwnerFacts}
 use Rattle.mum_owner.specs.Guests.{has_room}
 use Rattle.mum_owner.specs.Laws.{TurnsTo, answered, handed, is_of_worker, listed, made, numbers, puts_at, replies_made}
 use Rattle.mum_owner.specs.Opened.{IsOpened}

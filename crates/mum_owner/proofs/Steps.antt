@@ -18,8 +18,8 @@ use Rattle.mum_port.specs.declared.item.DeskItem.TheVariants as items
 use Rattle.mum_session.specs.declared.command.Command.{Command}
 use Rattle.mum_state.specs.State.{StateValue}
 use Rattle.mum_owner.specs.Facts.{GuestsFacts, KeptFacts, OwnerFacts}
-use Rattle.mum_owner.specs.Guests.{is_gone_from, is_not_of, is_of, joined_by, lag_noted, may_lag}
-use Rattle.mum_owner.specs.Serving.{GivesWaiting, GoesWhere, IsGiven, LeaveIsGiven, LeavesWhere, PendsWhere, ReceivesBy, ReceivesItem, ServesDesk, ServesWhere, TakesItem, TakesWhere, blocker, guest_in, kept_after, may_go}
+use Rattle.mum_owner.specs.Guests.{is_gone_from, is_not_of, is_of, joined_by, lag_noted, may_lag, owned}
+use Rattle.mum_owner.specs.Serving.{GivesOwned, GivesWaiting, GoesWhere, IsGiven, LeaveIsGiven, LeavesWhere, PendsWhere, ReceivesBy, ReceivesItem, ReceivesOwned, ServesDesk, ServesWhere, TakesItem, TakesWhere, blocker, guest_in, kept_after, may_go}
 use Rattle.mum_owner.specs.Turned.{LagsFor, LagsOnce, PostsNotice, PostsOne, PostsWhere, Presses, PressesWhere, Publishes, PublishesBy, PublishesWhere, lagged_by, lagged_for}
 use Rattle.mum_owner.specs.Waiting.{are_none}
 use Rattle.mum_owner.specs.declared.desk.TheConstants.{PENDING_LIMIT}
@@ -141,6 +141,10 @@ module _ {D : Type 0} where
   })
   received_so false false old command new received = given_so old command new received
 
+  owned_so : (own : Option Command) (old new : OwnerFacts D) → ReceivesOwned old own new → DeskStays old new
+  owned_so None old new same = desk_as old old new same (desk_same old)
+  owned_so (Some command) old new received = received_so _ _ old command new received
+
   closed_by : (b : Bool) (connection : ℕ) (old : OwnerFacts D)
       → DeskStays old (record old { guests = cond b (record old.guests { rows = filter (is_not_of connection) old.guests.rows; closed = old.guests.closed + 1 }) old.guests })
   closed_by true connection old = record {
@@ -159,7 +163,7 @@ module _ {D : Type 0} where
   item_so old None worked new received = desk_as old old new received.1 (desk_same old)
   item_so old (Some (items.Closed connection)) worked new received =
       desk_as old _ new received.1 (closed_by (list_any (is_of connection) old.guests.rows) connection old)
-  item_so old (Some (items.Command command)) worked new received = received_so _ _ old command new received.1
+  item_so old (Some (items.Command command)) worked new received = owned_so (owned old.guests.rows command) old new received.1
 
   taken_so : (old : OwnerFacts D) (worked : Bool) (new : OwnerFacts D) → TakesItem old worked new → DeskStays old new
   taken_so old worked new takes =
@@ -171,9 +175,13 @@ module _ {D : Type 0} where
   takes_where_so true old worked new takes = taken_so old worked new takes
   takes_where_so false old worked new rests = desk_as old old new rests.1 (desk_same old)
 
+  login_so : (own : Option Command) (old new : OwnerFacts D) → GivesOwned old own new → DeskStays old new
+  login_so None old new same = desk_as old old new same (desk_same old)
+  login_so (Some command) old new given = given_so old command new given
+
   waiting_so : (old : OwnerFacts D) (worked : Bool) (new : OwnerFacts D) → GivesWaiting old worked new → DeskStays old new
   waiting_so old worked new gives =
-      let rest = given_so (record old { logins = gives.rest }) gives.login new gives.given in
+      let rest = login_so (owned old.guests.rows gives.login) (record old { logins = gives.rest }) new gives.given in
       record { limit = rest.limit; asked = rest.asked; given = rest.given; doorway = rest.doorway; bells = rest.bells; lag = rest.lag; coming = rest.coming; rows = rest.rows }
 
   goes_so : (b : Bool) (old : OwnerFacts D) (worked : Bool) (new : OwnerFacts D) → GoesWhere b old worked new → DeskStays old new

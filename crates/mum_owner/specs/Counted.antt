@@ -2,7 +2,7 @@
 use Rattle.std.specs.Prelude.{◌≡◌, ℕ, length}
 use Rattle.mum_control.specs.Facts.{ControlFacts}
 use Rattle.mum_published.specs.Calls.{appended}
-use Rattle.mum_owner.specs.Doors.{given_after_all}
+use Rattle.mum_doorway.specs.Doors.{given_after_all}
 use Rattle.mum_owner.specs.Facts.{GuestsFacts, ScribeFacts}
 
 -- as many were counted as the control owner has appended

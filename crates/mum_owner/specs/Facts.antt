@@ -1,6 +1,7 @@
 -- What contracts see of the parts of an owner, as plain data.
 use Rattle.std.specs.Prelude.{ℕ, Bool, List, Option}
 use Rattle.mum_control.specs.Facts.{ControlFacts, ReplyFacts}
+use Rattle.mum_doorway.specs.Asking.{DoorwayFacts}
 use Rattle.mum_outbox.specs.Facts.{PassFacts}
 use Rattle.mum_port.specs.declared.item.DeskItem.{DeskItem}
 use Rattle.mum_record.specs.declared.journal.ControlEntry.{ControlEntry}
@@ -16,12 +17,6 @@ pub record GuestsFacts : Type 0 where
   pub given : ℕ
   pub closed : ℕ
   pub limit : ℕ
-
--- the door, whether it ended or failed, and whether it failed
-pub record DoorwayFacts (D : Type 0) : Type 0 where
-  pub door : D
-  pub stopped : Bool
-  pub failed : Bool
 
 -- what waits for a bell: a reply, a lag item, and a connection by its number
 pub record KeptFacts : Type 0 where

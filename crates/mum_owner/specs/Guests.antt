@@ -8,6 +8,7 @@ use Rattle.mum_base.specs.declared.number.TheConstants.{CONNECTION_LIMIT}
 use Rattle.mum_base.specs.declared.reply.ReplyEnd.{ReplyEnd}
 use Rattle.mum_base.specs.declared.reply.ReplyEnd.TheVariants.{Joined}
 use Rattle.mum_control.specs.Kept.{is_there}
+use Rattle.mum_session.specs.declared.command.Command.{Command}
 use Rattle.mum_state.specs.State.{StateValue}
 use Rattle.mum_owner.specs.Facts.{GuestsFacts}
 use Rattle.mum_owner.specs.declared.guests.Guest.{Guest}
@@ -68,6 +69,10 @@ guest_session (Some guest) = guest.session
 -- the session that is kept for a connection
 abbrev pub session_of : ℕ → List Guest → Option SessionId
 session_of connection rows = guest_session (find (is_of connection) rows)
+
+-- the command, for the session that is kept for its connection; none where that is not open
+abbrev pub owned : List Guest → Command → Option Command
+owned rows command = option_map (λ guest. record command { session = guest.session }) (find (is_of command.connection) rows)
 
 -- a login of the connection was accepted
 abbrev pub seated : ℕ → SessionId → Slot → Guest → Guest

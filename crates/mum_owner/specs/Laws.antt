@@ -1,4 +1,5 @@
 -- The turns of an owner, one after another, and what came of them.
+use Rattle.std.specs.List.{filter_map}
 use Rattle.std.specs.Prelude.{◌≡◌, ◌==◌, ◌&&◌, ℕ, zero, suc, nat_lt, Bool, true, false, not, List, [], ◌∷◌, ◌++◌, length, map, slice_get, is_some, Option, Some, None}
 use Rattle.mum_base.specs.declared.number.TheConstants.{CONNECTION_LIMIT}
 use Rattle.mum_control.specs.Facts.{ReplyFacts}
@@ -11,7 +12,8 @@ use Rattle.mum_owner.specs.Bell.{Put, SideFacts}
 use Rattle.mum_owner.specs.Bell.Put.{Answer, Handed, Lagging, NoMore}
 use Rattle.mum_owner.specs.Facts.{DeskFacts, OwnerFacts}
 use Rattle.mum_owner.specs.Ringing.{worker_of}
-use Rattle.mum_owner.specs.Serving.{GoesWhere, LeavesWhere, PendsWhere, ReceivesBy, ReceivesItem, ServesDesk, ServesWhere, TakesWhere, may_go, must_wait, with_pass}
+use Rattle.mum_owner.specs.Guests.{owned}
+use Rattle.mum_owner.specs.Serving.{GoesWhere, LeavesWhere, PendsWhere, ReceivesBy, ReceivesItem, ReceivesOwned, ServesDesk, ServesWhere, TakesWhere, may_go, must_wait, with_pass}
 use Rattle.mum_owner.specs.Turned.{OwnerTurned}
 use Rattle.mum_owner.specs.Written.{is_leave, is_login}
 use Rattle.mum_owner.specs.declared.desk.TheConstants.{PENDING_LIMIT}
@@ -62,44 +64,56 @@ numbers (suc given) = numbers given ++ suc given ∷ []
 abbrev pub items_taken : DeskFacts → List DeskItem
 items_taken desk = map (λ tagged. tagged.item) desk.pass.taken
 
-abbrev pub command_unless : Bool → Command → Option Command
-command_unless true command = None
-command_unless false command = Some command
-
--- the command, if it is one and no leave
+-- the command, if it is one
 abbrev pub command_in : DeskItem → Option Command
 command_in (items.Closed connection) = None
-command_in (items.Command command) = command_unless (is_leave command.what) command
+command_in (items.Command command) = Some command
 
 abbrev pub leave_where : Bool → ℕ → Option ℕ
 leave_where true connection = Some connection
 leave_where false connection = None
 
 -- the connection of a leave, if it is one
-abbrev pub leave_in : DeskItem → Option ℕ
-leave_in (items.Closed connection) = None
-leave_in (items.Command command) = leave_where (is_leave command.what) command.connection
+abbrev pub leave_in : Command → Option ℕ
+leave_in command = leave_where (is_leave command.what) command.connection
 
-abbrev pub is_no_login : Command → Bool
-is_no_login command = not (is_login command)
+-- it is neither a login nor a leave
+abbrev pub is_other : Command → Bool
+is_other command = not (is_login command) && not (is_leave command.what)
 
--- what was settled of the desk: a command that was given to the control owner, or answered since memory ran out before it
--- was decided; and the connection of a leave that was decided
+-- what a turn took from the desk, and what it settled of all that was taken
 pub record Settled : Type 0 where
+  -- the command that was taken from the desk
+  pub taken : List Command
+  -- the command that was given to the control owner, or answered since memory ran out before it was decided
   pub commands : List Command
+  -- the login that had waited, and was dropped since its connection is not open any more
+  pub dropped : List Command
+  -- the connection of the leave that was decided
   pub leaves : List ℕ
 
+abbrev pub with_taken : Command → Settled → Settled
+with_taken command what = record what { taken = command ∷ [] }
+
 abbrev pub nothing : Settled
-nothing = record { commands = []; leaves = [] }
+nothing = record { taken = []; commands = []; dropped = []; leaves = [] }
 
 abbrev pub one_command : Command → Settled
-one_command command = record { commands = command ∷ []; leaves = [] }
+one_command command = record { taken = []; commands = command ∷ []; dropped = []; leaves = [] }
+
+abbrev pub one_dropped : Command → Settled
+one_dropped login = record { taken = []; commands = []; dropped = login ∷ []; leaves = [] }
+
+-- a login that had waited: it was given, where this is what was given for it, or dropped
+abbrev pub one_login : Option Command → Command → Settled
+one_login None login = one_dropped login
+one_login (Some command) login = one_command login
 
 -- a leave that was decided, or is to be tried again
 abbrev pub one_leave : Bool → ℕ → Settled
-one_leave decided connection = record { commands = []; leaves = listed (leave_where decided connection) }
+one_leave decided connection = record { taken = []; commands = []; dropped = []; leaves = listed (leave_where decided connection) }
 
--- the connections of what was settled: each gets one reply
+-- the connections of what was settled, but for what was dropped: each gets one reply
 abbrev pub connections_of : Settled → List ℕ
 connections_of what = map (λ (command : Command). command.connection) what.commands ++ what.leaves
 
@@ -109,18 +123,24 @@ module _ {D : Type 0} where
   settled_by false true old command new received = nothing
   settled_by false false old command new received = one_command command
 
+  -- a command of a connection that is not open settles nothing
+  abbrev pub settled_owned : (own : Option Command) (old new : OwnerFacts D) → ReceivesOwned old own new → Settled
+  settled_owned None old new received = nothing
+  settled_owned (Some command) old new received =
+      settled_by (is_leave command.what) (is_login command && must_wait old) old command new received
+
   abbrev pub settled_of : (old : OwnerFacts D) (item : Option DeskItem) (worked : Bool) (new : OwnerFacts D) → ReceivesItem old item worked new → Settled
   settled_of old None worked new received = nothing
   settled_of old (Some (items.Closed connection)) worked new received = nothing
   settled_of old (Some (items.Command command)) worked new received =
-      settled_by (is_leave command.what) (is_login command && must_wait old) old command new received.1
+      with_taken command (settled_owned (owned old.guests.rows command) old new received.1)
 
   abbrev pub settled_taking : (b : Bool) (old : OwnerFacts D) (worked : Bool) (new : OwnerFacts D) → TakesWhere b old worked new → Settled
   settled_taking true old worked new takes = settled_of (with_pass takes.pass old) takes.item worked new takes.received
   settled_taking false old worked new rests = nothing
 
   abbrev pub settled_going : (b : Bool) (old : OwnerFacts D) (worked : Bool) (new : OwnerFacts D) → GoesWhere b old worked new → Settled
-  settled_going true old worked new gives = one_command gives.login
+  settled_going true old worked new gives = one_login (owned old.guests.rows gives.login) gives.login
   settled_going false old worked new takes = settled_taking (nat_lt (length old.logins) CONNECTION_LIMIT) old worked new takes
 
   abbrev pub settled_pending : (b : Bool) (old : OwnerFacts D) (worked : Bool) (new : OwnerFacts D) → PendsWhere b old worked new → Settled
@@ -135,7 +155,7 @@ module _ {D : Type 0} where
   settled_where true old worked new rests = nothing
   settled_where false old worked new leaves = settled_leaving old.desk.leave old worked new leaves
 
-  -- what a turn settled
+  -- what a turn took and settled
   abbrev pub settled : (old : OwnerFacts D) (worked : Bool) (new : OwnerFacts D) → ServesDesk old worked new → Settled
   settled old worked new serves = settled_where (is_some old.kept.reply) old worked new serves
 
@@ -165,11 +185,31 @@ module _ {D : Type 0} (L : Type 0) (counts : D → Counts) (given : D → ℕ) w
       made all.1.after_desk.kept.lag all.1.after_press.kept.lag
       ++ (made all.1.after_publish.kept.lag all.1.after_post.kept.lag ++ lags_made all.0 turns new all.2)
 
-  -- the commands that were given to the control owner, or answered for want of memory, in order; leaves apart
+  -- the commands that were taken from the desk, in order, as they lay there
+  abbrev pub commands_taken : (old : OwnerFacts D) (turns : List Turn) (new : OwnerFacts D) → TurnsTo old turns new → List Command
+  commands_taken old [] new all = []
+  commands_taken old (turn ∷ turns) new all =
+      (settled all.1.after_offers all.1.served all.1.after_desk all.1.serves).taken ++ commands_taken all.0 turns new all.2
+
+  -- those of connections that were open when they were taken, each for the session that was kept for its connection then
+  abbrev pub commands_owned : (old : OwnerFacts D) (turns : List Turn) (new : OwnerFacts D) → TurnsTo old turns new → List Command
+  commands_owned old [] new all = []
+  commands_owned old (turn ∷ turns) new all =
+      filter_map (owned all.1.after_offers.guests.rows) (settled all.1.after_offers all.1.served all.1.after_desk all.1.serves).taken
+      ++ commands_owned all.0 turns new all.2
+
+  -- the commands that were given to the control owner, or answered since memory ran out, in order; leaves apart
   abbrev pub commands_given : (old : OwnerFacts D) (turns : List Turn) (new : OwnerFacts D) → TurnsTo old turns new → List Command
   commands_given old [] new all = []
   commands_given old (turn ∷ turns) new all =
       (settled all.1.after_offers all.1.served all.1.after_desk all.1.serves).commands ++ commands_given all.0 turns new all.2
+
+  -- the same, and the logins that were dropped, in order
+  abbrev pub commands_settled : (old : OwnerFacts D) (turns : List Turn) (new : OwnerFacts D) → TurnsTo old turns new → List Command
+  commands_settled old [] new all = []
+  commands_settled old (turn ∷ turns) new all =
+      (settled all.1.after_offers all.1.served all.1.after_desk all.1.serves).commands
+      ++ (settled all.1.after_offers all.1.served all.1.after_desk all.1.serves).dropped ++ commands_settled all.0 turns new all.2
 
   -- the connections whose leave was decided, in order
   abbrev pub leaves_decided : (old : OwnerFacts D) (turns : List Turn) (new : OwnerFacts D) → TurnsTo old turns new → List ℕ
@@ -177,7 +217,7 @@ module _ {D : Type 0} (L : Type 0) (counts : D → Counts) (given : D → ℕ) w
   leaves_decided old (turn ∷ turns) new all =
       (settled all.1.after_offers all.1.served all.1.after_desk all.1.serves).leaves ++ leaves_decided all.0 turns new all.2
 
-  -- the connections of the commands that were given, or answered for want of memory, and of the leaves that were decided,
+  -- the connections of the commands that were given, or answered since memory ran out, and of the leaves that were decided,
   -- in the order in which that was done
   abbrev pub connections_settled : (old : OwnerFacts D) (turns : List Turn) (new : OwnerFacts D) → TurnsTo old turns new → List ℕ
   connections_settled old [] new all = []

@@ -1,8 +1,6 @@
 pub mod Bell
 pub mod Facts
 pub mod Guests
-pub mod Asking
-pub mod Doors
 pub mod Ringing
 pub mod Waiting
 pub mod Written

@@ -3,12 +3,12 @@ use Rattle.std.specs.Prelude.{◌≡◌, ℕ, Bool, false, List, [], map, None}
 use Rattle.atomic_table.specs.Seated.{TableId}
 use Rattle.mum_control.specs.Facts.{ControlFacts}
 use Rattle.mum_state.specs.State.{StateValue}
-use Rattle.mum_owner.specs.Asking.{new_doorway}
+use Rattle.mum_doorway.specs.Asking.{new_doorway}
 use Rattle.mum_owner.specs.Bell.{new_side}
 use Rattle.mum_owner.specs.Facts.{OwnerFacts}
 use Rattle.mum_owner.specs.Guests.{no_guests}
 use Rattle.mum_owner.specs.declared.owner.OwnerOpening.{OwnerOpening}
-use Rattle.mum_owner.specs.declared.serving.DoorOpening.{DoorOpening}
+use Rattle.mum_doorway.specs.declared.opening.DoorOpening.{DoorOpening}
 
 abbrev pub opening_of : StateValue → DoorOpening → ℕ → Bool → OwnerOpening
 opening_of state door connections journal =

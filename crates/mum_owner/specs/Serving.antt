@@ -18,7 +18,7 @@ use Rattle.mum_session.specs.declared.command.Asked.TheVariants.{User}
 use Rattle.mum_session.specs.declared.command.Command.{Command}
 use Rattle.mum_state.specs.State.{StateValue}
 use Rattle.mum_owner.specs.Facts.{KeptFacts, OwnerFacts, ScribeFacts}
-use Rattle.mum_owner.specs.Guests.{is_gone_from, joined_by, left, session_of}
+use Rattle.mum_owner.specs.Guests.{is_gone_from, joined_by, left, owned, session_of}
 use Rattle.mum_owner.specs.Waiting.{are_none}
 use Rattle.mum_owner.specs.Written.{is_leave, is_login, prepared, recorded, refused}
 use Rattle.mum_owner.specs.declared.desk.TheConstants.{PENDING_LIMIT}
@@ -138,10 +138,15 @@ module _ {D : Type 0} where
   ReceivesBy false true old command new = new ≡ with_login command old
   ReceivesBy false false old command new = IsGiven old command new
 
-  -- a command came from the desk: a leave is given with the session that is kept, a login may have to wait, and any other
-  -- is given as it is
+  -- nothing changes for a command of a connection that is not open. Else a leave is given with the session that is kept, a
+  -- login may have to wait, and any other is given as it is
+  abbrev pub ReceivesOwned : OwnerFacts D → Option Command → OwnerFacts D → Type 0
+  ReceivesOwned old None new = new ≡ old
+  ReceivesOwned old (Some command) new = ReceivesBy (is_leave command.what) (is_login command && must_wait old) old command new
+
+  -- a command came from the desk: it is for the session that is kept for its connection, whatever it says itself
   abbrev pub Receives : OwnerFacts D → Command → OwnerFacts D → Type 0
-  Receives old command new = ReceivesBy (is_leave command.what) (is_login command && must_wait old) old command new
+  Receives old command new = ReceivesOwned old (owned old.guests.rows command) new
 
   abbrev pub ReceivesItem : OwnerFacts D → Option DeskItem → Bool → OwnerFacts D → Type 0
   ReceivesItem old None worked new = (worked ≡ false) × (new ≡ old)
@@ -166,13 +171,19 @@ module _ {D : Type 0} where
   TakesWhere true old worked new = TakesItem old worked new
   TakesWhere false old worked new = Rests old worked new
 
-  -- the first login that waited was given
+  -- nothing changes for a login whose connection is not open any more; else it is given
+  abbrev pub GivesOwned : OwnerFacts D → Option Command → OwnerFacts D → Type 0
+  GivesOwned old None new = new ≡ old
+  GivesOwned old (Some command) new = IsGiven old command new
+
+  -- the first login that waited does not wait any more: it was given, for the session that is kept for its connection, or
+  -- dropped, where that is not open any more
   pub record GivesWaiting (old : OwnerFacts D) (worked : Bool) (new : OwnerFacts D) : Type 0 where
     pub login : Command
     pub rest : List Command
     pub first : old.logins ≡ login ∷ rest
     pub so : worked ≡ true
-    pub given : IsGiven (record old { logins = rest }) login new
+    pub given : GivesOwned (record old { logins = rest }) (owned old.guests.rows login) new
 
   abbrev pub GoesWhere : Bool → OwnerFacts D → Bool → OwnerFacts D → Type 0
   GoesWhere true old worked new = GivesWaiting old worked new
@@ -191,6 +202,6 @@ module _ {D : Type 0} where
   ServesWhere false old worked new = LeavesWhere old.desk.leave old worked new
 
   -- nothing is done where a reply is kept. Else a kept leave is given again; else nothing where too many notices are
-  -- pending; else a login that waited is given, if it may go; else an item is taken from the desk
+  -- pending; else a login that waited is given or dropped, if it may go; else an item is taken from the desk
   abbrev pub ServesDesk : OwnerFacts D → Bool → OwnerFacts D → Type 0
   ServesDesk old worked new = ServesWhere (is_some old.kept.reply) old worked new

@@ -12,7 +12,7 @@ use Rattle.mum_io.specs.Door.{AcceptCounts, given_after}
 use Rattle.mum_io.specs.declared.door.Accept.{Accept}
 use Rattle.mum_io.specs.declared.door.Accept.TheVariants as accepted
 use Rattle.mum_published.specs.Calls.{all_published}
-use Rattle.mum_owner.specs.Asking.{failed_by, stopped_by}
+use Rattle.mum_doorway.specs.Asking.{failed_by, stopped_by}
 use Rattle.mum_owner.specs.Facts.{GuestsFacts, KeptFacts, OwnerFacts}
 use Rattle.mum_owner.specs.Guests.{are_all_given, entered, has_room, have_all_left, lagging, with_lag_noted}
 use Rattle.mum_owner.specs.Offering.{OffersKept}

@@ -2,17 +2,19 @@
 
 ghost use Rattle.std.specs.Prelude.{◌≡◌, ◌+◌, ◌<◌, ◌≤◌, ◌==◌, map, filter, find, IfOk, IsTrue};
 ghost use Rattle.std.specs.List.{list_any};
-ghost use Rattle.std.specs.Option.{option_copied};
+ghost use Rattle.std.specs.Option.{option_copied, option_map};
 ghost use Rattle.std.specs.Vec.{vec_capacity};
 ghost use Rattle.mum_control.specs.Commanded.{current};
-ghost use Rattle.mum_owner.specs.Guests.{are_all_given, entered, has_room, have_all_left, is_gone_by, is_gone_from, is_not_of, is_of, joined_by, lag_noted, lagging, left, no_guests, seated, session_of, with_lag_noted, has_session, has_slot, may_lag};
+ghost use Rattle.mum_owner.specs.Guests.{are_all_given, entered, has_room, have_all_left, is_gone_by, is_gone_from, is_not_of, is_of, joined_by, lag_noted, lagging, left, no_guests, owned, seated, session_of, with_lag_noted, has_session, has_slot, may_lag};
 ghost use Rattle.mum_base.specs.declared.reply.ReplyEnd.TheVariants.{Joined};
 
 use mum_base::{CONNECTION_LIMIT, OutOfMemory, SessionId, Slot};
 use mum_control::Control;
 use mum_published::Naming;
+use mum_session::Command;
 use std::alloc::Global;
 use std::marker::Model;
+use std::mem::drop;
 
 /// What is kept of a connection from its giving until its `Closed` is taken.
 #[derive(Clone, Copy)]
@@ -107,6 +109,23 @@ fn is_gone_from<N: Naming>(guest: &Guest, control: &Control<'_, N>, slot: Slot) 
 {
     let has = has_slot(guest.slot, slot);
     has && is_gone(guest.session, control)
+}
+
+// The command, for the session of this guest. It is dropped where there is none.
+fn owned_by(guest: Option<Guest>, command: Command) -> Option<Command>
+    ensures { result ≡ option_map (λ guest. record command { session = guest.session }) guest }
+{
+    match guest {
+        Some(guest) => {
+            let mut command = command;
+            command.session = guest.session;
+            Some(command)
+        }
+        None => {
+            drop(command);
+            None
+        }
+    }
 }
 
 // A login of the connection was accepted.
@@ -275,6 +294,14 @@ impl Guests {
             Some(guest) => guest.session,
             None => None,
         }
+    }
+
+    /// The command, for the session that is kept for its connection. It is dropped where that is not open.
+    pub(crate) fn owned(&self, command: Command) -> Option<Command>
+        ensures { result ≡ owned self.now.rows command }
+    {
+        let guest = guest_of(self.rows.as_slice(), command.connection);
+        owned_by(guest, command)
     }
 
     /// A login of the connection was accepted.

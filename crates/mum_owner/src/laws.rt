@@ -6,9 +6,9 @@ ghost use Rattle.std.specs.List.{AllPairs, filter_map};
 ghost use Rattle.atomic_table.specs.Seated.{TableId};
 ghost use Rattle.mum_control.specs.Facts.{ControlFacts};
 ghost use Rattle.mum_crew.specs.declared.role.Turn.{Turn};
-ghost use Rattle.mum_owner.specs.Doors.{given_after_all};
+ghost use Rattle.mum_doorway.specs.Doors.{given_after_all};
 ghost use Rattle.mum_owner.specs.Facts.{OwnerFacts};
-ghost use Rattle.mum_owner.specs.Laws.{TurnsTo, answered, command_in, commands_given, connections_settled, handed, is_no_login, is_of_worker, items_taken, lags_made, leave_in, leaves_decided, listed, numbers, puts_at, replies_made};
+ghost use Rattle.mum_owner.specs.Laws.{TurnsTo, answered, command_in, commands_given, commands_owned, commands_settled, commands_taken, connections_settled, handed, is_of_worker, is_other, items_taken, lags_made, leave_in, leaves_decided, listed, numbers, puts_at, replies_made};
 ghost use Rattle.mum_owner.specs.Written.{IsWrittenAs, is_login, version_with};
 ghost use Rattle.mum_session.specs.Action.{action};
 ghost use Rattle.mum_session.specs.Machine.{Machine};
@@ -17,7 +17,7 @@ ghost use Rattle.mum_session.specs.declared.command.Command.{Command};
 ghost use Rattle.mum_owner.specs.Opened.{IsOpened};
 
 use crate::desk::PENDING_LIMIT;
-use crate::entrance::Entrance;
+use mum_doorway::Entrance;
 
 /// The number that definitions name.
 pub fn limits()
@@ -65,33 +65,41 @@ pub fn a_connection_lags_once<D: Entrance>()
         (lags_made D.Peer D.counts D.given opened turns owner all) }
 {}
 
-/// Each command that is taken from the desk is given to the control owner once, or answered since there was no
-/// memory for its entry in the journal, in order: in the turn in which it is taken, or later where it is a login
-/// that waits or a leave for which there was no memory.
+/// Each command that is taken from the desk while its connection is open is given to the control owner once, or
+/// answered since there was no memory for its entry in the journal, in order: in the turn in which it is taken, or
+/// later where it is a login that waits or a leave for which there was no memory. A login that waits is dropped
+/// instead, where its connection is not open any more. A command of a connection that is not open settles nothing.
 pub fn commands_are_given_once<D: Entrance>()
+    // The commands that the turns took are all that lay on the desk, in order.
+    ensures taken { (control : ControlFacts) (door : D) (connections : ℕ) (journal : Bool) (queues : List TableId)
+        (opened owner : OwnerFacts D) (turns : List Turn) →
+        IsOpened control door connections journal queues opened → opened.desk.pass.taken ≡ [] →
+        (all : TurnsTo D.Peer D.counts D.given opened turns owner) →
+        filter_map command_in (items_taken owner.desk)
+        ≡ commands_taken D.Peer D.counts D.given opened turns owner all }
     // A login may wait for its slot, behind those that came before it.
     ensures logins { (control : ControlFacts) (door : D) (connections : ℕ) (journal : Bool) (queues : List TableId)
         (opened owner : OwnerFacts D) (turns : List Turn) →
-        IsOpened control door connections journal queues opened → opened.desk.pass.taken ≡ [] →
+        IsOpened control door connections journal queues opened →
         (all : TurnsTo D.Peer D.counts D.given opened turns owner) →
-        filter is_login (filter_map command_in (items_taken owner.desk))
-        ≡ filter is_login (commands_given D.Peer D.counts D.given opened turns owner all) ++ owner.logins }
+        filter is_login (commands_owned D.Peer D.counts D.given opened turns owner all)
+        ≡ filter is_login (commands_settled D.Peer D.counts D.given opened turns owner all) ++ owner.logins }
     ensures others { (control : ControlFacts) (door : D) (connections : ℕ) (journal : Bool) (queues : List TableId)
         (opened owner : OwnerFacts D) (turns : List Turn) →
-        IsOpened control door connections journal queues opened → opened.desk.pass.taken ≡ [] →
+        IsOpened control door connections journal queues opened →
         (all : TurnsTo D.Peer D.counts D.given opened turns owner) →
-        filter is_no_login (filter_map command_in (items_taken owner.desk))
-        ≡ filter is_no_login (commands_given D.Peer D.counts D.given opened turns owner all) }
+        filter is_other (commands_owned D.Peer D.counts D.given opened turns owner all)
+        ≡ filter is_other (commands_given D.Peer D.counts D.given opened turns owner all) }
     // A leave is given until it is decided, and nothing is taken before.
     ensures leaves { (control : ControlFacts) (door : D) (connections : ℕ) (journal : Bool) (queues : List TableId)
         (opened owner : OwnerFacts D) (turns : List Turn) →
-        IsOpened control door connections journal queues opened → opened.desk.pass.taken ≡ [] →
+        IsOpened control door connections journal queues opened →
         (all : TurnsTo D.Peer D.counts D.given opened turns owner) →
-        filter_map leave_in (items_taken owner.desk)
+        filter_map leave_in (commands_owned D.Peer D.counts D.given opened turns owner all)
         ≡ leaves_decided D.Peer D.counts D.given opened turns owner all ++ listed owner.desk.leave }
 {}
 
-/// Each command that is given to the control owner, or answered for want of memory, and each leave that is decided
+/// Each command that is given to the control owner, or answered since memory ran out, and each leave that is decided
 /// makes one reply to its connection, in the order in which that is done, and nothing else makes one.
 pub fn each_command_has_one_reply<D: Entrance>()
     ensures { (old new : OwnerFacts D) (turns : List Turn) →

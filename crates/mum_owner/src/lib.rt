@@ -5,8 +5,6 @@
 mod bells;
 pub mod crossing;
 mod desk;
-mod doorway;
-pub mod entrance;
 mod entry;
 mod guests;
 mod kept;
@@ -17,7 +15,7 @@ mod scribe;
 pub mod serving;
 
 pub use desk::PENDING_LIMIT;
-pub use entrance::Entrance;
 pub use guests::Guest;
+pub use mum_doorway::{DoorOpening, Entrance};
 pub use owner::{Owner, OwnerEnd, OwnerOpening};
-pub use serving::{DoorOpening, Serving};
+pub use serving::Serving;

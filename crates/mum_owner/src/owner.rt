@@ -8,25 +8,24 @@ ghost use Rattle.mum_published.specs.Calls.{appended};
 ghost use Rattle.mum_outbox.specs.Calls.{IsNewPass};
 ghost use Rattle.mum_record.specs.Journal.{Each, IsWritableControl};
 ghost use Rattle.mum_owner.specs.Decided.{HasWritten};
-ghost use Rattle.mum_owner.specs.Doors.{NoMoreCome, given_after_all};
-ghost use Rattle.mum_owner.specs.Guests.{entered, has_room, joined_by, lagging, no_guests};
+ghost use Rattle.mum_doorway.specs.Doors.{NoMoreCome, given_after_all};
+ghost use Rattle.mum_owner.specs.Guests.{entered, has_room, joined_by, lagging, no_guests, owned};
 ghost use Rattle.mum_owner.specs.Opened.{IsOpened, opening_of};
-ghost use Rattle.mum_owner.specs.Serving.{EmptiesFor, GivesWaiting, GoesWhere, IsGiven, LeaveIsGiven, Receives, ReceivesItem, ServesDesk, TakesItem, blocker, leave_kept, leave_of, may_go, must_wait, refusal};
+ghost use Rattle.mum_owner.specs.Serving.{EmptiesFor, GivesOwned, GivesWaiting, GoesWhere, IsGiven, LeaveIsGiven, Receives, ReceivesItem, ReceivesOwned, ServesDesk, TakesItem, blocker, leave_kept, leave_of, may_go, must_wait, refusal};
 ghost use Rattle.mum_owner.specs.Bell.{new_side, plain_reply, queues};
 ghost use Rattle.mum_owner.specs.Turned.{Asks, LagsFor, Offered, OwnerTurned, PostsNotice, Presses, Publishes, ended, has_ended, is_not_to_ask, is_over, lagged_for, turn_of, with_lag};
 
 use crate::bells::Bells;
 use crate::desk::{DeskSide, PENDING_LIMIT};
-use crate::doorway::Doorway;
-use crate::entrance::Entrance;
 use crate::guests::{Guest, Guests};
 use crate::kept::{Kept, Lag};
 use crate::logins::{Logins, is_leave, is_login};
 use crate::scribe::Scribe;
-use crate::serving::{DoorOpening, Serving};
+use crate::serving::Serving;
 use mum_base::{Octets, OutOfMemory, ReplyEnd, SessionId};
 use mum_control::{Control, Posted};
 use mum_crew::{Role, Turn};
+use mum_doorway::{DoorOpening, Doorway, Entrance};
 use mum_io::Accept;
 use mum_outbox::{Bell, Desk};
 use mum_port::DeskItem;
@@ -321,10 +320,20 @@ impl<'a, D: Entrance, N: Serving, R: Wait + Copy> Owner<'a, D, N, R> {
         decided
     }
 
-    // A command came from the desk.
+    // A command came from the desk. It is dropped where its connection is not open.
     fn receive(&mut self, command: Command)
         requires { length self.old.logins < CONNECTION_LIMIT }
         ensures { Receives self.old command self.new }
+    {
+        if let Some(command) = self.guests.owned(command) {
+            self.receive_owned(command);
+        }
+    }
+
+    // A command of an open connection came, with the session that is kept for it.
+    fn receive_owned(&mut self, command: Command)
+        requires { length self.old.logins < CONNECTION_LIMIT }
+        ensures { ReceivesOwned self.old (Some command) self.new }
     {
         if is_leave(&command.what) {
             let connection = command.connection;
@@ -396,21 +405,31 @@ impl<'a, D: Entrance, N: Serving, R: Wait + Copy> Owner<'a, D, N, R> {
         }
     }
 
-    // Gives the first login that waits.
+    // Gives a login that waited, with the session that is kept for its connection. It is dropped where that is not
+    // open any more.
+    fn give_login(&mut self, login: Command)
+        ensures { GivesOwned self.old (owned self.old.guests.rows login) self.new }
+    {
+        if let Some(command) = self.guests.owned(login) {
+            self.give(command);
+        }
+    }
+
+    // Gives the first login that waits, or drops it.
     fn give_waiting(&mut self) -> bool
         requires { IsTrue (may_go self.old) }
         ensures { GivesWaiting self.old result self.new }
     {
         match self.logins.next() {
             Some(login) => {
-                self.give(login);
+                self.give_login(login);
                 true
             }
             None => unreachable!(),
         }
     }
 
-    // Gives a login that waited, if it may go; or else takes an item from the desk, where one more login may
+    // Gives or drops a login that waited, if it may go; or else takes an item from the desk, where one more login may
     // wait.
     fn take_next(&mut self) -> bool
         ensures { GoesWhere (may_go self.old) self.old result self.new }
@@ -563,7 +582,7 @@ impl<'a, D: Entrance, N: Serving, R: Wait + Copy> Owner<'a, D, N, R> {
     }
 
     /// One turn. It offers each item that it keeps to its bell; gives a kept leave again, or a login that
-    /// waited, or takes an item from the desk; publishes what is not published; posts a notice; asks the door;
+    /// waited and whose connection is open, or takes an item from the desk; publishes what is not published; posts a notice; asks the door;
     /// and, where no more connections come, has that told to each worker. It does each at most once, and where
     /// it may. What it was opened with stays, and it is done exactly where no more connections come, a `Closed`
     /// was taken for each, and each bell took that no more come.

@@ -17,4 +17,4 @@ invariant_of-self g c =
     given_written c.self.inside.control c.args.command reply c.command-reply.new.self c.self.inside.scribe c.prepare.new.self c.settle.new.self c.mark-mark.result
     c.args.command.connection r.no_memory c.self.invariant.2 c.command-reply.ensures c.in-Ok.ensures.ok c.mark-mark.ensures refl c.settle.ensures
     in
-    (edits, seated_count r.end c.args.command.connection c.self.inside.guests c.seat.new.guests g.N.Serving.door.given _ c.self.invariant.1 c.seat.ensures, written)
+    (edits, seated_count r.end c.args.command.connection c.self.inside.guests c.seat.new.guests g.N.Doorside.door.given _ c.self.invariant.1 c.seat.ensures, written)

@@ -2,32 +2,32 @@
 
 ghost use Rattle.std.specs.Prelude.{◌≡◌, true, false};
 ghost use Rattle.mum_io.specs.Door.{AcceptCounts, given_after};
-ghost use Rattle.mum_owner.specs.Asking.{failed_by, new_doorway, stopped_by};
-ghost use Rattle.mum_owner.specs.Doors.{IsSince};
+ghost use Rattle.mum_doorway.specs.Asking.{failed_by, new_doorway, stopped_by};
+ghost use Rattle.mum_doorway.specs.Doors.{IsSince};
 
 use crate::entrance::Entrance;
-use crate::serving::Serving;
+use crate::opening::Doorside;
 use mum_io::Accept;
 use std::marker::{Model, PhantomData};
 
-/// The door, and how it stopped, if it did, since the owner was opened.
+/// The door, and how it stopped, if it did, since the role that asks it was opened.
 #[derive(Drop)]
-pub(crate) struct Doorway<D: Entrance, N: Serving> {
+pub struct Doorway<D: Entrance, S: Doorside> {
     door: D,
     stopped: bool,
     failed: bool,
-    of: PhantomData<N>,
+    of: PhantomData<S>,
 }
 
-impl<D: Entrance, N: Serving> Model for Doorway<D, N> {
-    ghost use Rattle.mum_owner.specs.Doors.{IsSince};
-    ghost use Rattle.mum_owner.specs.Facts.{DoorwayFacts};
+impl<D: Entrance, S: Doorside> Model for Doorway<D, S> {
+    ghost use Rattle.mum_doorway.specs.Doors.{IsSince};
+    ghost use Rattle.mum_doorway.specs.Asking.{DoorwayFacts};
 
     ghost Value = { DoorwayFacts D };
 
     ghost view = { λ d. record { door = d.door; stopped = d.stopped; failed = d.failed } };
 
-    ghost invariant = { λ d. IsSince N.door (D.counts d.door) (D.opened_at d.door) d.stopped d.failed };
+    ghost invariant = { λ d. IsSince S.door (D.counts d.door) (D.opened_at d.door) d.stopped d.failed };
 }
 
 // Whether the door ended or failed by this answer.
@@ -54,10 +54,11 @@ fn fails<L>(answer: &Accept<L>) -> bool
     }
 }
 
-impl<D: Entrance, N: Serving> Doorway<D, N> {
-    pub(crate) fn open(door: D) -> Doorway<D, N>
-        requires counts { D.counts door ≡ N.door.counts }
-        requires address { D.opened_at door ≡ N.door.opened_at }
+impl<D: Entrance, S: Doorside> Doorway<D, S> {
+    /// The door, which has counted what `S` names.
+    pub fn open(door: D) -> Doorway<D, S>
+        requires counts { D.counts door ≡ S.door.counts }
+        requires address { D.opened_at door ≡ S.door.opened_at }
         ensures { result ≡ new_doorway door }
     {
         Doorway {
@@ -69,14 +70,14 @@ impl<D: Entrance, N: Serving> Doorway<D, N> {
     }
 
     /// Whether it ended or failed.
-    pub(crate) fn is_stopped(&self) -> bool
+    pub fn is_stopped(&self) -> bool
         ensures { result ≡ self.now.stopped }
     {
         self.stopped
     }
 
     /// Asks the door once. It is not asked again once it ended or failed.
-    pub(crate) fn ask(&mut self) -> Accept<D::Peer>
+    pub fn ask(&mut self) -> Accept<D::Peer>
         requires { self.old.stopped ≡ false }
         ensures counts { AcceptCounts result (D.counts self.old.door) (D.counts self.new.door) }
         ensures given { D.given self.new.door ≡ given_after result (D.given self.old.door) }
@@ -91,10 +92,10 @@ impl<D: Entrance, N: Serving> Doorway<D, N> {
     }
 
     /// The door, and whether it failed.
-    pub(crate) fn close(self) -> (D, bool)
+    pub fn close(self) -> (D, bool)
         ensures door { result.0 ≡ self.door }
         ensures failed { result.1 ≡ self.failed }
-        ensures since { IsSince N.door (D.counts result.0) (D.opened_at result.0) self.stopped result.1 }
+        ensures since { IsSince S.door (D.counts result.0) (D.opened_at result.0) self.stopped result.1 }
     {
         let Doorway {
             door,

@@ -1,7 +1,7 @@
--- What a door has counted since its owner was opened.
+-- What a door has counted since its role was opened.
 use Rattle.std.specs.Prelude.{◌≡◌, ◌⊎◌, ℕ, zero, suc, Bool, false, IsTrue, List, Option}
 use Rattle.mum_io.specs.Counts.{Counts, NoneFalls, Rose, next_count}
-use Rattle.mum_owner.specs.declared.serving.DoorOpening.{DoorOpening}
+use Rattle.mum_doorway.specs.declared.opening.DoorOpening.{DoorOpening}
 
 -- the count of ends or that of faults rose
 abbrev pub HasStopped : Counts → Counts → Type 0

@@ -1,0 +1,9 @@
+use Rattle.std.proofs.Common.{ap, ◌∙◌}
+use Rattle.std.specs.Option.{option_map}
+use Rattle.mum_tree.specs.declared.channel.Row.{Row}
+use Rattle.mum_viewer.proofs.Rows.{row_at_index}
+use Rattle.mum_viewer.proofs.picture.nth_channel.Goals as goal
+
+pub returns-in-Some : goal.returns-in-Some
+returns-in-Some c =
+    c.channel.ensures ∙ ap (option_map (λ (row : Row). row.channel)) (row_at_index c.args.tree.now.channels c.args.index c.in-Some.id c.requires c.in-Some.ensures)

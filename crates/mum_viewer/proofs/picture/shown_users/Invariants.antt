@@ -1,0 +1,6 @@
+use Rattle.std.proofs.Common.{◌≡◌, map, take}
+use Rattle.mum_viewer.specs.Picture.{shown_user}
+use Rattle.mum_viewer.proofs.picture.shown_users.Given as goal
+
+abbrev pub invariant-loop-user : goal.invariant-loop-user
+invariant-loop-user l = l.shown.items ≡ map (shown_user l.roster) (take l.user-index l.users)

@@ -1,5 +1,5 @@
 -- The forms of an address at which the server listens.
-use Rattle.std.specs.Prelude.{ℕ, ◌≡◌, ◌≢◌, Bool, true, false, List, [], ◌++◌, codes}
+use Rattle.std.specs.Prelude.{ℕ, ◌≡◌, ◌≢◌, ◌⊎◌, Bool, true, false, List, [], ◌++◌, codes}
 use Rattle.std.specs.declared.net.socket_addr.SocketAddr.{SocketAddr}
 use Rattle.std.specs.declared.net.socket_addr.SocketAddr.TheVariants as Socket
 use Rattle.std.specs.Net.Addr.{ipv4_octets, ipv6_octets}
@@ -14,10 +14,14 @@ use Rattle.mum_address.specs.Header.{mapped_octets}
 abbrev pub Lacks : List ℕ → List ℕ → Type 0
 Lacks prefix text = (rest : List ℕ) → text ≢ prefix ++ rest
 
--- the text of a place: a path that is not empty behind `unix:`, or a socket address of std
+-- the text of a socket in the machine: a path that is not empty behind `unix:`
+abbrev pub IsSocketPath : List ℕ → List ℕ → Type 0
+IsSocketPath text path = (text ≡ codes "unix:" ++ path) × (path ≢ [])
+
+-- the text of a place: that of a socket in the machine, or a socket address of std
 abbrev pub IsPlaceText : List ℕ → Place → Type 0
 IsPlaceText text (Port address) = Lacks (codes "unix:") text × IsSocketText text address
-IsPlaceText text (Path path) = (text ≡ codes "unix:" ++ path.now) × (path.now ≢ [])
+IsPlaceText text (Path path) = IsSocketPath text path.now
 
 -- the text of an address: the text of its place, behind `proxy:` where connections begin with headers
 abbrev pub IsTextBy : Bool → List ℕ → Place → Type 0
@@ -31,3 +35,8 @@ IsAddressText text address = IsTextBy address.has_headers text address.place
 abbrev pub host_octets : SocketAddr → List ℕ
 host_octets (Socket.V4 address) = mapped_octets (ipv4_octets (v4_ip address))
 host_octets (Socket.V6 address) = ipv6_octets (v6_ip address)
+
+-- a word that says whether connections are reported
+abbrev pub IsLogWord : List ℕ → Bool → Type 0
+IsLogWord word true = (word ≡ codes "all") ⊎ (word ≡ codes "on")
+IsLogWord word false = (word ≡ codes "none") ⊎ (word ≡ codes "off")

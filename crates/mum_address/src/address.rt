@@ -1,10 +1,10 @@
 //! The forms of an address at which the server listens.
 
-ghost use Rattle.std.specs.Prelude.{◌≡◌, MatchOption};
+ghost use Rattle.std.specs.Prelude.{◌≡◌, ℕ, Bool, List, MatchOption};
 ghost use Rattle.std.specs.Net.Addr.{ipv6_octets};
 ghost use Rattle.mum_address.specs.declared.address.Place.{Place};
 ghost use Rattle.mum_address.specs.declared.address.Address.{Address};
-ghost use Rattle.mum_address.specs.Address.{IsPlaceText, IsAddressText, host_octets};
+ghost use Rattle.mum_address.specs.Address.{IsPlaceText, IsAddressText, IsLogWord, IsSocketPath, host_octets};
 
 use std::net::{Ipv6Addr, SocketAddr};
 
@@ -65,5 +65,31 @@ pub fn ipv6_of(address: SocketAddr) -> Ipv6Addr
     match address {
         SocketAddr::V4(address) => address.ip().to_ipv6_mapped(),
         SocketAddr::V6(address) => *address.ip(),
+    }
+}
+
+/// The path of the socket in the machine that this text names. None: it has not the form `unix:PATH`.
+pub fn socket_path(text: &str) -> Option<&str>
+    ensures { MatchOption result ((path : List ℕ) → IsSocketPath text.now path → ⊥)
+        (λ path. IsSocketPath text.now path.now) }
+{
+    match text.strip_prefix("unix:") {
+        Some("") => None,
+        other => other,
+    }
+}
+
+/// Which words say whether connections are reported, for a line on standard error.
+pub const LOG_WORDS: &str = "none or off, all or on";
+
+/// Whether connections are reported under this word. None: it is not one of those words.
+pub fn reports_under(word: &str) -> Option<bool>
+    ensures { MatchOption result ((reports : Bool) → IsLogWord word.now reports → ⊥)
+        (IsLogWord word.now) }
+{
+    match word {
+        "all" | "on" => Some(true),
+        "none" | "off" => Some(false),
+        _ => None,
     }
 }

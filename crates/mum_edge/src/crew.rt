@@ -3,10 +3,10 @@
 ghost use Rattle.std.specs.Prelude.{◌≡◌};
 
 use crate::life::Life;
-use crate::station::{SocketStation, WAKER};
+use crate::station::{PollSleeper, WAKER};
 use mio::{Events, Poll, Registry, Token, Waker};
 use mum_crew::{Crew, CrewEnd, Plan, RunTally};
-use mum_link::{Board, Hub, THREAD_LIMIT};
+use mum_link::{Board, Hub, LinkStation, THREAD_LIMIT};
 use std::alloc::{AllocError, Global};
 use std::io::Eprint;
 use std::net::Net;
@@ -17,6 +17,9 @@ use std::{io, thread};
 
 /// How many events one look takes notice of.
 const EVENTS: usize = 256;
+
+/// The station of one thread.
+pub type SocketStation<X> = LinkStation<PollSleeper<X>>;
 
 /// Threads with a station each: the first for the owner and the roles behind the workers, the others for the workers.
 #[derive(Drop)]
@@ -48,7 +51,7 @@ impl<X: Net + Clock + Copy> ThreadCrew<X> {
     ) -> io::Result<ThreadCrew<X>> {
         Ok(ThreadCrew {
             rt,
-            stations: stations(rt, alloc, &hub, threads.min(THREAD_LIMIT))?,
+            stations: stations(rt, alloc, &hub, threads.min(THREAD_LIMIT), life)?,
             spare: Vec::new(alloc),
             hub,
             later_roles,
@@ -70,7 +73,7 @@ impl<X: Net + Clock + Copy> ThreadCrew<X> {
     pub(crate) fn registries(&self, alloc: Global) -> io::Result<Arc<Vec<Registry>>> {
         let mut registries = Vec::with_capacity(alloc, self.stations.len())?;
         for station in self.stations.iter() {
-            registries.push(station.poll.registry().try_clone()?)?;
+            registries.push(station.sleeper.poll.registry().try_clone()?)?;
         }
         Ok(Arc::new(alloc, registries)?)
     }
@@ -88,6 +91,7 @@ fn stations<X: Net + Clock + Copy>(
     alloc: Global,
     hub: &Arc<Hub>,
     threads: usize,
+    life: Life<X>,
 ) -> io::Result<Vec<SocketStation<X>>> {
     let start = Instant::now(&rt)?;
     let mut polls = Vec::with_capacity(alloc, threads)?;
@@ -100,19 +104,17 @@ fn stations<X: Net + Clock + Copy>(
     let wakers = Arc::new(alloc, wakers)?;
     let mut stations = Vec::with_capacity(alloc, threads)?;
     for poll in polls.into_iter() {
-        let thread = stations.len();
-        stations.push(SocketStation {
+        let sleeper = PollSleeper {
             rt,
             start,
             poll,
             events: Events::with_capacity(alloc, EVENTS)?,
-            hub: hub.clone()?,
-            board: Arc::new(alloc, Board::new())?,
             wakers: wakers.clone()?,
-            thread,
-            owner_turns: 0,
-            shut: 0,
-        })?;
+            life,
+        };
+        let board = Arc::new(alloc, Board::new())?;
+        let thread = stations.len();
+        stations.push(LinkStation::new(sleeper, hub.clone()?, board, thread))?;
     }
     Ok(stations)
 }

@@ -9,6 +9,7 @@ pub mod life;
 pub mod listener;
 pub mod machine;
 pub mod peer;
+mod socket_file;
 pub mod station;
 mod stream;
 

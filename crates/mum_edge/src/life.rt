@@ -1,6 +1,6 @@
 //! The lines on standard error by which an administrator sees who comes and goes.
 
-use mum_address::FORMS;
+use mum_address::{FORMS, LOG_WORDS};
 use std::alloc::{AllocError, Global};
 use std::io;
 use std::io::Eprint;
@@ -39,35 +39,43 @@ impl<X: Eprint> Life<X> {
         }
     }
 
-    pub fn listens(&self, address: &str) {
+    fn sign(&self, line: Result<String, AllocError>) {
         if self.has_signs {
-            self.write(format!(in self.alloc; "murmur: listening on {address}\n"));
+            self.write(line);
         }
+    }
+
+    /// It listens at the address of this text, whose port may be left to the system, which chose this one.
+    pub fn listens(&self, text: &str, port: Option<u16>) {
+        if let (Some(host), Some(port)) = (text.strip_suffix(":0"), port) {
+            self.sign(format!(in self.alloc; "murmur: listening on {host}:{port}\n"));
+        } else {
+            self.sign(format!(in self.alloc; "murmur: listening on {text}\n"));
+        }
+    }
+
+    /// Somebody connected who wants the server to stop.
+    pub fn stops(&self) {
+        self.sign(format!(in self.alloc; "murmur: is asked to stop\n"));
     }
 
     /// Connections have their numbers in the order in which they came.
     pub fn came(&self, connection: u64, address: Ipv6Addr) {
-        if self.has_signs {
-            let address = address.to_canonical();
-            self.write(format!(in self.alloc; "murmur: {connection} from {address}\n"));
-        }
+        let address = address.to_canonical();
+        self.sign(format!(in self.alloc; "murmur: {connection} from {address}\n"));
     }
 
     pub fn went(&self, connection: u64, seconds: u64, read: u64, written: u64) {
-        if self.has_signs {
-            self.write(format!(in self.alloc;
-                "murmur: {connection} closed after {seconds} s, {read} bytes in, {written} out\n"
-            ));
-        }
+        self.sign(format!(in self.alloc;
+            "murmur: {connection} closed after {seconds} s, {read} bytes in, {written} out\n"
+        ));
     }
 
     /// This many connections began without a header until now.
     pub fn has_no_header(&self, refused: u64) {
-        if self.has_signs {
-            self.write(format!(in self.alloc;
-                "murmur: a connection without a PROXY header was closed, {refused} until now\n"
-            ));
-        }
+        self.sign(format!(in self.alloc;
+            "murmur: a connection without a PROXY header was closed, {refused} until now\n"
+        ));
     }
 
     /// Threads slept this many times although there was work for them: wakes were missed.
@@ -79,8 +87,23 @@ impl<X: Eprint> Life<X> {
         self.write(format!(in self.alloc; "murmur: {text} is no address; there are {FORMS}\n"));
     }
 
+    pub fn is_no_socket(&self, text: &str) {
+        self.write(format!(in self.alloc; "murmur: MURMUR_STOP={text} is no unix:PATH\n"));
+    }
+
     pub fn cannot_listen(&self, address: &str, error: &io::Error) {
         self.write(format!(in self.alloc; "murmur: cannot listen on {address}: {error}\n"));
+    }
+
+    /// An accept failed, unlike the one before.
+    pub fn cannot_accept(&self, error: &io::Error) {
+        self.write(format!(in self.alloc; "murmur: cannot accept connections: {error}\n"));
+    }
+
+    pub fn is_no_log_word(&self, word: &str) {
+        self.write(format!(in self.alloc;
+            "murmur: MURMUR_LOG={word} is no word for it; it is {LOG_WORDS}, which applies\n"
+        ));
     }
 
     pub fn is_no_pace(&self, text: &str) {

@@ -2,21 +2,24 @@
 
 use crate::life::Life;
 use crate::peer::Peer;
+use crate::socket_file;
 use crate::stream::Stream;
-use mio::net::{TcpListener, UnixListener, UnixStream};
+use mio::net::{TcpListener, UnixListener};
 use mio::{Interest, Registry, Token};
-use mum_address::{Address, Place, ipv6_of};
+use mum_address::{Address, Place, ipv6_of, socket_path};
 use mum_link::{DOOR_THREAD, LINK_LIMIT, Listener};
 use std::fs::Files;
 use std::io::{Eprint, ErrorKind};
 use std::net::{Ipv6Addr, Net, SocketAddr};
 use std::os::fd::AsRawFd;
-use std::os::unix::fs::FileTypeExt;
 use std::sync::Arc;
 use std::{fs, io};
 
 /// The token of the listener, behind those of the slots.
 pub const DOOR: usize = LINK_LIMIT;
+
+/// The token of the socket at which somebody connects who wants the server to stop.
+pub const STOP: usize = DOOR + 1;
 
 /// The most connections that wait for an accept.
 const BACKLOG: i32 = 1024;
@@ -29,11 +32,10 @@ enum Bound {
 }
 
 impl Bound {
-    // Listens there. The socket file of a server that has ended is removed first; that of one that runs is not.
     fn at<R: Net + Files>(rt: &R, place: Place<'_>) -> io::Result<Bound> {
         let bound = match place {
             Place::Port(address) => Bound::Tcp(TcpListener::bind(rt, address)?),
-            Place::Path(path) => Bound::Unix(bind_path(rt, path)?),
+            Place::Path(path) => Bound::Unix(socket_file::bind(rt, path)?),
         };
         let descriptor = match &bound {
             Bound::Tcp(listener) => listener.as_raw_fd(),
@@ -44,10 +46,10 @@ impl Bound {
         Ok(bound)
     }
 
-    fn register(&mut self, registry: &Registry) -> io::Result<()> {
+    fn register(&mut self, registry: &Registry, token: usize) -> io::Result<()> {
         match self {
-            Bound::Tcp(listener) => registry.register(listener, Token(DOOR), Interest::READABLE),
-            Bound::Unix(listener) => registry.register(listener, Token(DOOR), Interest::READABLE),
+            Bound::Tcp(listener) => registry.register(listener, Token(token), Interest::READABLE),
+            Bound::Unix(listener) => registry.register(listener, Token(token), Interest::READABLE),
         }
     }
 
@@ -66,34 +68,94 @@ impl Bound {
     }
 }
 
-/// What a door listens at, if it was opened, and the polls of the crew's threads.
+/// What a door listens at, if it was opened, and the polls of the crew's threads, or why there are none. Who connects
+/// where the text `stop_at` says wants the server to stop.
 #[derive(Drop)]
 pub struct SocketListener<X> {
     rt: X,
     bound: Option<Bound>,
     registries: Arc<Vec<Registry>>,
+    fault: Option<i32>,
     life: Life<X>,
+    stop_at: Option<String>,
+    stop: Option<UnixListener>,
 }
 
-impl<X: Net + Files> SocketListener<X> {
+impl<X: Net + Files + Eprint> SocketListener<X> {
     /// It listens nowhere yet.
-    pub(crate) fn new(rt: X, registries: Arc<Vec<Registry>>, life: Life<X>) -> SocketListener<X> {
+    pub(crate) fn new(
+        rt: X,
+        registries: Arc<Vec<Registry>>,
+        fault: Option<i32>,
+        life: Life<X>,
+        stop_at: Option<String>,
+    ) -> SocketListener<X> {
         SocketListener {
             rt,
             bound: None,
             registries,
+            fault,
             life,
+            stop_at,
+            stop: None,
         }
     }
 
-    fn bind(&mut self, place: Place<'_>) -> io::Result<()> {
+    fn registry(&self) -> io::Result<&Registry> {
+        if let Some(code) = self.fault {
+            return Err(io::Error::from_raw_os_error(code));
+        }
+        match self.registries.get(DOOR_THREAD) {
+            Some(registry) => Ok(registry),
+            None => Err(io::Error::from(ErrorKind::NotFound)),
+        }
+    }
+
+    fn bind(&self, place: Place<'_>) -> io::Result<Bound> {
+        let registry = self.registry()?;
         let mut bound = Bound::at(&self.rt, place)?;
-        let Some(registry) = self.registries.get(DOOR_THREAD) else {
-            return Err(io::Error::from(ErrorKind::NotFound));
+        bound.register(registry, DOOR)?;
+        Ok(bound)
+    }
+
+    fn bind_for_stops(&self, path: &str) -> io::Result<UnixListener> {
+        let registry = self.registry()?;
+        let mut listener = socket_file::bind(&self.rt, path)?;
+        registry.register(&mut listener, Token(STOP), Interest::READABLE)?;
+        Ok(listener)
+    }
+
+    // What listens at the address of this text, if it does. If it cannot, a line on standard error says why.
+    fn listening<T: Drop>(&self, text: &str, bound: io::Result<T>) -> Option<T> {
+        match bound {
+            Ok(bound) => Some(bound),
+            Err(error) => {
+                self.life.cannot_listen(text, &error);
+                None
+            }
+        }
+    }
+
+    // Listens for who wants the server to stop, where that is asked for. If it cannot, a line on standard error says why.
+    fn listen_for_stops(&self) -> Option<Option<UnixListener>> {
+        let Some(text) = &self.stop_at else {
+            return Some(None);
         };
-        bound.register(registry)?;
-        self.bound = Some(bound);
-        Ok(())
+        let Some(path) = socket_path(text.as_str()) else {
+            self.life.is_no_socket(text.as_str());
+            return None;
+        };
+        let stop = self.listening(text.as_str(), self.bind_for_stops(path))?;
+        Some(Some(stop))
+    }
+
+    /// Removes the file of the socket for a stop, if it was made.
+    pub fn close(&self) {
+        if let (Some(_), Some(text)) = (&self.stop, &self.stop_at) {
+            if let Some(path) = socket_path(text.as_str()) {
+                let _gone_already = fs::remove_file(&self.rt, path);
+            }
+        }
     }
 
     /// The address of the Internet at which it listens, with the port that the system chose where it was 0.
@@ -114,16 +176,13 @@ impl<X: Net + Files + Eprint + Copy> Listener for SocketListener<X> {
             self.life.is_no_address(text);
             return None;
         };
-        match self.bind(address.place) {
-            Ok(()) => {
-                self.life.listens(text);
-                Some(address.has_headers)
-            }
-            Err(error) => {
-                self.life.cannot_listen(text, &error);
-                None
-            }
-        }
+        let stop = self.listen_for_stops()?;
+        self.stop = stop;
+        let bound = self.listening(text, self.bind(address.place))?;
+        self.bound = Some(bound);
+        let port = self.local_address().map(|address| address.port());
+        self.life.listens(text, port);
+        Some(address.has_headers)
     }
 
     fn accept(&mut self) -> io::Result<(Peer<X>, Ipv6Addr)> {
@@ -156,32 +215,11 @@ impl<X: Net + Files + Eprint + Copy> Listener for SocketListener<X> {
         Ok(())
     }
 
+    fn cannot_accept(&mut self, error: &io::Error) {
+        self.life.cannot_accept(error);
+    }
+
     fn refuse(&mut self, refused: u64) {
         self.life.has_no_header(refused);
-    }
-}
-
-fn bind_path<R: Net + Files>(rt: &R, path: &str) -> io::Result<UnixListener> {
-    match UnixListener::bind(rt, path) {
-        Err(error) if error.kind() == ErrorKind::AddrInUse && is_left_over(rt, path) => {
-            fs::remove_file(rt, path)?;
-            UnixListener::bind(rt, path)
-        }
-        other => other,
-    }
-}
-
-// Whether the file is a socket at which nobody listens.
-fn is_left_over<R: Net + Files>(rt: &R, path: &str) -> bool {
-    let is_socket = match fs::symlink_metadata(rt, path) {
-        Ok(metadata) => metadata.file_type().is_socket(),
-        Err(_) => false,
-    };
-    if !is_socket {
-        return false;
-    }
-    match UnixStream::connect(rt, path) {
-        Ok(_) => false,
-        Err(error) => error.kind() == ErrorKind::ConnectionRefused,
     }
 }

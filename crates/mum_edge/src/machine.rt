@@ -5,11 +5,14 @@ use crate::crew::{ThreadCrew, thread_count};
 use crate::life::Life;
 use crate::listener::SocketListener;
 use crate::peer::Peer;
+use mio::Registry;
+use mum_address::reports_under;
 use mum_link::{Entrance, Hub, SocketDoor};
 use mum_pace::Pace;
-use std::alloc::Global;
+use std::alloc::{AllocError, Global};
+use std::env::VarError;
 use std::fs::Files;
-use std::io::Eprint;
+use std::io::{Eprint, ErrorKind};
 use std::net::Net;
 use std::rt::Env;
 use std::sync::Arc;
@@ -37,14 +40,27 @@ pub struct Machine<X> {
     pub clock: SystemClock<X>,
 }
 
+// How fast a client may send, the lines on standard error, and where to connect for a stop.
+#[derive(Drop)]
+struct Setting<X> {
+    pace: Pace,
+    life: Life<X>,
+    stop_at: Option<String>,
+}
+
 impl<X: AllocGlobal + Net + Files + Env + Eprint + Threads + Clock + Copy> Machine<X> {
     /// Makes a crew for as many roles behind the workers, with threads for half of the processors and the owner's.
-    /// The environment's `MURMUR_PACE` says how fast a client may send, and `MURMUR_LOG=none` that connections leave
-    /// no lines on standard error.
+    /// The environment's `MURMUR_PACE` says how fast a client may send, `MURMUR_LOG=none` that connections leave no
+    /// lines on standard error, and `MURMUR_STOP` where to connect for a stop. Where the system refuses what threads
+    /// sleep on, as to a process with too few descriptors, the door cannot be opened, and says why.
     pub fn open(rt: X, alloc: Global, later_roles: usize) -> io::Result<Machine<X>> {
-        let life = Life::new(rt, alloc, has_signs(&rt));
-        let pace = pace(&rt, &life);
-        Machine::with(rt, alloc, thread_count(&rt), later_roles, pace, life)
+        let life = log_of(&rt, Life::new(rt, alloc, true))?;
+        let setting = Setting {
+            pace: pace_of(&rt, &life)?,
+            life,
+            stop_at: variable(&rt, "MURMUR_STOP")?,
+        };
+        Machine::with(rt, alloc, thread_count(&rt), later_roles, setting)
     }
 
     /// The same with this many threads and this pace, whatever the environment says, and without lines on standard
@@ -56,8 +72,12 @@ impl<X: AllocGlobal + Net + Files + Env + Eprint + Threads + Clock + Copy> Machi
         later_roles: usize,
         pace: Pace,
     ) -> io::Result<Machine<X>> {
-        let life = Life::new(rt, alloc, false);
-        Machine::with(rt, alloc, threads, later_roles, pace, life)
+        let setting = Setting {
+            pace,
+            life: Life::new(rt, alloc, false),
+            stop_at: None,
+        };
+        Machine::with(rt, alloc, threads, later_roles, setting)
     }
 
     fn with(
@@ -65,12 +85,23 @@ impl<X: AllocGlobal + Net + Files + Env + Eprint + Threads + Clock + Copy> Machi
         alloc: Global,
         threads: usize,
         later_roles: usize,
-        pace: Pace,
-        life: Life<X>,
+        setting: Setting<X>,
     ) -> io::Result<Machine<X>> {
+        let Setting {
+            pace,
+            life,
+            stop_at,
+        } = setting;
         let hub = Arc::new(alloc, Hub::new(alloc)?)?;
-        let crew = ThreadCrew::new(rt, alloc, hub.clone()?, threads, later_roles, life)?;
-        let listener = SocketListener::new(rt, crew.registries(alloc)?, life);
+        let (crew, polls, fault) = match crew_of(rt, alloc, &hub, threads, later_roles, life) {
+            Ok((crew, polls)) => (crew, polls, None),
+            Err(error) if error.kind() == ErrorKind::OutOfMemory => return Err(error),
+            Err(error) => {
+                let (crew, polls) = crew_of(rt, alloc, &hub, 0, later_roles, life)?;
+                (crew, polls, error.raw_os_error())
+            }
+        };
+        let listener = SocketListener::new(rt, polls, fault, life, stop_at);
         let entrance = Entrance::new(alloc, hub, crew.boards(alloc)?, pace, listener);
         Ok(Machine {
             crew,
@@ -80,19 +111,56 @@ impl<X: AllocGlobal + Net + Files + Env + Eprint + Threads + Clock + Copy> Machi
     }
 }
 
-fn has_signs<X: Env + AllocGlobal>(rt: &X) -> bool {
-    !matches!(env::var(rt, "MURMUR_LOG"), Ok(value) if value.as_str() == "none")
+// A crew of this many threads, and where sockets are registered at their polls.
+fn crew_of<X: Net + Clock + Copy>(
+    rt: X,
+    alloc: Global,
+    hub: &Arc<Hub>,
+    threads: usize,
+    later_roles: usize,
+    life: Life<X>,
+) -> io::Result<(ThreadCrew<X>, Arc<Vec<Registry>>)> {
+    let crew = ThreadCrew::new(rt, alloc, hub.clone()?, threads, later_roles, life)?;
+    let polls = crew.registries(alloc)?;
+    Ok((crew, polls))
 }
 
-fn pace<X: Env + AllocGlobal + Eprint>(rt: &X, life: &Life<X>) -> Pace {
-    let Ok(text) = env::var(rt, "MURMUR_PACE") else {
-        return Pace::usual();
+// The text of a variable. One that is not UTF-8 has none of the forms that are asked for, as an empty one has not.
+fn variable<X: Env + AllocGlobal>(rt: &X, name: &str) -> Result<Option<String>, AllocError> {
+    match env::var(rt, name) {
+        Ok(text) => Ok(Some(text)),
+        Err(VarError::NotPresent) => Ok(None),
+        Err(VarError::NotUnicode) => Ok(Some(String::new(rt.alloc()))),
+        Err(VarError::OutOfMemory) => Err(AllocError),
+    }
+}
+
+fn log_of<X: Env + AllocGlobal + Eprint + Copy>(
+    rt: &X,
+    life: Life<X>,
+) -> Result<Life<X>, AllocError> {
+    let Some(word) = variable(rt, "MURMUR_LOG")? else {
+        return Ok(life);
+    };
+    match reports_under(word.as_str()) {
+        Some(true) => Ok(life),
+        Some(false) => Ok(life.silent()),
+        None => {
+            life.is_no_log_word(word.as_str());
+            Ok(life)
+        }
+    }
+}
+
+fn pace_of<X: Env + AllocGlobal + Eprint>(rt: &X, life: &Life<X>) -> Result<Pace, AllocError> {
+    let Some(text) = variable(rt, "MURMUR_PACE")? else {
+        return Ok(Pace::usual());
     };
     match Pace::from_text(text.as_str()) {
-        Some(pace) => pace,
+        Some(pace) => Ok(pace),
         None => {
             life.is_no_pace(text.as_str());
-            Pace::usual()
+            Ok(Pace::usual())
         }
     }
 }

@@ -1,23 +1,10 @@
-//! Tests of the adapters over sockets of this machine: what clients send and read there.
+//! Tests of what no script over the running server can show: roles beside each other, the clock, and who has how much
+//! of the allowance for long frames.
 #![tactic(auto)]
 
 #[cfg(test)]
-mod addresses;
-#[cfg(test)]
-mod echo;
-#[cfg(test)]
-mod hang_ups;
-#[cfg(test)]
-mod kept;
-#[cfg(test)]
-mod lines;
+mod clock;
 #[cfg(test)]
 mod long_frames;
 #[cfg(test)]
-mod run;
-#[cfg(test)]
-mod slots;
-#[cfg(test)]
 mod together;
-#[cfg(test)]
-mod wakes;

@@ -1,84 +1,103 @@
-//! Workers work beside each other: while one is held, another goes on.
+//! The roles of a crew work beside each other.
 
-use crate::echo::{Manner, parts, set_gate};
-use crate::lines::{open, talk};
-use crate::run::run;
-use mum_crew::{CrewEnd, Gate};
+use mum_crew::{Crew, CrewEnd, Role, Turn};
 use mum_edge::Machine;
 use mum_pace::Pace;
-use std::alloc::Global;
-use std::io::{Read, Write};
-use std::net::{Net, SocketAddr, TcpStream};
+use std::alloc::{AllocError, Global};
 use std::sync::Arc;
-use std::sync::atomic::{AtomicBool, Ordering};
-use std::test::Fail;
-use std::{io, thread};
+use std::sync::atomic::{AtomicBool, AtomicU64, Ordering};
+use std::thread;
 
-/// How often a thread asks whether another has come to its point, before the test fails.
+/// As many roles as threads: the owner's, and two of workers.
+const ROLES: u64 = 3;
+
+/// How often a role asks whether all others have come, before the test fails.
 const TRIES: u32 = 1_000_000;
 
-/// Holds the first worker in its turn until the second has answered its client, or it was waited for too long.
+/// Where all roles are to be at once.
 #[derive(Drop)]
-pub struct Hold {
-    is_held: AtomicBool,
-    has_answered: AtomicBool,
+struct Meeting {
+    came: AtomicU64,
     was_in_vain: AtomicBool,
 }
 
-impl Gate for Hold {
-    fn pass(&self, worker: u8) {
-        if worker != 0 {
-            return;
+impl Meeting {
+    fn new() -> Meeting {
+        Meeting {
+            came: AtomicU64::new(0),
+            was_in_vain: AtomicBool::new(false),
         }
-        self.is_held.store(true, Ordering::SeqCst);
-        if !is_set(&self.has_answered) {
+    }
+
+    // Comes, and stays until all are there, or were waited for too long.
+    fn attend(&self) {
+        self.came.fetch_add(1, Ordering::SeqCst);
+        if !self.is_complete() {
             self.was_in_vain.store(true, Ordering::SeqCst);
-            self.has_answered.store(true, Ordering::SeqCst);
         }
+    }
+
+    fn is_complete(&self) -> bool {
+        for _ in 0..TRIES {
+            if self.came.load(Ordering::SeqCst) == ROLES {
+                return true;
+            }
+            thread::yield_now();
+        }
+        false
     }
 }
 
-/// Whether the word is set in time.
-fn is_set(word: &AtomicBool) -> bool {
-    for _ in 0..TRIES {
-        if word.load(Ordering::SeqCst) {
-            return true;
-        }
-        thread::yield_now();
-    }
-    false
+/// A role that attends the meeting in its only turn.
+#[derive(Drop)]
+struct Attendant {
+    meeting: Arc<Meeting>,
+    is_done: bool,
 }
 
-/// Whether the second worker answers, and is rid of its client, while the first is held; and then the first does.
-fn talk_beside<X: Net>(rt: &X, address: SocketAddr, hold: &Hold) -> io::Result<bool> {
-    let mut stream = TcpStream::connect(rt, address)?;
-    stream.write_all(b"hello")?;
-    let is_held = is_set(&hold.is_held);
-    let is_answered = talk(rt, address, 1)?;
-    hold.has_answered.store(true, Ordering::SeqCst);
-    let mut buf = [0u8; 5];
-    stream.read_exact(&mut buf)?;
-    Ok(is_held && is_answered && &buf == b"hello")
+impl Role for Attendant {
+    ghost use Rattle.std.specs.Prelude.{⊤};
+
+    type Opening = u8;
+
+    ghost opening = { λ _. 0 };
+
+    ghost has_ended = { λ a. a.is_done };
+
+    ghost turned = { λ _ _ _. ⊤ };
+
+    fn turn(&mut self) -> Turn {
+        self.meeting.attend();
+        self.is_done = true;
+        Turn::Done
+    }
+}
+
+fn put_attendants(roles: &mut Vec<Attendant>, meeting: &Arc<Meeting>) -> Result<(), AllocError> {
+    for _ in 0..ROLES {
+        roles.push(Attendant {
+            meeting: meeting.clone()?,
+            is_done: false,
+        })?;
+    }
+    Ok(())
 }
 
 #[test]
-fn crew_runs_workers_together(rt: HostRuntime) -> Result<(), Fail> {
+fn a_crew_runs_its_roles_together(rt: HostRuntime) {
     let alloc: Global = rt.alloc();
-    let (machine, address) = open(rt, 3, Pace::Unlimited)?;
-    let Machine { mut crew, door, .. } = machine;
-    let hold = Hold {
-        is_held: AtomicBool::new(false),
-        has_answered: AtomicBool::new(false),
-        was_in_vain: AtomicBool::new(false),
-    };
-    let hold = Arc::new(alloc, hold)?;
-    let mut roles = parts(rt, alloc, door, 2, 2, Manner::Echo)?;
-    set_gate(&mut roles, &hold)?;
-    let clients = hold.clone()?;
-    let clients = thread::spawn(&rt, move || talk_beside(&rt, address, &clients))?;
-    let run = run(&mut crew, alloc, roles);
-    assert!(rt; clients.join(&rt)?);
-    assert_eq!(rt; run.end, CrewEnd::Ran);
-    assert!(rt; !hold.was_in_vain.load(Ordering::SeqCst));
-    Ok(())
+    let meeting = Arc::new(alloc, Meeting::new()).expect(&rt, "memory");
+    let mut roles = Vec::new(alloc);
+    put_attendants(&mut roles, &meeting).expect(&rt, "memory");
+    let Machine { mut crew, .. } = Machine::quiet(
+        rt,
+        alloc,
+        ROLES as usize,
+        0,
+        Pace::Unlimited,
+    ).expect(&rt, "a machine");
+    let end = crew.run(alloc, roles).end;
+    assert_eq!(rt; end, CrewEnd::Ran);
+    assert!(rt; !meeting.was_in_vain.load(Ordering::SeqCst));
+    assert_eq!(rt; crew.late_rounds(), 0);
 }

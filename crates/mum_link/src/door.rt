@@ -9,7 +9,7 @@ use crate::listener::Listener;
 use crate::socket::Socket;
 use mum_io::{Accept, Door, DoorOpen, Tally};
 
-/// Where connections come from. It never ends, and fails only where it was not opened.
+/// Where connections come from. It ends where the server stops, and fails only where it was not opened.
 #[derive(Drop)]
 pub struct SocketDoor<L, S> {
     tally: Tally,
@@ -60,6 +60,10 @@ impl<S: Socket + Send, L: Listener<Socket = S>> Door for SocketDoor<L, S> {
         if !self.is_open {
             self.tally.count_fault();
             return Accept::Failed;
+        }
+        if self.entrance.is_stopping() {
+            self.tally.count_end();
+            return Accept::End;
         }
         let given = self.given.saturating_add(1);
         match self.entrance.next(given) {

@@ -1,7 +1,7 @@
 //! How connections come in: from a listener, behind the header of a relay where there is one, to the thread of the worker
 //! that gets them.
 
-ghost use Rattle.std.specs.Prelude.{◌≡◌, [], false, IfOk, IfSome, is_some, slice_get, unwrap_or};
+ghost use Rattle.std.specs.Prelude.{◌≡◌, [], false, true, not, IfOk, IfSome, is_some, slice_get, unwrap_or};
 ghost use Rattle.std.specs.Io.KnownBytes.{Keeps};
 ghost use Rattle.std.specs.Option.{ForSome, option_map};
 ghost use Rattle.std.specs.Result.{ForOk};
@@ -22,6 +22,7 @@ use mum_pace::{Meter, Pace, Reservation};
 use std::alloc::Global;
 use std::io;
 use std::io::ErrorKind;
+use std::mem::replace;
 use std::net::Ipv6Addr;
 use std::sync::Arc;
 
@@ -65,6 +66,7 @@ pub struct Entrance<L, S> {
     has_headers: bool,
     waiting: Vec<Waiting<S>>,
     stuck: Option<Stuck>,
+    is_failing: bool,
     refused: u64,
 }
 
@@ -90,12 +92,27 @@ impl<L, S> Entrance<L, S> {
             has_headers: false,
             waiting: Vec::new(alloc),
             stuck: None,
+            is_failing: false,
             refused: 0,
         }
     }
 
     pub fn listener(&self) -> &L {
         &self.listener
+    }
+
+    /// Whether nobody is let in any more, since the server stops.
+    pub fn is_stopping(&self) -> bool {
+        self.hub.is_stopping()
+    }
+
+    // An accept failed. Whether that is to be reported: of failures in a row only the first is.
+    fn note_failure(&mut self) -> bool
+        ensures first { result ≡ not self.old.is_failing }
+        ensures failing { self.new.is_failing ≡ true }
+        ensures has_headers { self.new.has_headers ≡ self.old.has_headers }
+    {
+        !replace(&mut self.is_failing, true)
     }
 }
 
@@ -185,6 +202,7 @@ impl<S: Socket, L: Listener<Socket = S>> Entrance<L, S> {
     }
 
     fn pause(&mut self)
+        ensures failing { self.new.is_failing ≡ self.old.is_failing }
         ensures has_headers { self.new.has_headers ≡ self.old.has_headers }
     {
         self.hub.set_door_ready(false);
@@ -223,7 +241,10 @@ impl<S: Socket, L: Listener<Socket = S>> Entrance<L, S> {
     {
         for _ in 0..ATTEMPTS {
             match self.listener.accept() {
-                Ok(accepted) => return Some(accepted),
+                Ok(accepted) => {
+                    self.is_failing = false;
+                    return Some(accepted);
+                }
                 Err(error) => match error.kind() {
                     ErrorKind::WouldBlock => {
                         self.hub.set_door_ready(false);
@@ -231,13 +252,24 @@ impl<S: Socket, L: Listener<Socket = S>> Entrance<L, S> {
                     }
                     ErrorKind::Interrupted | ErrorKind::ConnectionAborted => {}
                     _ => {
-                        self.pause();
+                        self.fail(&error);
                         return None;
                     }
                 },
             }
         }
         None
+    }
+
+    // The listener cannot accept, and is asked again after a pause.
+    fn fail(&mut self, error: &io::Error)
+        ensures failing { self.new.is_failing ≡ true }
+        ensures has_headers { self.new.has_headers ≡ self.old.has_headers }
+    {
+        if self.note_failure() {
+            self.listener.cannot_accept(error);
+        }
+        self.pause();
     }
 
     // Keeps a connection until its header has come.

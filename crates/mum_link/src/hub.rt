@@ -35,6 +35,7 @@ pub struct Hub {
     links_shut: AtomicU64,
     late_rounds: AtomicU64,
     is_door_ready: AtomicBool,
+    is_stopping: AtomicBool,
     workers: AtomicU64,
     threads: AtomicU64,
 }
@@ -59,6 +60,7 @@ impl Hub {
             links_shut: AtomicU64::new(0),
             late_rounds: AtomicU64::new(0),
             is_door_ready: AtomicBool::new(false),
+            is_stopping: AtomicBool::new(false),
             workers: AtomicU64::new(1),
             threads: AtomicU64::new(1),
         })
@@ -169,10 +171,24 @@ impl Hub {
         self.is_door_ready.load(Ordering::SeqCst)
     }
 
+    /// The server is to stop: its door ends, and its links end.
+    pub fn stop(&self) {
+        self.is_stopping.store(true, Ordering::SeqCst);
+    }
+
+    pub fn is_stopping(&self) -> bool {
+        self.is_stopping.load(Ordering::SeqCst)
+    }
+
     /// How many workers and threads there are.
     pub fn set_crew(&self, workers: usize, threads: usize) {
         self.workers.store(workers as u64, Ordering::SeqCst);
         self.threads.store(threads as u64, Ordering::SeqCst);
+    }
+
+    /// How many threads there are.
+    pub fn threads(&self) -> usize {
+        self.threads.load(Ordering::SeqCst) as usize
     }
 
     /// The thread of the worker to whom this connection belongs. Connections are numbered from 1.

@@ -13,7 +13,9 @@ mod line;
 mod link;
 mod listener;
 mod seat;
+mod sleeper;
 mod socket;
+mod station;
 mod waiting;
 mod wire;
 
@@ -25,4 +27,6 @@ pub use kept::{KEPT_LIMIT, Kept};
 pub use link::SocketLink;
 pub use listener::Listener;
 pub use seat::Seat;
+pub use sleeper::{Ready, Sleeper};
 pub use socket::Socket;
+pub use station::LinkStation;

@@ -33,6 +33,9 @@ pub trait Listener: Drop {
         ensures left { Keeps (Self.Socket.left socket.old) (Self.Socket.left socket.new) }
         ensures written { Keeps (Self.Socket.written socket.old) (Self.Socket.written socket.new) };
 
+    /// An accept failed by this error, which is not one of those in a row behind another. It is tried again.
+    fn cannot_accept(&mut self, error: &io::Error);
+
     /// So many connections began without a header until now; the last of them was closed.
     fn refuse(&mut self, refused: u64);
 }

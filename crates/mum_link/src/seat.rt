@@ -38,6 +38,10 @@ impl Seat {
         self.hub.clear(self.slot, WRITABLE);
     }
 
+    pub fn is_stopping(&self) -> bool {
+        self.hub.is_stopping()
+    }
+
     /// The link is open.
     pub fn take(&self) {
         self.board.open_link();

@@ -72,7 +72,7 @@ impl<S: Socket> Wire<S> {
         ensures written { Keeps (S.written self.old.line.socket) (S.written self.new.line.socket) }
         ensures kept { self.new.kept ≡ self.old.kept }
     {
-        if self.line.is_broken {
+        if self.is_over() {
             return PollRead::Failed;
         }
         if !self.line.seat.is_readable() {
@@ -161,7 +161,7 @@ impl<S: Socket> Wire<S> {
             (taken (S.written self.new.line.socket) self.new.kept) piece.now }
         ensures left { Keeps (S.left self.old.line.socket) (S.left self.new.line.socket) }
     {
-        if self.line.is_broken {
+        if self.is_over() {
             return PollWrite::Failed;
         }
         let is_sent_now = KEPT_LIMIT < piece.len() || !self.line.seat.board.is_holding();
@@ -172,6 +172,11 @@ impl<S: Socket> Wire<S> {
             0 => PollWrite::NotYet,
             count => PollWrite::Took(count),
         }
+    }
+
+    // Whether no byte goes over it any more: it failed, or the server stops. What it keeps is sent when it is shut.
+    fn is_over(&self) -> bool {
+        self.line.is_broken || self.line.seat.is_stopping()
     }
 
     fn keeps_an_earlier_batch(&self) -> bool {

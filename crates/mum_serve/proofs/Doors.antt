@@ -2,7 +2,7 @@
 use Rattle.std.proofs.Common.{◌≡◌, ◌∙◌, ℕ, Bool, List, ◌∷◌, Option, IfSome, sym, ap, subst}
 use Rattle.std.specs.List.{AllByRecursion}
 use Rattle.mum_io.specs.Counts.{Counts}
-use Rattle.mum_owner.specs.declared.serving.DoorOpening.{DoorOpening}
+use Rattle.mum_doorway.specs.declared.opening.DoorOpening.{DoorOpening}
 use Rattle.mum_state.specs.State.{StateValue}
 use Rattle.mum_serve.specs.Joined.{HasDoor}
 use Rattle.mum_serve.specs.Roles.{Collects, owners_in}

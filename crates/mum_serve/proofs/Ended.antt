@@ -6,7 +6,7 @@ use Rattle.std.proofs.lemmas.List.{length-map}
 use Rattle.mum_crew.specs.declared.crew.CrewEnd.{CrewEnd}
 use Rattle.mum_crew.specs.declared.crew.CrewEnd.TheVariants.{Ran, Refused, NoMemory}
 use Rattle.mum_io.specs.Counts.{Counts, Rose}
-use Rattle.mum_owner.specs.declared.serving.DoorOpening.{DoorOpening}
+use Rattle.mum_doorway.specs.declared.opening.DoorOpening.{DoorOpening}
 use Rattle.mum_owner.specs.Facts.{OwnerFacts}
 use Rattle.mum_owner.specs.Opened.{opening_of as owner_opening}
 use Rattle.mum_owner.specs.Turned.{has_ended as owner_has_ended}

@@ -1,6 +1,6 @@
 -- The roles before their first turn.
 use Rattle.std.proofs.Common.{◌≡◌, ◌∙◌, ℕ, zero, suc, ◌+◌, Bool, true, false, List, [], ◌∷◌, ◌++◌, append_assoc, map, is_some, Option, Some, None, refl, sym, ap, subst, arith}
-use Rattle.mum_owner.specs.declared.serving.DoorOpening.{DoorOpening}
+use Rattle.mum_doorway.specs.declared.opening.DoorOpening.{DoorOpening}
 use Rattle.mum_owner.specs.Facts.{OwnerFacts}
 use Rattle.mum_state.specs.State.{StateValue}
 use Rattle.mum_published.specs.Facts.{PassFacts}

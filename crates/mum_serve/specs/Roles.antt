@@ -3,11 +3,11 @@ use Rattle.std.specs.Prelude.{◌≡◌, ⊤, ℕ, zero, suc, ◌+◌, ◌||◌,
 use Rattle.mum_crew.specs.declared.role.Turn.{Turn}
 use Rattle.mum_io.specs.Counts.{Counts, NoneFalls, Rose}
 use Rattle.mum_owner.specs.Decided.{HasWritten}
-use Rattle.mum_owner.specs.Doors.{NoMoreCome, given_after_all}
+use Rattle.mum_doorway.specs.Doors.{NoMoreCome, given_after_all}
 use Rattle.mum_owner.specs.Facts.{OwnerFacts}
 use Rattle.mum_owner.specs.Opened.{opening_of as owner_opening}
 use Rattle.mum_owner.specs.Turned.{OwnerTurned, has_ended as owner_has_ended}
-use Rattle.mum_owner.specs.declared.serving.DoorOpening.{DoorOpening}
+use Rattle.mum_doorway.specs.declared.opening.DoorOpening.{DoorOpening}
 use Rattle.mum_published.specs.Calls.{appended}
 use Rattle.mum_published.specs.Facts.{Opening}
 use Rattle.mum_state.specs.State.{StateValue}

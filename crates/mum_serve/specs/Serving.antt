@@ -6,7 +6,7 @@ use Rattle.mum_crew.specs.declared.crew.CrewEnd.TheVariants.{Ran, Refused}
 use Rattle.mum_io.specs.Counts.{Counts, CountsFault}
 use Rattle.mum_owner.specs.Facts.{OwnerFacts}
 use Rattle.mum_owner.specs.Turned.{has_ended as owner_has_ended}
-use Rattle.mum_owner.specs.declared.serving.DoorOpening.{DoorOpening}
+use Rattle.mum_doorway.specs.declared.opening.DoorOpening.{DoorOpening}
 use Rattle.mum_state.specs.State.{StateValue}
 use Rattle.mum_worker.specs.Facts.{WorkerFacts, is_done}
 use Rattle.mum_serve.specs.Roles.{CameTo, worker_opening, worker_openings}

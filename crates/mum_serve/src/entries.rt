@@ -3,8 +3,8 @@
 ghost use Rattle.std.specs.Prelude.{◌≡◌, ◌<◌};
 ghost use Rattle.mum_serve.specs.Journals.{closing_room, journal_of};
 
-use mum_base::{Items, Octets, PLACES, SLOTS};
-use mum_record::{ControlEntry, Journal, WorkerEntry};
+use mum_base::{Items, Octets};
+use mum_record::{ControlEntry, Journal, Limits, WorkerEntry};
 
 /// The entries of a journal; none where no journal was asked for.
 #[derive(Drop)]
@@ -38,7 +38,7 @@ pub(crate) fn journal_of(workers: u8, document: Octets, entries: Entries) -> Jou
     } = entries;
     Journal {
         workers,
-        limits: Some((SLOTS as u16, PLACES as u32)),
+        limits: Some(Limits::greatest()),
         config: document,
         controls,
         by_worker,

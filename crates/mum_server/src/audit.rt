@@ -16,7 +16,7 @@ use mum_base::OutOfMemory;
 use mum_config::BadConfig;
 use mum_io::{Sink, Source, write_all};
 use mum_opening::document_edits;
-use mum_record::{Journal, Word, push_line};
+use mum_record::{Journal, Limits, Word, push_line};
 use std::alloc::Global;
 use std::mem::drop;
 
@@ -47,8 +47,8 @@ fn counts_line(
 }
 
 // The number of the line of the configuration.
-fn config_line(limits: Option<(u16, u32)>) -> u64
-    ensures { result ≡ spec.config_line limits }
+fn config_line(limits: &Option<Limits>) -> u64
+    ensures { result ≡ spec.config_line limits.now }
 {
     match limits {
         Some(_) => 4,
@@ -66,7 +66,7 @@ fn test_config(alloc: Global, journal: &Journal) -> Result<(), End>
             Ok(())
         }
         Err(BadConfig::Fault { code, key }) => Err(End::faulty(
-            config_line(journal.limits),
+            config_line(&journal.limits),
             LineFault::BadConfig { code, key },
         )),
         Err(BadConfig::OutOfMemory) => Err(End::OutOfMemory),

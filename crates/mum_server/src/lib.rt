@@ -18,6 +18,6 @@ mod top;
 
 pub use draws::{Act, Draws, Round, USERS};
 pub use exercise::{DOCUMENT, WORKERS, generate};
-pub use mum_record::{INPUT_LIMIT, LINE_LIMIT, limits};
+pub use mum_record::{INPUT_LIMIT, LINE_LIMIT, text_limits};
 pub use program::{out_of_memory, run_plain};
 pub use top::murmur;

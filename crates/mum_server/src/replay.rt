@@ -11,11 +11,11 @@ ghost use Rattle.mum_server.specs.Replay.{config_answer, end_of, limits_answer, 
 ghost use Rattle.mum_server.specs.Runs.{Advances, Answers, LineAnswers, Moves, Says, StepAnswers, is_end};
 
 use crate::end::{End, LineFault};
-use crate::opening::{Limits, begin};
+use crate::opening::begin;
 use mum_core::{PlainCore, StepFault};
 use mum_io::{Sink, Source, write_all};
 use mum_lines::{LineEnd, LineReader};
-use mum_record::{Step, Version, read_step, read_workers, recording_version};
+use mum_record::{Limits, Step, Version, read_limits, read_step, read_workers, recording_version};
 use std::alloc::Global;
 use std::mem::{drop, replace};
 
@@ -136,7 +136,7 @@ impl Phase {
     fn take_limits(&mut self, n: u64, workers: u8, line: &[u8]) -> Result<(), End>
         ensures { Moves n (limits_answer workers (limits_of line.now)) result self.new }
     {
-        let Some(limits) = Limits::read(line) else {
+        let Some(limits) = read_limits(line) else {
             return Err(End::faulty(n, LineFault::BadRecording));
         };
         self.turn(Phase::LimitedConfig(workers, limits));

@@ -3,14 +3,15 @@
 ghost use Rattle.std.specs.Prelude.{◌≡◌};
 
 use arrayvec::ArrayVec;
-use mum_base::{Octets, OutOfMemory, SessionId};
+use mum_base::{Octets, SessionId};
 use mum_outbox::{
     Bell, BoxPass, Desk, Offered, PostBox, PostParcel, Queue, VoiceBox, VoiceParcel, capacities,
 };
 use std::alloc::Global;
+use std::process::Abort;
 use std::sync::Wait;
-use std::test::Fail;
 use std::thread;
+use std::thread::Threads;
 
 /// The parcels that each of two threads offers.
 const PARCELS: u32 = 500;
@@ -144,22 +145,36 @@ fn take_some<R: Wait>(
     came
 }
 
-#[test]
-fn each_parcel_is_taken_or_left_once_in_its_turn(rt: HostRuntime) -> Result<(), Fail> {
-    let mut outbox = VoiceBox::new(rt.alloc())?;
-    let (one, two, three) = (outbox.share()?, outbox.share()?, outbox.share()?);
+/// Two threads offer while a third takes. What the third took.
+fn taken_meanwhile<R>(rt: R, outbox: &mut VoiceBox) -> Came
+where
+    R: Abort + Copy + Send + Threads + Wait + 'static,
+{
+    let one = outbox.share().expect(&rt, "memory");
+    let two = outbox.share().expect(&rt, "memory");
+    let three = outbox.share().expect(&rt, "memory");
     let (first, second, third) = (outbox.pass(), outbox.pass(), outbox.pass());
     let none = Came {
         first: 0,
         second: 0,
         in_turn: true,
     };
-    let offers = thread::spawn(&rt, move || offer_all(&rt, &one, first, 1))?;
-    let others = thread::spawn(&rt, move || offer_all(&rt, &two, second, 2))?;
-    let takes = thread::spawn(&rt, move || take_some(&rt, &three, third, none, TAKEN))?;
+    let offers = thread::spawn(&rt, move || offer_all(&rt, &one, first, 1)).expect(&rt, "a thread");
+    let others = thread::spawn(&rt, move || offer_all(&rt, &two, second, 2)).expect(
+        &rt, "a thread",
+    );
+    let takes = thread::spawn(&rt, move || take_some(&rt, &three, third, none, TAKEN)).expect(
+        &rt, "a thread",
+    );
     offers.join(&rt);
     others.join(&rt);
-    let taken = takes.join(&rt);
+    takes.join(&rt)
+}
+
+#[test]
+fn each_parcel_is_taken_or_left_once_in_its_turn(rt: HostRuntime) {
+    let mut outbox = VoiceBox::new(rt.alloc()).expect(&rt, "memory");
+    let taken = taken_meanwhile(rt, &mut outbox);
     let last = outbox.pass();
     let all = take_some(&rt, &outbox, last, taken, 2 * PARCELS - TAKEN);
     assert_eq!(rt;
@@ -168,7 +183,6 @@ fn each_parcel_is_taken_or_left_once_in_its_turn(rt: HostRuntime) -> Result<(), 
     );
     let mut after = outbox.pass();
     assert!(rt; outbox.take_as(&rt, &mut after).is_none());
-    Ok(())
 }
 
 /// Offers items with numbers from 0 until the queue is full, and gives the number that came back.
@@ -191,45 +205,44 @@ fn fill<I: Numbered + Drop, const CAPACITY: usize, R: Wait>(
 
 /// A new queue is filled, left by one and filled again by one: the number that came back each time,
 /// the number that was taken, and how often the pass found it full.
-fn left_by_one<I: Numbered + Drop, const CAPACITY: usize, R: Wait>(
+fn left_by_one<I: Numbered + Drop, const CAPACITY: usize, R: Abort + Wait>(
     rt: &R,
     alloc: Global,
     queue: &mut Queue<I, CAPACITY>,
-) -> Result<(Option<u32>, Option<u32>, Option<u32>, u64), OutOfMemory> {
+) -> (Option<u32>, Option<u32>, Option<u32>, u64) {
     let mut pass = queue.pass();
     let mut taker = queue.pass();
-    let share = queue.share()?;
+    let share = queue.share().expect(rt, "memory");
     let first = fill(rt, alloc, queue, &mut pass);
     let taken = share.take_as(rt, &mut taker).map(|item| item.number());
     let second = fill(rt, alloc, &share, &mut pass);
     queue.rule_as(&mut taker);
-    Ok((first, taken, second, pass.full()))
+    (first, taken, second, pass.full())
 }
 
 #[test]
-fn a_queue_holds_its_capacity_and_is_left_by_one(rt: HostRuntime) -> Result<(), Fail> {
-    let mut voice = VoiceBox::new(rt.alloc())?;
-    let mut post = PostBox::new(rt.alloc())?;
-    let mut desk = Desk::<u32>::new(rt.alloc())?;
-    let mut bell = Bell::<u32>::new(rt.alloc())?;
+fn a_queue_holds_its_capacity_and_is_left_by_one(rt: HostRuntime) {
+    let mut voice = VoiceBox::new(rt.alloc()).expect(&rt, "memory");
+    let mut post = PostBox::new(rt.alloc()).expect(&rt, "memory");
+    let mut desk = Desk::<u32>::new(rt.alloc()).expect(&rt, "memory");
+    let mut bell = Bell::<u32>::new(rt.alloc()).expect(&rt, "memory");
     assert_eq!(rt;
         capacities(&voice, &post, &desk, &bell),
         (128, 8192, 1024, 1024)
     );
-    let left = left_by_one(&rt, rt.alloc(), &mut voice)?;
+    let left = left_by_one(&rt, rt.alloc(), &mut voice);
     assert_eq!(rt; left, (Some(128), Some(0), Some(1), 2));
-    let left = left_by_one(&rt, rt.alloc(), &mut post)?;
+    let left = left_by_one(&rt, rt.alloc(), &mut post);
     assert_eq!(rt; left, (Some(8192), Some(0), Some(1), 2));
-    let left = left_by_one(&rt, rt.alloc(), &mut desk)?;
+    let left = left_by_one(&rt, rt.alloc(), &mut desk);
     assert_eq!(rt; left, (Some(1024), Some(0), Some(1), 2));
-    let left = left_by_one(&rt, rt.alloc(), &mut bell)?;
+    let left = left_by_one(&rt, rt.alloc(), &mut bell);
     assert_eq!(rt; left, (Some(1024), Some(0), Some(1), 2));
-    Ok(())
 }
 
 #[test]
-fn a_pass_counts_what_it_found_full_or_empty(rt: HostRuntime) -> Result<(), Fail> {
-    let mut outbox = VoiceBox::new(rt.alloc())?;
+fn a_pass_counts_what_it_found_full_or_empty(rt: HostRuntime) {
+    let mut outbox = VoiceBox::new(rt.alloc()).expect(&rt, "memory");
     let mut offers = outbox.pass();
     let mut takes = outbox.pass();
     assert!(rt; outbox.take_as(&rt, &mut takes).is_none());
@@ -237,13 +250,12 @@ fn a_pass_counts_what_it_found_full_or_empty(rt: HostRuntime) -> Result<(), Fail
     assert!(rt; outbox.take_as(&rt, &mut takes).is_some());
     assert_eq!(rt; (offers.full(), offers.empty()), (1, 0));
     assert_eq!(rt; (takes.full(), takes.empty()), (0, 1));
-    Ok(())
 }
 
 #[test]
-fn a_share_is_the_same_queue(rt: HostRuntime) -> Result<(), Fail> {
-    let mut desk = Desk::<u32>::new(rt.alloc())?;
-    let mut other = desk.share()?;
+fn a_share_is_the_same_queue(rt: HostRuntime) {
+    let mut desk = Desk::<u32>::new(rt.alloc()).expect(&rt, "memory");
+    let mut other = desk.share().expect(&rt, "memory");
     let (mut here, mut there) = (desk.pass(), other.pass());
     assert!(rt; matches!(desk.offer_as(&rt, &mut here, 5), Offered::Sent));
     assert!(rt; matches!(other.offer_as(&rt, &mut here, 6), Offered::Sent));
@@ -252,5 +264,4 @@ fn a_share_is_the_same_queue(rt: HostRuntime) -> Result<(), Fail> {
     assert_eq!(rt; desk.take_as(&rt, &mut there), Some(6));
     assert_eq!(rt; other.take_as(&rt, &mut here), Some(7));
     assert_eq!(rt; desk.take_as(&rt, &mut there), None);
-    Ok(())
 }

@@ -13,7 +13,6 @@ use std::alloc::{AllocError, Global};
 use std::process::Abort;
 use std::sync::atomic::{AtomicU64, Ordering};
 use std::sync::{Arc, Wait};
-use std::test::Fail;
 use std::thread;
 use std::thread::Threads;
 use std::time::Clock;
@@ -218,55 +217,65 @@ impl Role for Writer {
 
 /// Writers with the numbers from 1, each with this many turns.
 fn writers(
+    rt: &impl Abort,
     alloc: Global,
     count: u64,
     turns: u32,
     word: &Arc<AtomicU64>,
-) -> Result<Vec<Writer>, AllocError> {
+) -> Vec<Writer> {
     let mut all = Vec::new(alloc);
     for number in 0..count {
-        all.push(Writer {
+        let writer = Writer {
             number: number.wrapping_add(1),
             turns,
-            word: word.clone()?,
-        })?;
+            word: word.clone().expect(rt, "memory"),
+        };
+        all.push(writer).expect(rt, "memory");
     }
-    Ok(all)
+    all
 }
 
 /// Runs three writers of three turns each. The end, and what they wrote.
-fn write_all<C: Crew>(crew: &mut C, alloc: Global) -> Result<(CrewEnd, u64), AllocError> {
-    let word = Arc::new(alloc, AtomicU64::new(0))?;
-    let run = crew.run(alloc, writers(alloc, 3, 3, &word)?);
-    Ok((run.end, word.load(Ordering::SeqCst)))
+fn write_all<C: Crew>(rt: &impl Abort, alloc: Global, crew: &mut C) -> (CrewEnd, u64) {
+    let word = Arc::new(alloc, AtomicU64::new(0)).expect(rt, "memory");
+    let run = crew.run(alloc, writers(rt, alloc, 3, 3, &word));
+    (run.end, word.load(Ordering::SeqCst))
 }
 
 #[test]
-fn turns_come_in_the_order_of_their_list(rt: HostRuntime) -> Result<(), Fail> {
+fn turns_come_in_the_order_of_their_list(rt: HostRuntime) {
     let alloc: Global = rt.alloc();
     // the second writer, the first, a number without a role, the second; then rounds
-    let mut crew = TurnCrew::new(rt, vec![in alloc; 1, 0, 9, 1]?);
-    assert_eq!(rt; write_all(&mut crew, alloc)?, (CrewEnd::Ran, 212_123_133));
-    assert_eq!(rt; write_all(&mut crew, alloc)?, (CrewEnd::Ran, 212_123_133));
-    Ok(())
+    let turns = vec![in alloc; 1, 0, 9, 1].expect(&rt, "memory");
+    let mut crew = TurnCrew::new(rt, turns);
+    assert_eq!(rt;
+        write_all(&rt, alloc, &mut crew),
+        (CrewEnd::Ran, 212_123_133)
+    );
+    assert_eq!(rt;
+        write_all(&rt, alloc, &mut crew),
+        (CrewEnd::Ran, 212_123_133)
+    );
 }
 
 #[test]
-fn threads_run_all_roles_or_none(rt: HostRuntime) -> Result<(), Fail> {
+fn threads_run_all_roles_or_none(rt: HostRuntime) {
     let alloc: Global = rt.alloc();
     let mut crew = Watchers {
         rt,
         threads: 0,
         tally: RunTally::new(),
     };
-    assert_eq!(rt; write_all(&mut crew, alloc)?, (CrewEnd::Refused, 0));
+    assert_eq!(rt; write_all(&rt, alloc, &mut crew), (CrewEnd::Refused, 0));
     // the first role has many turns in a round
     crew.threads = 1;
-    assert_eq!(rt; write_all(&mut crew, alloc)?, (CrewEnd::Ran, 111_232_323));
+    assert_eq!(rt;
+        write_all(&rt, alloc, &mut crew),
+        (CrewEnd::Ran, 111_232_323)
+    );
     crew.threads = 3;
-    let (end, _in_any_order) = write_all(&mut crew, alloc)?;
+    let (end, _in_any_order) = write_all(&rt, alloc, &mut crew);
     assert_eq!(rt; end, CrewEnd::Ran);
-    Ok(())
 }
 
 /// Asks a door once, and hands a byte to whom it gives. The byte that comes back.
@@ -287,19 +296,29 @@ fn echoed<D: Door>(door: &mut D, byte: u8) -> Option<u8> {
 }
 
 #[test]
-fn a_door_of_ones_own_serves(rt: HostRuntime) -> Result<(), Fail> {
+fn a_door_of_ones_own_serves(rt: HostRuntime) {
     let mut door = OneEcho {
         given: 0,
         tally: Tally::new(),
     };
     assert_eq!(rt; echoed(&mut door, 7), Some(7));
     assert_eq!(rt; echoed(&mut door, 7), None);
-    Ok(())
 }
 
-fn link(alloc: Global) -> Result<MemLink, AllocError> {
-    let events = vec![in alloc; LinkEvent::End]?;
-    Ok(MemLink::new(alloc, events, vec![in alloc; 2]?))
+/// A client that ends. The second write to it fails.
+fn link(rt: &impl Abort, alloc: Global) -> DoorEvent {
+    let events = vec![in alloc; LinkEvent::End].expect(rt, "memory");
+    let failing = vec![in alloc; 2].expect(rt, "memory");
+    DoorEvent::Conn(MemLink::new(alloc, events, failing))
+}
+
+/// A door that gives two clients, and nobody between them.
+fn door(rt: &impl Abort, alloc: Global) -> MemDoor {
+    let mut events = Vec::new(alloc);
+    events.push(link(rt, alloc)).expect(rt, "memory");
+    events.push(DoorEvent::NotYet).expect(rt, "memory");
+    events.push(link(rt, alloc)).expect(rt, "memory");
+    MemDoor::new(alloc, events, true).expect(rt, "memory")
 }
 
 fn bytes(written: Option<&Octets>) -> Option<&[u8]> {
@@ -309,22 +328,19 @@ fn bytes(written: Option<&Octets>) -> Option<&[u8]> {
     }
 }
 
+/// The next client of a door.
+fn accepted(rt: &impl Abort, door: &mut MemDoor) -> MemLink {
+    match door.poll_accept() {
+        Accept::Conn(link) => link,
+        _ => panic!(rt; "no connection"),
+    }
+}
+
 #[test]
-fn a_link_hands_back_what_was_written(rt: HostRuntime) -> Result<(), Fail> {
-    let alloc: Global = rt.alloc();
-    let mut events = Vec::new(alloc);
-    events
-        .push(DoorEvent::Conn(link(alloc)?))
-        .map_err(AllocError::from)?;
-    events.push(DoorEvent::NotYet).map_err(AllocError::from)?;
-    events
-        .push(DoorEvent::Conn(link(alloc)?))
-        .map_err(AllocError::from)?;
-    let mut door = MemDoor::new(alloc, events, true)?;
+fn a_link_hands_back_what_was_written(rt: HostRuntime) {
+    let mut door = door(&rt, rt.alloc());
     assert_eq!(rt; door.open("here"), DoorOpen::Opened);
-    let Accept::Conn(mut link) = door.poll_accept() else {
-        return Err(Fail::from("no connection"));
-    };
+    let mut link = accepted(&rt, &mut door);
     assert_eq!(rt; link.poll_write(b"one"), PollWrite::Took(3));
     assert_eq!(rt; link.poll_write(b" two"), PollWrite::Failed);
     assert_eq!(rt; link.poll_write(b" three"), PollWrite::Took(6));
@@ -335,15 +351,17 @@ fn a_link_hands_back_what_was_written(rt: HostRuntime) -> Result<(), Fail> {
     assert!(rt; bytes(door.written(1)).is_none());
     assert!(rt; bytes(door.written(2)).is_none());
     assert_eq!(rt; (link.starved(), door.starved()), (0, 0));
-    Ok(())
+    drop(link);
+    drop(door);
 }
 
 fn crosses_threads<T: Send>(_value: &T) {}
 
 #[test]
-fn what_is_in_memory_crosses_threads(rt: HostRuntime) -> Result<(), Fail> {
+fn what_is_in_memory_crosses_threads(rt: HostRuntime) {
     let alloc: Global = rt.alloc();
-    crosses_threads(&MemDoor::new(alloc, Vec::new(alloc), true)?);
+    let door = MemDoor::new(alloc, Vec::new(alloc), true).expect(&rt, "memory");
+    crosses_threads(&door);
+    drop(door);
     crosses_threads(&MemClock::new(Vec::new(alloc)));
-    Ok(())
 }

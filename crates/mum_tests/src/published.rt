@@ -1,7 +1,7 @@
 //! `mum_published`: passes that look beside each other and beside the publisher, and a note that comes out
 //! of a queue.
 
-ghost use Rattle.std.specs.Prelude.{◌≡◌, ◌<◌, ◌≤◌, IfOk, IfSome, MatchOption, OnOk};
+ghost use Rattle.std.specs.Prelude.{◌≡◌, ◌<◌, ◌≤◌, IfSome, MatchOption, OnOk};
 ghost use Rattle.std.specs.List.{All};
 ghost use Rattle.std.specs.Option.{ForSome};
 ghost use Rattle.mum_published.specs.Calls.{Learnt, latest};
@@ -14,9 +14,9 @@ use mum_state::{DEFAULT_BANDWIDTH, Edit, State};
 use std::alloc::{AllocError, Global};
 use std::marker::Brand;
 use std::mem::drop;
+use std::process::Abort;
 use std::sync::Wait;
 use std::sync::atomic::{AtomicBool, Ordering};
-use std::test::Fail;
 use std::thread;
 use std::thread::Threads;
 
@@ -27,30 +27,15 @@ const TURNS: u32 = 1000;
 const TRIES: u32 = 1_000_000;
 
 /// A publisher with so many passes, and a copy of its state.
-fn begin<R: Wait>(
-    rt: &R,
-    alloc: Global,
-    count: u8,
-) -> Result<(Publisher, Vec<Pass>, State), OutOfMemory>
+fn begin<R: Abort + Wait>(rt: &R, alloc: Global, count: u8) -> (Publisher, Vec<Pass>, State)
     requires { (0 < count) × (count ≤ 10) }
-    ensures twin { IfOk result (λ begun. begun.2 ≡ latest begun.0) }
-    ensures passes { IfOk result (λ begun. All (λ pass. pass.opening ≡ begun.0.opening) begun.1.items) }
+    ensures twin { result.2 ≡ latest result.0 }
+    ensures passes { All (λ pass. pass.opening ≡ result.0.opening) result.1.items }
 {
-    let twin = State::empty(alloc)?;
-    let state = match twin.copy(alloc) {
-        Ok(state) => state,
-        Err(error) => {
-            drop(twin);
-            return Err(error);
-        }
-    };
-    match open(rt, alloc, state, count) {
-        Ok((publisher, passes)) => Ok((publisher, passes, twin)),
-        Err(error) => {
-            drop(twin);
-            Err(error)
-        }
-    }
+    let twin = State::empty(alloc).expect(rt, "memory");
+    let state = twin.copy(alloc).expect(rt, "memory");
+    let (publisher, passes) = open(rt, alloc, state, count).expect(rt, "memory");
+    (publisher, passes, twin)
 }
 
 /// Appends an edit that sets the bandwidth, which the copy of the state takes first.
@@ -76,45 +61,39 @@ fn append_bandwidth(
     publisher.append(edit)
 }
 
-/// Appends an edit and publishes it. There is no note where memory runs out.
-fn publish_one<R: Wait>(
+/// Appends an edit and publishes it.
+fn publish_one<R: Abort + Wait>(
     rt: &R,
     alloc: Global,
     publisher: &mut Publisher,
     twin: &mut State,
     bandwidth: u32,
-) -> Option<Note>
+) -> Note
     requires { twin.old ≡ latest publisher.old }
     ensures opening { publisher.new.opening ≡ publisher.old.opening }
-    ensures twin { IfSome result (λ note. twin.new ≡ latest publisher.new) }
-    ensures note { IfSome result (λ note. note.book ≡ publisher.old.opening.book) }
+    ensures twin { twin.new ≡ latest publisher.new }
+    ensures note { result.book ≡ publisher.old.opening.book }
 {
-    append_bandwidth(alloc, publisher, twin, bandwidth).ok()?;
-    if publisher.pending() != 1 || publisher.last_appended().is_none() {
-        return None;
-    }
-    match publisher.publish(rt) {
-        Ok(note) => Some(note),
-        Err(_) => None,
-    }
+    append_bandwidth(alloc, publisher, twin, bandwidth).expect(rt, "memory");
+    assert_eq!(rt; publisher.pending(), 1);
+    assert!(rt; publisher.last_appended().is_some(), "an edit is appended");
+    publisher.publish(rt).expect(rt, "memory")
 }
 
 /// Publishes edit after edit, each of which sets the bandwidth to one more, and gives the note of the last.
-fn publish_all<R: Wait>(
+fn publish_all<R: Abort + Wait>(
     rt: &R,
     alloc: Global,
     publisher: &mut Publisher,
     twin: &mut State,
-) -> Option<Note>
+) -> Note
     requires { twin.old ≡ latest publisher.old }
-    ensures { IfSome result (λ note. note.book ≡ publisher.old.opening.book) }
+    ensures { result.book ≡ publisher.old.opening.book }
 {
-    let mut last = None;
-    for turn in 0..TURNS {
-        let note = publish_one(rt, alloc, publisher, twin, DEFAULT_BANDWIDTH + 1 + turn)?;
-        last = Some(note);
+    for turn in 1..TURNS {
+        drop(publish_one(rt, alloc, publisher, twin, DEFAULT_BANDWIDTH + turn));
     }
-    last
+    publish_one(rt, alloc, publisher, twin, DEFAULT_BANDWIDTH + TURNS)
 }
 
 /// The bandwidth at a look.
@@ -147,41 +126,41 @@ fn look_on<R: Wait>(rt: &R, mut pass: Pass) -> (Pass, bool)
     (pass, steady)
 }
 
-/// One thread publishes while another looks. Then the pass learns the last note, and looks once more: what
-/// `look_on` says, the revision and the bandwidth.
-fn publish_beside_looks<R: Threads + Wait + Sync>(
+/// One thread publishes while another looks through the last pass. Then the pass learns the last note, and looks
+/// once more: what `look_on` says, the revision and the bandwidth.
+fn publish_beside_looks<R: Abort + Threads + Wait + Sync>(
     rt: &R,
     alloc: Global,
     publisher: &mut Publisher,
     twin: &mut State,
-    pass: Pass,
-) -> Option<(bool, u64, u32)>
+    passes: &mut Vec<Pass>,
+) -> (bool, u64, u32)
     requires twin { twin.old ≡ latest publisher.old }
-    requires opening { pass.opening ≡ publisher.old.opening }
+    requires passes { All (λ pass. pass.opening ≡ publisher.old.opening) passes.old.items }
 {
+    let pass = passes.pop().expect(rt, "a pass");
     let (last, (mut pass, steady)) = thread::join(
         rt,
         || publish_all(rt, alloc, publisher, twin),
         || look_on(rt, pass),
     );
-    let last = last?;
     pass.learn(&last);
     let bandwidth = bandwidth_at(rt, &mut pass);
-    Some((steady, pass.revision(), bandwidth))
+    let revision = pass.revision();
+    drop(pass);
+    drop(last);
+    (steady, revision, bandwidth)
 }
 
 #[test]
-fn no_look_sees_less_than_the_one_before_it(rt: HostRuntime) -> Result<(), Fail> {
-    let (mut publisher, mut passes, mut twin) = begin(&rt, rt.alloc(), 1)?;
-    let seen = match passes.pop() {
-        Some(pass) => publish_beside_looks(&rt, rt.alloc(), &mut publisher, &mut twin, pass),
-        None => None,
-    };
-    publisher.finish(&rt);
+fn no_look_sees_less_than_the_one_before_it(rt: HostRuntime) {
+    let (mut publisher, mut passes, mut twin) = begin(&rt, rt.alloc(), 1);
+    let seen = publish_beside_looks(&rt, rt.alloc(), &mut publisher, &mut twin, &mut passes);
+    drop(passes);
     drop(twin);
+    publisher.finish(&rt);
     let all = u64::from(TURNS);
-    assert_eq!(rt; seen, Some((true, all, DEFAULT_BANDWIDTH + TURNS)));
-    Ok(())
+    assert_eq!(rt; seen, (true, all, DEFAULT_BANDWIDTH + TURNS));
 }
 
 /// Whether the word is set in time.
@@ -231,22 +210,26 @@ fn look_meanwhile<R: Wait>(
     in_time && bandwidth == DEFAULT_BANDWIDTH
 }
 
-#[test]
-fn two_passes_look_at_once(rt: HostRuntime) -> Result<(), Fail> {
-    let (publisher, mut passes, twin) = begin(&rt, rt.alloc(), 2)?;
-    drop(twin);
+/// One thread looks with the last pass while another looks with the one before it: whether each came in time.
+fn look_at_once<R: Abort + Threads + Wait + Sync>(rt: &R, passes: &mut Vec<Pass>) -> (bool, bool) {
+    let one = passes.pop().expect(rt, "a pass");
+    let other = passes.pop().expect(rt, "another pass");
     let (entered, answered) = (AtomicBool::new(false), AtomicBool::new(false));
-    let both = match (passes.pop(), passes.pop()) {
-        (Some(one), Some(other)) => thread::join(
-            &rt,
-            || look_until(&rt, one, &entered, &answered),
-            || look_meanwhile(&rt, other, &entered, &answered),
-        ),
-        _ => (false, false),
-    };
+    thread::join(
+        rt,
+        || look_until(rt, one, &entered, &answered),
+        || look_meanwhile(rt, other, &entered, &answered),
+    )
+}
+
+#[test]
+fn two_passes_look_at_once(rt: HostRuntime) {
+    let (publisher, mut passes, twin) = begin(&rt, rt.alloc(), 2);
+    let both = look_at_once(&rt, &mut passes);
+    drop(passes);
+    drop(twin);
     publisher.finish(&rt);
     assert_eq!(rt; both, (true, true));
-    Ok(())
 }
 
 /// Takes the next reply, and learns its note, which is known to be of the pass's own `open`.
@@ -272,54 +255,67 @@ fn learn_next<N: Naming, R: Wait>(
 
 /// An edit is published, its note goes through a bell, and a pass learns it and looks: the connection of the
 /// reply, the revision, the bandwidth.
-fn relay<N: Naming, R: Wait>(
+fn relay<N: Naming, R: Abort + Wait>(
     rt: &R,
     alloc: Global,
     publisher: &mut Publisher,
     twin: &mut State,
     pass: &mut Pass,
-) -> Option<(u32, u64, u32)>
+) -> (u32, u64, u32)
     requires twin { twin.old ≡ latest publisher.old }
     requires opening { publisher.old.opening ≡ N.opening }
     requires pass { pass.old.opening ≡ N.opening }
 {
-    let mut bell = Bell::<Reply<N>>::new(alloc).ok()?;
+    let mut bell = Bell::<Reply<N>>::new(alloc).expect(rt, "memory");
     let mut hand = bell.pass();
-    let note = publish_one(rt, alloc, publisher, twin, DEFAULT_BANDWIDTH + 1)?;
+    let note = publish_one(rt, alloc, publisher, twin, DEFAULT_BANDWIDTH + 1);
     let wire = Octets::from_vec(Vec::new(alloc));
     let reply = Reply::new(7, ReplyEnd::Decided, Some(note), wire, false);
-    if let Offered::Full(_) = bell.offer_as(rt, &mut hand, reply) {
-        return None;
-    }
-    let reply = learn_next(rt, &bell, &mut hand, pass)?;
+    let offered = bell.offer_as(rt, &mut hand, reply);
+    assert!(rt; matches!(offered, Offered::Sent), "the bell has room");
+    drop(offered);
+    let reply = learn_next(rt, &bell, &mut hand, pass).expect(rt, "a reply");
+    let connection = reply.connection;
+    drop(reply);
+    drop(hand);
+    drop(bell);
     let bandwidth = bandwidth_at(rt, pass);
-    Some((reply.connection, pass.revision(), bandwidth))
+    (connection, pass.revision(), bandwidth)
 }
 
 /// The same, with the opening of this publisher.
-fn relay_of<R: Wait>(
+fn relay_of<R: Abort + Wait>(
     rt: &R,
     alloc: Global,
     publisher: &mut Publisher,
     twin: &mut State,
     passes: &mut Vec<Pass>,
-) -> Option<(u32, u64, u32)>
+) -> (u32, u64, u32)
     requires twin { twin.old ≡ latest publisher.old }
     requires passes { All (λ pass. pass.opening ≡ publisher.old.opening) passes.old.items }
 {
-    let mut pass = passes.pop()?;
-    relay::<Brand, R>(rt, alloc, publisher, twin, &mut pass)
+    let mut pass = passes.pop().expect(rt, "a pass");
+    let seen = relay::<Brand, R>(rt, alloc, publisher, twin, &mut pass);
+    drop(pass);
+    seen
+}
+
+/// The revision of what is published where nothing is appended.
+fn published_again<R: Abort + Wait>(rt: &R, publisher: &mut Publisher) -> u64 {
+    let note = publisher.publish(rt).expect(rt, "memory");
+    note.revision()
 }
 
 #[test]
-fn a_note_from_a_bell_is_learnt(rt: HostRuntime) -> Result<(), Fail> {
-    let (mut publisher, mut passes, mut twin) = begin(&rt, rt.alloc(), 10)?;
+fn a_note_from_a_bell_is_learnt(rt: HostRuntime) {
+    let (mut publisher, mut passes, mut twin) = begin(&rt, rt.alloc(), 10);
     let seen = relay_of(&rt, rt.alloc(), &mut publisher, &mut twin, &mut passes);
-    let again = publisher.publish(&rt).map(|note| note.revision()).ok();
-    publisher.finish(&rt);
+    let again = published_again(&rt, &mut publisher);
+    let left = passes.len();
+    drop(passes);
     drop(twin);
-    assert_eq!(rt; passes.len(), 9);
-    assert_eq!(rt; seen, Some((7, 1, DEFAULT_BANDWIDTH + 1)));
-    assert_eq!(rt; again, Some(1));
-    Ok(())
+    publisher.finish(&rt);
+    assert_eq!(rt; left, 9);
+    assert_eq!(rt; seen, (7, 1, DEFAULT_BANDWIDTH + 1));
+    assert_eq!(rt; again, 1);
 }

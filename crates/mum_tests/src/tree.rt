@@ -5,17 +5,18 @@ use mum_base::{ChannelId, Text};
 use mum_tree::{ChannelChange, Tree, TreeFault};
 use std::alloc::Global;
 use std::process::Abort;
-use std::test::Fail;
 
 const FIRST: ChannelId = ChannelId(1);
 
 const SECOND: ChannelId = ChannelId(2);
 
-fn two_channels(alloc: Global) -> Result<Tree, TreeFault> {
-    let mut tree = Tree::new(alloc)?;
-    tree.add(FIRST, ChannelId::ROOT, "one", false)?;
-    tree.add(SECOND, ChannelId::ROOT, "two", false)?;
-    Ok(tree)
+fn two_channels(rt: &impl Abort, alloc: Global) -> Tree {
+    let mut tree = Tree::new(alloc).expect(rt, "memory");
+    let first = tree.add(FIRST, ChannelId::ROOT, "one", false);
+    first.expect(rt, "the first channel");
+    let second = tree.add(SECOND, ChannelId::ROOT, "two", false);
+    second.expect(rt, "the second channel");
+    tree
 }
 
 /// Whether the first channel has this name, parent, description and link.
@@ -39,10 +40,10 @@ fn is_as(
 }
 
 #[test]
-fn an_edit_is_whole_or_nothing(rt: HostRuntime) -> Result<(), Fail> {
-    let mut tree = two_channels(rt.alloc())?;
+fn an_edit_is_whole_or_nothing(rt: HostRuntime) {
+    let mut tree = two_channels(&rt, rt.alloc());
     let links = [SECOND];
-    let words = Text::of(rt.alloc(), "words")?;
+    let words = Text::of(rt.alloc(), "words").expect(&rt, "memory");
     let change = ChannelChange {
         name: Some("uno"),
         parent: Some(SECOND),
@@ -59,5 +60,5 @@ fn an_edit_is_whole_or_nothing(rt: HostRuntime) -> Result<(), Fail> {
             is_as(&rt, &tree, "one", ChannelId::ROOT, "", None);
         }
     }
-    Ok(())
+    drop(tree);
 }

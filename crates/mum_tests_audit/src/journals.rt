@@ -6,52 +6,35 @@ use mum_opening::document_edits;
 use mum_record::read_journal;
 use std::alloc::Global;
 use std::process::Abort;
-use std::test::Fail;
 
 /// What is found in a journal, which is read from its text.
-fn audited(rt: &impl Abort, alloc: Global, text: &str) -> Result<Audited, Fail> {
+fn audited(rt: &impl Abort, alloc: Global, text: &str) -> Audited {
     read_journals_are_auditable();
-    let Ok(journal) = read_journal(alloc, text.as_bytes()) else {
-        panic!(rt; "it is a journal");
-    };
-    let Ok(_edits) = document_edits(alloc, journal.config.as_slice()) else {
-        panic!(rt; "its document has no fault");
-    };
-    Ok(audit(alloc, &journal)?)
+    let journal = read_journal(alloc, text.as_bytes()).expect(rt, "it is a journal");
+    let edits = document_edits(alloc, journal.config.as_slice());
+    drop(edits.expect(rt, "its document has no fault"));
+    let found = audit(alloc, &journal).expect(rt, "memory");
+    drop(journal);
+    found
 }
 
-/// Compares what is found in a legal journal.
-fn compare_legal(
-    rt: &impl Abort,
-    alloc: Global,
-    text: &str,
-    counts: (u64, u64, u64, u64),
-) -> Result<(), Fail> {
-    match audited(rt, alloc, text)? {
+/// Compares what is found in a legal journal: the counts of its control entries, voice entries and copies, and of full
+/// boxes.
+fn compare_legal(rt: &impl Abort, alloc: Global, text: &str, counts: (u64, u64, u64, u64)) {
+    match audited(rt, alloc, text) {
         Audited::Legal {
             controls,
             voices,
             copies,
             full,
-        } => {
-            assert_eq!(rt; controls, counts.0);
-            assert_eq!(rt; voices, counts.1);
-            assert_eq!(rt; copies, counts.2);
-            assert_eq!(rt; full, counts.3);
-        }
+        } => assert_eq!(rt; (controls, voices, copies, full), counts),
         Audited::Wrong { .. } => panic!(rt; "no line is wrong"),
     }
-    Ok(())
 }
 
 /// Compares the first wrong line of a journal.
-fn compare_wrong(
-    rt: &impl Abort,
-    alloc: Global,
-    text: &str,
-    wrong: (u64, &str, &str),
-) -> Result<(), Fail> {
-    match audited(rt, alloc, text)? {
+fn compare_wrong(rt: &impl Abort, alloc: Global, text: &str, wrong: (u64, &str, &str)) {
+    match audited(rt, alloc, text) {
         Audited::Legal { .. } => panic!(rt; "a line is wrong"),
         Audited::Wrong {
             line,
@@ -63,11 +46,10 @@ fn compare_wrong(
             assert_eq!(rt; defined.as_str(), wrong.2);
         }
     }
-    Ok(())
 }
 
 #[test]
-fn legal_journals_are_counted(rt: HostRuntime) -> Result<(), Fail> {
+fn legal_journals_are_counted(rt: HostRuntime) {
     let cases = [
         // Two users, of whom one talks.
         (
@@ -91,13 +73,12 @@ fn legal_journals_are_counted(rt: HostRuntime) -> Result<(), Fail> {
         ),
     ];
     for (text, counts) in cases {
-        compare_legal(&rt, rt.alloc(), text, counts)?;
+        compare_legal(&rt, rt.alloc(), text, counts);
     }
-    Ok(())
 }
 
 #[test]
-fn first_wrong_line_is_named(rt: HostRuntime) -> Result<(), Fail> {
+fn first_wrong_line_is_named(rt: HostRuntime) {
     let cases = [
         // A verdict.
         (
@@ -149,7 +130,6 @@ fn first_wrong_line_is_named(rt: HostRuntime) -> Result<(), Fail> {
         ),
     ];
     for (text, wrong) in cases {
-        compare_wrong(&rt, rt.alloc(), text, wrong)?;
+        compare_wrong(&rt, rt.alloc(), text, wrong);
     }
-    Ok(())
 }

@@ -2,7 +2,7 @@
 
 ghost use Rattle.mum_state.specs.Proper.{IsProper};
 
-use mum_base::{AccountId, ChannelId, Items, OutOfMemory, Perm, SessionId, Slot, Text};
+use mum_base::{AccountId, ChannelId, Items, Perm, SessionId, Slot, Text};
 use mum_policy::{AclEntry, ChannelPolicy, Group, Whom};
 use mum_state::{Edit, State};
 use mum_tree::ChannelInfo;
@@ -11,25 +11,26 @@ use std::alloc::Global;
 use std::process::Abort;
 
 /// Makes an edit that fits.
-pub(crate) fn take(rt: &impl Abort, state: &mut State, edit: Edit) -> Result<(), OutOfMemory>
+pub(crate) fn take(rt: &impl Abort, state: &mut State, edit: Edit)
     ensures { IsProper state.new }
 {
     assert!(rt; state.fits(&edit), "the edit fits");
-    state.apply(&edit)
+    state.apply(&edit).expect(rt, "memory");
+    drop(edit);
 }
 
 /// A channel.
 pub(crate) fn make(
+    rt: &impl Abort,
     alloc: Global,
     id: ChannelId,
     parent: ChannelId,
     name: &str,
-) -> Result<Edit, OutOfMemory> {
-    let name = Text::of(alloc, name)?;
-    Ok(Edit::MakeChannel {
+) -> Edit {
+    Edit::MakeChannel {
         id,
         parent,
-        name,
+        name: Text::of(alloc, name).expect(rt, "memory"),
         temporary: false,
         info: ChannelInfo {
             description: Text::empty(alloc),
@@ -37,18 +38,19 @@ pub(crate) fn make(
             max_users: 0,
         },
         maker: None,
-    })
+    }
 }
 
 /// A channel is linked to others, or moved.
 pub(crate) fn edit_channel(
+    rt: &impl Abort,
     alloc: Global,
     id: ChannelId,
     parent: Option<ChannelId>,
     links_add: &[ChannelId],
-) -> Result<Edit, OutOfMemory> {
-    let links_add = Items::from_vec(Vec::from_slice(alloc, links_add)?);
-    Ok(Edit::EditChannel {
+) -> Edit {
+    let links_add = Vec::from_slice(alloc, links_add).expect(rt, "memory");
+    Edit::EditChannel {
         id,
         actor: None,
         name: None,
@@ -56,26 +58,27 @@ pub(crate) fn edit_channel(
         description: None,
         position: None,
         max_users: None,
-        links_add,
+        links_add: Items::from_vec(links_add),
         links_remove: Items::new(alloc),
-    })
+    }
 }
 
 /// An entry for a group, which applies here, and perhaps below.
 pub(crate) fn entry(
+    rt: &impl Abort,
     alloc: Global,
     group: &str,
     subs: bool,
     grant: Perm,
     deny: Perm,
-) -> Result<AclEntry, OutOfMemory> {
-    Ok(AclEntry {
-        whom: Whom::Group(Text::of(alloc, group)?),
+) -> AclEntry {
+    AclEntry {
+        whom: Whom::Group(Text::of(alloc, group).expect(rt, "memory")),
         here: true,
         subs,
         grant,
         deny,
-    })
+    }
 }
 
 /// Gives a channel these groups and entries.
@@ -93,30 +96,31 @@ pub(crate) fn set_policy(channel: ChannelId, groups: Items<Group>, acls: Items<A
 
 /// A session joins.
 pub(crate) fn join(
+    rt: &impl Abort,
     alloc: Global,
     session: SessionId,
     slot: Slot,
     name: &str,
     account: Option<AccountId>,
-) -> Result<Edit, OutOfMemory> {
-    let name = Text::of(alloc, name)?;
-    Ok(Edit::Join {
+) -> Edit {
+    Edit::Join {
         session,
         slot,
-        name,
+        name: Text::of(alloc, name).expect(rt, "memory"),
         account,
         tokens: Items::new(alloc),
-    })
+    }
 }
 
 /// A session enters a channel.
 pub(crate) fn enter(
+    rt: &impl Abort,
     alloc: Global,
     session: SessionId,
     channel: ChannelId,
-) -> Result<Edit, OutOfMemory> {
-    let unlisten = ChannelList::from_items(alloc, Items::new(alloc))?;
-    Ok(Edit::SetUser {
+) -> Edit {
+    let unlisten = ChannelList::from_items(alloc, Items::new(alloc)).expect(rt, "memory");
+    Edit::SetUser {
         session,
         actor: session,
         channel: Some(channel),
@@ -131,5 +135,5 @@ pub(crate) fn enter(
         context: None,
         listen: Items::new(alloc),
         unlisten,
-    })
+    }
 }

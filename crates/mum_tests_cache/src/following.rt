@@ -1,6 +1,6 @@
 //! `mum_cache`: what is kept follows each edit.
 
-ghost use Rattle.std.specs.Prelude.{◌≡◌, ◌<◌, IsTrue, OnOk};
+ghost use Rattle.std.specs.Prelude.{◌≡◌, ◌<◌, IsTrue};
 ghost use Rattle.mum_cache.specs.Perms.{ArePermsSound, IsThere};
 ghost use Rattle.mum_state.specs.Fits.{fits};
 ghost use Rattle.mum_state.specs.Proper.{IsProper};
@@ -15,7 +15,6 @@ use std::alloc::Global;
 use std::marker::Brand;
 use std::process::Abort;
 use std::sync::ledger::{Blank, Ledger};
-use std::test::Fail;
 
 /// The session that is asked for.
 const OWN: SessionId = SessionId(1);
@@ -71,119 +70,125 @@ fn apply_beside(state: &mut State, perms: &PermCache, edit: &Edit) -> Result<(),
 }
 
 /// The same of an edit that fits.
-fn follow(
-    rt: &impl Abort,
-    state: &mut State,
-    perms: &PermCache,
-    edit: Edit,
-) -> Result<(), OutOfMemory>
+fn follow(rt: &impl Abort, state: &mut State, perms: &PermCache, edit: Edit)
     requires proper { IsProper state.old }
     requires sound { ArePermsSound state.old perms.now }
     ensures proper { IsProper state.new }
     ensures sound { ArePermsSound state.new perms.now }
 {
     assert!(rt; state.fits(&edit), "the edit fits");
-    apply_beside(state, perms, &edit)
+    apply_beside(state, perms, &edit).expect(rt, "memory");
+    drop(edit);
 }
 
-/// One entry that denies to speak, here alone.
-fn silence(alloc: Global, group: &str) -> Result<Items<AclEntry>, OutOfMemory> {
-    let one = entry(alloc, group, false, Perm::NONE, Perm::SPEAK)?;
+/// What the session may do in a channel, through one cache: twice before an edit, and after it.
+fn asked_beside(
+    rt: &impl Abort,
+    alloc: Global,
+    state: &mut State,
+    channel: ChannelId,
+    edit: Edit,
+) -> (u32, u32, u32)
+    requires { IsProper state.old }
+{
+    let mut perms = PermCache::new(alloc).expect(rt, "memory");
+    nothing_is_sound();
+    let first = ask(rt, state, &mut perms, channel);
+    let kept = ask(rt, state, &mut perms, channel);
+    follow(rt, state, &perms, edit);
+    let after = ask(rt, state, &mut perms, channel);
+    drop(perms);
+    (first.0, kept.0, after.0)
+}
+
+/// Denies a group to speak in a channel, there alone.
+fn deny(rt: &impl Abort, alloc: Global, channel: ChannelId, group: &str) -> Edit {
+    let one = entry(rt, alloc, group, false, Perm::NONE, Perm::SPEAK);
     let mut acls = Items::new(alloc);
-    acls.push(one)?;
-    Ok(acls)
-}
-
-fn deny(alloc: Global, channel: ChannelId, group: &str) -> Result<Edit, OutOfMemory> {
-    let acls = silence(alloc, group)?;
-    Ok(set_policy(channel, Items::new(alloc), acls))
+    acls.push(one).expect(rt, "memory");
+    set_policy(channel, Items::new(alloc), acls)
 }
 
 /// Session 1 in channel A, 2 in B and 3 in C, which are below the root, A linked to B and B to C. Nobody may
 /// speak in B.
-fn fill_linked(rt: &impl Abort, alloc: Global, state: &mut State) -> Result<(), OutOfMemory>
-    ensures { OnOk result (IsProper state.new) }
+fn fill_linked(rt: &impl Abort, alloc: Global, state: &mut State)
+    ensures { IsProper state.new }
 {
     for (id, name) in [(A, "A"), (B, "B"), (C, "C")] {
-        take(rt, state, make(alloc, id, ChannelId::ROOT, name)?)?;
+        take(rt, state, make(rt, alloc, id, ChannelId::ROOT, name));
     }
-    take(rt, state, edit_channel(alloc, A, None, &[B])?)?;
-    take(rt, state, edit_channel(alloc, B, None, &[C])?)?;
-    take(rt, state, join(alloc, OWN, Slot(0), "ann", None)?)?;
-    take(rt, state, join(alloc, SessionId(2), Slot(1), "bob", None)?)?;
-    take(rt, state, join(alloc, SessionId(3), Slot(2), "cat", None)?)?;
-    take(rt, state, enter(alloc, OWN, A)?)?;
-    take(rt, state, enter(alloc, SessionId(2), B)?)?;
-    take(rt, state, enter(alloc, SessionId(3), C)?)?;
-    take(rt, state, deny(alloc, B, "all")?)
+    take(rt, state, edit_channel(rt, alloc, A, None, &[B]));
+    take(rt, state, edit_channel(rt, alloc, B, None, &[C]));
+    take(rt, state, join(rt, alloc, OWN, Slot(0), "ann", None));
+    take(
+        rt,
+        state,
+        join(rt, alloc, SessionId(2), Slot(1), "bob", None),
+    );
+    take(
+        rt,
+        state,
+        join(rt, alloc, SessionId(3), Slot(2), "cat", None),
+    );
+    take(rt, state, enter(rt, alloc, OWN, A));
+    take(rt, state, enter(rt, alloc, SessionId(2), B));
+    take(rt, state, enter(rt, alloc, SessionId(3), C));
+    take(rt, state, deny(rt, alloc, B, "all"));
 }
 
 #[test]
-fn a_policy_that_is_set_is_asked(rt: HostRuntime) -> Result<(), Fail> {
+fn a_policy_that_is_set_is_asked(rt: HostRuntime) {
     let alloc = rt.alloc();
-    let mut state = State::empty(alloc)?;
-    fill_linked(&rt, alloc, &mut state)?;
-    let mut perms = PermCache::new(alloc)?;
-    nothing_is_sound();
-    assert_eq!(rt; ask(&rt, &state, &mut perms, B).0, 0xB06);
-    assert_eq!(rt; ask(&rt, &state, &mut perms, B).0, 0xB06);
+    let mut state = State::empty(alloc).expect(&rt, "memory");
+    fill_linked(&rt, alloc, &mut state);
     let plain = set_policy(B, Items::new(alloc), Items::new(alloc));
-    follow(&rt, &mut state, &perms, plain)?;
-    assert_eq!(rt; ask(&rt, &state, &mut perms, B).0, 0xB0E);
-    Ok(())
+    let seen = asked_beside(&rt, alloc, &mut state, B, plain);
+    drop(state);
+    assert_eq!(rt; seen, (0xB06, 0xB06, 0xB0E));
 }
 
 /// The session in the root. Who is in A may not speak there.
-fn fill_guarded(rt: &impl Abort, alloc: Global, state: &mut State) -> Result<(), OutOfMemory>
-    ensures { OnOk result (IsProper state.new) }
+fn fill_guarded(rt: &impl Abort, alloc: Global, state: &mut State)
+    ensures { IsProper state.new }
 {
-    take(rt, state, make(alloc, A, ChannelId::ROOT, "A")?)?;
-    take(rt, state, join(alloc, OWN, Slot(0), "ann", None)?)?;
-    take(rt, state, deny(alloc, A, "in")?)
+    take(rt, state, make(rt, alloc, A, ChannelId::ROOT, "A"));
+    take(rt, state, join(rt, alloc, OWN, Slot(0), "ann", None));
+    take(rt, state, deny(rt, alloc, A, "in"));
 }
 
 #[test]
-fn who_enters_is_asked_anew(rt: HostRuntime) -> Result<(), Fail> {
+fn who_enters_is_asked_anew(rt: HostRuntime) {
     let alloc = rt.alloc();
-    let mut state = State::empty(alloc)?;
-    fill_guarded(&rt, alloc, &mut state)?;
-    let mut perms = PermCache::new(alloc)?;
-    nothing_is_sound();
-    assert_eq!(rt; ask(&rt, &state, &mut perms, A).0, 0xB0E);
-    let policies = state.stamps().policy;
-    follow(&rt, &mut state, &perms, enter(alloc, OWN, A)?)?;
-    assert_eq!(rt; state.stamps().policy, policies);
-    assert_eq!(rt; ask(&rt, &state, &mut perms, A).0, 0xB06);
-    Ok(())
+    let mut state = State::empty(alloc).expect(&rt, "memory");
+    fill_guarded(&rt, alloc, &mut state);
+    let before = state.stamps().policy;
+    let seen = asked_beside(&rt, alloc, &mut state, A, enter(&rt, alloc, OWN, A));
+    let after = state.stamps().policy;
+    drop(state);
+    assert_eq!(rt; seen, (0xB0E, 0xB0E, 0xB06));
+    assert_eq!(rt; after, before);
 }
 
 /// The session in D, beside A, B below it and C below that. Whose channel is below A may not speak in B.
-fn fill_nested(rt: &impl Abort, alloc: Global, state: &mut State) -> Result<(), OutOfMemory>
-    ensures { OnOk result (IsProper state.new) }
+fn fill_nested(rt: &impl Abort, alloc: Global, state: &mut State)
+    ensures { IsProper state.new }
 {
-    take(rt, state, make(alloc, A, ChannelId::ROOT, "A")?)?;
-    take(rt, state, make(alloc, B, A, "B")?)?;
-    take(rt, state, make(alloc, C, B, "C")?)?;
-    take(rt, state, make(alloc, D, ChannelId::ROOT, "D")?)?;
-    take(rt, state, join(alloc, OWN, Slot(0), "ann", None)?)?;
-    take(rt, state, enter(alloc, OWN, D)?)?;
-    take(rt, state, deny(alloc, B, "sub,-1")?)
+    take(rt, state, make(rt, alloc, A, ChannelId::ROOT, "A"));
+    take(rt, state, make(rt, alloc, B, A, "B"));
+    take(rt, state, make(rt, alloc, C, B, "C"));
+    take(rt, state, make(rt, alloc, D, ChannelId::ROOT, "D"));
+    take(rt, state, join(rt, alloc, OWN, Slot(0), "ann", None));
+    take(rt, state, enter(rt, alloc, OWN, D));
+    take(rt, state, deny(rt, alloc, B, "sub,-1"));
 }
 
 #[test]
-fn whose_channel_is_moved_is_asked_anew(rt: HostRuntime) -> Result<(), Fail> {
+fn whose_channel_is_moved_is_asked_anew(rt: HostRuntime) {
     let alloc = rt.alloc();
-    let mut state = State::empty(alloc)?;
-    fill_nested(&rt, alloc, &mut state)?;
-    let mut perms = PermCache::new(alloc)?;
-    nothing_is_sound();
-    assert_eq!(rt; ask(&rt, &state, &mut perms, B).0, 0xB0E);
-    follow(
-        &rt,
-        &mut state,
-        &perms,
-        edit_channel(alloc, D, Some(A), &[])?,
-    )?;
-    assert_eq!(rt; ask(&rt, &state, &mut perms, B).0, 0xB06);
-    Ok(())
+    let mut state = State::empty(alloc).expect(&rt, "memory");
+    fill_nested(&rt, alloc, &mut state);
+    let moved = edit_channel(&rt, alloc, D, Some(A), &[]);
+    let seen = asked_beside(&rt, alloc, &mut state, B, moved);
+    drop(state);
+    assert_eq!(rt; seen, (0xB0E, 0xB0E, 0xB06));
 }

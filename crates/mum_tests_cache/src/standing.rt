@@ -6,7 +6,7 @@ ghost use Rattle.mum_cache.specs.Perms.{ArePermsSound, IsThere};
 ghost use Rattle.mum_cache.specs.Routes.{AreRoutesSound};
 
 use crate::edits::{enter, entry, join, make, set_policy, take};
-use mum_base::{AccountId, ChannelId, Items, OutOfMemory, Perm, SessionId, Slot, Steps, Text};
+use mum_base::{AccountId, ChannelId, Items, Perm, SessionId, Slot, Steps, Text};
 use mum_cache::laws::nothing_is_sound;
 use mum_cache::{PermCache, RouteCache};
 use mum_policy::{AclEntry, Group};
@@ -17,7 +17,6 @@ use std::alloc::Global;
 use std::marker::Brand;
 use std::process::Abort;
 use std::sync::ledger::{Blank, Ledger};
-use std::test::Fail;
 
 /// The session that is asked for.
 const OWN: SessionId = SessionId(1);
@@ -29,69 +28,63 @@ const DEEPEST: ChannelId = ChannelId(32);
 const TIMES: u32 = 1_000_000;
 
 /// 128 entries that let the group `g` enter, here and below.
-fn entries(alloc: Global) -> Result<Items<AclEntry>, OutOfMemory> {
+fn entries(rt: &impl Abort, alloc: Global) -> Items<AclEntry> {
     let mut acls = Items::new(alloc);
     for _ in 0..128u32 {
-        let one = entry(alloc, "g", true, Perm::ENTER, Perm::NONE)?;
-        acls.push(one)?;
+        let one = entry(rt, alloc, "g", true, Perm::ENTER, Perm::NONE);
+        acls.push(one).expect(rt, "memory");
     }
-    Ok(acls)
+    acls
 }
 
 /// The group `g`, which adds account 5.
-fn groups(alloc: Global) -> Result<Items<Group>, OutOfMemory> {
-    let name = Text::of(alloc, "g")?;
-    let add = Items::from_vec(Vec::from_slice(alloc, &[AccountId(5)])?);
-    let mut groups = Items::new(alloc);
-    groups.push(Group {
-        name,
+fn group(rt: &impl Abort, alloc: Global) -> Group {
+    let add = Vec::from_slice(alloc, &[AccountId(5)]).expect(rt, "memory");
+    Group {
+        name: Text::of(alloc, "g").expect(rt, "memory"),
         inherit: true,
         inheritable: true,
-        add,
+        add: Items::from_vec(add),
         remove: Items::new(alloc),
-    })?;
-    Ok(groups)
+    }
+}
+
+/// The root has the group and the entries.
+fn root_policy(rt: &impl Abort, alloc: Global) -> Edit {
+    let mut groups = Items::new(alloc);
+    groups.push(group(rt, alloc)).expect(rt, "memory");
+    set_policy(ChannelId::ROOT, groups, entries(rt, alloc))
 }
 
 /// One channel more under the last, with entries.
-fn add_channel(
-    rt: &impl Abort,
-    alloc: Global,
-    state: &mut State,
-    last: u32,
-) -> Result<(), OutOfMemory> {
+fn add_channel(rt: &impl Abort, alloc: Global, state: &mut State, last: u32) {
     let id = ChannelId(last.saturating_add(1));
-    take(rt, state, make(alloc, id, ChannelId(last), "below")?)?;
+    take(rt, state, make(rt, alloc, id, ChannelId(last), "below"));
     take(
         rt,
         state,
-        set_policy(id, Items::new(alloc), entries(alloc)?),
-    )
+        set_policy(id, Items::new(alloc), entries(rt, alloc)),
+    );
 }
 
-fn account(alloc: Global) -> Result<Edit, OutOfMemory> {
-    let name = Text::of(alloc, "ann")?;
-    Ok(Edit::AddAccount {
+fn account(rt: &impl Abort, alloc: Global) -> Edit {
+    Edit::AddAccount {
         account: AccountId(6),
-        name,
+        name: Text::of(alloc, "ann").expect(rt, "memory"),
         digest: [0; 32],
-    })
+    }
 }
 
 /// A path of 33 channels with entries for a group, and a session that is not in it in the deepest.
-fn fill(rt: &impl Abort, alloc: Global, state: &mut State) -> Result<(), OutOfMemory> {
-    let policy = set_policy(ChannelId::ROOT, groups(alloc)?, entries(alloc)?);
-    take(rt, state, policy)?;
+fn fill(rt: &impl Abort, alloc: Global, state: &mut State) {
+    take(rt, state, root_policy(rt, alloc));
     for last in 0..32u32 {
-        add_channel(rt, alloc, state, last)?;
+        add_channel(rt, alloc, state, last);
     }
-    take(rt, state, account(alloc)?)?;
-    take(
-        rt,
-        state,
-        join(alloc, OWN, Slot(0), "ann", Some(AccountId(6)))?,
-    )?;
-    take(rt, state, enter(alloc, OWN, DEEPEST)?)
+    take(rt, state, account(rt, alloc));
+    let own = join(rt, alloc, OWN, Slot(0), "ann", Some(AccountId(6)));
+    take(rt, state, own);
+    take(rt, state, enter(rt, alloc, OWN, DEEPEST));
 }
 
 /// Asks for the permission and the route, so many times, over one pair of caches.
@@ -120,34 +113,37 @@ fn ask<L: Ledger>(
     }
 }
 
-fn asked(
-    rt: &impl Abort,
-    state: &State,
-    perms: &mut PermCache,
-    routes: &mut RouteCache,
-    scratch: &mut Scratch,
-)
-    requires there { IsThere state.now OWN DEEPEST }
-    requires perms { ArePermsSound state.now perms.old }
-    requires routes { AreRoutesSound state.now routes.old }
+/// Asks over new caches.
+fn ask_over_new_caches(rt: &impl Abort, alloc: Global, state: &State)
+    requires { IsThere state.now OWN DEEPEST }
 {
-    ask::<Brand>(rt, Blank::new(1), state, perms, routes, scratch);
+    let mut perms = PermCache::new(alloc).expect(rt, "memory");
+    let mut routes = RouteCache::new(alloc).expect(rt, "memory");
+    let mut scratch = Scratch::new(alloc).expect(rt, "memory");
+    nothing_is_sound();
+    ask::<Brand>(
+        rt,
+        Blank::new(1),
+        state,
+        &mut perms,
+        &mut routes,
+        &mut scratch,
+    );
+    drop(scratch);
+    drop(routes);
+    drop(perms);
 }
 
 #[test]
-fn standing_entry_is_not_walked(rt: HostRuntime) -> Result<(), Fail> {
+fn standing_entry_is_not_walked(rt: HostRuntime) {
     let alloc = rt.alloc();
-    let mut state = State::empty(alloc)?;
-    fill(&rt, alloc, &mut state)?;
-    let mut perms = PermCache::new(alloc)?;
-    let mut routes = RouteCache::new(alloc)?;
-    let mut scratch = Scratch::new(alloc)?;
-    nothing_is_sound();
+    let mut state = State::empty(alloc).expect(&rt, "memory");
+    fill(&rt, alloc, &mut state);
     assert!(rt;
         state.roster().session(OWN).is_some(),
         "the session is there"
     );
     assert!(rt; state.tree().is_there(DEEPEST), "the channel is there");
-    asked(&rt, &state, &mut perms, &mut routes, &mut scratch);
-    Ok(())
+    ask_over_new_caches(&rt, alloc, &state);
+    drop(state);
 }

@@ -5,7 +5,7 @@ ghost use Rattle.mum_base.specs.declared.number.TheConstants.{SLOTS as slots};
 ghost use Rattle.mum_published.specs.Calls.{latest};
 
 use crate::opening::{begin, boxes_of};
-use mum_base::{Mark, Octets, OutOfMemory, POST_CAPACITY, SessionId, Slot, Text};
+use mum_base::{Mark, Octets, POST_CAPACITY, SessionId, Slot, Text};
 use mum_control::{Control, Posted};
 use mum_fields::Message;
 use mum_msg_state::Authenticate;
@@ -17,6 +17,7 @@ use mum_state::State;
 use std::alloc::Global;
 use std::marker::Brand;
 use std::mem::drop;
+use std::process::Abort;
 use std::sync::Wait;
 use std::test::Fail;
 
@@ -41,15 +42,16 @@ fn fill<R: Wait>(rt: &R, alloc: Global, queue: PostBox) -> usize {
 }
 
 /// The login of a user who has no session yet.
-fn login(alloc: Global) -> Result<Command, OutOfMemory> {
+fn login(rt: &impl Abort, alloc: Global) -> Command {
+    let name = Text::of(alloc, "anna").expect(rt, "memory");
     let mut message = Authenticate::new(alloc);
-    message.username = Some(Text::of(alloc, "anna")?);
-    Ok(Command {
+    message.username = Some(name);
+    Command {
         connection: 7,
         worker: 0,
         session: None,
         what: Asked::User(UserMessage::Join(message, Some(VERSION))),
-    })
+    }
 }
 
 /// Where an accepted edit was published.
@@ -81,8 +83,6 @@ struct Seen {
 /// How a login at a control owner that is opened for it ended.
 #[derive(Clone, Copy, Debug, PartialEq)]
 enum Ended {
-    /// Memory ran out before the control owner was opened.
-    Early,
     /// Memory ran out as it was opened. How many edits its publisher had appended then, and how many of these it had
     /// not published.
     AtOpening { appended: u64, pending: u64 },
@@ -219,39 +219,31 @@ fn see_at<R: Wait>(
 }
 
 /// How a login at an empty state ends.
-fn ended_by<R: Wait>(rt: &R, alloc: Global, boxes: Vec<PostBox>, login: Command) -> Ended
+fn ended_by<R: Abort + Wait>(rt: &R, alloc: Global, boxes: Vec<PostBox>, login: Command) -> Ended
     requires { length boxes.items ≡ slots }
 {
-    match begin(rt, alloc) {
-        Ok((mut publisher, state)) => {
-            let ended = match see_at(rt, alloc, &mut publisher, state, boxes, login) {
-                Some(seen) => Ended::Seen(seen),
-                None => Ended::AtOpening {
-                    appended: publisher.revision(),
-                    pending: publisher.pending(),
-                },
-            };
-            publisher.finish(rt);
-            ended
-        }
-        Err(_) => {
-            drop(boxes);
-            drop(login);
-            Ended::Early
-        }
-    }
+    let (mut publisher, state) = begin(rt, alloc);
+    let ended = match see_at(rt, alloc, &mut publisher, state, boxes, login) {
+        Some(seen) => Ended::Seen(seen),
+        None => Ended::AtOpening {
+            appended: publisher.revision(),
+            pending: publisher.pending(),
+        },
+    };
+    publisher.finish(rt);
+    ended
 }
 
 /// How many parcels the box took before, and how the login ended.
-fn log_in<R: Wait>(rt: &R, alloc: Global) -> Result<(usize, Ended), OutOfMemory> {
-    let login = login(alloc)?;
-    let (boxes, own) = boxes_of(alloc)?;
+fn log_in<R: Abort + Wait>(rt: &R, alloc: Global) -> (usize, Ended) {
+    let login = login(rt, alloc);
+    let (boxes, own) = boxes_of(rt, alloc);
     let filled = fill(rt, alloc, own);
-    Ok((filled, ended_by(rt, alloc, boxes, login)))
+    (filled, ended_by(rt, alloc, boxes, login))
 }
 
 #[test]
-fn a_session_whose_box_is_full_lags(rt: HostRuntime) -> Result<(), Fail> {
+fn a_session_whose_box_is_full_lags(rt: HostRuntime) {
     let session = SessionId(1);
     let expected = Seen {
         published: Published::AtOnce,
@@ -261,10 +253,9 @@ fn a_session_whose_box_is_full_lags(rt: HostRuntime) -> Result<(), Fail> {
         second: Posted::Posted(session),
     };
     assert_eq!(rt;
-        log_in(&rt, rt.alloc())?,
+        log_in(&rt, rt.alloc()),
         (POST_CAPACITY, Ended::Seen(expected))
     );
-    Ok(())
 }
 
 // That an edit was published at once, and else where.
@@ -278,12 +269,11 @@ fn published_at_once(published: Published) -> Result<(), Fail> {
 }
 
 // It passes only where no allocation is refused. `rt try --test --fail-alloc N` refuses the Nth, and the error says what
-// came of it.
+// came of it: of one before the opening that memory ran out, with the error.
 #[test]
 fn an_edit_whose_publish_was_refused_is_in_the_next_note(rt: HostRuntime) -> Result<(), Fail> {
-    let (_filled, ended) = log_in(&rt, rt.alloc())?;
+    let (_filled, ended) = log_in(&rt, rt.alloc());
     match ended {
-        Ended::Early => Err(Fail::from("refused before the opening")),
         Ended::AtOpening {
             appended: 0,
             pending: 0,

@@ -1,12 +1,12 @@
 //! `mum_owner`: the journal of an owner to whom a client logs in, mutes itself, is denied a channel and leaves.
 
-ghost use Rattle.std.specs.Prelude.{◌≡◌, [], IfOk, length};
+ghost use Rattle.std.specs.Prelude.{◌≡◌, [], length};
 ghost use Rattle.mum_base.specs.declared.number.TheConstants.{SLOTS as slots};
 ghost use Rattle.mum_published.specs.Calls.{appended, latest};
 ghost use Rattle.mum_record.specs.Journal.{Each, IsWritableControl};
 
 use crate::opening::{begin, boxes_of};
-use mum_base::{Items, Octets, OutOfMemory};
+use mum_base::{Items, Octets};
 use mum_control::Control;
 use mum_frame::whole_frame;
 use mum_io::{Door, DoorEvent, LinkEvent, MemDoor, MemLink};
@@ -18,11 +18,11 @@ use mum_record::{ControlEntry, Journal, write_journal};
 use mum_rules_user::UserMessage;
 use mum_session::{Action, Asked, Command, Session};
 use mum_state::State;
-use std::alloc::{AllocError, Global};
+use std::alloc::Global;
 use std::marker::{Brand, Model};
 use std::mem::drop;
+use std::process::Abort;
 use std::sync::Wait;
-use std::test::Fail;
 
 /// What the client sends: its version, 1.5.0; a login, with the fields in another order and one that is not read; a
 /// mute of itself, after a field that it takes back; and a channel that it may not make.
@@ -99,19 +99,17 @@ impl<L: Drop, N: Naming> Peer<L, N> {
     }
 
     /// Puts the command of a frame on the desk, if it is one.
-    fn send<R: Wait>(&mut self, rt: &R, alloc: Global, bytes: &[u8]) -> Result<(), OutOfMemory> {
-        if self.session.awaits_reply() {
-            return Ok(());
-        }
-        let Some(view) = whole_frame(bytes) else {
-            return Ok(());
-        };
-        let frame = view.to_frame(alloc)?;
-        match self.session.frame(alloc, frame)? {
+    fn send<R: Abort + Wait>(&mut self, rt: &R, alloc: Global, bytes: &[u8]) {
+        assert!(rt;
+            !self.session.awaits_reply(),
+            "the last command is answered"
+        );
+        let view = whole_frame(bytes).expect(rt, "a frame");
+        let frame = view.to_frame(alloc).expect(rt, "memory");
+        match self.session.frame(alloc, frame).expect(rt, "memory") {
             Action::Ask(command) => self.put(rt, DeskItem::Command(command)),
             _ => {}
         }
-        Ok(())
     }
 
     /// Puts the leave on the desk, and that the port is gone.
@@ -128,15 +126,15 @@ impl<L: Drop, N: Naming> Peer<L, N> {
 }
 
 /// Sends all that the client sends, and leaves.
-fn talk<D: Door, N: Serving, R: Wait + Copy>(
+fn talk<D: Door, N: Serving, R: Abort + Copy + Wait>(
     rt: &R,
     alloc: Global,
     owner: &mut Owner<'_, D, N, R>,
     peer: &mut Peer<D::Conn, N>,
-) -> Result<(), OutOfMemory> {
+) {
     owner.turn();
     for bytes in SENT {
-        peer.send(rt, alloc, bytes)?;
+        peer.send(rt, alloc, bytes);
         owner.turn();
         owner.turn();
         peer.hear(rt);
@@ -145,15 +143,14 @@ fn talk<D: Door, N: Serving, R: Wait + Copy>(
     for _turn in 0..3 {
         owner.turn();
     }
-    Ok(())
 }
 
 /// The journal of an owner of one worker, who routed nothing.
-fn text_of(alloc: Global, entries: Vec<ControlEntry>) -> Result<Octets, OutOfMemory>
+fn text_of(rt: &impl Abort, alloc: Global, entries: Vec<ControlEntry>) -> Octets
     requires { Each IsWritableControl entries.items }
 {
     let mut by_worker = Items::new(alloc);
-    by_worker.push(Items::new(alloc))?;
+    by_worker.push(Items::new(alloc)).expect(rt, "memory");
     let journal = Journal {
         workers: 1,
         limits: None,
@@ -161,19 +158,21 @@ fn text_of(alloc: Global, entries: Vec<ControlEntry>) -> Result<Octets, OutOfMem
         controls: Items::from_vec(entries),
         by_worker,
     };
-    write_journal(alloc, &journal)
+    let text = write_journal(alloc, &journal).expect(rt, "memory");
+    drop(journal);
+    text
 }
 
 /// The journal of an owner over these queues, once the client has left.
-fn written<D: Door, N: Serving, R: Wait + Copy>(
+fn written<D: Door, N: Serving, R: Abort + Copy + Wait>(
     rt: &R,
     alloc: Global,
     owner: Owner<'_, D, N, R>,
     peer: Peer<D::Conn, N>,
-) -> Result<Octets, OutOfMemory> {
+) -> Octets {
     let mut owner = owner;
     let mut peer = peer;
-    let talked = talk(rt, alloc, &mut owner, &mut peer);
+    talk(rt, alloc, &mut owner, &mut peer);
     drop(peer);
     let OwnerEnd {
         door,
@@ -186,33 +185,34 @@ fn written<D: Door, N: Serving, R: Wait + Copy>(
     } = owner.finish();
     drop(door);
     drop(state);
-    talked?;
-    text_of(alloc, entries)
+    text_of(rt, alloc, entries)
 }
 
 /// A desk, a bell in a list of its own, and the peer at the other ends.
 fn queues<L: Drop, N: Naming>(
+    rt: &impl Abort,
     alloc: Global,
-) -> Result<(Desk<DeskItem>, Vec<Bell<BellItem<L, N>>>, Peer<L, N>), OutOfMemory>
-    ensures { IfOk result (λ made. length made.1.items ≡ 1) }
+) -> (Desk<DeskItem>, Vec<Bell<BellItem<L, N>>>, Peer<L, N>)
+    ensures { length result.1.items ≡ 1 }
 {
-    let mut desk = Desk::new(alloc)?;
-    let mut bell = Bell::new(alloc)?;
-    let peer = Peer::new(desk.share()?, bell.share()?);
+    let mut desk = Desk::new(alloc).expect(rt, "memory");
+    let mut bell = Bell::new(alloc).expect(rt, "memory");
+    let share = desk.share().expect(rt, "memory");
+    let peer = Peer::new(share, bell.share().expect(rt, "memory"));
     let mut bells = Vec::new(alloc);
-    bells.push(bell)?;
-    Ok((desk, bells, peer))
+    bells.push(bell).expect(rt, "memory");
+    (desk, bells, peer)
 }
 
 /// The journal of an owner over this door, which gives one connection.
-fn journal_named<D: Door, N: Serving, R: Wait + Copy>(
+fn journal_named<D: Door, N: Serving, R: Abort + Copy + Wait>(
     rt: &R,
     alloc: Global,
     publisher: &mut Publisher,
     state: State,
     boxes: Vec<PostBox>,
     door: D,
-) -> Result<Octets, OutOfMemory>
+) -> Octets
     requires opening { publisher.old.opening ≡ N.opening }
     requires state { state ≡ latest publisher.old }
     requires fresh { appended publisher.old ≡ [] }
@@ -220,41 +220,23 @@ fn journal_named<D: Door, N: Serving, R: Wait + Copy>(
     requires boxes { length boxes.items ≡ slots }
     requires door { record { counts = D.counts door; given = D.given door; opened_at = D.opened_at door } ≡ N.door }
 {
-    let control = match Control::<N>::open(alloc, state, publisher, boxes) {
-        Ok(control) => control,
-        Err(error) => {
-            drop(door);
-            return Err(error);
-        }
-    };
-    match queues::<D::Conn, N>(alloc) {
-        Ok((desk, bells, peer)) => {
-            match Owner::open(*rt, alloc, control, desk, bells, door, 1, true) {
-                Ok(owner) => written(rt, alloc, owner, peer),
-                Err(door) => {
-                    drop(door);
-                    drop(peer);
-                    Err(AllocError)
-                }
-            }
-        }
-        Err(error) => {
-            drop(control);
-            drop(door);
-            Err(error)
-        }
+    let control = Control::<N>::open(alloc, state, publisher, boxes).expect(rt, "memory");
+    let (desk, bells, peer) = queues::<D::Conn, N>(rt, alloc);
+    match Owner::open(*rt, alloc, control, desk, bells, door, 1, true) {
+        Ok(owner) => written(rt, alloc, owner, peer),
+        Err(_door) => panic!(rt; "memory"),
     }
 }
 
 /// The same, with the opening of this publisher and what the door has counted.
-fn journal_at<D: Door, R: Wait + Copy>(
+fn journal_at<D: Door, R: Abort + Copy + Wait>(
     rt: &R,
     alloc: Global,
     publisher: &mut Publisher,
     state: State,
     boxes: Vec<PostBox>,
     door: D,
-) -> Result<Octets, OutOfMemory>
+) -> Octets
     requires state { state ≡ latest publisher.old }
     requires fresh { appended publisher.old ≡ [] }
     requires pending { publisher.old.pending ≡ [] }
@@ -264,24 +246,23 @@ fn journal_at<D: Door, R: Wait + Copy>(
 }
 
 /// A door that gives one connection.
-fn door(alloc: Global) -> Result<MemDoor, OutOfMemory> {
+fn door(rt: &impl Abort, alloc: Global) -> MemDoor {
     let mut events = Vec::new(alloc);
-    events.push(LinkEvent::End)?;
+    events.push(LinkEvent::End).expect(rt, "memory");
     let link = MemLink::new(alloc, events, Vec::new(alloc));
     let mut events = Vec::new(alloc);
-    events.push(DoorEvent::Conn(link))?;
-    MemDoor::new(alloc, events, true)
+    events.push(DoorEvent::Conn(link)).expect(rt, "memory");
+    MemDoor::new(alloc, events, true).expect(rt, "memory")
 }
 
 #[test]
-fn what_was_decided_is_written_down(rt: HostRuntime) -> Result<(), Fail> {
+fn what_was_decided_is_written_down(rt: HostRuntime) {
     let alloc: Global = rt.alloc();
-    let door = door(alloc)?;
-    let (boxes, _own) = boxes_of(alloc)?;
-    let (mut publisher, state) = begin(&rt, alloc)?;
+    let door = door(&rt, alloc);
+    let (boxes, own) = boxes_of(&rt, alloc);
+    drop(own);
+    let (mut publisher, state) = begin(&rt, alloc);
     let journal = journal_at(&rt, alloc, &mut publisher, state, boxes, door);
     publisher.finish(&rt);
-    let journal = journal?;
     assert_eq!(rt; str::from_utf8(journal.as_slice()), Ok(JOURNAL));
-    Ok(())
 }

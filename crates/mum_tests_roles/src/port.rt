@@ -1,7 +1,7 @@
 //! `mum_port`: a client that reads nothing, half a frame that comes a byte at a time, and a lag behind the last
 //! parcel.
 
-ghost use Rattle.std.specs.Prelude.{◌≡◌, [], IfOk, None, replicate};
+ghost use Rattle.std.specs.Prelude.{◌≡◌, [], None, replicate};
 ghost use Rattle.mum_port.specs.Taking.{IsPosted, IsVoiced};
 
 use mum_base::{Cause, Octets, OutOfMemory, ReplyEnd, SessionId, Slot};
@@ -9,8 +9,8 @@ use mum_io::{Link, PollRead, PollWrite, Tally};
 use mum_outbox::{BoxPass, Desk, PostBox, PostParcel, VoiceBox};
 use mum_port::{DeskItem, Passes, Port, VoiceRouter};
 use std::alloc::Global;
+use std::process::Abort;
 use std::sync::Wait;
-use std::test::Fail;
 
 /// A Ping without a timestamp, whose answer has six bytes, and a PermissionQuery of the root.
 const ASKS: [u8; 14] = [0, 3, 0, 0, 0, 0, 0, 20, 0, 0, 0, 2, 8, 0];
@@ -129,13 +129,13 @@ struct Seen {
 }
 
 /// Takes an item from the desk, and answers it where it is a command. How many there were.
-fn answer<R: Wait>(
+fn answer<R: Abort + Wait>(
     rt: &R,
     alloc: Global,
     port: &mut Port<Deaf>,
     desk: &Desk<DeskItem>,
     pass: &mut BoxPass<DeskItem>,
-) -> Result<u32, OutOfMemory>
+) -> u32
     requires desk { pass.old.queue ≡ desk.now.queue }
     requires posts { IsPosted [] port.old.passes }
     requires voices { IsVoiced [] port.old.passes }
@@ -144,26 +144,26 @@ fn answer<R: Wait>(
     ensures voices { IsVoiced [] port.new.passes }
 {
     let Some(item) = desk.take_as(rt, pass) else {
-        return Ok(0);
+        return 0;
     };
     let is_command = matches!(item, DeskItem::Command(_));
     drop(item);
     if !is_command {
-        return Ok(0);
+        return 0;
     }
-    let wire = Octets::from_vec(vec![in alloc; 0; ANSWER]?);
-    port.answered(alloc, ReplyEnd::Decided, wire, None);
-    Ok(1)
+    let wire = vec![in alloc; 0; ANSWER].expect(rt, "memory");
+    port.answered(alloc, ReplyEnd::Decided, Octets::from_vec(wire), None);
+    1
 }
 
 /// Gives a port, whose slot has no boxes, its steps until one does nothing.
-fn run<R: Wait>(
+fn run<R: Abort + Wait>(
     rt: &R,
     alloc: Global,
     port: &mut Port<Deaf>,
     desk: &Desk<DeskItem>,
     pass: &mut BoxPass<DeskItem>,
-) -> Result<Seen, OutOfMemory>
+) -> Seen
     requires desk { pass.old.queue ≡ desk.now.queue }
     requires posts { IsPosted [] port.old.passes }
     requires voices { IsVoiced [] port.old.passes }
@@ -184,26 +184,28 @@ fn run<R: Wait>(
         }
         seen.asked = seen
             .asked
-            .saturating_add(answer(rt, alloc, port, desk, pass)?);
+            .saturating_add(answer(rt, alloc, port, desk, pass));
     }
-    Ok(seen)
+    seen
 }
 
 /// What becomes of a port whose client is logged in, and sends this. Whether nothing is left of it.
-fn seen_of<R: Wait>(rt: &R, alloc: Global, sends: Sends) -> Result<(Seen, bool), OutOfMemory> {
-    let mut desk = Desk::<DeskItem>::new(alloc)?;
+fn seen_of<R: Abort + Wait>(rt: &R, alloc: Global, sends: Sends) -> (Seen, bool) {
+    let mut desk = Desk::<DeskItem>::new(alloc).expect(rt, "memory");
     let mut pass = desk.pass();
     let mut port = Port::new(alloc, 1, 0, deaf_link(sends));
     let joined = ReplyEnd::Joined(SessionId(5), Slot(0));
     let nothing = Octets::from_vec(Vec::new(alloc));
     port.answered(alloc, joined, nothing, None);
-    let seen = run(rt, alloc, &mut port, &desk, &mut pass)?;
-    Ok((seen, port.is_gone()))
+    let seen = run(rt, alloc, &mut port, &desk, &mut pass);
+    let is_gone = port.is_gone();
+    drop(port);
+    (seen, is_gone)
 }
 
 #[test]
-fn a_client_that_reads_nothing_is_answered_up_to_a_bound(rt: HostRuntime) -> Result<(), Fail> {
-    let seen = seen_of(&rt, rt.alloc(), Sends::Asks)?;
+fn a_client_that_reads_nothing_is_answered_up_to_a_bound(rt: HostRuntime) {
+    let seen = seen_of(&rt, rt.alloc(), Sends::Asks);
     // 3,449 times two answers are 65,531 bytes, and one more Ping is handled; each time a Ping and a query are
     // handled, and a command is put
     let expected = Seen {
@@ -212,12 +214,11 @@ fn a_client_that_reads_nothing_is_answered_up_to_a_bound(rt: HostRuntime) -> Res
         closed: None,
     };
     assert_eq!(rt; seen, (expected, false));
-    Ok(())
 }
 
 #[test]
-fn half_a_frame_may_come_a_byte_at_a_time(rt: HostRuntime) -> Result<(), Fail> {
-    let seen = seen_of(&rt, rt.alloc(), Sends::Half(HALF))?;
+fn half_a_frame_may_come_a_byte_at_a_time(rt: HostRuntime) {
+    let seen = seen_of(&rt, rt.alloc(), Sends::Half(HALF));
     // a step for each byte, one for the end, and two for what is left to say
     let expected = Seen {
         worked: HALF + 3,
@@ -225,21 +226,21 @@ fn half_a_frame_may_come_a_byte_at_a_time(rt: HostRuntime) -> Result<(), Fail> {
         closed: Some(Cause::End),
     };
     assert_eq!(rt; seen, (expected, true));
-    Ok(())
 }
 
 /// A post box with one parcel, which is the last one of its session; a voice box; and the passes at both.
-fn last_parcel<R: Wait>(rt: &R, alloc: Global) -> Result<(PostBox, VoiceBox, Passes), OutOfMemory>
-    ensures posts { IfOk result (λ made. made.2.post.queue ≡ made.0.queue) }
-    ensures voices { IfOk result (λ made. made.2.voice.queue ≡ made.1.queue) }
-    ensures slot { IfOk result (λ made. made.2.slot.0 ≡ 0) }
+fn last_parcel<R: Abort + Wait>(rt: &R, alloc: Global) -> (PostBox, VoiceBox, Passes)
+    ensures posts { result.2.post.queue ≡ result.0.queue }
+    ensures voices { result.2.voice.queue ≡ result.1.queue }
+    ensures slot { result.2.slot.0 ≡ 0 }
 {
-    let mut post = PostBox::new(alloc)?;
-    let mut voice = VoiceBox::new(alloc)?;
+    let bytes = vec![in alloc; 0; ANSWER].expect(rt, "memory");
+    let mut post = PostBox::new(alloc).expect(rt, "memory");
+    let mut voice = VoiceBox::new(alloc).expect(rt, "memory");
     let mut offers = post.pass();
     let parcel = PostParcel {
         to: SessionId(5),
-        bytes: Octets::from_vec(vec![in alloc; 0; ANSWER]?),
+        bytes: Octets::from_vec(bytes),
         last: true,
     };
     let _sent = post.offer_as(rt, &mut offers, parcel);
@@ -248,23 +249,23 @@ fn last_parcel<R: Wait>(rt: &R, alloc: Global) -> Result<(PostBox, VoiceBox, Pas
         post: post.pass(),
         voice: voice.pass(),
     };
-    Ok((post, voice, passes))
+    (post, voice, passes)
 }
 
 /// A port takes the last parcel of its session, which its link does not take, and then lags twice. Whether the step
 /// worked, and for what it closed: in the step, and at the lags.
-fn lag_behind<R: Wait>(
+fn lag_behind<R: Abort + Wait>(
     rt: &R,
     alloc: Global,
     post: PostBox,
     voice: VoiceBox,
     passes: Passes,
-) -> Result<(bool, [Option<Cause>; 3]), OutOfMemory>
+) -> (bool, [Option<Cause>; 3])
     requires post { passes.post.queue ≡ post.queue }
     requires voice { passes.voice.queue ≡ voice.queue }
     requires slot { passes.slot.0 ≡ 0 }
 {
-    let mut desk = Desk::<DeskItem>::new(alloc)?;
+    let mut desk = Desk::<DeskItem>::new(alloc).expect(rt, "memory");
     let mut pass = desk.pass();
     let mut port = Port::new(alloc, 1, 0, deaf_link(Sends::Nothing));
     let joined = ReplyEnd::Joined(SessionId(5), Slot(0));
@@ -281,14 +282,15 @@ fn lag_behind<R: Wait>(
         &mut Nowhere,
         &mut buf,
     );
-    Ok((step.worked, [step.closed, port.lag(alloc), port.lag(alloc)]))
+    let closed = [step.closed, port.lag(alloc), port.lag(alloc)];
+    drop(port);
+    (step.worked, closed)
 }
 
 #[test]
-fn a_lag_closes_a_port_that_keeps_its_last_parcel(rt: HostRuntime) -> Result<(), Fail> {
+fn a_lag_closes_a_port_that_keeps_its_last_parcel(rt: HostRuntime) {
     let alloc: Global = rt.alloc();
-    let (post, voice, passes) = last_parcel(&rt, alloc)?;
-    let seen = lag_behind(&rt, alloc, post, voice, passes)?;
+    let (post, voice, passes) = last_parcel(&rt, alloc);
+    let seen = lag_behind(&rt, alloc, post, voice, passes);
     assert_eq!(rt; seen, (true, [None, Some(Cause::Lagged), None]));
-    Ok(())
 }

@@ -4,14 +4,14 @@ ghost use Rattle.std.specs.Prelude.{◌≡◌, None, replicate};
 ghost use Rattle.mum_port.specs.Taking.{IsPosted, IsVoiced};
 
 use crate::port::Nowhere;
-use mum_base::{Octets, OutOfMemory, ReplyEnd, SessionId, Slot};
+use mum_base::{Octets, ReplyEnd, SessionId, Slot};
 use mum_io::{Link, PollRead, PollWrite, Tally};
 use mum_outbox::{BoxPass, Desk, PostBox, PostParcel, VoiceBox, VoiceParcel};
 use mum_port::{DeskItem, Passes, Port};
 use std::alloc::Global;
+use std::process::Abort;
 use std::sync::atomic::{AtomicU64, Ordering};
 use std::sync::{Arc, Wait};
-use std::test::Fail;
 
 /// Who is sent all that waits here.
 const SESSION: SessionId = SessionId(5);
@@ -64,46 +64,53 @@ impl Link for Eager {
 }
 
 /// Offers so many notices to a box.
-fn put_notices<R: Wait>(
+fn put_notices<R: Abort + Wait>(
     rt: &R,
     alloc: Global,
     queue: &PostBox,
     pass: &mut BoxPass<PostParcel>,
     count: u32,
-) -> Result<(), OutOfMemory>
+)
     requires { pass.old.queue ≡ queue.now.queue }
 {
     for _item in 0..count {
+        let bytes = Vec::from_array(alloc, NOTICE).expect(rt, "memory");
         let parcel = PostParcel {
             to: SESSION,
-            bytes: Octets::from_vec(Vec::from_array(alloc, NOTICE)?),
+            bytes: Octets::from_vec(bytes),
             last: false,
         };
         let _sent = queue.offer_as(rt, pass, parcel);
     }
-    Ok(())
 }
 
 /// A post box in which so many notices wait.
-fn notices<R: Wait>(rt: &R, alloc: Global, count: u32) -> Result<PostBox, OutOfMemory> {
-    let mut queue = PostBox::new(alloc)?;
+fn notices<R: Abort + Wait>(rt: &R, alloc: Global, count: u32) -> PostBox {
+    let mut queue = PostBox::new(alloc).expect(rt, "memory");
     let mut pass = queue.pass();
-    put_notices(rt, alloc, &queue, &mut pass, count)?;
-    Ok(queue)
+    put_notices(rt, alloc, &queue, &mut pass, count);
+    queue
 }
 
-/// A voice box in which so many packets wait.
-fn packets<R: Wait>(rt: &R, alloc: Global, count: u32) -> Result<VoiceBox, OutOfMemory> {
-    let mut queue = VoiceBox::new(alloc)?;
-    let mut pass = queue.pass();
+/// Offers so many packets to a box.
+fn put_packets<R: Wait>(rt: &R, queue: &VoiceBox, pass: &mut BoxPass<VoiceParcel>, count: u32)
+    requires { pass.old.queue ≡ queue.now.queue }
+{
     for _item in 0..count {
         let parcel = VoiceParcel {
             to: SESSION,
             bytes: Default::default(),
         };
-        let _sent = queue.put_as(rt, &mut pass, parcel);
+        let _sent = queue.put_as(rt, pass, parcel);
     }
-    Ok(queue)
+}
+
+/// A voice box in which so many packets wait.
+fn packets<R: Abort + Wait>(rt: &R, alloc: Global, count: u32) -> VoiceBox {
+    let mut queue = VoiceBox::new(alloc).expect(rt, "memory");
+    let mut pass = queue.pass();
+    put_packets(rt, &queue, &mut pass, count);
+    queue
 }
 
 /// Gives a port so many steps.
@@ -128,20 +135,20 @@ fn step_on<R: Wait>(
 }
 
 /// The same of a port of this link, whose session has these boxes.
-fn step_joined<R: Wait>(
+fn step_joined<R: Abort + Wait>(
     rt: &R,
     alloc: Global,
     link: Eager,
-    post: PostBox,
-    voice: VoiceBox,
+    boxes: (PostBox, VoiceBox),
     passes: Passes,
     steps: u32,
-) -> Result<(), OutOfMemory>
-    requires post { passes.post.queue ≡ post.queue }
-    requires voice { passes.voice.queue ≡ voice.queue }
+)
+    requires post { passes.post.queue ≡ boxes.0.queue }
+    requires voice { passes.voice.queue ≡ boxes.1.queue }
     requires slot { passes.slot.0 ≡ 0 }
 {
-    let mut desk = Desk::<DeskItem>::new(alloc)?;
+    let (post, voice) = boxes;
+    let mut desk = Desk::<DeskItem>::new(alloc).expect(rt, "memory");
     let mut pass = desk.pass();
     let mut port = Port::new(alloc, 1, 0, link);
     let joined = ReplyEnd::Joined(SESSION, Slot(0));
@@ -157,41 +164,35 @@ fn step_joined<R: Wait>(
         &[voice],
         steps,
     );
-    Ok(())
+    drop(port);
 }
 
 /// The types of the frames, in order, that a port writes in so many steps, where so many notices and packets wait.
-fn types_of<R: Wait>(
-    rt: &R,
-    alloc: Global,
-    waiting: (u32, u32),
-    steps: u32,
-) -> Result<u64, OutOfMemory> {
-    let types = Arc::new(alloc, AtomicU64::new(0))?;
+fn types_of<R: Abort + Wait>(rt: &R, alloc: Global, waiting: (u32, u32), steps: u32) -> u64 {
+    let types = Arc::new(alloc, AtomicU64::new(0)).expect(rt, "memory");
     let link = Eager {
-        types: types.clone()?,
+        types: types.clone().expect(rt, "memory"),
         tally: Tally::new(),
         is_shut: false,
     };
-    let mut post = notices(rt, alloc, waiting.0)?;
-    let mut voice = packets(rt, alloc, waiting.1)?;
+    let mut post = notices(rt, alloc, waiting.0);
+    let mut voice = packets(rt, alloc, waiting.1);
     let passes = Passes {
         slot: Slot(0),
         post: post.pass(),
         voice: voice.pass(),
     };
-    step_joined(rt, alloc, link, post, voice, passes, steps)?;
-    Ok(types.load(Ordering::SeqCst))
+    step_joined(rt, alloc, link, (post, voice), passes, steps);
+    types.load(Ordering::SeqCst)
 }
 
 #[test]
-fn notices_and_voice_go_out_by_turns(rt: HostRuntime) -> Result<(), Fail> {
+fn notices_and_voice_go_out_by_turns(rt: HostRuntime) {
     let alloc: Global = rt.alloc();
     // a frame at each step, a notice first; what is alone goes on alone
-    assert_eq!(rt; types_of(&rt, alloc, (3, 3), 6)?, 313_131);
-    assert_eq!(rt; types_of(&rt, alloc, (2, 4), 6)?, 313_111);
-    assert_eq!(rt; types_of(&rt, alloc, (4, 2), 6)?, 313_133);
+    assert_eq!(rt; types_of(&rt, alloc, (3, 3), 6), 313_131);
+    assert_eq!(rt; types_of(&rt, alloc, (2, 4), 6), 313_111);
+    assert_eq!(rt; types_of(&rt, alloc, (4, 2), 6), 313_133);
     // none is written twice, and none waits when the steps are over
-    assert_eq!(rt; types_of(&rt, alloc, (2, 2), 9)?, 3131);
-    Ok(())
+    assert_eq!(rt; types_of(&rt, alloc, (2, 2), 9), 3131);
 }

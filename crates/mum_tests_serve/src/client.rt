@@ -49,6 +49,8 @@ pub enum Act {
     Settle(u32),
     /// It takes nothing that is written, until clients came to meetings this often.
     BeDeaf(u64),
+    /// It takes nothing that is written, and after this many writes they fail.
+    Break(u32),
     /// What users are told from here on counts for the changes.
     Begin,
     /// It waits for good.
@@ -72,6 +74,8 @@ pub struct Client {
     // the users that are to be told of a change that is not answered yet
     change: Option<u64>,
     deaf_until: u64,
+    // the writes until they fail
+    breaks_after: Option<u32>,
     tally: Tally,
     is_shut: bool,
 }
@@ -112,6 +116,7 @@ impl Client {
             silent: 0,
             change: None,
             deaf_until: 0,
+            breaks_after: None,
             tally: Tally::new(),
             is_shut: false,
         }
@@ -150,6 +155,10 @@ impl Client {
             }
             Act::BeDeaf(times) => {
                 self.deaf_until = times;
+                0
+            }
+            Act::Break(writes) => {
+                self.breaks_after = Some(writes);
                 0
             }
             Act::Begin => {
@@ -204,6 +213,15 @@ impl Link for Client {
     }
 
     fn poll_write(&mut self, piece: &[u8]) -> PollWrite {
+        if let Some(writes) = self.breaks_after {
+            if writes == 0 {
+                self.tally.count_fault();
+                return PollWrite::Failed;
+            }
+            self.breaks_after = Some(writes - 1);
+            self.tally.count_stall();
+            return PollWrite::NotYet;
+        }
         if !self.room.is_met(self.deaf_until) {
             self.tally.count_stall();
             return PollWrite::NotYet;

@@ -7,13 +7,12 @@ use crate::client::{
 };
 use crate::ear::Heard;
 use crate::lobby::Lobby;
-use crate::run::{ran, turns};
-use mum_crew::TurnCrew;
-use std::alloc::{AllocError, Global};
-use std::test::Fail;
+use crate::run::{Outcome, ran_by_turns, turns};
+use std::alloc::Global;
+use std::process::Abort;
 
 /// Whoever is there may kick. Of three workers each next connection has the next one.
-const CONFIGURATION: &str =
+pub const CONFIGURATION: &str =
     "{\"workers\":3,\"channels\":[{\"id\":0,\"acls\":[{\"group\":\"all\",\"grant\":65536}]}]}";
 
 /// How many users are kicked, one after another. With each of them somebody logs in one read later than with the one
@@ -28,20 +27,22 @@ fn begins(pair: u8) -> u64
 }
 
 /// Kicks the first user of each pair, and waits until the second one has left too.
-fn kicker(alloc: Global) -> Result<Vec<Act>, AllocError> {
+fn kicker(rt: &impl Abort, alloc: Global) -> Vec<Act> {
     let mut acts = Vec::new(alloc);
-    acts.extend_from_slice(&[Act::LogIn(100), Act::Hear(SERVER_SYNC), Act::Come])?;
+    let first = [Act::LogIn(100), Act::Hear(SERVER_SYNC), Act::Come];
+    acts.extend_from_slice(&first).expect(rt, "memory");
     for pair in 0..KICKS {
-        acts.extend_from_slice(&[
+        let kick = [
             Act::Meet(begins(pair) + 1),
             Act::Kick(2 + 2 * pair),
             Act::Meet(begins(pair) + 2),
             Act::Outlive(2 + 2 * u64::from(pair)),
             Act::Pause(60),
             Act::Come,
-        ])?;
+        ];
+        acts.extend_from_slice(&kick).expect(rt, "memory");
     }
-    Ok(acts)
+    acts
 }
 
 /// Logs in, and is kicked. One who is deaf takes nothing from then on until the other one of the pair is there.
@@ -69,14 +70,14 @@ fn newcomer(pair: u8, reads: u32) -> [Act; 6] {
     ]
 }
 
-fn clients(alloc: Global, are_deaf: bool) -> Result<Lobby, AllocError> {
-    let mut lobby = Lobby::new(alloc)?;
-    lobby.invite(kicker(alloc)?)?;
+fn clients(rt: &impl Abort, alloc: Global, are_deaf: bool) -> Lobby {
+    let mut lobby = Lobby::new(rt, alloc);
+    lobby.invite(rt, kicker(rt, alloc));
     for pair in 0..KICKS {
-        lobby.invite_with(&kicked(pair, are_deaf))?;
-        lobby.invite_with(&newcomer(pair, u32::from(pair)))?;
+        lobby.invite_with(rt, &kicked(pair, are_deaf));
+        lobby.invite_with(rt, &newcomer(pair, u32::from(pair)));
     }
-    Ok(lobby)
+    lobby
 }
 
 /// Whether it was told all that there was when it came: the two users who were there, or also the one who was still
@@ -121,8 +122,24 @@ fn is_last_told(lobby: &Lobby) -> bool {
     }
 }
 
+/// Compares what was served, and what each client was told.
+fn compare(rt: &impl Abort, outcome: Outcome<Lobby>, are_deaf: bool) {
+    let line = "served connections 81 accepted 162 looks 0 copies 0 full 0 stale ";
+    assert!(rt; outcome.output().starts_with(line));
+    assert_eq!(rt; outcome.status, 0);
+    let door = outcome.door(rt);
+    assert_eq!(rt; first_wrong(door), None, "deaf {are_deaf}");
+    assert_eq!(rt; is_last_told(door), !are_deaf);
+    let kicker = door.heard(0).expect(rt, "the kicker stayed");
+    assert_eq!(rt;
+        (kicker.frames(USER_STATE), kicker.frames(USER_REMOVE)),
+        (81, 80)
+    );
+    drop(outcome);
+}
+
 #[test]
-fn a_slot_has_one_user_at_a_time(rt: HostRuntime) -> Result<(), Fail> {
+fn a_slot_has_one_user_at_a_time(rt: HostRuntime) {
     let alloc: Global = rt.alloc();
     // what the list of turns repeats, and how often; whether those who are kicked take nothing.
     // Rounds; the owner first; one worker starved for a while
@@ -135,20 +152,9 @@ fn a_slot_has_one_user_at_a_time(rt: HostRuntime) -> Result<(), Fail> {
         (&[0, 1, 3, 0, 1, 3, 0, 1, 3, 0, 1, 2, 3], 2000, true),
     ];
     for (pattern, times, are_deaf) in cases {
-        let mut crew = TurnCrew::new(rt, turns(alloc, pattern, times)?);
-        let lobby = clients(alloc, are_deaf)?;
-        let outcome = ran(&rt, alloc, "81", CONFIGURATION, lobby, &mut crew)?;
-        let door = outcome.door.as_ref().ok_or("no door")?;
-        assert_eq!(rt; first_wrong(door), None, "deaf {are_deaf}");
-        assert_eq!(rt; is_last_told(door), !are_deaf);
-        let line = "served connections 81 accepted 162 looks 0 copies 0 full 0 stale ";
-        assert!(rt; outcome.output().starts_with(line));
-        assert_eq!(rt; outcome.status, 0);
-        let kicker = door.heard(0).ok_or("the kicker stayed")?;
-        assert_eq!(rt;
-            (kicker.frames(USER_STATE), kicker.frames(USER_REMOVE)),
-            (81, 80)
-        );
+        let list = turns(&rt, alloc, pattern, times);
+        let lobby = clients(&rt, alloc, are_deaf);
+        let outcome = ran_by_turns(rt, alloc, "81", CONFIGURATION, lobby, list);
+        compare(&rt, outcome, are_deaf);
     }
-    Ok(())
 }

@@ -1,11 +1,11 @@
 //! Clients that read nothing.
 
 use crate::client::{Act, PING, SERVER_SYNC};
+use crate::frames::{ASK, MUTE, UNMUTE};
 use crate::lobby::Lobby;
-use crate::run::{ran, turns};
-use mum_crew::TurnCrew;
-use std::alloc::{AllocError, Global};
-use std::test::Fail;
+use crate::run::{Outcome, ran_by_turns, turns};
+use std::alloc::Global;
+use std::process::Abort;
 
 /// How many clients read nothing, and log in later.
 const CLIENTS: u8 = 7;
@@ -13,21 +13,18 @@ const CLIENTS: u8 = 7;
 /// The most parcels that a post box holds.
 const CAPACITY: u32 = 8192;
 
-const MUTE: &[u8] = b"\x00\x09\x00\x00\x00\x02\x48\x01";
-
-const UNMUTE: &[u8] = b"\x00\x09\x00\x00\x00\x02\x48\x00";
-
-const ASK: &[u8] = b"\x00\x03\x00\x00\x00\x00";
-
 /// Changes itself as often as a post box has places, once those who read nothing are there.
-fn changer(alloc: Global) -> Result<Vec<Act>, AllocError> {
+fn changer(rt: &impl Abort, alloc: Global) -> Vec<Act> {
     let mut acts = Vec::new(alloc);
-    acts.extend_from_slice(&[Act::LogIn(CLIENTS), Act::Meet(7)])?;
+    let first = [Act::LogIn(CLIENTS), Act::Meet(7)];
+    acts.extend_from_slice(&first).expect(rt, "memory");
     for _ in 0..CAPACITY / 2 {
-        acts.extend_from_slice(&[Act::Say(MUTE), Act::Say(UNMUTE)])?;
+        let change = [Act::Say(MUTE), Act::Say(UNMUTE)];
+        acts.extend_from_slice(&change).expect(rt, "memory");
     }
-    acts.extend_from_slice(&[Act::Outlive(7), Act::Meet(14)])?;
-    Ok(acts)
+    let last = [Act::Outlive(7), Act::Meet(14)];
+    acts.extend_from_slice(&last).expect(rt, "memory");
+    acts
 }
 
 /// Takes nothing that is written, and stays.
@@ -54,20 +51,34 @@ fn newcomer(user: u8) -> [Act; 8] {
     ]
 }
 
-fn clients(alloc: Global) -> Result<Lobby, AllocError> {
-    let mut lobby = Lobby::new(alloc)?;
+fn clients(rt: &impl Abort, alloc: Global) -> Lobby {
+    let mut lobby = Lobby::new(rt, alloc);
     for user in 0..CLIENTS {
-        lobby.invite_with(&deaf(user))?;
+        lobby.invite_with(rt, &deaf(user));
     }
-    lobby.invite(changer(alloc)?)?;
+    lobby.invite(rt, changer(rt, alloc));
     for user in 0..CLIENTS {
-        lobby.invite_with(&newcomer(10 + user))?;
+        lobby.invite_with(rt, &newcomer(10 + user));
     }
-    Ok(lobby)
+    lobby
+}
+
+/// Compares what was served: the one who changes and all who came later were heard to their end.
+fn compare(rt: &impl Abort, outcome: Outcome<Lobby>) {
+    let line = "served connections 15 accepted 8222 looks 0 copies 0 full 0 stale ";
+    assert!(rt;
+        outcome.output().starts_with(line),
+        "it wrote {}",
+        outcome.output()
+    );
+    assert_eq!(rt; outcome.status, 0);
+    let door = outcome.door(rt);
+    assert_eq!(rt; (door.are_through(), door.frames(PING)), (8, 7));
+    drop(outcome);
 }
 
 #[test]
-fn who_reads_nothing_leaves_a_slot_as_it_was(rt: HostRuntime) -> Result<(), Fail> {
+fn who_reads_nothing_leaves_a_slot_as_it_was(rt: HostRuntime) {
     let alloc: Global = rt.alloc();
     // what the list of turns repeats, and how often. A change takes two turns of a worker, and makes eight notices.
     // Rounds; one worker starved for a while
@@ -76,19 +87,8 @@ fn who_reads_nothing_leaves_a_slot_as_it_was(rt: HostRuntime) -> Result<(), Fail
         (&[0, 0, 0, 0, 1, 2, 4, 0, 0, 0, 0, 1, 2, 3, 4], 9000),
     ];
     for (pattern, times) in cases {
-        let mut crew = TurnCrew::new(rt, turns(alloc, pattern, times)?);
-        let outcome = ran(&rt, alloc, "15", "", clients(alloc)?, &mut crew)?;
-        let door = outcome.door.as_ref().ok_or("no door")?;
-        let line = "served connections 15 accepted 8222 looks 0 copies 0 full 0 stale ";
-        assert!(rt;
-            outcome.output().starts_with(line),
-            "it wrote {}",
-            outcome.output()
-        );
-        assert_eq!(rt; outcome.status, 0);
-        // the one who changes, and all who came later
-        assert_eq!(rt; door.are_through(), 8);
-        assert_eq!(rt; door.frames(PING), 7);
+        let list = turns(&rt, alloc, pattern, times);
+        let outcome = ran_by_turns(rt, alloc, "15", "", clients(&rt, alloc), list);
+        compare(&rt, outcome);
     }
-    Ok(())
 }

@@ -7,6 +7,8 @@ mod client;
 #[cfg(test)]
 mod ear;
 #[cfg(test)]
+mod frames;
+#[cfg(test)]
 mod journals;
 #[cfg(test)]
 mod kicks;
@@ -22,5 +24,7 @@ mod mutes;
 mod room;
 #[cfg(test)]
 mod run;
+#[cfg(test)]
+mod strays;
 #[cfg(test)]
 mod talk;

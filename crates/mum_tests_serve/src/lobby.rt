@@ -6,8 +6,9 @@ use crate::client::{Act, Client};
 use crate::ear::Heard;
 use crate::room::Room;
 use mum_io::{Accept, Door, DoorOpen, Tally};
-use std::alloc::{AllocError, Global};
+use std::alloc::Global;
 use std::collections::VecDeque;
+use std::process::Abort;
 use std::sync::{Arc, OnceLock};
 
 /// A door that gives its clients one after another, and then ends.
@@ -22,29 +23,31 @@ pub struct Lobby {
 }
 
 impl Lobby {
-    pub fn new(alloc: Global) -> Result<Lobby, AllocError> {
-        Ok(Lobby {
+    pub fn new(rt: &impl Abort, alloc: Global) -> Lobby {
+        Lobby {
             alloc,
-            room: Arc::new(alloc, Room::new()).map_err(AllocError::from)?,
+            room: Arc::new(alloc, Room::new()).expect(rt, "memory"),
             clients: VecDeque::new(alloc),
             memories: Vec::new(alloc),
             given: 0,
             tally: Tally::new(),
-        })
+        }
     }
 
     /// One client more, which does this.
-    pub fn invite(&mut self, acts: Vec<Act>) -> Result<(), AllocError> {
-        let memory = Arc::new(self.alloc, OnceLock::new()).map_err(AllocError::from)?;
-        let client = Client::new(self.room.clone()?, memory.clone()?, acts);
-        self.memories.push(memory).map_err(AllocError::from)?;
-        self.clients.push_back(client).map_err(AllocError::from)
+    pub fn invite(&mut self, rt: &impl Abort, acts: Vec<Act>) {
+        let memory = Arc::new(self.alloc, OnceLock::new()).expect(rt, "memory");
+        let share = memory.clone().expect(rt, "memory");
+        let room = self.room.clone().expect(rt, "memory");
+        self.memories.push(memory).expect(rt, "memory");
+        let client = Client::new(room, share, acts);
+        self.clients.push_back(client).expect(rt, "memory");
     }
 
     /// One client more, which does these.
-    pub fn invite_with(&mut self, acts: &[Act]) -> Result<(), AllocError> {
-        let acts = Vec::from_slice(self.alloc, acts)?;
-        self.invite(acts)
+    pub fn invite_with(&mut self, rt: &impl Abort, acts: &[Act]) {
+        let acts = Vec::from_slice(self.alloc, acts).expect(rt, "memory");
+        self.invite(rt, acts);
     }
 
     /// What the clients know of each other.

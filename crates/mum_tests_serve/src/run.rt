@@ -4,12 +4,12 @@ ghost use Rattle.std.specs.Prelude.{◌≡◌};
 
 use mum_base::Octets;
 use mum_crew::turn_crew::NoStation;
-use mum_crew::{Crew, CrewEnd, Plan, RunTally};
-use mum_io::{Door, MemSink, MemSource};
+use mum_crew::{Crew, CrewEnd, Plan, RunTally, TurnCrew};
+use mum_io::{Door, DoorEvent, LinkEvent, MemDoor, MemLink, MemSink, MemSource};
 use mum_server::murmur;
-use std::alloc::{AllocError, Global};
+use std::alloc::Global;
+use std::process::Abort;
 use std::sync::Wait;
-use std::test::Fail;
 use std::thread::Threads;
 use std::time::Clock;
 
@@ -17,9 +17,9 @@ use std::time::Clock;
 #[derive(Drop)]
 pub struct Outcome<D: Drop> {
     pub status: u8,
-    output: Octets,
-    errors: Octets,
-    pub door: Option<D>,
+    output: MemSink,
+    errors: MemSink,
+    door: Option<D>,
 }
 
 fn text(bytes: &[u8]) -> &str {
@@ -31,38 +31,31 @@ fn text(bytes: &[u8]) -> &str {
 
 impl<D: Drop> Outcome<D> {
     pub fn output(&self) -> &str {
-        text(self.output.as_slice())
+        text(self.output.bytes())
     }
 
     pub fn errors(&self) -> &str {
-        text(self.errors.as_slice())
+        text(self.errors.bytes())
+    }
+
+    /// The door, which a run hands back.
+    pub fn door<'a>(&'a self, rt: &impl Abort) -> &'a D {
+        self.door.as_ref().expect(rt, "no door")
     }
 }
 
 /// A list of words.
-fn owned(alloc: Global, words: &[&str]) -> Result<Vec<String>, AllocError> {
+fn owned(rt: &impl Abort, alloc: Global, words: &[&str]) -> Vec<String> {
     let mut list = Vec::new(alloc);
     for word in words {
-        list.push(String::from_str(alloc, word)?)?;
+        let word = String::from_str(alloc, word).expect(rt, "memory");
+        list.push(word).expect(rt, "memory");
     }
-    Ok(list)
-}
-
-/// Serves this many connections that come to a door, with this configuration.
-pub fn ran<R: Wait + Copy + Send, D: Door + Send, C: Crew>(
-    rt: &R,
-    alloc: Global,
-    connections: &str,
-    configuration: &str,
-    door: D,
-    crew: &mut C,
-) -> Result<Outcome<D>, Fail> {
-    let words = ["serve", "x", connections];
-    ran_with(rt, alloc, &words, configuration, &[], door, crew)
+    list
 }
 
 /// Runs these words with this input and a door. The writes of these numbers fail.
-pub fn ran_with<R: Wait + Copy + Send, D: Door + Send, C: Crew>(
+pub fn ran_with<R: Abort + Copy + Send + Wait, D: Door + Send, C: Crew>(
     rt: &R,
     alloc: Global,
     words: &[&str],
@@ -70,11 +63,12 @@ pub fn ran_with<R: Wait + Copy + Send, D: Door + Send, C: Crew>(
     failing: &[u64],
     door: D,
     crew: &mut C,
-) -> Result<Outcome<D>, Fail> {
-    let words = owned(alloc, words)?;
-    let bytes = Octets::of(alloc, input.as_bytes())?;
+) -> Outcome<D> {
+    let words = owned(rt, alloc, words);
+    let bytes = Octets::of(alloc, input.as_bytes()).expect(rt, "memory");
+    let failing = Vec::from_slice(alloc, failing).expect(rt, "memory");
     let mut input = MemSource::new(bytes, Vec::new(alloc));
-    let mut output = MemSink::new(alloc, Vec::from_slice(alloc, failing)?);
+    let mut output = MemSink::new(alloc, failing);
     let mut errors = MemSink::new(alloc, Vec::new(alloc));
     let mut door = Some(door);
     let status = murmur(
@@ -87,21 +81,82 @@ pub fn ran_with<R: Wait + Copy + Send, D: Door + Send, C: Crew>(
         &mut door,
         crew,
     );
-    Ok(Outcome {
+    drop(words);
+    drop(input);
+    Outcome {
         status,
-        output: Octets::of(alloc, output.bytes())?,
-        errors: Octets::of(alloc, errors.bytes())?,
+        output,
+        errors,
         door,
-    })
+    }
+}
+
+/// Serves this many connections that come to a door, with this configuration.
+pub fn ran<R: Abort + Copy + Send + Wait, D: Door + Send, C: Crew>(
+    rt: &R,
+    alloc: Global,
+    connections: &str,
+    configuration: &str,
+    door: D,
+    crew: &mut C,
+) -> Outcome<D> {
+    let words = ["serve", "x", connections];
+    ran_with(rt, alloc, &words, configuration, &[], door, crew)
+}
+
+/// The same on the calling thread, whose roles have their turns in the order of this list.
+pub fn ran_by_turns<X, D: Door + Send>(
+    rt: X,
+    alloc: Global,
+    connections: &str,
+    configuration: &str,
+    door: D,
+    turns: Vec<u8>,
+) -> Outcome<D>
+where
+    X: Abort + Clock + Copy + Send + Sync + Threads + Wait,
+{
+    let mut crew = TurnCrew::new(rt, turns);
+    ran(&rt, alloc, connections, configuration, door, &mut crew)
 }
 
 /// A list of turns that repeats this one so often. Role 0 is the owner, and those behind it are the workers.
-pub fn turns(alloc: Global, pattern: &[u8], times: usize) -> Result<Vec<u8>, AllocError> {
+pub fn turns(rt: &impl Abort, alloc: Global, pattern: &[u8], times: usize) -> Vec<u8> {
     let mut list = Vec::new(alloc);
+    add_turns(rt, &mut list, pattern, times);
+    list
+}
+
+/// So often these turns behind those of a list.
+pub fn add_turns(rt: &impl Abort, list: &mut Vec<u8>, pattern: &[u8], times: usize) {
     for _ in 0..times {
-        list.extend_from_slice(pattern)?;
+        list.extend_from_slice(pattern).expect(rt, "memory");
     }
-    Ok(list)
+}
+
+/// A link that finds these pieces, and then this. The writes of these numbers fail.
+pub fn link(
+    rt: &impl Abort,
+    alloc: Global,
+    pieces: &[&[u8]],
+    last: LinkEvent,
+    failing: &[u64],
+) -> MemLink {
+    let failing = Vec::from_slice(alloc, failing).expect(rt, "memory");
+    let mut events = Vec::new(alloc);
+    for piece in pieces {
+        let bytes = Octets::of(alloc, piece).expect(rt, "memory");
+        events.push(LinkEvent::Piece(bytes)).expect(rt, "memory");
+    }
+    events.push(last).expect(rt, "memory");
+    MemLink::new(alloc, events, failing)
+}
+
+/// A door with this one event.
+pub fn door_of(rt: &impl Abort, alloc: Global, event: DoorEvent) -> MemDoor {
+    let mut events = Vec::new(alloc);
+    events.push(event).expect(rt, "memory");
+    MemDoor::new(alloc, events, true).expect(rt, "memory")
 }
 
 /// A crew without threads, which does not start.

@@ -5,7 +5,7 @@
 use mum_edge::Machine;
 use mum_io::{Input, Output};
 use mum_server::{murmur, out_of_memory};
-use std::io::ErrorKind;
+use std::io::{ErrorKind, IsTerminal};
 use std::process::ExitCode;
 use std::rt::Env;
 use std::{env, io};
@@ -31,7 +31,11 @@ fn main(rt: HostRuntime) -> ExitCode {
             Vec::new(rt.alloc())
         }
     };
-    // without memory or descriptors there is no door and no crew
+    let serves = matches!(words.as_slice(), [name, _, _, ..] if name.as_str() == "serve");
+    if serves && rt.stdin().is_terminal() {
+        let _unheard = eprintln!(rt; "murmur: reads the configuration from standard input");
+    }
+    // without memory there is no door and no crew
     let Ok(Machine { mut crew, door, .. }) = Machine::open(rt, rt.alloc(), LATER_ROLES) else {
         return ExitCode::from(out_of_memory(&mut errors));
     };
@@ -46,5 +50,8 @@ fn main(rt: HostRuntime) -> ExitCode {
         &mut door,
         &mut crew,
     );
+    if let Some(door) = &door {
+        door.listener().close();
+    }
     ExitCode::from(status)
 }

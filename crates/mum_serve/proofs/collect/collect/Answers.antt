@@ -1,6 +1,6 @@
 -- The first of the roles is the owner, and the others are workers.
 use Rattle.std.proofs.Common.{◌≡◌, ◌∙◌, ℕ, ◌||◌, Bool, true, length, ap, refl, sym, subst, arith}
-use Rattle.mum_owner.specs.Doors.{NoMoreCome, given_after_all}
+use Rattle.mum_doorway.specs.Doors.{NoMoreCome, given_after_all}
 use Rattle.mum_owner.specs.Turned.{has_ended}
 use Rattle.mum_published.specs.Facts.{Opening}
 use Rattle.mum_serve.specs.Totals.{totals_of}
@@ -43,9 +43,9 @@ returns g c =
         failed_is = end.door_failed;
         failed = end.failed;
         steady = end.steady;
-        gave = subst (λ (n : ℕ). g.D.Door.given left ≡ given_after_all g.N.Serving.door.given n) end.connections end.given;
+        gave = subst (λ (n : ℕ). g.D.Door.given left ≡ given_after_all g.N.Doorside.door.given n) end.connections end.given;
         address = end.address;
         door_is = end.door;
-        over = subst (λ (n : ℕ). has_ended owner ≡ true → NoMoreCome n owner.guests.limit g.N.Serving.door.counts (g.D.Door.counts left)) end.connections end.over;
+        over = subst (λ (n : ℕ). has_ended owner ≡ true → NoMoreCome n owner.guests.limit g.N.Doorside.door.counts (g.D.Door.counts left)) end.connections end.over;
       };
     }

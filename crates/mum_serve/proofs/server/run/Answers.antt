@@ -10,13 +10,13 @@ use Rattle.mum_serve.proofs.server.run.Goals as goal
 pub collect-door-requires-clause-led : goal.collect-door-requires-clause-led
 collect-door-requires-clause-led g c κs within =
     let run = c.run-run in
-    led_back g.N.Naming.opening.state g.N.Serving.door run.result.end run.result.roles.items c.in-Ok.started.roles.items run.ensures.openings run.ensures.refused run.ensures.no_memory c.in-Ok.ensures.led
+    led_back g.N.Naming.opening.state g.N.Doorside.door run.result.end run.result.roles.items c.in-Ok.started.roles.items run.ensures.openings run.ensures.refused run.ensures.no_memory c.in-Ok.ensures.led
 
 pub collect-door-requires-clause-room : goal.collect-door-requires-clause-room
 collect-door-requires-clause-room g c κs within =
     let run = c.run-run in
-    let back = as_many_back g.N.Naming.opening.state g.N.Serving.door run.result.end run.result.roles.items c.in-Ok.started.roles.items run.ensures.openings run.ensures.refused run.ensures.no_memory in
-    let all = as_many_opened g.N.Naming.opening.state g.N.Serving.door c.args.journal c.args.connections c.args.workers c.in-Ok.started.roles.items c.in-Ok.ensures.openings in
+    let back = as_many_back g.N.Naming.opening.state g.N.Doorside.door run.result.end run.result.roles.items c.in-Ok.started.roles.items run.ensures.openings run.ensures.refused run.ensures.no_memory in
+    let all = as_many_opened g.N.Naming.opening.state g.N.Doorside.door c.args.journal c.args.connections c.args.workers c.in-Ok.started.roles.items c.in-Ok.ensures.openings in
     let room = c.in-Ok.ensures.room.1 in
     omega (arith, back, all, room)
 
@@ -35,7 +35,7 @@ returns-in-NoMemory-clause-counts g c =
 pub returns-in-Ran-clause-runs : goal.returns-in-Ran-clause-runs
 returns-in-Ran-clause-runs g c =
     let run = c.run-run in
-    has_run g.D.Door.counts g.D.Door.given g.D.Door.opened_at g.N.Naming.opening.state g.N.Serving.door c.args.journal c.args.connections c.args.workers run.result.roles.items _ _ _ _ _
+    has_run g.D.Door.counts g.D.Door.given g.D.Door.opened_at g.N.Naming.opening.state g.N.Doorside.door c.args.journal c.args.connections c.args.workers run.result.roles.items _ _ _ _ _
     (run.ensures.openings c.in-Ran.is ∙ c.in-Ok.ensures.openings) (run.ensures.ended c.in-Ran.is) c.collect-door.ensures
 
 -- the door comes back as it was
@@ -47,7 +47,7 @@ pub returns-in-Refused-clause-runs : goal.returns-in-Refused-clause-runs
 returns-in-Refused-clause-runs g c =
     let run = c.run-run in
     ap (opening_at g.D.Door.counts g.D.Door.given g.D.Door.opened_at)
-    (door_kept g.D.Door.counts g.D.Door.given g.D.Door.opened_at g.N.Naming.opening.state g.N.Serving.door run.result.roles.items c.in-Ok.started.roles.items _ _ _ _ c.args.door _
+    (door_kept g.D.Door.counts g.D.Door.given g.D.Door.opened_at g.N.Naming.opening.state g.N.Doorside.door run.result.roles.items c.in-Ok.started.roles.items _ _ _ _ c.args.door _
     (run.ensures.refused c.in-Refused.is) c.in-Ok.ensures.door c.collect-door.ensures)
     ∙ c.requires.door
 
@@ -55,6 +55,6 @@ pub returns-in-NoMemory-clause-runs : goal.returns-in-NoMemory-clause-runs
 returns-in-NoMemory-clause-runs g c =
     let run = c.run-run in
     ap (opening_at g.D.Door.counts g.D.Door.given g.D.Door.opened_at)
-    (door_kept g.D.Door.counts g.D.Door.given g.D.Door.opened_at g.N.Naming.opening.state g.N.Serving.door run.result.roles.items c.in-Ok.started.roles.items _ _ _ _ c.args.door _
+    (door_kept g.D.Door.counts g.D.Door.given g.D.Door.opened_at g.N.Naming.opening.state g.N.Doorside.door run.result.roles.items c.in-Ok.started.roles.items _ _ _ _ c.args.door _
     (run.ensures.no_memory c.in-NoMemory.is) c.in-Ok.ensures.door c.collect-door.ensures)
     ∙ c.requires.door

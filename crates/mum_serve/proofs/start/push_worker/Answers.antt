@@ -9,7 +9,7 @@ returns-clause-led g c =
 
 pub returns-clause-pushed : goal.returns-clause-pushed
 returns-clause-pushed g c =
-    opened_more g.N.Naming.opening.state g.N.Serving.door c.args.roles.now.items c.push.new.self.items c.in_ok-worker.worker c.args.number c.args.pass c.args.closings c.in_ok-push.ensures.items
+    opened_more g.N.Naming.opening.state g.N.Doorside.door c.args.roles.now.items c.push.new.self.items c.in_ok-worker.worker c.args.number c.args.pass c.args.closings c.in_ok-push.ensures.items
     c.in_ok-worker.ensures.opened
 
 pub returns-clause-owners : goal.returns-clause-owners

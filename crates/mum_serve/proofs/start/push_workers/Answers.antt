@@ -33,7 +33,7 @@ workers-preserved g c =
     let end_len = was.3 in
     let pass_gone = passes.1 in
     let end_gone = ends.1 in
-    let view = map (opening_of g.N.Naming.opening.state g.N.Serving.door) in (
+    let view = map (opening_of g.N.Naming.opening.state g.N.Doorside.door) in (
       omega (arith, fewer_passes, pass_count),
       omega (arith, fewer_ends, end_count),
       omega (arith, pass_len, pass_gone, fewer_passes),

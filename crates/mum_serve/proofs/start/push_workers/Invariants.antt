@@ -17,8 +17,8 @@ invariant-workers g l =
     × All (IsFresh g.N.Naming.opening) (into_iter_items l.passes)
     × All HasBoxes (into_iter_items l.shared)
     × AreLed l.roles.items
-    × (map (opening_of g.N.Naming.opening.state g.N.Serving.door) l.roles.items
-    ≡ map (opening_of g.N.Naming.opening.state g.N.Serving.door) l.fn.roles.items ++ map openings.Worker (worker_openings (is_some l.fn.closings) 0 l.number))
+    × (map (opening_of g.N.Naming.opening.state g.N.Doorside.door) l.roles.items
+    ≡ map (opening_of g.N.Naming.opening.state g.N.Doorside.door) l.fn.roles.items ++ map openings.Worker (worker_openings (is_some l.fn.closings) 0 l.number))
     × (owners_in l.roles.items ≡ owners_in l.fn.roles.items)
     × AreOver (into_iter_items l.shared) l.fn.shared.items (workers_in l.roles.items)
     × AllByRecursion (KeepsFor l.fn.closings) (workers_in l.roles.items)

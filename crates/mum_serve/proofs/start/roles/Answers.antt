@@ -14,7 +14,7 @@ pub returns-in-Ok-push_workers-clause-openings : goal.returns-in-Ok-push_workers
 returns-in-Ok-push_workers-clause-openings g c =
     c.in-Ok-push_workers.ensures.pushed
     ∙ ap (λ (xs : List RoleOpening). xs ++ map openings.Worker (worker_openings (is_some c.closing_room-closings.result) 0 c.args.workers)) c.in_ok-lead.ensures.openings
-    ∙ ap (λ (b : Bool). openings.Owner (owner_opening g.N.Naming.opening.state g.N.Serving.door c.args.connections c.args.journal) ∷ map openings.Worker (worker_openings b 0 c.args.workers))
+    ∙ ap (λ (b : Bool). openings.Owner (owner_opening g.N.Naming.opening.state g.N.Doorside.door c.args.connections c.args.journal) ∷ map openings.Worker (worker_openings b 0 c.args.workers))
     (asked_room c.args.journal c.args.connections c.args.workers c.closing_room-closings.result c.closing_room-closings.ensures)
 
 pub returns-in-Ok-push_workers-clause-joined : goal.returns-in-Ok-push_workers-clause-joined

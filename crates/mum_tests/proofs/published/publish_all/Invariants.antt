@@ -1,8 +1,6 @@
-use Rattle.std.proofs.Common.{◌≡◌, IfSome}
+use Rattle.std.proofs.Common.{◌≡◌}
 use Rattle.mum_published.specs.Calls.{latest}
 use Rattle.mum_tests.proofs.published.publish_all.Given as goal
 
 abbrev pub invariant-loop-turn : goal.invariant-loop-turn
-invariant-loop-turn g l =
-    (l.twin ≡ latest l.publisher) × (l.publisher.opening ≡ l.fn.publisher.opening)
-    × IfSome l.last (λ note. note.book ≡ l.fn.publisher.opening.book)
+invariant-loop-turn g l = (l.twin ≡ latest l.publisher) × (l.publisher.opening ≡ l.fn.publisher.opening)

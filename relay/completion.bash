@@ -28,7 +28,7 @@ _murmur() {
         # no space after what goes on
         case ${answers[*]} in *: | */) compopt -o nospace 2> /dev/null ;; esac
     elif [ "$count" = 4 ] && [ "${words[1]}" = serve ]; then
-        mapfile -t answers < <(compgen -W "1000 100000" -- "$word")
+        mapfile -t answers < <(compgen -W "1000 1000000" -- "$word")
     elif [ "$count" = 5 ] && [ "${words[1]}" = serve ]; then
         mapfile -t answers < <(compgen -W "journal" -- "$word")
     fi

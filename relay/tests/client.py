@@ -6,11 +6,11 @@ import struct
 import time
 
 VERSION, VOICE, AUTHENTICATE, PING, REJECT, SERVER_SYNC = 0, 1, 2, 3, 4, 5
-CHANNEL_STATE, USER_REMOVE, USER_STATE, TEXT_MESSAGE, PERMISSION_DENIED, CRYPT_SETUP = 7, 8, 9, 11, 12, 15
+CHANNEL_STATE, USER_REMOVE, USER_STATE, TEXT_MESSAGE, PERMISSION_DENIED, ACL, CRYPT_SETUP = 7, 8, 9, 11, 12, 13, 15
 
 ENTER, KICK = 0x4, 0x10000
 # How long a client waits for what is to come, in seconds.
-PATIENCE = 10
+PATIENCE = 30
 
 
 def varint(number):
@@ -32,6 +32,10 @@ def field(number, value):
 
 def message(*fields):
     return b"".join(field(number, value) for number, value in fields)
+
+
+def frame(kind, payload=b""):
+    return struct.pack(">HI", kind, len(payload)) + payload
 
 
 def parse(payload):
@@ -91,7 +95,7 @@ class PlainClient:
 
     def send(self, kind, payload=b""):
         self.stream.settimeout(PATIENCE)
-        self.stream.sendall(struct.pack(">HI", kind, len(payload)) + payload)
+        self.stream.sendall(frame(kind, payload))
 
     def read(self, seconds):
         """Takes what comes within this many seconds: at most one piece. False where nothing came."""

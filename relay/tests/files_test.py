@@ -39,10 +39,10 @@ def haproxy_takes_the_installed_configuration():
     with tempfile.TemporaryDirectory() as folder:
         passed(run("openssl", "req", "-x509", "-newkey", "ec", "-pkeyopt", "ec_paramgen_curve:prime256v1", "-nodes", "-subj",
                    "/CN=test", "-keyout", f"{folder}/server.pem", "-out", f"{folder}/server.pem"))
-        for name in ("cryptsetup.lua", "kept-out"):
+        for name in ("cryptsetup.lua", "login.lua", "kept-out"):
             shutil.copy(path(name), folder)
         with open(f"{folder}/haproxy.cfg", "w") as configuration:
-            configuration.write(text("haproxy.cfg").replace("/etc/haproxy/murmur", folder))
+            configuration.write(text("haproxy.cfg").replace("/etc/murmur", folder).replace("/usr/share/murmur", folder))
         done = passed(run("haproxy", "-c", "-f", f"{folder}/haproxy.cfg", env={"PATH": "/usr/sbin:/usr/bin:/bin"}))
         assert "WARNING" not in done.stderr, done.stderr
 
@@ -62,8 +62,8 @@ def no_known_password_opens_anything():
 
 def the_unit_is_right_and_hardened():
     with tempfile.TemporaryDirectory() as folder:
-        unit = text("murmur.service").replace("/usr/local/bin/murmur", "/bin/true")
-        unit = unit.replace("/usr/local/sbin/murmur-drain", path("drain")).replace("man:murmur(1)", "man:systemd(1)")
+        unit = text("murmur.service").replace("/usr/bin/murmur", "/bin/true")
+        unit = unit.replace("/usr/sbin/murmur-drain", path("drain")).replace("man:murmur(1)", "man:systemd(1)")
         with open(f"{folder}/murmur.service", "w") as file:
             file.write(unit)
         done = passed(run("systemd-analyze", "verify", "--man=no", f"{folder}/murmur.service"))
@@ -71,6 +71,43 @@ def the_unit_is_right_and_hardened():
         done = passed(run("systemd-analyze", "security", "--offline=true", "--no-pager", "--threshold=11",
                           f"{folder}/murmur.service"))
         return re.search(r"exposure level for \S+: (\S+ \w+)", done.stdout).group(1)
+
+
+def the_unit_serves_as_many_connections_as_there_may_be():
+    """The program takes the words of the unit, and no greater number."""
+    words = re.search(r"^ExecStart=\S+ (.*)$", text("murmur.service"), re.M).group(1).split()
+    with tempfile.TemporaryDirectory() as folder:
+        sockets = [word.replace("/var/lib/haproxy/murmur", folder) for word in words]
+        with subprocess.Popen([PROGRAM, *sockets], stdin=subprocess.PIPE, stderr=subprocess.PIPE, text=True) as server:
+            server.stdin.write("{}")
+            server.stdin.close()
+            line = server.stderr.readline()
+            server.kill()
+        assert line == f"murmur: listening on {sockets[1]}\n", line
+        done = run(PROGRAM, *sockets[:-1], str(int(sockets[-1]) + 1), input="{}")
+        assert done.returncode == 1, done
+
+
+def the_timer_restarts_it_at_night():
+    calendar = re.search(r"^OnCalendar=(.*)$", text("murmur-restart.timer"), re.M).group(1)
+    times = passed(run("systemd-analyze", "calendar", "--iterations=3", calendar, env={**os.environ, "TZ": "UTC"})).stdout
+    hours = re.findall(r"(?:Next elapse|Iter\. #\d+): \w+ \d+-\d+-(\d+) (\d\d):\d\d:\d\d", times)
+    assert len({day for day, _ in hours}) == 3 and all(2 <= int(hour) < 6 for _, hour in hours), times
+    with tempfile.TemporaryDirectory() as folder:
+        for name in ("murmur-restart.service", "murmur-restart.timer"):
+            shutil.copy(path(name), folder)
+        done = passed(run("systemd-analyze", "verify", "--man=no", f"{folder}/murmur-restart.timer"))
+        assert "murmur" not in done.stderr, done.stderr
+    assert re.search(r"^ExecStart=/usr/bin/systemctl try-restart murmur\.service$", text("murmur-restart.service"), re.M)
+    assert re.search(r"^ExecStop=\+\S*murmur-drain", text("murmur.service"), re.M), "no clean end"
+
+
+def the_unit_knows_each_status_that_stays_so():
+    """And no other: each is in the table of the documents as one of what `serve` is started with."""
+    with open(path("../docs/FORMATS.md")) as formats:
+        table = re.findall(r"^\| (\d+) \| (.*?) \|", formats.read(), re.M)
+    named = re.search(r"^RestartPreventExitStatus=(.*)$", text("murmur.service"), re.M).group(1).split()
+    assert named and set(named) <= {status for status, _ in table}, named
 
 
 def the_man_page_is_right():
@@ -88,7 +125,7 @@ def completion_knows_the_words():
         "murmur serve ": "proxy: unix: 127.0.0.1:64738 [::1]:64738",
         "murmur serve proxy:u": "unix:",
         "murmur serve proxy:unix:/et": "/etc/",
-        "murmur serve 127.0.0.1:64738 1": "1000 100000",
+        "murmur serve 127.0.0.1:64738 1": "1000 1000000",
         "murmur serve 127.0.0.1:64738 1 ": "journal",
         "murmur replay ": "",
     }
@@ -148,7 +185,9 @@ def a_password_is_set_at_the_terminal_and_not_seen():
 
 
 CHECKS = [haproxy_takes_the_installed_configuration, murmur_takes_the_configuration, no_known_password_opens_anything,
-          the_unit_is_right_and_hardened, the_man_page_is_right, completion_knows_the_words,
+          the_unit_is_right_and_hardened, the_unit_serves_as_many_connections_as_there_may_be,
+          the_timer_restarts_it_at_night, the_unit_knows_each_status_that_stays_so, the_man_page_is_right,
+          completion_knows_the_words,
           a_password_is_set_at_the_terminal_and_not_seen]
 
 if __name__ == "__main__":

@@ -4,10 +4,10 @@
 Each test starts a server of its own, for as many connections as it makes; the server is to end by itself with the
 line of totals that follows from them. Prints a line a test; the status is 1 where one failed.
 """
+import hashlib
 import json
 import os
 import re
-import resource
 import signal
 import socket
 import struct
@@ -16,110 +16,15 @@ import sys
 import tempfile
 import time
 
-from client import (AUTHENTICATE, REJECT, TEXT_MESSAGE, USER_REMOVE, USER_STATE, VERSION, VOICE, Ended, PlainClient,
-                    message, parse)
-from trial import PROGRAM, free_port, run_checks, wait
+from client import (ACL, AUTHENTICATE, CHANNEL_STATE, ENTER, PATIENCE, REJECT, TEXT_MESSAGE, USER_STATE, VERSION, VOICE,
+                    Ended, PlainClient, message, parse)
+from server import HEADER_PATIENCE, LONGEST_HEADER, SIGNATURE, TCP_OVER_IPV6, Server, Tests, header, is_closed, reset
+from trial import RELAY, free_port, wait
 
 # The most connections that a server has open at once.
 CONNECTION_LIMIT = 1024
-# How many descriptors these tests and their servers may have open.
-DESCRIPTORS = 4096
-# How long an address may wait for the header of its relay, in seconds.
-HEADER_PATIENCE = 10
-# What comes before a client's address in a PROXY header, version 2.
-SIGNATURE = bytes.fromhex("0d0a0d0a000d0a515549540a")
-TCP_OVER_IPV4, TCP_OVER_IPV6 = 0x11, 0x21
-# The longest header that is taken: 16 bytes, addresses and ports, further fields.
-LONGEST_HEADER = 536
 
-
-class Server:
-    """A server that serves this many connections."""
-
-    def __init__(self, folder, connections, address=None, document=None, **environment):
-        self.folder = folder
-        self.port = None
-        if address is None:
-            self.port = free_port()
-            address = f"127.0.0.1:{self.port}"
-        self.address, self.log_path = address, os.path.join(folder, "log")
-        configuration = os.path.join(folder, "murmur.json")
-        with open(configuration, "w") as file:
-            json.dump(document or {}, file)
-        with open(configuration) as standard_input, open(self.log_path, "w") as log:
-            self.process = subprocess.Popen([PROGRAM, "serve", address, str(connections)], cwd=folder, stdin=standard_input,
-                                            stdout=subprocess.PIPE, stderr=log, text=True,
-                                            env={**os.environ, **environment})
-        wait(lambda: f"listening on {address}" in self.log() or self.process.poll() is not None, 20)
-
-    def log(self):
-        with open(self.log_path) as log:
-            return log.read()
-
-    def connect(self, **more):
-        """A connection, with options of its socket before it connects."""
-        stream = socket.socket(socket.AF_INET)
-        for option, value in more.items():
-            stream.setsockopt(socket.SOL_SOCKET, getattr(socket, option), value)
-        stream.settimeout(20)
-        stream.connect(("127.0.0.1", self.port))
-        stream.setsockopt(socket.IPPROTO_TCP, socket.TCP_NODELAY, 1)
-        return stream
-
-    def client(self, **more):
-        return PlainClient(self.connect(**more))
-
-    def totals(self):
-        """The totals of its last line, once it has ended with status 0."""
-        output, _ = self.process.communicate(timeout=30)
-        assert self.process.returncode == 0, (self.process.returncode, output, self.log())
-        assert re.fullmatch(r"served( \w+ \d+)+\n", output), output
-        words = output.split()[1:]
-        return {name: int(number) for name, number in zip(words[::2], words[1::2])}
-
-    def stop(self):
-        if self.process.poll() is None:
-            self.process.kill()
-        self.process.communicate()
-
-    def __enter__(self):
-        return self
-
-    def __exit__(self, *_):
-        self.stop()
-
-
-TESTS = []
-
-
-def test(function):
-    def in_a_folder():
-        with tempfile.TemporaryDirectory() as folder:
-            return function(folder)
-    in_a_folder.__name__ = function.__name__
-    TESTS.append(in_a_folder)
-    return in_a_folder
-
-
-def header(source, family=TCP_OVER_IPV4, command=0x21, extra=b""):
-    """The header of a relay for a client at this address, which came to another."""
-    kind, destination = (socket.AF_INET, "192.0.2.1") if family == TCP_OVER_IPV4 else (socket.AF_INET6, "2001:db8::1")
-    addresses = b"".join(socket.inet_pton(kind, address) for address in (source, destination))
-    addresses += struct.pack(">HH", 40000, 64738) + extra
-    return SIGNATURE + bytes([command, family]) + struct.pack(">H", len(addresses)) + addresses
-
-
-def is_closed(stream, seconds=10):
-    """Whether the other side closes within this many seconds."""
-    stream.settimeout(seconds)
-    try:
-        while stream.recv(65536):
-            pass
-        return True
-    except TimeoutError:
-        return False
-    except OSError:
-        return True
+test = Tests()
 
 
 @test
@@ -159,14 +64,14 @@ def what_is_no_address_or_taken_is_said(folder):
                               (f"127.0.0.1:{port}", f"murmur: cannot listen on 127.0.0.1:{port}: "),
                               ("unix:/no/such/folder", "murmur: cannot listen on unix:/no/such/folder: ")):
             with Server(folder, 1, address, MURMUR_LOG="none") as server:
-                assert server.process.wait(10) == 8, server.process.returncode
+                assert server.process.wait(PATIENCE) == 8, server.process.returncode
                 assert line in server.log() and server.log().endswith("murmur: 8 DoorFault\n"), server.log()
 
 
 @test
 def a_faulty_configuration_is_named(folder):
     with Server(folder, 1, document={"bandwidth": "much"}) as server:
-        assert server.process.wait(10) == 6
+        assert server.process.wait(PATIENCE) == 6
         assert re.fullmatch(r"murmur: 6 BadConfig \d+ bandwidth\n", server.log()), server.log()
 
 
@@ -177,14 +82,14 @@ def a_socket_of_a_dead_server_is_removed_and_of_a_living_one_is_not(folder):
     first.process.send_signal(signal.SIGKILL)
     first.stop()
     assert os.path.exists(f"{folder}/the.sock")
-    with Server(folder, 2, address) as second:
+    with Server(folder, 1, address) as second:
         with tempfile.TemporaryDirectory() as other, Server(other, 1, f"unix:{folder}/the.sock") as third:
-            assert third.process.wait(10) == 8, third.log()
-        # the third has used up one of its connections by asking
+            assert third.process.wait(PATIENCE) == 8, third.log()
+        # which has not noticed that the third asked
         stream = socket.socket(socket.AF_UNIX)
         stream.connect(f"{folder}/the.sock")
         PlainClient(stream).log_in("ann").close()
-        assert second.totals()["connections"] == 2
+        assert second.totals()["connections"] == 1
 
 
 @test
@@ -193,7 +98,6 @@ def headers_come_in_any_pieces(folder):
     whole = header("198.51.100.23")
     assert len(whole) == 28
     with Server(folder, 3 + 1 + 1, f"proxy:127.0.0.1:{port}") as server:
-        server.port = port
         for pieces in (1, 2, 28):
             stream = server.connect()
             length = -(-len(whole) // pieces)
@@ -221,17 +125,16 @@ def false_headers_are_closed_and_are_no_connections(folder):
              header("2001:db8::9", family=0x23),
              header("198.51.100.25", extra=bytes(LONGEST_HEADER - 16 - 12 + 1))]
     with Server(folder, 1, f"proxy:127.0.0.1:{port}") as server:
-        server.port = port
         for first in false:
             stream = server.connect()
             stream.sendall(first)
-            assert is_closed(stream), first
+            assert is_closed(stream, HEADER_PATIENCE - 1), first
         # one that ends in the midst of it, and one that goes silent there
         server.connect().close()
         silent = server.connect()
         silent.sendall(SIGNATURE)
         began = time.monotonic()
-        assert is_closed(silent, HEADER_PATIENCE + 5)
+        assert is_closed(silent)
         assert time.monotonic() - began > HEADER_PATIENCE - 2
         stream = server.connect()
         stream.sendall(header("198.51.100.26"))
@@ -250,7 +153,7 @@ def a_login_may_end_at_each_byte(folder):
                 stream = server.connect()
                 stream.sendall(login[:length])
                 if is_reset:
-                    stream.setsockopt(socket.SOL_SOCKET, socket.SO_LINGER, struct.pack("ii", 1, 0))
+                    reset(stream)
                 stream.close()
         ann = server.client().log_in("ann")
         ann.wait_until(lambda: ann.user("cut") is None or None)
@@ -364,7 +267,7 @@ def who_never_reads_hinders_nobody(folder):
         ann.wait_until(lambda: not ann.user("ann")[1].get("self_mute") or None, 30)
         carol.wait_until(lambda: not carol.user("ann")[1].get("self_mute") or None, 30)
         ann.send(VOICE, bytes([0x80, 7, 3, 1, 2, 3]))
-        carol.wait(VOICE)
+        carol.wait(VOICE, 4 * PATIENCE)
         for client in (deaf, ann, bob, carol):
             client.close()
         assert server.totals()["connections"] == 4
@@ -430,7 +333,7 @@ def who_is_held_up_is_not_held_up_longer(folder):
         for client in (quick, other):
             client.close()
         server.totals()
-        assert max(gaps) < 0.5 and "overslept" not in server.log(), (max(gaps), server.log())
+        assert max(gaps) < 0.9 and "overslept" not in server.log(), (max(gaps), server.log())
     return f"{changes} changes in {came[-1] - came[0]:.1f} s, at most {max(gaps):.2f} s apart"
 
 
@@ -462,7 +365,7 @@ def a_signal_ends_it_and_its_clients_see_that(folder):
     with Server(folder, 10) as server:
         ann = server.client().log_in("ann")
         server.process.terminate()
-        assert server.process.wait(5) == -signal.SIGTERM
+        assert server.process.wait(PATIENCE) == -signal.SIGTERM
         try:
             ann.stay(5)
             raise AssertionError("the client is still connected")
@@ -470,13 +373,47 @@ def a_signal_ends_it_and_its_clients_see_that(folder):
             pass
 
 
-def main():
-    soft, hard = resource.getrlimit(resource.RLIMIT_NOFILE)
-    if soft < DESCRIPTORS:
-        resource.setrlimit(resource.RLIMIT_NOFILE, (DESCRIPTORS, hard))
-    checks = [check for check in TESTS if check.__name__ in sys.argv[1:] or len(sys.argv) == 1]
-    return run_checks(checks)
+@test
+def what_users_changed_is_saved_as_a_configuration(folder):
+    """SuperUser makes channels, one of them temporary, moves one under a later one, links two and sets a list; what
+    `relay/save` writes is accepted, and a server of it has the same channels and lists."""
+    password = "a password for saving"
+    accounts = [{"id": 0, "name": "SuperUser", "password_sha256": hashlib.sha256(password.encode()).hexdigest()}]
+    document = {"welcome": "hello", "accounts": accounts, "channels": [{"id": 1, "parent": 0, "name": "Hall"}]}
+    with Server(folder, 3, document=document) as server:
+        user = server.client().log_in("SuperUser", password)
+        for name in ("Stage", "Wing"):
+            user.send(CHANNEL_STATE, message((2, 0), (3, name)))
+            user.wait_until(lambda: user.channels.get(name))
+        user.send(CHANNEL_STATE, message((2, 0), (3, "Passing"), (8, 1)))
+        user.wait_until(lambda: user.channels.get("Passing"))
+        user.send(CHANNEL_STATE, message((1, 1), (2, 3), (6, 2), (5, "a hall")))
+        deny_enter = message((1, 1), (2, 1), (5, "all"), (7, ENTER))
+        user.send(ACL, message((1, 2), (2, 1), (4, deny_enter)))
+        user.stay(0.5)
+        user.close()
+        wait(lambda: "murmur: 1 closed" in server.log(), 10)
+        saved = subprocess.run([os.path.join(RELAY, "save"), "--plain", server.address,
+                                os.path.join(folder, "murmur.json")], capture_output=True, text=True, timeout=60,
+                               env={**os.environ, "MURMUR_PASSWORD": password}, check=False)
+        assert saved.returncode == 0, saved.stderr
+        wrong = subprocess.run([os.path.join(RELAY, "save"), "--plain", server.address,
+                                os.path.join(folder, "murmur.json")], capture_output=True, text=True, timeout=60,
+                               env={**os.environ, "MURMUR_PASSWORD": "another password"}, check=False)
+        assert wrong.returncode == 1 and "WrongUserPW" in wrong.stderr and not wrong.stdout, wrong
+    new = json.loads(saved.stdout)
+    assert {key: new[key] for key in ("welcome", "accounts")} == {"welcome": "hello", "accounts": accounts}, new
+    # Hall is under Wing now, whose number is greater: all have new numbers, in the order of the tree
+    assert new["channels"] == [
+        {"id": 1, "parent": 0, "name": "Stage", "acls": [{"group": "all", "deny": ENTER}]},
+        {"id": 2, "parent": 0, "name": "Wing"},
+        {"id": 3, "parent": 2, "name": "Hall", "description": "a hall"}], new
+    assert new["links"] == [[1, 3]], new
+    with Server(folder, 1, document=new) as server:
+        server.client().log_in("ann").close()
+        server.totals()
+    return "new numbers" if "with new numbers" in saved.stderr else saved.stderr
 
 
 if __name__ == "__main__":
-    sys.exit(main())
+    sys.exit(test.run())

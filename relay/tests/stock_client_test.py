@@ -1,12 +1,13 @@
 #!/usr/bin/env python3
 """A conversation of two stock clients (Debian's `mumble`) through the relay. MURMUR is the program.
 
-usage: stock_client_test.py [FOLDER]
+usage: stock_client_test.py [FOLDER [PORT CERTIFICATE]]
 
 Ann transmits a tone of 440 Hz all the time and bob one of 660 Hz, each on a display of its own, and what comes out
 of their loudspeakers is recorded. They hear each other for a minute, change channels, mute, are denied a channel and
 are kicked. What the client itself says of it is read from its log. Pictures of the windows go to FOLDER
-(relay/out/pictures). Prints a line a check; the status is 1 where one failed.
+(relay/out/pictures). With PORT it is the server that listens there, of which SuperUser has the password of the tests
+and whose certificate is the file CERTIFICATE. Prints a line a check; the status is 1 where one failed.
 """
 import array
 import base64
@@ -327,6 +328,19 @@ class Conversation:
         assert self.probe.user("ann")
 
 
+class Installed:
+    """A server that runs already."""
+
+    def __init__(self, port, certificate):
+        self.port, self.certificate = int(port), certificate
+
+    def path(self, _name):
+        return self.certificate
+
+    def stop(self):
+        """It runs on."""
+
+
 def main():
     pictures = os.path.abspath(sys.argv[1] if len(sys.argv) > 1 else os.path.join(RELAY, "out/pictures"))
     os.makedirs(pictures, exist_ok=True)
@@ -337,7 +351,7 @@ def main():
         return 1
     children = Children()
     with tempfile.TemporaryDirectory() as folder:
-        at = Installation(os.path.join(folder, "server")).set_password().start()
+        at = Installed(*sys.argv[2:]) if sys.argv[2:] else Installation(os.path.join(folder, "server")).set_password().start()
         try:
             sound = Sound(folder, children)
             ann, bob = (StockClient(name, at, folder, sound, children) for name in TONES)

@@ -9,6 +9,8 @@ import traceback
 os.environ["PATH"] += ":/usr/sbin"
 RELAY = os.path.dirname(os.path.dirname(os.path.abspath(__file__)))
 PROGRAM = os.path.abspath(os.environ.get("MURMUR") or os.path.join(RELAY, "../crates/murmur/out/murmur"))
+# What makes `relay/try` take a program that was built without proofs.
+UNPROVED = ["--unproved"] if os.path.basename(os.path.realpath(PROGRAM)).startswith("murmur-unproved") else []
 PASSWORD = "a password for the test"
 
 
@@ -58,7 +60,7 @@ class Installation:
 
     def start(self):
         with open(self.path("log"), "w") as log:
-            self.process = subprocess.Popen([os.path.join(RELAY, "try"), "-p", str(self.port), self.folder],
+            self.process = subprocess.Popen([os.path.join(RELAY, "try"), *UNPROVED, "-p", str(self.port), self.folder],
                                             stdin=subprocess.DEVNULL, stdout=log, stderr=log)
         wait(lambda: "Force TCP mode" in self.log() or self.process.poll() is not None, 60)
         if self.process.poll() is not None:

@@ -1,7 +1,7 @@
 """What is wrong with a configuration, in words, or what is suspicious in it."""
 import json
 
-from . import documents, rights, suspicious
+from . import causes, documents, rights, suspicious
 
 MEANINGS = {
     "60": "this is no JSON, is nested deeper than 127, or is not UTF-8",
@@ -36,7 +36,7 @@ def place_in(text):
 def explained(fault, text):
     """`channels[1].name: what that means (67)`"""
     number, _, key = fault.partition(" ")
-    words = f"{key}: {MEANINGS.get(number, 'a fault')} ({number})"
+    words = f"{key}: {causes.cause_of(number, key, text) or MEANINGS.get(number, 'a fault')} ({number})"
     place = place_in(text) if number == "60" else ""
     return f"{words}. {place}" if place else words
 

@@ -4,8 +4,8 @@ import sys
 from concurrent.futures import ThreadPoolExecutor
 from pathlib import Path
 
-from . import (answers, checks, conversation, difference, documents, exercise, journals, pages, pictures, program,
-               rights, script, stories, suspicious)
+from . import (answers, checks, command_words, conversation, difference, documents, exercise, journals, pages, pictures,
+               program, question, rights, script, stories, suspicious)
 from .table import Case, NoCase, case_of, lines_of
 
 CASES = Path(__file__).resolve().parents[1]
@@ -13,16 +13,17 @@ CASES = Path(__file__).resolve().parents[1]
 # who answers the questions of the tables in each folder, and of a table that is not like those beside it
 ANSWERS = {
     "decisions": answers.answer, "notices": answers.answer, "routes": answers.answer,
-    "conversations/client": conversation.answer,
+    "conversations/client": conversation.answer, "words": command_words.answer,
     "configurations/faults": documents.fault, "configurations/documents": documents.seen,
     "recordings/replay": script.replayed, "recordings/steps": script.stepped, "recordings/frames": script.framed,
     "recordings/connections": script.connected, "recordings/lines": script.line_told,
-    "recordings/journals": journals.answer, "recordings/exercises": exercise.answer,
+    "recordings/journals": journals.answer, "recordings/redactions": journals.kept_secret,
+    "recordings/exercises": exercise.answer,
     "recordings/pictures": pictures.answer, "recordings/stories": stories.answer,
     "configurations/sizes": documents.counted, "configurations/examples": documents.example,
     "configurations/rights": rights.answer, "configurations/suspicious": suspicious.answer,
     "configurations/differences": difference.answer, "configurations/checks": checks.answer,
-    "configurations/pages": pages.answer,
+    "configurations/pages": pages.answer, "configurations/questions": question.answer,
 }
 
 

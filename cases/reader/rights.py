@@ -268,14 +268,14 @@ def rights_of(document):
                   {place[:2]: bits for place, bits in answers.items() if place[2]})
 
 
-def askers_text(askers):
+def asker_labels(askers):
     """Those who ask. Where anybody with an account is among them, accounts of their own go unsaid: all have the same
     that are not said elsewhere."""
     labels = {asker.key: asker.label for asker in askers}
     if ANY_ACCOUNT in labels:
         labels = {key: label for key, label in labels.items() if not key.startswith("account ")}
         labels[ANY_ACCOUNT] = "all other accounts"
-    return ", ".join(labels.values())
+    return tuple(labels.values())
 
 
 def gathered(pairs):

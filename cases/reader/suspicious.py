@@ -1,12 +1,17 @@
 """What is suspicious in a configuration: it is accepted, and probably not what was meant."""
+import unicodedata
+
 from . import mumble, rights
 
 SHOWN = 12
+# letters and digits that look alike in many fonts, as one of them
+ALIKE = str.maketrans("01lI|5", "ooiiis")
 
 
 def findings(document, answers):
     """What is suspicious in a document and in the answers to those who asked, a line each."""
     return [*repeated_keys(document, ""), *strange_groups(document), *strange_accounts(document),
+            *similar_names(document), *unmanaged(document, answers), *cut_off(document, answers),
             *idle_entries(document, answers), *overheard(document, answers)]
 
 
@@ -46,6 +51,28 @@ def strange_accounts(document):
     accounts = {account["id"] for account in document.get("accounts", [])}
     return [f"{place}: no account has the number {number}" for place, number in rights.named_accounts(document)
             if number not in accounts]
+
+
+def looks_like(name):
+    """A name without what the eye passes over: case, accents of other forms, spaces, and letters that look alike."""
+    folded = "".join(unicodedata.normalize("NFKC", name).split())
+    return folded.translate(ALIKE).casefold()
+
+
+def similar_names(document):
+    """Accounts, and channels beside each other, whose names differ and look alike."""
+    named = [("accounts", None, one["name"]) for one in document.get("accounts", [])]
+    named += [("channels", one["parent"], one["name"]) for one in document.get("channels", []) if one["id"] != 0]
+    lines, seen, places = [], {}, {"accounts": 0, "channels": 0}
+    offset = {"accounts": [at for at, _ in enumerate(document.get("accounts", []))],
+              "channels": [at for at, one in enumerate(document.get("channels", [])) if one["id"] != 0]}
+    for kind, parent, name in named:
+        place = f"{kind}[{offset[kind][places[kind]]}].name"
+        places[kind] += 1
+        before = seen.setdefault((kind, parent, looks_like(name)), (place, name))
+        if before[1] != name:
+            lines.append(f'{place}: "{name}" looks like "{before[1]}" of {before[0]}')
+    return lines
 
 
 # ---- the document and the answers
@@ -94,6 +121,19 @@ def idle_entries(document, answers):
             if idle:
                 lines.append(f"{place}.grant: gives {subject} no {' and no '.join(idle)} anywhere")
     return lines
+
+
+def unmanaged(document, answers):
+    """Where there are accounts: that nobody who asked may change the root, and so nobody can administer the server."""
+    write = mumble.PERMISSIONS["Write"]
+    if document.get("accounts") and not any(answers.at_arrival[0, asker.key] & write for asker in answers.askers):
+        yield "accounts: none is SuperUser (id 0) or has Write in the root, so that nobody can administer the server"
+
+
+def cut_off(document, answers):
+    """That those without an entry of their own may not even pass the root."""
+    if all(not answers.at_arrival[0, key] & mumble.PERMISSIONS["Traverse"] for key in (rights.GUESTS, rights.ANY_ACCOUNT)):
+        yield "channel 0, the root: guests and any account lack Traverse there, and with it every right in every channel"
 
 
 def overheard(document, answers):

@@ -1,8 +1,9 @@
 """The rows of the tables: those who may do the same in a channel are one row."""
+import json
 from dataclasses import dataclass
 
 from reader import mumble
-from reader.rights import askers_text, channels_of, gathered, path_text
+from reader.rights import asker_labels, channels_of, gathered, path_text
 
 SHORT = {
     "Write": "Wr", "Traverse": "Tr", "Enter": "En", "Speak": "Sp", "MuteDeafen": "Mu", "Move": "Mo",
@@ -15,8 +16,13 @@ SHORT = {
 class Row:
     """Permissions, those who have them, and whether that is so only once they are inside."""
     bits: int
-    who: str
+    labels: tuple
     inside: bool
+
+    @property
+    def who(self):
+        """Those who have them, as a text."""
+        return ", ".join(self.labels)
 
 
 @dataclass(frozen=True)
@@ -30,10 +36,10 @@ class Channel:
 def rows_of(answers, number):
     """The rows of a channel: as those who ask arrive, and then what is different once they are inside."""
     arrival = [(asker, answers.at_arrival[number, asker.key]) for asker in answers.askers]
-    rows = [Row(bits, askers_text(who), False) for bits, who in gathered(arrival)]
+    rows = [Row(bits, asker_labels(who), False) for bits, who in gathered(arrival)]
     entered = [(asker, answers.inside[number, asker.key]) for asker, bits in arrival
                if answers.inside.get((number, asker.key), bits) != bits]
-    return rows + [Row(bits, ", ".join(asker.label for asker in who), True) for bits, who in gathered(entered)]
+    return rows + [Row(bits, tuple(asker.label for asker in who), True) for bits, who in gathered(entered)]
 
 
 def table_of(document, answers):
@@ -77,3 +83,17 @@ def text_of(channels, suspicious):
         lines += ["", *channel_lines(channel)]
     lines += ["", "Suspicious:" if suspicious else "Nothing is suspicious."]
     return "\n".join(lines + [f"  {line}" for line in suspicious])
+
+
+# ---- as JSON
+
+def row_object(row):
+    """A row with the names of its permissions."""
+    return {"who": row.labels, "inside": row.inside, "permissions": mumble.permission_names(row.bits)}
+
+
+def json_of(channels, suspicious):
+    """The table as one JSON object, and what is suspicious with it."""
+    rows = [{"id": channel.number, "path": channel.path, "rows": [row_object(row) for row in channel.rows]}
+            for channel in channels]
+    return json.dumps({"channels": rows, "suspicious": suspicious}, ensure_ascii=False, indent=1)

@@ -127,13 +127,10 @@ impl<X: Net + Files + Eprint> SocketListener<X> {
 
     // What listens at the address of this text, if it does. If it cannot, a line on standard error says why.
     fn listening<T: Drop>(&self, text: &str, bound: io::Result<T>) -> Option<T> {
-        match bound {
-            Ok(bound) => Some(bound),
-            Err(error) => {
-                self.life.cannot_listen(text, &error);
-                None
-            }
+        if let Err(error) = &bound {
+            self.life.cannot_listen(text, error);
         }
+        bound.ok()
     }
 
     // Listens for who wants the server to stop, where that is asked for. If it cannot, a line on standard error says why.

@@ -87,11 +87,7 @@ impl<X: AllocGlobal + Net + Files + Env + Eprint + Threads + Clock + Copy> Machi
         later_roles: usize,
         setting: Setting<X>,
     ) -> io::Result<Machine<X>> {
-        let Setting {
-            pace,
-            life,
-            stop_at,
-        } = setting;
+        let life = setting.life;
         let hub = Arc::new(alloc, Hub::new(alloc)?)?;
         let (crew, polls, fault) = match crew_of(rt, alloc, &hub, threads, later_roles, life) {
             Ok((crew, polls)) => (crew, polls, None),
@@ -101,8 +97,8 @@ impl<X: AllocGlobal + Net + Files + Env + Eprint + Threads + Clock + Copy> Machi
                 (crew, polls, error.raw_os_error())
             }
         };
-        let listener = SocketListener::new(rt, polls, fault, life, stop_at);
-        let entrance = Entrance::new(alloc, hub, crew.boards(alloc)?, pace, listener);
+        let listener = SocketListener::new(rt, polls, fault, life, setting.stop_at);
+        let entrance = Entrance::new(alloc, hub, crew.boards(alloc)?, setting.pace, listener);
         Ok(Machine {
             crew,
             door: SocketDoor::new(entrance),
@@ -143,13 +139,11 @@ fn log_of<X: Env + AllocGlobal + Eprint + Copy>(
         return Ok(life);
     };
     match reports_under(word.as_str()) {
-        Some(true) => Ok(life),
-        Some(false) => Ok(life.silent()),
-        None => {
-            life.is_no_log_word(word.as_str());
-            Ok(life)
-        }
+        Some(true) => {}
+        Some(false) => return Ok(life.silent()),
+        None => life.is_no_log_word(word.as_str()),
     }
+    Ok(life)
 }
 
 fn pace_of<X: Env + AllocGlobal + Eprint>(rt: &X, life: &Life<X>) -> Result<Pace, AllocError> {
@@ -157,10 +151,8 @@ fn pace_of<X: Env + AllocGlobal + Eprint>(rt: &X, life: &Life<X>) -> Result<Pace
         return Ok(Pace::usual());
     };
     match Pace::from_text(text.as_str()) {
-        Some(pace) => Ok(pace),
-        None => {
-            life.is_no_pace(text.as_str());
-            Ok(Pace::usual())
-        }
+        Some(pace) => return Ok(pace),
+        None => life.is_no_pace(text.as_str()),
     }
+    Ok(Pace::usual())
 }

@@ -243,7 +243,16 @@ class Fresh:
         assert "the root" in self.machine.run("murmur-who-may /etc/murmur/murmur.json")
         self.machine.run(f"MURMUR_PASSWORD='{PASSWORD}' murmur-save localhost:64738 /etc/murmur/murmur.json > new.json")
         assert "Nobody may do anything else." in self.machine.run("murmur-who-may /etc/murmur/murmur.json new.json")
-        assert "legal" in self.machine.run("murmur-audit /usr/share/doc/murmur/examples/two-users.journal")
+        said = self.machine.run("murmur-who-may /etc/murmur/murmur.json may guests Enter Staff")
+        assert said == "no: guests may not Enter in 5 Staff\n", said
+        assert '"channels"' in self.machine.run("murmur-who-may --json /etc/murmur/murmur.json")
+        self.machine.put(f"{FOLDER}/wrong.json", b'{"welcom": "hi"}')
+        said = self.machine.run("murmur-check-configuration wrong.json", check=False)
+        assert 'did you mean "welcome"? (62)' in said, said
+        journal = "/usr/share/doc/murmur/examples/two-users.journal"
+        assert "legal" in self.machine.run(f"murmur-audit {journal}")
+        assert "legal" in self.machine.run(f"murmur-redact {journal} > redacted && murmur-audit redacted")
+        assert "<svg" in self.machine.run("murmur-picture /usr/share/doc/murmur/examples/three-talk")
         assert "OK" in self.machine.run("sha256sum -c /usr/share/doc/murmur/sha256")
         assert "relay.cfg" in self.machine.run("zcat /usr/share/man/man1/murmur.1.gz")
         assert "murmur" in self.machine.run("bash -c 'source /usr/share/bash-completion/completions/murmur && complete -p murmur'")

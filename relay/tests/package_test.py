@@ -257,6 +257,14 @@ class Fresh:
         assert "relay.cfg" in self.machine.run("zcat /usr/share/man/man1/murmur.1.gz")
         assert "murmur" in self.machine.run("bash -c 'source /usr/share/bash-completion/completions/murmur && complete -p murmur'")
 
+    def what_its_pages_name_is_there(self):
+        for page in ("relay/QUICKSTART.md", "docs/ADMINISTRATION.md", "SECURITY.md"):
+            at = Path(self.machine.root + "/usr/share/doc/murmur", page)
+            named = re.findall(r"\]\(([^)#]+)", at.read_text())
+            # figures are for the repository alone
+            missing = [name for name in named if not name.endswith("bench/README.md") and not (at.parent / name).exists()]
+            assert named and not missing, (page, missing)
+
     def its_memory_with_nobody_there(self):
         said = self.machine.run("grep VmRSS /proc/$(systemctl show -P MainPID murmur)/status")
         resident = int(said.split()[1]) * 1024 // 1_000_000
@@ -346,7 +354,7 @@ class Fresh:
 
     def checks(self):
         return [self.it_is_installed, self.what_was_there_of_haproxy_stays, self.the_checks_are_commands,
-                self.its_memory_with_nobody_there, self.two_stock_clients_talk,
+                self.what_its_pages_name_is_there, self.its_memory_with_nobody_there, self.two_stock_clients_talk,
                 self.the_same_again_changes_nothing, self.an_upgrade_changes_nothing,
                 self.where_both_have_changed_the_relay_dpkg_asks, self.what_was_disabled_stays_so_over_an_upgrade,
                 self.it_is_removed]

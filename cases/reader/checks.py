@@ -18,16 +18,36 @@ MEANINGS = {
 MARK = b"\xef\xbb\xbf"
 
 
+class NoNumber(Exception):
+    """What Python takes for a number, and JSON does not."""
+
+
+def no_number(word):
+    raise NoNumber(f"{word} is no number")
+
+
+def finite(word):
+    """A number with a fraction or an exponent."""
+    if abs(float(word)) == float("inf"):
+        raise NoNumber(f"the number {word} is too great")
+    return float(word)
+
+
 def place_in(text):
-    """Where a text is no JSON, as far as Python knows; else nothing."""
+    """Where a text is no JSON, or what in it is none, as far as Python knows; else nothing."""
     if text.startswith(MARK):
-        return "it begins with a byte order mark"
+        return "it begins with a byte order mark: save it without one"
     try:
-        json.loads(text.decode())
+        document = json.loads(text.decode(), parse_float=finite, parse_constant=no_number)
+        json.dumps(document, ensure_ascii=False).encode()
     except json.JSONDecodeError as error:
         return f"line {error.lineno}, column {error.colno}: {error.msg}"
     except UnicodeDecodeError as error:
         return f"byte {error.start + 1} is not UTF-8"
+    except UnicodeEncodeError as error:
+        return f"\\u{ord(error.object[error.start]):04x} is half of a character"
+    except NoNumber as error:
+        return str(error)
     except RecursionError:
         pass
     return ""

@@ -7,6 +7,7 @@ test; the status is 1 where one failed.
 import os
 import pty
 import re
+import resource
 import signal
 import socket
 import ssl
@@ -242,10 +243,29 @@ def two_trials_do_not_share(at):
     with tempfile.TemporaryDirectory() as folder:
         for port, place, why in ((at.port, folder, f"is port {at.port} free?"),
                                  (free_port(), at.folder, "another relay/try runs in")):
-            done = subprocess.run([os.path.join(RELAY, "try"), "-p", str(port), place], stdin=subprocess.DEVNULL,
-                                  capture_output=True, text=True, timeout=30)
+            done = subprocess.run([os.path.join(RELAY, "try"), *UNPROVED, "-p", str(port), place],
+                                  stdin=subprocess.DEVNULL, capture_output=True, text=True, timeout=30)
             assert done.returncode == 1 and why in done.stderr, done
     Client(at.port, "127.0.3.8").log_in("first").close()
+
+
+@test
+def a_trial_takes_as_many_descriptors_as_it_may_need(_at):
+    """Where a process may have few of them, the server and the relay are started with enough for 1,024 connections."""
+    few, wanted = 64, 4096
+    limits = (few, resource.getrlimit(resource.RLIMIT_NOFILE)[1])
+    with tempfile.TemporaryDirectory() as folder:
+        trial = subprocess.Popen([os.path.join(RELAY, "try"), *UNPROVED, "-p", str(free_port()), folder],
+                                 stdin=subprocess.DEVNULL, stdout=subprocess.DEVNULL, stderr=subprocess.DEVNULL,
+                                 preexec_fn=lambda: resource.setrlimit(resource.RLIMIT_NOFILE, limits))
+        try:
+            wait(lambda: os.path.exists(os.path.join(folder, "admin.sock")), 30)
+            with open(f"/proc/{trial.pid}/task/{trial.pid}/children") as children:
+                soft = [resource.prlimit(int(child), resource.RLIMIT_NOFILE)[0] for child in children.read().split()]
+            assert len(soft) >= 2 and min(soft) >= wanted, soft
+        finally:
+            trial.terminate()
+            trial.wait(20)
 
 
 @test

@@ -133,6 +133,39 @@ def a_stop_while_all_talk_leaves_a_legal_journal(folder):
 
 
 @test
+def a_journal_is_audited_and_redacted_as_it_is_written(folder):
+    """By the scripts for administrators, which take off the totals; and by the commands of README."""
+    def said_by(*words, status=0):
+        done = subprocess.run(words, capture_output=True, text=True, timeout=60, cwd=folder,
+                              env={**os.environ, "MURMUR": PROGRAM})
+        assert done.returncode == status, done
+        return done.stdout
+
+    password, secret = "never in a copy", "attack at dawn"
+    with Stoppable(folder, "journal") as server:
+        ann = server.client().log_in("ann", password)
+        ann.send(TEXT_MESSAGE, message((3, 0), (5, secret)))
+        ann.stay(0.5)
+        with ask_to_stop(folder):
+            written, _ = server.process.communicate(timeout=30)
+    assert re.search(r"\nend\nserved connections 1 .*\n$", written), written
+    docs = os.path.join(RELAY, "../docs")
+    copies = {"journal": written}
+    for name in ("journal", "redacted"):
+        with open(os.path.join(folder, name), "w") as file:
+            file.write(copies[name])
+        assert said_by(f"{docs}/audit", name) == "legal controls 3 voices 0 copies 0 full 0\n"
+        copies["redacted"] = said_by(f"{docs}/redact", name)
+    assert copies["redacted"] == said_by(f"{docs}/redact", "redacted")
+    for word in (password, secret):
+        assert word.encode().hex() in copies["journal"] and word.encode().hex() not in copies["redacted"], word
+    with open(os.path.join(RELAY, "../README.md")) as readme:
+        command, answer = re.search(r"^(sed .*docs/audit changed)\n# (.*)$", readme.read(), re.M).groups()
+    command = command.replace("docs/", f"{docs}/").replace("examples/", os.path.join(RELAY, "../examples/"))
+    assert answer in said_by("sh", "-c", command, status=5)
+
+
+@test
 def a_stop_waits_for_nobody(folder):
     # who is too fast, who never reads, who says nothing, who has sent half a frame, and who has no header yet
     port = free_port()

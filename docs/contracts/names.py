@@ -1,0 +1,35 @@
+"""The names in code type of the promises, looked for in the sources."""
+import re
+from functools import cache
+
+from .calls import CLAUSE, types_of
+from .crates import ROOT, brought, crates, files_of, text_of
+
+PROMISES = ROOT / "docs" / "PROMISES.md"
+CODE = re.compile(r"`([\w:/.']+)`")
+ROW = re.compile(r"\| `(mum_\w+)` \|.*\| *(.*) *\|$")
+DECLARED = re.compile(
+    r"\b(?:fn|struct|enum|trait|type|mod|const|static|ghost|pub(?: \w+)*?) ([\w']+)\b(?= *(?:[:(;={<]|$))", re.MULTILINE
+)
+
+
+@cache
+def declared(crate):
+    """The names that the files of a crate declare, bring or quote, and those of the files."""
+    names = {crate, "crates", "src", "specs", "proofs"}
+    for path in [*files_of(crate), *files_of(crate, "specs", "antt"), *files_of(crate, "proofs", "antt")]:
+        text = text_of(path)
+        names.update((path.stem, path.name), brought(path), DECLARED.findall(text), re.findall(r'"(\w+)"', text))
+        names.update(re.findall(r"(\w+) for \w", text), (label.strip() for _, label in CLAUSE.findall(text)))
+    return names.union(*(of.variants for of in types_of(crate).values()))
+
+
+def unknown_names():
+    """The names that no source has; in the row of a crate, those that neither this crate has nor one that it uses."""
+    every = set().union(*map(declared, crates()))
+    for number, line in enumerate(PROMISES.read_text(encoding="utf-8").splitlines(), 1):
+        row = ROW.match(line)
+        known = set().union(*map(declared, [row.group(1), *crates()[row.group(1)]])) if row else every
+        for code in CODE.findall(row.group(2) if row else line):
+            if not (ROOT / code).exists() and any(name not in known for name in re.split("::|/", code)):
+                yield f"docs/PROMISES.md:{number}: no source has {code}"

@@ -1,0 +1,60 @@
+-- What a write makes of a view.
+use Rattle.std.proofs.Common.{◌≡◌, ◌≢◌, ℕ, zero, suc, ◌+◌, ◌≤◌, ◌==◌, Bool, true, false, List, [], ◌∷◌, ◌++◌, length, take, drop, Option, IsTrue, refl, sym, ap, ◌∙◌, arith}
+use Rattle.std.proofs.KnownBytes.{Appends-kept, Appends-nil}
+use Rattle.std.proofs.lemmas.Bool.{eqb-true}
+use Rattle.std.proofs.lemmas.List.{take-append-drop}
+use Rattle.mum_io.specs.Counts.{Counts}
+use Rattle.mum_io.specs.Link.{Appends, Keeps}
+use Rattle.mum_viewer.specs.View.{OpenSteps, ViewFacts}
+use Rattle.mum_viewer.specs.declared.view.Went.TheVariants.{Finished, Wrote}
+
+-- a list whose length is 0 is empty
+pub nothing : (rest : List ℕ) → (length rest == 0) ≡ true → rest ≡ []
+nothing [] e = refl
+nothing (x ∷ rest) e = let zero_long : length (x ∷ rest) ≡ 0 = eqb-true (length (x ∷ rest)) 0 e in absurd (omega (arith, zero_long))
+
+something : (rest : List ℕ) → (length rest == 0) ≡ false → rest ≢ []
+something [] e = absurd (cc e)
+something (x ∷ rest) e = λ none. absurd (cc none)
+
+some_went : (rest : List ℕ) (n : ℕ) → 1 ≤ n → n ≤ length rest → take n rest ≢ []
+some_went rest zero least most = absurd (omega (arith, least))
+some_went [] (suc n) least most = absurd (omega (arith, most))
+some_went (x ∷ rest) (suc n) least most = λ e. absurd (cc e)
+
+module _ {L : Type 0} (counts : L → Counts) (written : L → Option (List ℕ)) (is_shut : L → Bool) where
+  -- all was written before
+  pub ends : (old new : ViewFacts L) → (length old.left == 0) ≡ true → new.left ≡ old.left → Keeps (written old.link) (written new.link)
+      → counts new.link ≡ counts old.link → new.over ≡ true → IsTrue (is_shut new.link) → OpenSteps counts written is_shut old Finished new
+  ends old new none left keeps same over shut = (
+    [],
+    record { left = sym left; appended = Appends-kept (written old.link) (written old.link) (written new.link) [] (Appends-nil (written old.link)) keeps; counted = same },
+    left ∙ nothing old.left none,
+    record { over = over; shut = shut },
+  )
+
+  -- some bytes went
+  pub writes : (old new : ViewFacts L) (n : ℕ) → 1 ≤ n → n ≤ length old.left → new.left ≡ drop n old.left → (length new.left == 0) ≡ false → Appends (written old.link) (written new.link) (take n old.left)
+      → counts new.link ≡ counts old.link → new.over ≡ false → is_shut new.link ≡ is_shut old.link → OpenSteps counts written is_shut old Wrote new
+  writes old new n least most left more appended same over shut = (
+    take n old.left,
+    record { left = sym (take-append-drop n old.left) ∙ ap (λ l. take n old.left ++ l) (sym left); appended = appended; counted = same },
+    some_went old.left n least most,
+    something new.left more,
+    record { over = over; same = shut },
+  )
+
+  -- the last byte went, and the link was shut
+  pub finishes : (old new : ViewFacts L) (mid : L) (n : ℕ) → new.left ≡ drop n old.left → (length new.left == 0) ≡ true → Appends (written old.link) (written mid) (take n old.left)
+      → Keeps (written mid) (written new.link) → counts mid ≡ counts old.link → counts new.link ≡ counts mid → new.over ≡ true → IsTrue (is_shut new.link)
+      → OpenSteps counts written is_shut old Finished new
+  finishes old new mid n left none appended keeps first next over shut = (
+    take n old.left,
+    record {
+      left = sym (take-append-drop n old.left) ∙ ap (λ l. take n old.left ++ l) (sym left);
+      appended = Appends-kept (written old.link) (written mid) (written new.link) (take n old.left) appended keeps;
+      counted = next ∙ first;
+    },
+    nothing new.left none,
+    record { over = over; shut = shut },
+  )

@@ -1,0 +1,10 @@
+use Rattle.std.proofs.Common.{◌≡◌, ◌++◌, ◌∷◌, [], refl, sym, subst}
+use mathlib.Core.List.{IsPrefix}
+use Rattle.mum_published.specs.Calls.{ask_at}
+use Rattle.mum_published.specs.Facts.{PassFacts}
+use Rattle.mum_viewer.specs.Look.{view_ask}
+use Rattle.mum_viewer.proofs.laws.looks_go_on.Goals as goal
+
+pub returns : goal.returns
+returns c = λ old new found looks.
+    subst (λ (pass : PassFacts). IsPrefix old.seen pass.seen × (pass.asks ≡ old.asks ++ ask_at pass.seen view_ask ∷ [])) (sym looks.asked) (looks.met.seen, refl)

@@ -9,9 +9,9 @@ use Rattle.mum_io.specs.declared.door.Accept.{Accept}
 use Rattle.mum_io.specs.declared.door.Accept.TheVariants.{Conn, NotYet, End, Failed}
 use Rattle.mum_published.specs.Facts.{PassFacts}
 use Rattle.mum_viewer.specs.Along.{Along}
-use Rattle.mum_viewer.specs.Turns.{finished_along, finished_in, finished_over, finished_with}
+use Rattle.mum_viewer.specs.Turns.{HasTurned, finished_along, finished_in, finished_over, finished_with}
 use Rattle.mum_viewer.specs.View.{ViewFacts, ViewMoves, counted_by}
-use Rattle.mum_viewer.specs.Viewer.{Asks, IsOpened, ViewerFacts, ViewerTurned, is_not_to_ask}
+use Rattle.mum_viewer.specs.Viewer.{Asks, ViewerFacts, ViewerTurned, is_not_to_ask}
 use Rattle.mum_viewer.specs.Views.{Answers, Takes, ViewsFacts}
 use Rattle.mum_viewer.specs.declared.view.Counted.{Counted}
 use Rattle.mum_viewer.specs.declared.view.Went.{Went}
@@ -76,9 +76,8 @@ module _ {D L : Type 0} (counts : D → Counts) (given : D → ℕ) (link_counts
       let more = finished_over counts given link_counts unread written is_shut mid turns new rest in
       turns_count mid turns new rest ∙ (ap (λ n. given_after_all n more) (turn_counts old turn mid turned) ∙ both old.views.whole first more)
 
-  pub all_counted : (pass : PassFacts) (door : D) (limit : ℕ) (opened : ViewerFacts D L) (turns : List Turn) (viewer : ViewerFacts D L) → IsOpened pass door limit opened
-      → (all : TurnsTo (ViewerTurned counts given link_counts unread written is_shut) opened turns viewer)
-      → viewer.views.whole ≡ given_after_all 0 (finished_over counts given link_counts unread written is_shut opened turns viewer all)
-  all_counted pass door limit opened turns viewer begun all =
-      turns_count opened turns viewer all
-      ∙ ap (λ (v : ViewerFacts D L). given_after_all v.views.whole (finished_over counts given link_counts unread written is_shut opened turns viewer all)) begun
+  pub all_counted : (turns : List Turn) (viewer : ViewerFacts D L) (run : HasTurned counts given link_counts unread written is_shut turns viewer)
+      → viewer.views.whole ≡ given_after_all 0 (finished_over counts given link_counts unread written is_shut run.opened turns viewer run.all)
+  all_counted turns viewer run =
+      turns_count run.opened turns viewer run.all
+      ∙ ap (λ (v : ViewerFacts D L). given_after_all v.views.whole (finished_over counts given link_counts unread written is_shut run.opened turns viewer run.all)) run.opening

@@ -22,9 +22,9 @@ use Rattle.mum_viewer.specs.Along.{Along}
 use Rattle.mum_viewer.specs.Laws.{HasSent, IsOpenView}
 use Rattle.mum_viewer.specs.Look.{Looks, view_ask}
 use Rattle.mum_viewer.specs.Text.{view_text}
-use Rattle.mum_viewer.specs.Turns.{EndWell, IsShown, IsWhole}
+use Rattle.mum_viewer.specs.Turns.{EndWell, HasTurned, IsShown, IsWhole}
 use Rattle.mum_viewer.specs.View.{OpenSteps, ViewFacts, ViewMoves, is_open, new_view}
-use Rattle.mum_viewer.specs.Viewer.{Asks, IsOpened, ViewerFacts, ViewerTurned, is_not_to_ask}
+use Rattle.mum_viewer.specs.Viewer.{Asks, ViewerFacts, ViewerTurned, is_not_to_ask}
 use Rattle.mum_viewer.specs.Views.{Admits, Answers, StepsViews, Takes, ViewsFacts}
 use Rattle.mum_viewer.specs.declared.view.Counted.{Counted}
 use Rattle.mum_viewer.specs.declared.view.Went.{Went}
@@ -184,20 +184,18 @@ module _ {D L : Type 0} (counts : D → Counts) (given : D → ℕ) (link_counts
   turns_shown old [] new same all = same_shown link_counts unread written is_shut old.views new.views (ap (λ (viewer : ViewerFacts D L). viewer.views) same) all
   turns_shown old (turn ∷ turns) new (mid, turned, rest) all = turns_shown mid turns new rest (turn_shown old turn mid turned all)
 
-  pub all_shown : (pass : PassFacts) (door : D) (limit : ℕ) (opened : ViewerFacts D L) (turns : List Turn) (viewer : ViewerFacts D L) → IsOpened pass door limit opened
-      → TurnsTo (ViewerTurned counts given link_counts unread written is_shut) opened turns viewer → AllByRecursion (IsShown written viewer.views.pass) viewer.views.list
-  all_shown pass door limit opened turns viewer begun all =
-      turns_shown opened turns viewer all
-      (subst (λ (v : ViewerFacts D L). AllByRecursion (IsShown written v.views.pass) v.views.list) (sym begun) tt)
+  pub all_shown : (turns : List Turn) (viewer : ViewerFacts D L) → HasTurned counts given link_counts unread written is_shut turns viewer
+      → AllByRecursion (IsShown written viewer.views.pass) viewer.views.list
+  all_shown turns viewer run =
+      turns_shown run.opened turns viewer run.all
+      (subst (λ (v : ViewerFacts D L). AllByRecursion (IsShown written v.views.pass) v.views.list) (sym run.opening) tt)
 
-  pub all_end : (pass : PassFacts) (door : D) (limit : ℕ) (opened : ViewerFacts D L) (turns : List Turn) (old : ViewerFacts D L) (turn : Turn) (new : ViewerFacts D L) → IsOpened pass door limit opened
-      → TurnsTo (ViewerTurned counts given link_counts unread written is_shut) opened turns old
-      → (turned : ViewerTurned counts given link_counts unread written is_shut old turn new) → EndWell link_counts written old.views.pass old.views.list turned.steps.steps.stepped
-  all_end pass door limit opened turns old turn new begun all turned =
-      end_along link_counts unread written is_shut old.views.pass old.views.list turned.steps.steps.stepped (record { whole = old.views.whole; worked = false })
-      (record { whole = turned.between.whole; worked = turned.stepped }) turned.steps.steps.along (all_shown pass door limit opened turns old begun all)
+  pub all_end : (turns : List Turn) (old : ViewerFacts D L) (answer : Turn) (new : ViewerFacts D L) → HasTurned counts given link_counts unread written is_shut turns old
+      → (last : ViewerTurned counts given link_counts unread written is_shut old answer new) → EndWell link_counts written old.views.pass old.views.list last.steps.steps.stepped
+  all_end turns old answer new run last =
+      end_along link_counts unread written is_shut old.views.pass old.views.list last.steps.steps.stepped (record { whole = old.views.whole; worked = false })
+      (record { whole = last.between.whole; worked = last.stepped }) last.steps.steps.along (all_shown turns old run)
 
-  pub all_open : (pass : PassFacts) (door : D) (limit : ℕ) (opened : ViewerFacts D L) (turns : List Turn) (viewer : ViewerFacts D L) → IsOpened pass door limit opened
-      → TurnsTo (ViewerTurned counts given link_counts unread written is_shut) opened turns viewer → AllByRecursion IsOpenView viewer.views.list
-  all_open pass door limit opened turns viewer begun all =
-      all_so (IsShown written viewer.views.pass) IsOpenView viewer.views.list (λ view shown. shown.is_open) (all_shown pass door limit opened turns viewer begun all)
+  pub all_open : (turns : List Turn) (viewer : ViewerFacts D L) → HasTurned counts given link_counts unread written is_shut turns viewer → AllByRecursion IsOpenView viewer.views.list
+  all_open turns viewer run =
+      all_so (IsShown written viewer.views.pass) IsOpenView viewer.views.list (λ view shown. shown.is_open) (all_shown turns viewer run)

@@ -16,7 +16,8 @@ module _ {L : Type 0} (counts : L → Counts) (unread written : L → Option (Li
   -- steps, one after another
   abbrev pub StepsTo : ViewFacts L → List Went → ViewFacts L → Type 0
   StepsTo old [] new = new ≡ old
-  StepsTo old (went ∷ more) new = (mid : ViewFacts L) × ViewSteps counts unread written is_shut old went mid × StepsTo mid more new
+  StepsTo old (went ∷ more) new =
+      (mid : ViewFacts L) × ViewSteps counts unread written is_shut old went mid × StepsTo mid more new
 
 -- its text was taken whole in this step
 abbrev pub is_finished : Went → Bool
@@ -34,4 +35,5 @@ abbrev pub AllStalled : {L : Type 0} → (L → Counts) → List (ViewFacts L) �
 AllStalled counts [] [] = ⊤
 AllStalled counts [] (new ∷ news) = ⊥
 AllStalled counts (old ∷ olds) [] = ⊥
-AllStalled counts (old ∷ olds) (new ∷ news) = Rose (counts old.link).stalls (counts new.link).stalls × AllStalled counts olds news
+AllStalled counts (old ∷ olds) (new ∷ news) =
+    Rose (counts old.link).stalls (counts new.link).stalls × AllStalled counts olds news

@@ -19,7 +19,8 @@ pub record ViewerFacts (D L : Type 0) : Type 0 where
   pub views : ViewsFacts L
   pub limit : ℕ
 
--- the views are the connections that the door gave since the viewer was opened, one by one, and no more than there may be
+-- the views are the connections that the door gave since the viewer was opened, one by one, and no more than there may
+-- be
 pub record IsViewer {L : Type 0} (opening : Opening) (before now : ℕ) (views : ViewsFacts L) (limit : ℕ) : Type 0 where
   pub opening_is : views.pass.opening ≡ opening
   pub gave : now ≡ given_after_all before views.given
@@ -55,7 +56,8 @@ module _ {D L : Type 0} where
   abbrev pub has_ended : ViewerFacts D L → Bool
   has_ended viewer = is_over viewer && (length viewer.views.list == 0)
 
-  module _ (counts : D → Counts) (given : D → ℕ) (link_counts : L → Counts) (unread written : L → Option (List ℕ)) (is_shut : L → Bool) where
+  module _ (counts : D → Counts) (given : D → ℕ) (link_counts : L → Counts)
+      (unread written : L → Option (List ℕ)) (is_shut : L → Bool) where
     -- the door was asked once
     pub record AsksOnce (old : ViewerFacts D L) (worked : Bool) (new : ViewerFacts D L) : Type 0 where
       pub answer : Accept L

@@ -24,10 +24,12 @@ use mum_io::Link;
 /// counted; and the link is shut uncounted only where it failed.
 pub fn views_show_their_text<L: Link>()
     ensures front { (link : L) (text : List ℕ) (steps : List Went) (view : ViewFacts L) →
-        StepsTo L.counts L.left L.written L.is_shut (new_view link text) steps view → HasSent L.written link text view }
+        StepsTo L.counts L.left L.written L.is_shut (new_view link text) steps view →
+        HasSent L.written link text view }
     ensures whole { (link : L) (text : List ℕ) (steps : List Went) (old new : ViewFacts L) →
         StepsTo L.counts L.left L.written L.is_shut (new_view link text) steps old → old.over ≡ false →
-        ViewSteps L.counts L.left L.written L.is_shut old Finished new → Appends (L.written link) (L.written new.link) text }
+        ViewSteps L.counts L.left L.written L.is_shut old Finished new →
+        Appends (L.written link) (L.written new.link) text }
     ensures exactly { (link : L) (state : StateValue) (steps : List Went) (view : ViewFacts L) →
         StepsTo L.counts L.left L.written L.is_shut (new_view link (view_text state)) steps view →
         (view.left ≡ []) ↔ IsTrue (list_any is_finished steps) }

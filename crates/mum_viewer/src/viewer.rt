@@ -74,7 +74,8 @@ impl<D: Entrance, N: Viewing, R: Wait + Copy> Viewer<D, N, R> {
     pub fn open(rt: R, alloc: Global, pass: Pass, door: D, views: u32) -> Result<Viewer<D, N, R>, D>
         requires opening { pass.opening ≡ N.opening }
         requires no_look { pass.asks ≡ [] }
-        requires door { record { counts = D.counts door; given = D.given door; opened_at = D.opened_at door } ≡ N.view }
+        requires door { record { counts = D.counts door; given = D.given door; opened_at = D.opened_at door }
+            ≡ N.view }
         ensures viewer { IfOk result (IsOpened pass door views) }
         ensures door { IfErr result (λ back. back ≡ door) }
     {
@@ -112,7 +113,8 @@ impl<D: Entrance, N: Viewing, R: Wait + Copy> Viewer<D, N, R> {
     // Asks the door once. Answers whether it gave a connection, ended or failed.
     fn ask_once(&mut self) -> bool
         requires { is_not_to_ask self.old ≡ false }
-        ensures { AsksOnce D.counts D.given D.Peer.counts D.Peer.left D.Peer.written D.Peer.is_shut self.old result self.new }
+        ensures { AsksOnce D.counts D.given D.Peer.counts D.Peer.left D.Peer.written D.Peer.is_shut
+            self.old result self.new }
     {
         let answer = self.doorway.ask();
         self.views.take(&self.rt, self.alloc, answer)
@@ -120,7 +122,8 @@ impl<D: Entrance, N: Viewing, R: Wait + Copy> Viewer<D, N, R> {
 
     // Asks the door once, where it may be asked.
     fn ask(&mut self) -> bool
-        ensures asks { Asks D.counts D.given D.Peer.counts D.Peer.left D.Peer.written D.Peer.is_shut self.old result self.new }
+        ensures asks { Asks D.counts D.given D.Peer.counts D.Peer.left D.Peer.written D.Peer.is_shut
+            self.old result self.new }
         ensures limit { self.new.limit ≡ self.old.limit }
     {
         if self.is_not_to_ask() {
@@ -131,7 +134,8 @@ impl<D: Entrance, N: Viewing, R: Wait + Copy> Viewer<D, N, R> {
 
     /// One turn: each open view writes once, and then the door is asked once, where it may be.
     pub fn turn(&mut self) -> Turn
-        ensures turned { ViewerTurned D.counts D.given D.Peer.counts D.Peer.left D.Peer.written D.Peer.is_shut self.old result self.new }
+        ensures turned { ViewerTurned D.counts D.given D.Peer.counts D.Peer.left D.Peer.written D.Peer.is_shut
+            self.old result self.new }
         ensures opening { opening_of N.view self.new.limit ≡ opening_of N.view self.old.limit }
         ensures ended { (result ≡ Turn.Done) ↔ IsTrue (has_ended self.new) }
     {

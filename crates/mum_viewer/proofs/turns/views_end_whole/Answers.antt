@@ -2,6 +2,5 @@ use Rattle.mum_viewer.proofs.Turning.{all_end}
 use Rattle.mum_viewer.proofs.turns.views_end_whole.Goals as goal
 
 pub returns : goal.returns
-returns g c pass door limit opened old new turns answer begun all turned =
-    all_end g.D.Entrance.counts g.D.Entrance.given g.D.Peer.Link.counts g.D.Peer.Link.left g.D.Peer.Link.written g.D.Peer.Link.is_shut pass door limit opened turns
-    old answer new begun all turned
+returns g c turns old new answer run last =
+    all_end g.D.Entrance.counts g.D.Entrance.given g.D.Peer.Link.counts g.D.Peer.Link.left g.D.Peer.Link.written g.D.Peer.Link.is_shut turns old answer new run last

@@ -1,5 +1,5 @@
 -- How many texts were taken whole.
-use Rattle.std.proofs.Common.{◌≡◌, ℕ, zero, suc, ◌+◌, Bool, true, false, List, [], ◌∷◌, Option, Result, Ok, Err, refl, sym, ap, ◌∙◌, arith}
+use Rattle.std.proofs.Common.{◌≡◌, ℕ, zero, suc, ◌+◌, Bool, true, false, List, [], ◌∷◌, Option, Result, Ok, Err, refl, ap, ◌∙◌, arith}
 use Rattle.std.specs.declared.alloc.AllocError.{AllocError}
 use Rattle.mum_crew.specs.Turns.{TurnsTo}
 use Rattle.mum_crew.specs.declared.role.Turn.{Turn}
@@ -7,7 +7,6 @@ use Rattle.mum_doorway.specs.Doors.{given_after_all}
 use Rattle.mum_io.specs.Counts.{Counts, next_count}
 use Rattle.mum_io.specs.declared.door.Accept.{Accept}
 use Rattle.mum_io.specs.declared.door.Accept.TheVariants.{Conn, NotYet, End, Failed}
-use Rattle.mum_published.specs.Facts.{PassFacts}
 use Rattle.mum_viewer.specs.Along.{Along}
 use Rattle.mum_viewer.specs.Turns.{HasTurned, finished_along, finished_in, finished_over, finished_with}
 use Rattle.mum_viewer.specs.View.{ViewFacts, ViewMoves, counted_by}

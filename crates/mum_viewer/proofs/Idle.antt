@@ -1,5 +1,5 @@
 -- Views of which none did anything.
-use Rattle.std.proofs.Common.{◌≡◌, Bool, true, false, not, if◌then◌else◌, List, [], ◌∷◌, filter, Option, ℕ, refl, sym, ap, subst, ◌∙◌}
+use Rattle.std.proofs.Common.{◌≡◌, Bool, false, not, if◌then◌else◌, List, [], ◌∷◌, filter, Option, ℕ, refl, sym, ap, subst, ◌∙◌}
 use Rattle.std.specs.List.{AllByRecursion}
 use Rattle.mum_io.specs.Counts.{Counts, Rose}
 use Rattle.mum_viewer.specs.Along.{Along}

@@ -6,7 +6,7 @@ use Rattle.std.proofs.lemmas.Bool.{or_parts}
 use Rattle.std.specs.List.{list_any}
 use Rattle.std.specs.Prelude.{◌↔◌}
 use Rattle.mum_io.specs.Counts.{Counts, Rose}
-use Rattle.mum_io.specs.Link.{Appends, Keeps}
+use Rattle.mum_io.specs.Link.{Appends}
 use Rattle.mum_state.specs.State.{StateValue}
 use Rattle.serde_json.specs.Written.{compact_text}
 use Rattle.mum_viewer.specs.Laws.{HasSent, StepsTo, is_finished}

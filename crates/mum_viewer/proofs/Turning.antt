@@ -1,5 +1,5 @@
 -- What holds of the open views of a viewer, turn by turn.
-use Rattle.std.proofs.Common.{◌≡◌, ◌≢◌, ◌⊎◌, inl, inr, ℕ, Bool, true, false, not, IsTrue, List, [], ◌∷◌, ◌++◌, filter, length, if◌then◌else◌, Contains, Option, Result, Ok, Err, refl, sym, ap, subst, ◌∙◌}
+use Rattle.std.proofs.Common.{◌≡◌, ◌≢◌, ◌⊎◌, inl, inr, ℕ, Bool, true, false, not, List, [], ◌∷◌, ◌++◌, filter, if◌then◌else◌, Option, Result, Ok, Err, refl, sym, ap, subst, ◌∙◌}
 use mathlib.Core.List.{IsPrefix}
 use Rattle.std.specs.List.{AllByRecursion}
 use Rattle.std.specs.declared.alloc.AllocError.{AllocError}
@@ -15,17 +15,15 @@ use Rattle.mum_io.specs.declared.door.Accept.TheVariants.{Conn, NotYet, End, Fai
 use Rattle.mum_published.proofs.Prefixes.{prefix_self, prefix_trans}
 use Rattle.mum_published.specs.Calls.{ask_at, looked, state_of}
 use Rattle.mum_published.specs.Facts.{PassFacts}
-use Rattle.mum_published.specs.declared.rule.AskAt.{AskAt}
-use Rattle.mum_state.specs.State.{StateValue}
 use Rattle.mum_viewer.proofs.Shown.{open_on, text_not_empty}
 use Rattle.mum_viewer.specs.Along.{Along}
-use Rattle.mum_viewer.specs.Laws.{HasSent, IsOpenView}
+use Rattle.mum_viewer.specs.Laws.{IsOpenView}
 use Rattle.mum_viewer.specs.Look.{Looks, view_ask}
 use Rattle.mum_viewer.specs.Text.{view_text}
 use Rattle.mum_viewer.specs.Turns.{EndWell, HasTurned, IsShown, IsWhole}
 use Rattle.mum_viewer.specs.View.{OpenSteps, ViewFacts, ViewMoves, is_open, new_view}
 use Rattle.mum_viewer.specs.Viewer.{Asks, ViewerFacts, ViewerTurned, is_not_to_ask}
-use Rattle.mum_viewer.specs.Views.{Admits, Answers, StepsViews, Takes, ViewsFacts}
+use Rattle.mum_viewer.specs.Views.{Answers, StepsViews, Takes, ViewsFacts}
 use Rattle.mum_viewer.specs.declared.view.Counted.{Counted}
 use Rattle.mum_viewer.specs.declared.view.Went.{Went}
 use Rattle.mum_viewer.specs.declared.view.Went.TheVariants.{Waits, Wrote, Finished, Broke}

@@ -1,5 +1,5 @@
 -- The viewer, and a turn of it.
-use Rattle.std.specs.Prelude.{◌≡◌, ℕ, ◌<◌, ◌≤◌, ◌^◌, ◌==◌, ◌||◌, ◌&&◌, nat_le, Bool, true, false, List, [], length, Option}
+use Rattle.std.specs.Prelude.{◌≡◌, ℕ, ◌<◌, ◌≤◌, ◌^◌, ◌==◌, ◌||◌, ◌&&◌, nat_le, Bool, true, false, List, length, Option}
 use Rattle.mum_crew.specs.declared.role.Turn.{Turn}
 use Rattle.mum_crew.specs.declared.role.Turn.TheVariants as turns
 use Rattle.mum_doorway.specs.Asking.{DoorwayFacts, failed_by, new_doorway, stopped_by}

@@ -1,4 +1,4 @@
-use Rattle.std.proofs.Common.{◌≤◌, length, filter, arith, ap}
+use Rattle.std.proofs.Common.{length, arith, ap}
 use Rattle.mum_viewer.specs.View.{is_open}
 use Rattle.mum_viewer.proofs.Along.{fewer}
 use Rattle.mum_viewer.proofs.list.step_each.Goals as goal

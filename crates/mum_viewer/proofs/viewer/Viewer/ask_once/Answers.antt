@@ -1,5 +1,4 @@
-use Rattle.std.proofs.Common.{◌≡◌, rules, arith, sym, ap, ◌∙◌}
-use Rattle.mum_viewer.proofs.Answered.{gave_on, may_ask, opening_on, within_on}
+use Rattle.std.proofs.Common.{rules}
 use Rattle.mum_viewer.proofs.viewer.Viewer.ask_once.Goals as goal
 
 pub returns : goal.returns

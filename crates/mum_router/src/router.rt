@@ -191,6 +191,14 @@ impl<N: Naming> Router<N> {
         }
     }
 
+    /// The pass that looks. It is of the opening that the router is named for.
+    pub fn pass(&self) -> &Pass
+        ensures pass { result.now ≡ self.now.pass }
+        ensures opening { result.now.opening ≡ N.opening }
+    {
+        &self.pass
+    }
+
     /// How many edits the pass knows: after a look, those that the look saw.
     pub fn revision(&self) -> u64
         ensures { result ≡ length self.now.pass.known }

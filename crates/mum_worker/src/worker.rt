@@ -319,6 +319,14 @@ impl<L: Link, G: Gate, N: Naming, R: Wait + Copy> Worker<L, G, N, R> {
         self.common.route_packet(speaker, packet, steps)
     }
 
+    /// The pass by which the worker looks. It is of the opening that the worker is named for.
+    pub fn pass(&self) -> &Pass
+        ensures pass { result.now ≡ self.now.common.router.pass }
+        ensures opening { result.now.opening ≡ N.opening }
+    {
+        self.common.router.pass()
+    }
+
     /// What the worker did in all, and its journal.
     pub fn finish(self) -> WorkerEnd
         ensures looks { result.looks ≡ looks_of self.common.router.pass }

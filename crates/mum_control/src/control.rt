@@ -3,6 +3,7 @@
 ghost use Rattle.std.specs.Prelude.{◌≡◌, ◌↔◌, ◌<◌, ◌⊎◌, ◌∷◌, [], IfErr, IfOk, IsTrue, MatchOption, OnErr, OnOk, is_none, length, map};
 ghost use Rattle.std.specs.List.{AllByRecursion};
 ghost use Rattle.std.specs.Vec.{vec_capacity};
+ghost use mathlib.Core.List.{IsPrefix};
 ghost use Rattle.mum_base.specs.declared.number.TheConstants.{SLOTS};
 ghost use Rattle.mum_state.specs.Fits.{fits};
 ghost use Rattle.mum_notify.specs.Notices.{FitsFrame};
@@ -25,7 +26,7 @@ use mum_base::{ChannelId, Mark, Octets, OutOfMemory, Perm, ReplyEnd, SLOTS, Sess
 use mum_history::Twin;
 use mum_notify::{Notice, NoticeQueue};
 use mum_outbox::{Offered, PostBox, PostParcel};
-use mum_published::{Naming, Note, Publisher, Reply};
+use mum_published::{Naming, Note, Pass, Publisher, Reply};
 use mum_session::{Asked, Command, decide, end_of, mark_of, wire_of};
 use mum_state::{Edit, State, Verdict};
 use std::alloc::Global;
@@ -378,6 +379,16 @@ impl<'a, N: Naming> Control<'a, N> {
         ensures note { IfOk result (λ note. note ≡ note_of self.old.publisher) }
     {
         self.publisher.publish(rt)
+    }
+
+    /// Returns once what is published begins with all that a pass of the same `open` saw and learnt, which is at
+    /// once: see `Publisher::has_shown`.
+    pub fn has_shown<R: Wait>(&self, rt: &R, pass: &Pass)
+        requires { pass.now.opening ≡ N.opening }
+        ensures known { IsPrefix pass.now.known self.now.publisher.published }
+        ensures seen { IsPrefix pass.now.seen self.now.publisher.published }
+    {
+        self.publisher.has_shown(rt, pass);
     }
 
     /// Takes the first pending notice. It has a box.

@@ -1,6 +1,7 @@
 //! The owner.
 
 ghost use Rattle.std.specs.Prelude.{◌≡◌, ◌↔◌, ◌<◌, ◌+◌, ◌||◌, [], None, Some, false, IfErr, IfOk, IsTrue, length, map};
+ghost use mathlib.Core.List.{IsPrefix};
 ghost use Rattle.mum_base.specs.declared.number.TheConstants.{CONNECTION_LIMIT};
 ghost use Rattle.mum_control.specs.Commanded.{current};
 ghost use Rattle.mum_io.specs.Counts.{NoneFalls, Rose};
@@ -29,7 +30,7 @@ use mum_doorway::{DoorOpening, Doorway, Entrance};
 use mum_io::Accept;
 use mum_outbox::{Bell, Desk};
 use mum_port::DeskItem;
-use mum_published::{BellItem, Naming, Reply};
+use mum_published::{BellItem, Naming, Pass, Reply};
 use mum_record::ControlEntry;
 use mum_rules_user::UserMessage;
 use mum_session::{Asked, Command};
@@ -609,6 +610,16 @@ impl<'a, D: Entrance, N: Serving, R: Wait + Copy> Owner<'a, D, N, R> {
         let has_ended = self.has_ended();
         let worked = any_of(offered, served, pressed, published, posted, came);
         turn_of(has_ended, worked)
+    }
+
+    /// Returns once what is published begins with all that a pass of the same `open` saw and learnt, which is at
+    /// once: see `Publisher::has_shown`.
+    pub fn has_shown(&self, pass: &Pass)
+        requires { pass.now.opening ≡ N.opening }
+        ensures known { IsPrefix pass.now.known self.now.control.publisher.published }
+        ensures seen { IsPrefix pass.now.seen self.now.control.publisher.published }
+    {
+        self.control.has_shown(&self.rt, pass);
     }
 
     /// The door, the totals, the state after all accepted edits, and the entries of the journal.

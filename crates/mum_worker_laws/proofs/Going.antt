@@ -1,6 +1,6 @@
 -- What turns do to what a router knows, asked and offered.
 use Rattle.std.proofs.Common.{◌≡◌, ◌≢◌, ◌==◌, ◌∙◌, ℕ, zero, suc, Bool, true, false, true≢false, List, [], ◌∷◌, ◌++◌, map, Option, Some, None, refl, ap, sym, subst, inl, inr, arith, append_assoc}
-use Rattle.std.specs.Prelude.{slice_get, slice_set, All}
+use Rattle.std.specs.Prelude.{⊤, slice_get, slice_set, All}
 use Rattle.std.specs.List.{AllPairs, FoldsTo, cons_option, filter_map, flat_map}
 use Rattle.std.proofs.lemmas.Bool.{eq-eqb, eqb-true}
 use Rattle.std.proofs.lemmas.Grind.{flat_map-append}
@@ -99,7 +99,7 @@ delivered slot speaker packet (d ∷ ds) outs after done =
 
 -- ---- lists
 
-all_on : {X : Type 0} (P Q : X → Type 0) → ((x : X) → P x → Q x) → (xs : List X) → All P xs → All Q xs
+pub all_on : {X : Type 0} (P Q : X → Type 0) → ((x : X) → P x → Q x) → (xs : List X) → All P xs → All Q xs
 all_on P Q so xs all k d within = so _ (all k d within)
 
 pairs_nil : {X : Type 0} (R : X → X → Type 0) → AllPairs R []
@@ -111,7 +111,7 @@ pairs_head R x xs pairs k d within = pairs 0 (suc k) d (omega arith) (omega (ari
 pairs_tail : {X : Type 0} (R : X → X → Type 0) (x : X) (xs : List X) → AllPairs R (x ∷ xs) → AllPairs R xs
 pairs_tail R x xs pairs i j d below within = pairs (suc i) (suc j) d (omega (arith, below)) (omega (arith, within))
 
-all_tail : {X : Type 0} (P : X → Type 0) (x : X) (xs : List X) → All P (x ∷ xs) → All P xs
+pub all_tail : {X : Type 0} (P : X → Type 0) (x : X) (xs : List X) → All P (x ∷ xs) → All P xs
 all_tail P x xs all k d within = all (suc k) d (omega (arith, within))
 
 pairs_join : {X : Type 0} (R : X → X → Type 0) (P Q : X → Type 0) → ((x y : X) → P x → Q y → R x y)
@@ -127,6 +127,11 @@ pairs_join R P Q both (x ∷ xs) ys pairs all others rest =
 abbrev IsKnown : List Edit → Moment → Type 0
 IsKnown known moment = IsPrefix (edits_of moment) known
 
+-- a look of the pass: what it saw begins what is seen and what is known
+abbrev pub IsSeen : PassFacts → Moment → Type 0
+IsSeen pass (Told reply) = ⊤
+IsSeen pass (Looked look) = IsPrefix look.edits pass.seen × IsPrefix look.edits pass.known
+
 -- these moments lead from this router to that
 pub record Goes (opening : Opening) (old new : RouterFacts) (moments : List Moment) : Type 0 where
   pub asks : new.pass.asks ≡ old.pass.asks ++ map ask_made (looks_in moments)
@@ -137,6 +142,9 @@ pub record Goes (opening : Opening) (old new : RouterFacts) (moments : List Mome
   pub copies : (slot : ℕ) → copies_at slot new.outs ≡ copies_at slot old.outs ++ flat_map (copies_made slot) (looks_in moments)
   pub opened : new.pass.opening ≡ old.pass.opening
   pub sees : old.pass.opening ≡ opening → SeesEach opening (kept_of old) (packets_in moments) (kept_of new)
+  -- what begins the edits that were seen and known begins those that are seen
+  pub keeps : (edits : List Edit) → IsPrefix edits old.pass.seen → IsPrefix edits old.pass.known → IsPrefix edits new.pass.seen
+  pub looked : All (IsSeen new.pass) moments
 
 stays : (opening : Opening) (old new : RouterFacts) → new ≡ old → Goes opening old new []
 stays opening old new same = record {
@@ -148,6 +156,8 @@ stays opening old new same = record {
   copies = λ slot. ap (λ (r : RouterFacts). copies_at slot r.outs) same ∙ sym (append-nil (copies_at slot old.outs));
   opened = ap (λ (r : RouterFacts). r.pass.opening) same;
   sees = λ opened. ap kept_of same;
+  keeps = λ edits seen known. subst (λ (r : RouterFacts). IsPrefix edits r.pass.seen) (sym same) seen;
+  looked = All-nil (IsSeen new.pass);
 }
 
 one_pair : (moment : Moment) → AllPairs Follows (moment ∷ [])
@@ -192,6 +202,8 @@ told opening reply old new learns =
       copies = λ slot. ap (λ (os : Outs). copies_at slot os) facts.outs ∙ sym (append-nil (copies_at slot old.outs));
       opened = facts.opening;
       sees = λ opened. facts.kept;
+      keeps = λ edits seen known. subst (λ (k : Kept). IsPrefix edits k.seen) (sym facts.kept) seen;
+      looked = All-cons (IsSeen new.pass) (Told reply) [] tt (All-nil (IsSeen new.pass));
     }
 
 -- ---- a look
@@ -201,6 +213,7 @@ saw : (opening : Opening) (connection : ℕ) (old : RouterFacts) (speaker : Sess
     → Goes opening old new (Looked (record { connection = connection; speaker = speaker; packet = packet; edits = edits; deliveries = deliveries }) ∷ [])
 saw opening connection old speaker packet edits deliveries new routed routes =
     let look : Look = record { connection = connection; speaker = speaker; packet = packet; edits = edits; deliveries = deliveries } in
+    let seen : new.pass.seen ≡ edits = ap (λ (r : RouterFacts). r.pass.seen) routes.router in
     let known : new.pass.known ≡ edits = ap (λ (r : RouterFacts). r.pass.known) routes.router in record {
       asks = ap (λ (r : RouterFacts). r.pass.asks) routes.router;
       knows = subst (λ (l : List Edit). IsPrefix old.pass.known l) (sym known) routes.may.known;
@@ -211,6 +224,11 @@ saw opening connection old speaker packet edits deliveries new routed routes =
           ∙ ap (λ (l : List VoiceParcel). copies_at slot old.outs ++ l) (sym (append-nil (copies_made slot look)));
       opened = ap (λ (r : RouterFacts). r.pass.opening) routes.router;
       sees = λ opened. (kept_of new, sees_of opening old (routed_packet look) deliveries new routed opened routes, refl);
+      keeps = λ begin seen_before known_before. subst (λ (l : List Edit). IsPrefix begin l) (sym seen)
+          (prefix_trans begin old.pass.known edits known_before routes.may.known);
+      looked = All-cons (IsSeen new.pass) (Looked look) []
+          (subst (λ (l : List Edit). IsPrefix edits l) (sym seen) (prefix_self edits), subst (λ (l : List Edit). IsPrefix edits l) (sym known) (prefix_self edits))
+          (All-nil (IsSeen new.pass));
     }
 
 -- ---- one thing after another
@@ -218,6 +236,11 @@ saw opening connection old speaker packet edits deliveries new routed routes =
 sees_more : (some more : List Edit) → IsPrefix some more → (moment : Moment) → SeesFrom more moment → SeesFrom some moment
 sees_more some more front (Told reply) sees = tt
 sees_more some more front (Looked look) sees = prefix_trans some more look.edits front sees
+
+seen_on : (mid new : PassFacts) → ((edits : List Edit) → IsPrefix edits mid.seen → IsPrefix edits mid.known → IsPrefix edits new.seen)
+    → IsPrefix mid.known new.known → (moment : Moment) → IsSeen mid moment → IsSeen new moment
+seen_on mid new keeps knows (Told reply) seen = tt
+seen_on mid new keeps knows (Looked look) (seen, known) = (keeps look.edits seen known, prefix_trans look.edits mid.known new.known known knows)
 
 asks_join : (ms ns : List Moment) → map ask_made (looks_in (ms ++ ns)) ≡ map ask_made (looks_in ms) ++ map ask_made (looks_in ns)
 asks_join ms ns = ap (λ (l : List Look). map ask_made l) (filter_map-append look_in ms ns) ∙ map-append ask_made (looks_in ms) (looks_in ns)
@@ -247,6 +270,9 @@ goes_on opening old mid new ms ns one other = record {
   opened = other.opened ∙ one.opened;
   sees = λ opened. subst (λ (packets : List RoutedPacket). SeesEach opening (kept_of old) packets (kept_of new)) (sym (packets_join ms ns))
       (sees_append opening (packets_in ms) (packets_in ns) (kept_of old) (kept_of mid) (kept_of new) (one.sees opened) (other.sees (one.opened ∙ opened)));
+  keeps = λ edits seen known. other.keeps edits (one.keeps edits seen known) (prefix_trans edits old.pass.known mid.pass.known known one.knows);
+  looked = All-append (IsSeen new.pass) ms ns
+      (all_on (IsSeen mid.pass) (IsSeen new.pass) (λ m seen. seen_on mid.pass new.pass other.keeps other.knows m seen) ms one.looked) other.looked;
 }
 
 -- ---- the step of a port

@@ -9,5 +9,6 @@ mod Lasting
 mod LinkEnds
 mod Own
 mod Speaking
-mod Waiting
 mod Voices
+mod Waiting
+mod Within

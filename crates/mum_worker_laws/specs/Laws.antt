@@ -1,5 +1,5 @@
 -- The turns of a worker, one after another, and what came of them.
-use Rattle.std.specs.Prelude.{◌≡◌, ◌==◌, ⊤, ℕ, Bool, true, false, List, [], ◌∷◌, ◌++◌, map, slice_get, Option, Some, None}
+use Rattle.std.specs.Prelude.{◌≡◌, ◌==◌, ◌⊎◌, ⊤, ℕ, Bool, true, false, List, [], ◌∷◌, ◌++◌, map, slice_get, Option, Some, None}
 use mathlib.Core.Logic.{inl, inr}
 use Rattle.std.specs.List.{filter_map}
 use mathlib.Core.List.{IsPrefix}
@@ -87,6 +87,10 @@ SeesFrom edits (Looked look) = IsPrefix edits look.edits
 -- what was told or seen before begins what a look sees
 abbrev pub Follows : Moment → Moment → Type 0
 Follows before after = SeesFrom (edits_of before) after
+
+-- one of the two lists goes on from the other
+abbrev pub AreOfOneList : List Edit → List Edit → Type 0
+AreOfOneList edits others = IsPrefix edits others ⊎ IsPrefix others edits
 
 -- ---- the copies
 

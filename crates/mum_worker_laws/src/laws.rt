@@ -3,14 +3,16 @@
 
 ghost use Rattle.std.specs.Prelude.{◌≡◌, ◌++◌, ℕ, Bool, List, Option, Some, map};
 ghost use Rattle.std.specs.List.{All, AllPairs, filter_map, flat_map};
+ghost use mathlib.Core.List.{IsPrefix};
 ghost use Rattle.mum_crew.specs.declared.role.Turn.{Turn};
 ghost use Rattle.mum_published.specs.Facts.{Opening, PassFacts};
 ghost use Rattle.mum_router.specs.Laws.{HaveEntries};
 ghost use Rattle.mum_state.specs.Proper.{IsProper};
+ghost use Rattle.mum_state.specs.declared.edit.Edit.{Edit};
 ghost use Rattle.mum_worker.specs.Facts.{WorkerFacts};
 ghost use Rattle.mum_worker.specs.Opening.{HasOpened};
 ghost use Rattle.mum_worker.specs.Turning.{Turned};
-ghost use Rattle.mum_worker_laws.specs.Laws.{Follows, SeesFrom, TurnsTo, ask_made, copies_at, copies_made, history, looks_in, moments_of, packets_in};
+ghost use Rattle.mum_worker_laws.specs.Laws.{AreOfOneList, Follows, SeesFrom, TurnsTo, ask_made, copies_at, copies_made, history, looks_in, moments_of, packets_in};
 ghost use Rattle.mum_worker_laws.specs.Voices.{talk_in, talk_made};
 
 use mum_io::Link;
@@ -47,6 +49,35 @@ pub fn later_looks_see_more<L: Link>()
         (opened worker : WorkerFacts L) (turns : List Turn) → HasOpened number pass journal opened →
         (all : TurnsTo L.counts L.left L.written L.is_shut opening opened turns worker) →
         All (SeesFrom pass.known) (history L.counts L.left L.written L.is_shut opening opened turns worker all) }
+{}
+
+/// Each packet is routed at a beginning of the list of edits that the worker's pass saw last, from any moment of a
+/// worker on.
+pub fn looks_are_within<L: Link>()
+    ensures { (opening : Opening) (old worker : WorkerFacts L) (turns : List Turn) →
+        (all : TurnsTo L.counts L.left L.written L.is_shut opening old turns worker) →
+        All (λ look. IsPrefix look.edits worker.common.router.pass.seen)
+        (looks_in (history L.counts L.left L.written L.is_shut opening old turns worker all)) }
+{}
+
+/// Where what the passes of workers saw last are beginnings of one list, as of what is published, all of these workers
+/// routed by that list.
+pub fn looks_are_of_one_list<L: Link>()
+    // Each packet is routed at a beginning of it.
+    ensures begins { (opening : Opening) (old worker : WorkerFacts L) (turns : List Turn) (published : List Edit) →
+        (all : TurnsTo L.counts L.left L.written L.is_shut opening old turns worker) →
+        IsPrefix worker.common.router.pass.seen published →
+        All (λ look. IsPrefix look.edits published)
+        (looks_in (history L.counts L.left L.written L.is_shut opening old turns worker all)) }
+    // Of two packets, of one worker or of two, the list of one goes on from that of the other.
+    ensures pairs { (opening : Opening) (old worker second other : WorkerFacts L) (turns others : List Turn)
+        (published : List Edit) →
+        (all : TurnsTo L.counts L.left L.written L.is_shut opening old turns worker) →
+        (rest : TurnsTo L.counts L.left L.written L.is_shut opening second others other) →
+        IsPrefix worker.common.router.pass.seen published → IsPrefix other.common.router.pass.seen published →
+        All (λ look. All (λ next. AreOfOneList look.edits next.edits)
+        (looks_in (history L.counts L.left L.written L.is_shut opening second others other rest)))
+        (looks_in (history L.counts L.left L.written L.is_shut opening old turns worker all)) }
 {}
 
 /// Copies are offered to a box in the order of the looks: what was sent to the voice box of a slot is, in order, the

@@ -7,6 +7,7 @@ use Rattle.mum_base.specs.declared.number.SessionId.{SessionId}
 use Rattle.mum_base.specs.declared.number.TheConstants.{CONNECTION_LIMIT}
 use Rattle.mum_control.specs.Commanded.{Commanded, Decides, current}
 use Rattle.mum_control.specs.Facts.{ControlFacts, ReplyFacts}
+use Rattle.mum_crew.specs.Turns.{TurnsTo}
 use Rattle.mum_crew.specs.declared.role.Turn.{Turn}
 use Rattle.mum_io.specs.Counts.{Counts}
 use Rattle.mum_port.specs.declared.item.DeskItem.{DeskItem}
@@ -17,8 +18,9 @@ use Rattle.mum_state.specs.declared.verdict.Verdict.{Verdict}
 use Rattle.mum_state.specs.declared.verdict.Verdict.TheVariants.{Accepted, Lacks, Refused, Rejected, Answer, Ignored}
 use Rattle.mum_owner.specs.Facts.{KeptFacts, OwnerFacts}
 use Rattle.mum_owner.specs.Guests.{is_of, owned, session_of}
-use Rattle.mum_owner.specs.Laws.{TurnsTo, connections_of, connections_settled, leave_where, listed, made, one_login, replies_made, settled, settled_by, settled_going, settled_leaving, settled_of, settled_owned, settled_pending, settled_taking, settled_where}
+use Rattle.mum_owner.specs.Laws.{connections_of, connections_settled, leave_where, listed, made, one_login, replies_made, settled, settled_by, settled_going, settled_leaving, settled_of, settled_owned, settled_pending, settled_taking, settled_where}
 use Rattle.mum_owner.specs.Serving.{GivesOwned, GoesWhere, IsGiven, LeaveIsGiven, LeavesWhere, PendsWhere, ReceivesBy, ReceivesItem, ReceivesOwned, ServesDesk, ServesWhere, TakesWhere, kept_after, leave_of, may_go, must_wait, with_pass}
+use Rattle.mum_owner.specs.Turned.{OwnerTurned}
 use Rattle.mum_owner.specs.Written.{is_leave, is_login}
 use Rattle.mum_owner.specs.declared.desk.TheConstants.{PENDING_LIMIT}
 use Rattle.mum_owner.specs.declared.guests.Guest.{Guest}
@@ -152,7 +154,7 @@ module _ {D : Type 0} where
   desk_answered old worked new serves = where_answered (is_some old.kept.reply) old worked new serves refl
 
 module _ {D : Type 0} (L : Type 0) (counts : D → Counts) (given : D → ℕ) where
-  pub all_answered : (old : OwnerFacts D) (turns : List Turn) (new : OwnerFacts D) (all : TurnsTo L counts given old turns new)
+  pub all_answered : (old : OwnerFacts D) (turns : List Turn) (new : OwnerFacts D) (all : TurnsTo (OwnerTurned L counts given) old turns new)
       → map connection_of (replies_made L counts given old turns new all) ≡ connections_settled L counts given old turns new all
   all_answered old [] new all = refl
   all_answered old (turn ∷ turns) new all =

@@ -8,6 +8,7 @@ use Rattle.std.proofs.lemmas.List.Elements.{filter-append, filter_map-append}
 use Rattle.mum_base.specs.declared.number.TheConstants.{CONNECTION_LIMIT}
 use Rattle.atomic_table.specs.Seated.{TableId}
 use Rattle.mum_control.specs.Facts.{ControlFacts}
+use Rattle.mum_crew.specs.Turns.{TurnsTo}
 use Rattle.mum_crew.specs.declared.role.Turn.{Turn}
 use Rattle.mum_io.specs.Counts.{Counts}
 use Rattle.mum_outbox.specs.Calls.{Takes}
@@ -15,7 +16,6 @@ use Rattle.mum_outbox.specs.Facts.{PassFacts}
 use Rattle.mum_outbox.specs.declared.parcel.TheConstants.{DESK_CAPACITY}
 use Rattle.mum_port.specs.declared.item.DeskItem.{DeskItem}
 use Rattle.mum_port.specs.declared.item.DeskItem.TheVariants as items
-use Rattle.mum_rules_user.specs.declared.message.UserMessage.{UserMessage}
 use Rattle.mum_rules_user.specs.declared.message.UserMessage.TheVariants.{Join, Kick, Leave, Query, Target, Text}
 use Rattle.mum_rules_user.specs.declared.message.UserMessage.TheVariants as about
 use Rattle.mum_session.specs.declared.command.Asked.{Asked}
@@ -23,7 +23,7 @@ use Rattle.mum_session.specs.declared.command.Asked.TheVariants.{Tree, User}
 use Rattle.mum_session.specs.declared.command.Command.{Command}
 use Rattle.mum_owner.specs.Facts.{DeskFacts, OwnerFacts}
 use Rattle.mum_owner.specs.Guests.{owned}
-use Rattle.mum_owner.specs.Laws.{Settled, TurnsTo, command_in, commands_given, commands_owned, commands_settled, commands_taken, is_other, items_taken, leave_in, leave_where, leaves_decided, listed, one_login, settled, settled_by, settled_going, settled_leaving, settled_of, settled_owned, settled_pending, settled_taking, settled_where}
+use Rattle.mum_owner.specs.Laws.{Settled, command_in, commands_given, commands_owned, commands_settled, commands_taken, is_other, items_taken, leave_in, leave_where, leaves_decided, listed, one_login, settled, settled_by, settled_going, settled_leaving, settled_of, settled_owned, settled_pending, settled_taking, settled_where}
 use Rattle.mum_owner.specs.Opened.{IsOpened}
 use Rattle.mum_owner.specs.Serving.{GivesOwned, GivesWaiting, GoesWhere, IsGiven, LeaveIsGiven, LeavesWhere, PendsWhere, ReceivesBy, ReceivesItem, ReceivesOwned, ServesDesk, ServesWhere, TakesWhere, leave_after, may_go, must_wait, with_pass}
 use Rattle.mum_owner.specs.Turned.{AsksWhere, OwnerTurned, is_not_to_ask, is_over}
@@ -457,7 +457,7 @@ module _ {D : Type 0} (L : Type 0) (counts : D → Counts) (given : D → ℕ) w
       (commands ++ what.commands) (done ++ (what.commands ++ what.dropped)) (decided ++ what.leaves) (ap (λ (d : DeskFacts). d.leave) after.0) after.1
       (desk_served t.after_offers t.served t.after_desk t.serves taken commands done decided offered)
 
-  all_served : (old : OwnerFacts D) (turns : List Turn) (new : OwnerFacts D) (all : TurnsTo L counts given old turns new) (taken commands done : List Command) (decided : List ℕ)
+  all_served : (old : OwnerFacts D) (turns : List Turn) (new : OwnerFacts D) (all : TurnsTo (OwnerTurned L counts given) old turns new) (taken commands done : List Command) (decided : List ℕ)
       → IsServed old.desk.leave old.logins taken commands done decided
       → IsServed new.desk.leave new.logins (taken ++ commands_owned L counts given old turns new all) (commands ++ commands_given L counts given old turns new all)
       (done ++ commands_settled L counts given old turns new all) (decided ++ leaves_decided L counts given old turns new all)
@@ -481,7 +481,7 @@ module _ {D : Type 0} (L : Type 0) (counts : D → Counts) (given : D → ℕ) w
       (all_served all.0 turns new all.2 (taken ++ own) (commands ++ what.commands) (done ++ (what.commands ++ what.dropped)) (decided ++ what.leaves)
       (turned_served old turn all.0 t taken commands done decided served)))))
 
-  all_taken : (old : OwnerFacts D) (turns : List Turn) (new : OwnerFacts D) (all : TurnsTo L counts given old turns new)
+  all_taken : (old : OwnerFacts D) (turns : List Turn) (new : OwnerFacts D) (all : TurnsTo (OwnerTurned L counts given) old turns new)
       → filter_map command_in (items_taken new.desk) ≡ filter_map command_in (items_taken old.desk) ++ commands_taken L counts given old turns new all
   all_taken old [] new all = none_taken old new (ap (λ (o : OwnerFacts D). items_taken o.desk) all)
   all_taken old (turn ∷ turns) new all =
@@ -497,7 +497,7 @@ module _ {D : Type 0} (L : Type 0) (counts : D → Counts) (given : D → ℕ) w
 
   -- from the opening on
   pub given_once : (control : ControlFacts) (door : D) (connections : ℕ) (journal : Bool) (queues : List TableId) (opened owner : OwnerFacts D) (turns : List Turn)
-      → IsOpened control door connections journal queues opened → (all : TurnsTo L counts given opened turns owner)
+      → IsOpened control door connections journal queues opened → (all : TurnsTo (OwnerTurned L counts given) opened turns owner)
       → IsServed owner.desk.leave owner.logins (commands_owned L counts given opened turns owner all) (commands_given L counts given opened turns owner all)
       (commands_settled L counts given opened turns owner all) (leaves_decided L counts given opened turns owner all)
   given_once control door connections journal queues opened owner turns new all =
@@ -510,7 +510,7 @@ module _ {D : Type 0} (L : Type 0) (counts : D → Counts) (given : D → ℕ) w
         are_logins = subst AreLogins (sym logins) tt;
       })
 
-  pub taken_once : (opened owner : OwnerFacts D) (turns : List Turn) → opened.desk.pass.taken ≡ [] → (all : TurnsTo L counts given opened turns owner)
+  pub taken_once : (opened owner : OwnerFacts D) (turns : List Turn) → opened.desk.pass.taken ≡ [] → (all : TurnsTo (OwnerTurned L counts given) opened turns owner)
       → filter_map command_in (items_taken owner.desk) ≡ commands_taken L counts given opened turns owner all
   taken_once opened owner turns none all =
       all_taken opened turns owner all

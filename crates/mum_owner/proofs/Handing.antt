@@ -6,6 +6,7 @@ use Rattle.std.proofs.lemmas.List.{append-nil}
 use Rattle.std.proofs.lemmas.List.Elements.{filter-append}
 use Rattle.atomic_table.specs.Seated.{TableId}
 use Rattle.mum_control.specs.Facts.{ControlFacts, ReplyFacts}
+use Rattle.mum_crew.specs.Turns.{TurnsTo}
 use Rattle.mum_crew.specs.declared.role.Turn.{Turn}
 use Rattle.mum_io.specs.Counts.{Counts, next_count}
 use Rattle.mum_io.specs.Door.{given_after}
@@ -17,7 +18,7 @@ use Rattle.mum_doorway.specs.Doors.{given_after_all}
 use Rattle.mum_doorway.specs.Asking.{DoorwayFacts}
 use Rattle.mum_owner.specs.Facts.{GuestsFacts, KeptFacts, OwnerFacts}
 use Rattle.mum_owner.specs.Guests.{has_room}
-use Rattle.mum_owner.specs.Laws.{TurnsTo, answered, handed, is_of_worker, listed, made, numbers, puts_at, replies_made}
+use Rattle.mum_owner.specs.Laws.{answered, handed, is_of_worker, listed, made, numbers, puts_at, replies_made}
 use Rattle.mum_owner.specs.Opened.{IsOpened}
 use Rattle.mum_owner.specs.Serving.{ServesDesk}
 use Rattle.mum_owner.specs.Turned.{AsksWhere, Offered, OwnerTurned, guests_by, is_not_to_ask, is_over, kept_by}
@@ -229,7 +230,7 @@ module _ {D : Type 0} (L : Type 0) (counts : D → Counts) (given : D → ℕ) w
       subst (λ (o : OwnerFacts D). Hands place workers o more) (sym t.ends)
       (ended_hands (is_over t.after_door && is_none t.after_door.kept.coming) place workers t.after_door more six)
 
-  all_hands : (place workers : ℕ) (old : OwnerFacts D) (turns : List Turn) (new : OwnerFacts D) (all : TurnsTo L counts given old turns new) (replies : List ReplyFacts) → 0 < workers
+  all_hands : (place workers : ℕ) (old : OwnerFacts D) (turns : List Turn) (new : OwnerFacts D) (all : TurnsTo (OwnerTurned L counts given) old turns new) (replies : List ReplyFacts) → 0 < workers
       → Hands place workers old replies → Hands place workers new (replies ++ replies_made L counts given old turns new all)
   all_hands place workers old [] new all replies some hands =
       subst (λ (l : List ReplyFacts). Hands place workers new l) (sym (append-nil replies)) (subst (λ (o : OwnerFacts D). Hands place workers o replies) (sym all) hands)
@@ -258,7 +259,7 @@ module _ {D : Type 0} (L : Type 0) (counts : D → Counts) (given : D → ℕ) w
 
   -- from the opening on
   pub handed_once : (control : ControlFacts) (door : D) (connections place : ℕ) (journal : Bool) (queues : List TableId) (opened owner : OwnerFacts D) (turns : List Turn) → 0 < length queues
-      → IsOpened control door connections journal queues opened → (all : TurnsTo L counts given opened turns owner)
+      → IsOpened control door connections journal queues opened → (all : TurnsTo (OwnerTurned L counts given) opened turns owner)
       → Hands place (length queues) owner (replies_made L counts given opened turns owner all)
   handed_once control door connections place journal queues opened owner turns some new all =
       all_hands place (length queues) opened turns owner all [] some (new_hands control door connections place journal queues opened new)
@@ -295,13 +296,13 @@ module _ {D : Type 0} (L : Type 0) (counts : D → Counts) (given : D → ℕ) w
       same_count before t.after_door new (ap (λ (o : OwnerFacts D). o.doorway) t.ends ∙ ended_door over t.after_door)
       (ap (λ (o : OwnerFacts D). o.guests.given) t.ends ∙ ap (λ (g : GuestsFacts). g.given) (ended_guests over t.after_door)) six
 
-  all_counted : (before : ℕ) (old : OwnerFacts D) (turns : List Turn) (new : OwnerFacts D) → TurnsTo L counts given old turns new → IsCounted before old → IsCounted before new
+  all_counted : (before : ℕ) (old : OwnerFacts D) (turns : List Turn) (new : OwnerFacts D) → TurnsTo (OwnerTurned L counts given) old turns new → IsCounted before old → IsCounted before new
   all_counted before old [] new all counted = subst (λ (o : OwnerFacts D). IsCounted before o) (sym all) counted
   all_counted before old (turn ∷ turns) new all counted = all_counted before all.0 turns new all.2 (turned_count before old turn all.0 all.1 counted)
 
   -- from the opening on
   pub counted_from : (control : ControlFacts) (door : D) (connections : ℕ) (journal : Bool) (queues : List TableId) (opened owner : OwnerFacts D) (turns : List Turn)
-      → IsOpened control door connections journal queues opened → TurnsTo L counts given opened turns owner → given owner.doorway.door ≡ given_after_all (given door) owner.guests.given
+      → IsOpened control door connections journal queues opened → TurnsTo (OwnerTurned L counts given) opened turns owner → given owner.doorway.door ≡ given_after_all (given door) owner.guests.given
   counted_from control door connections journal queues opened owner turns new all =
       all_counted (given door) opened turns owner all
       (ap (λ (o : OwnerFacts D). given o.doorway.door) new ∙ ap (λ (o : OwnerFacts D). given_after_all (given door) o.guests.given) (sym new))

@@ -6,12 +6,13 @@ use Rattle.std.proofs.lemmas.List.Elements.{All-append, All-cons}
 use Rattle.std.proofs.lemmas.List.Kept.{AllPairs-cons}
 use Rattle.atomic_table.specs.Seated.{TableId}
 use Rattle.mum_control.specs.Facts.{ControlFacts}
+use Rattle.mum_crew.specs.Turns.{TurnsTo}
 use Rattle.mum_crew.specs.declared.role.Turn.{Turn}
 use Rattle.mum_io.specs.Counts.{Counts}
 use Rattle.mum_io.specs.declared.door.Accept.{Accept}
 use Rattle.mum_io.specs.declared.door.Accept.TheVariants as accepted
 use Rattle.mum_owner.specs.Facts.{GuestsFacts, OwnerFacts}
-use Rattle.mum_owner.specs.Laws.{TurnsTo, lags_made, listed, made}
+use Rattle.mum_owner.specs.Laws.{lags_made, listed, made}
 use Rattle.mum_owner.specs.Opened.{IsOpened}
 use Rattle.mum_owner.specs.Turned.{AsksWhere, OwnerTurned, guests_by, is_not_to_ask, is_over}
 use Rattle.mum_owner.specs.declared.guests.Guest.{Guest}
@@ -158,7 +159,7 @@ module _ {D : Type 0} (L : Type 0) (counts : D → Counts) (given : D → ℕ) w
         (ap (λ (o : OwnerFacts D). o.guests) t.ends ∙ ended_by (is_over t.after_door && is_none t.after_door.kept.coming) t.after_door))
 
   -- none is made any more for a connection for which one was made
-  never_again : (connection : ℕ) (old : OwnerFacts D) (turns : List Turn) (new : OwnerFacts D) (all : TurnsTo L counts given old turns new)
+  never_again : (connection : ℕ) (old : OwnerFacts D) (turns : List Turn) (new : OwnerFacts D) (all : TurnsTo (OwnerTurned L counts given) old turns new)
       → HasLagged connection old.guests → All (IsOther connection) (lags_made L counts given old turns new all)
   never_again connection old [] new all has = none_other connection
   never_again connection old (turn ∷ turns) new all has =
@@ -173,7 +174,7 @@ module _ {D : Type 0} (L : Type 0) (counts : D → Counts) (given : D → ℕ) w
       (others_made connection t.after_publish t.after_post at_post (post old turn all.0 t).lags)
       (never_again connection all.0 turns new all.2 at_end))
 
-  once_each : (old : OwnerFacts D) (turns : List Turn) (new : OwnerFacts D) (all : TurnsTo L counts given old turns new) → WereGiven old.guests
+  once_each : (old : OwnerFacts D) (turns : List Turn) (new : OwnerFacts D) (all : TurnsTo (OwnerTurned L counts given) old turns new) → WereGiven old.guests
       → AllPairs AreTwo (lags_made L counts given old turns new all)
   once_each old [] new all were = none_two
   once_each old (turn ∷ turns) new all were =
@@ -198,7 +199,7 @@ module _ {D : Type 0} (L : Type 0) (counts : D → Counts) (given : D → ℕ) w
 
   -- from the opening on
   pub lags_once : (control : ControlFacts) (door : D) (connections : ℕ) (journal : Bool) (queues : List TableId) (opened owner : OwnerFacts D) (turns : List Turn)
-      → IsOpened control door connections journal queues opened → (all : TurnsTo L counts given opened turns owner)
+      → IsOpened control door connections journal queues opened → (all : TurnsTo (OwnerTurned L counts given) opened turns owner)
       → AllPairs (λ one other. one.connection ≢ other.connection) (lags_made L counts given opened turns owner all)
   lags_once control door connections journal queues opened owner turns new all =
       once_each opened turns owner all (subst (λ (g : GuestsFacts). WereGiven g) (sym (ap (λ (o : OwnerFacts D). o.guests) new)) tt)

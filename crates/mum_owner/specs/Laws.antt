@@ -1,8 +1,9 @@
 -- The turns of an owner, one after another, and what came of them.
 use Rattle.std.specs.List.{filter_map}
-use Rattle.std.specs.Prelude.{◌≡◌, ◌==◌, ◌&&◌, ℕ, zero, suc, nat_lt, Bool, true, false, not, List, [], ◌∷◌, ◌++◌, length, map, slice_get, is_some, Option, Some, None}
+use Rattle.std.specs.Prelude.{◌==◌, ◌&&◌, ℕ, zero, suc, nat_lt, Bool, true, false, not, List, [], ◌∷◌, ◌++◌, length, map, slice_get, is_some, Option, Some, None}
 use Rattle.mum_base.specs.declared.number.TheConstants.{CONNECTION_LIMIT}
 use Rattle.mum_control.specs.Facts.{ReplyFacts}
+use Rattle.mum_crew.specs.Turns.{TurnsTo}
 use Rattle.mum_crew.specs.declared.role.Turn.{Turn}
 use Rattle.mum_io.specs.Counts.{Counts}
 use Rattle.mum_port.specs.declared.item.DeskItem.{DeskItem}
@@ -167,59 +168,54 @@ made None after = listed after
 made (Some before) after = []
 
 module _ {D : Type 0} (L : Type 0) (counts : D → Counts) (given : D → ℕ) where
-  -- the turns, one after another, lead from this owner to that
-  abbrev pub TurnsTo : OwnerFacts D → List Turn → OwnerFacts D → Type 0
-  TurnsTo old [] new = new ≡ old
-  TurnsTo old (turn ∷ turns) new = (mid : OwnerFacts D) × OwnerTurned L counts given old turn mid × TurnsTo mid turns new
-
   -- the replies to what was taken from the desk, in the order in which they were made
-  abbrev pub replies_made : (old : OwnerFacts D) (turns : List Turn) (new : OwnerFacts D) → TurnsTo old turns new → List ReplyFacts
+  abbrev pub replies_made : (old : OwnerFacts D) (turns : List Turn) (new : OwnerFacts D) → TurnsTo (OwnerTurned L counts given) old turns new → List ReplyFacts
   replies_made old [] new all = []
   replies_made old (turn ∷ turns) new all =
       made all.1.after_offers.kept.reply all.1.after_desk.kept.reply ++ replies_made all.0 turns new all.2
 
   -- the lag items, in the order in which they were made
-  abbrev pub lags_made : (old : OwnerFacts D) (turns : List Turn) (new : OwnerFacts D) → TurnsTo old turns new → List Lag
+  abbrev pub lags_made : (old : OwnerFacts D) (turns : List Turn) (new : OwnerFacts D) → TurnsTo (OwnerTurned L counts given) old turns new → List Lag
   lags_made old [] new all = []
   lags_made old (turn ∷ turns) new all =
       made all.1.after_desk.kept.lag all.1.after_press.kept.lag
       ++ (made all.1.after_publish.kept.lag all.1.after_post.kept.lag ++ lags_made all.0 turns new all.2)
 
   -- the commands that were taken from the desk, in order, as they lay there
-  abbrev pub commands_taken : (old : OwnerFacts D) (turns : List Turn) (new : OwnerFacts D) → TurnsTo old turns new → List Command
+  abbrev pub commands_taken : (old : OwnerFacts D) (turns : List Turn) (new : OwnerFacts D) → TurnsTo (OwnerTurned L counts given) old turns new → List Command
   commands_taken old [] new all = []
   commands_taken old (turn ∷ turns) new all =
       (settled all.1.after_offers all.1.served all.1.after_desk all.1.serves).taken ++ commands_taken all.0 turns new all.2
 
   -- those of connections that were open when they were taken, each for the session that was kept for its connection then
-  abbrev pub commands_owned : (old : OwnerFacts D) (turns : List Turn) (new : OwnerFacts D) → TurnsTo old turns new → List Command
+  abbrev pub commands_owned : (old : OwnerFacts D) (turns : List Turn) (new : OwnerFacts D) → TurnsTo (OwnerTurned L counts given) old turns new → List Command
   commands_owned old [] new all = []
   commands_owned old (turn ∷ turns) new all =
       filter_map (owned all.1.after_offers.guests.rows) (settled all.1.after_offers all.1.served all.1.after_desk all.1.serves).taken
       ++ commands_owned all.0 turns new all.2
 
   -- the commands that were given to the control owner, or answered since memory ran out, in order; leaves apart
-  abbrev pub commands_given : (old : OwnerFacts D) (turns : List Turn) (new : OwnerFacts D) → TurnsTo old turns new → List Command
+  abbrev pub commands_given : (old : OwnerFacts D) (turns : List Turn) (new : OwnerFacts D) → TurnsTo (OwnerTurned L counts given) old turns new → List Command
   commands_given old [] new all = []
   commands_given old (turn ∷ turns) new all =
       (settled all.1.after_offers all.1.served all.1.after_desk all.1.serves).commands ++ commands_given all.0 turns new all.2
 
   -- the same, and the logins that were dropped, in order
-  abbrev pub commands_settled : (old : OwnerFacts D) (turns : List Turn) (new : OwnerFacts D) → TurnsTo old turns new → List Command
+  abbrev pub commands_settled : (old : OwnerFacts D) (turns : List Turn) (new : OwnerFacts D) → TurnsTo (OwnerTurned L counts given) old turns new → List Command
   commands_settled old [] new all = []
   commands_settled old (turn ∷ turns) new all =
       (settled all.1.after_offers all.1.served all.1.after_desk all.1.serves).commands
       ++ (settled all.1.after_offers all.1.served all.1.after_desk all.1.serves).dropped ++ commands_settled all.0 turns new all.2
 
   -- the connections whose leave was decided, in order
-  abbrev pub leaves_decided : (old : OwnerFacts D) (turns : List Turn) (new : OwnerFacts D) → TurnsTo old turns new → List ℕ
+  abbrev pub leaves_decided : (old : OwnerFacts D) (turns : List Turn) (new : OwnerFacts D) → TurnsTo (OwnerTurned L counts given) old turns new → List ℕ
   leaves_decided old [] new all = []
   leaves_decided old (turn ∷ turns) new all =
       (settled all.1.after_offers all.1.served all.1.after_desk all.1.serves).leaves ++ leaves_decided all.0 turns new all.2
 
   -- the connections of the commands that were given, or answered since memory ran out, and of the leaves that were decided,
   -- in the order in which that was done
-  abbrev pub connections_settled : (old : OwnerFacts D) (turns : List Turn) (new : OwnerFacts D) → TurnsTo old turns new → List ℕ
+  abbrev pub connections_settled : (old : OwnerFacts D) (turns : List Turn) (new : OwnerFacts D) → TurnsTo (OwnerTurned L counts given) old turns new → List ℕ
   connections_settled old [] new all = []
   connections_settled old (turn ∷ turns) new all =
       connections_of (settled all.1.after_offers all.1.served all.1.after_desk all.1.serves) ++ connections_settled all.0 turns new all.2

@@ -5,16 +5,18 @@ ghost use Rattle.std.specs.Prelude.{◌≡◌, ◌≢◌, ◌++◌, ◌<◌, [],
 ghost use Rattle.std.specs.List.{AllPairs, filter_map};
 ghost use Rattle.atomic_table.specs.Seated.{TableId};
 ghost use Rattle.mum_control.specs.Facts.{ControlFacts};
+ghost use Rattle.mum_crew.specs.Turns.{TurnsTo};
 ghost use Rattle.mum_crew.specs.declared.role.Turn.{Turn};
 ghost use Rattle.mum_doorway.specs.Doors.{given_after_all};
 ghost use Rattle.mum_owner.specs.Facts.{OwnerFacts};
-ghost use Rattle.mum_owner.specs.Laws.{TurnsTo, answered, command_in, commands_given, commands_owned, commands_settled, commands_taken, connections_settled, handed, is_of_worker, is_other, items_taken, lags_made, leave_in, leaves_decided, listed, numbers, puts_at, replies_made};
+ghost use Rattle.mum_owner.specs.Laws.{answered, command_in, commands_given, commands_owned, commands_settled, commands_taken, connections_settled, handed, is_of_worker, is_other, items_taken, lags_made, leave_in, leaves_decided, listed, numbers, puts_at, replies_made};
 ghost use Rattle.mum_owner.specs.Written.{IsWrittenAs, is_login, version_with};
 ghost use Rattle.mum_session.specs.Action.{action};
 ghost use Rattle.mum_session.specs.Machine.{Machine};
 ghost use Rattle.mum_session.specs.declared.action.Action.TheVariants.{Ask};
 ghost use Rattle.mum_session.specs.declared.command.Command.{Command};
 ghost use Rattle.mum_owner.specs.Opened.{IsOpened};
+ghost use Rattle.mum_owner.specs.Turned.{OwnerTurned};
 
 use crate::desk::PENDING_LIMIT;
 use mum_doorway::Entrance;
@@ -30,7 +32,7 @@ pub fn connections_are_handed_over_once<D: Entrance>()
     ensures handed { (control : ControlFacts) (door : D) (connections place : ℕ) (journal : Bool) (queues : List TableId)
         (opened owner : OwnerFacts D) (turns : List Turn) → 0 < length queues →
         IsOpened control door connections journal queues opened →
-        TurnsTo D.Peer D.counts D.given opened turns owner →
+        TurnsTo (OwnerTurned D.Peer D.counts D.given) opened turns owner →
         filter_map handed (puts_at place owner.bells)
         ++ filter (is_of_worker place (length queues)) (listed owner.kept.coming)
         ≡ filter (is_of_worker place (length queues)) (numbers owner.guests.given) }
@@ -38,7 +40,7 @@ pub fn connections_are_handed_over_once<D: Entrance>()
     ensures given { (control : ControlFacts) (door : D) (connections : ℕ) (journal : Bool) (queues : List TableId)
         (opened owner : OwnerFacts D) (turns : List Turn) →
         IsOpened control door connections journal queues opened →
-        TurnsTo D.Peer D.counts D.given opened turns owner →
+        TurnsTo (OwnerTurned D.Peer D.counts D.given) opened turns owner →
         D.given owner.doorway.door ≡ given_after_all (D.given door) owner.guests.given }
 {}
 
@@ -48,7 +50,7 @@ pub fn replies_are_handed_over_once<D: Entrance>()
     ensures { (control : ControlFacts) (door : D) (connections place : ℕ) (journal : Bool) (queues : List TableId)
         (opened owner : OwnerFacts D) (turns : List Turn) → 0 < length queues →
         IsOpened control door connections journal queues opened →
-        (all : TurnsTo D.Peer D.counts D.given opened turns owner) →
+        (all : TurnsTo (OwnerTurned D.Peer D.counts D.given) opened turns owner) →
         filter_map answered (puts_at place owner.bells)
         ++ filter (λ reply. is_of_worker place (length queues) reply.connection) (listed owner.kept.reply)
         ≡ filter (λ reply. is_of_worker place (length queues) reply.connection)
@@ -60,7 +62,7 @@ pub fn a_connection_lags_once<D: Entrance>()
     ensures { (control : ControlFacts) (door : D) (connections : ℕ) (journal : Bool) (queues : List TableId)
         (opened owner : OwnerFacts D) (turns : List Turn) →
         IsOpened control door connections journal queues opened →
-        (all : TurnsTo D.Peer D.counts D.given opened turns owner) →
+        (all : TurnsTo (OwnerTurned D.Peer D.counts D.given) opened turns owner) →
         AllPairs (λ one other. one.connection ≢ other.connection)
         (lags_made D.Peer D.counts D.given opened turns owner all) }
 {}
@@ -74,27 +76,27 @@ pub fn commands_are_given_once<D: Entrance>()
     ensures taken { (control : ControlFacts) (door : D) (connections : ℕ) (journal : Bool) (queues : List TableId)
         (opened owner : OwnerFacts D) (turns : List Turn) →
         IsOpened control door connections journal queues opened → opened.desk.pass.taken ≡ [] →
-        (all : TurnsTo D.Peer D.counts D.given opened turns owner) →
+        (all : TurnsTo (OwnerTurned D.Peer D.counts D.given) opened turns owner) →
         filter_map command_in (items_taken owner.desk)
         ≡ commands_taken D.Peer D.counts D.given opened turns owner all }
     // A login may wait for its slot, behind those that came before it.
     ensures logins { (control : ControlFacts) (door : D) (connections : ℕ) (journal : Bool) (queues : List TableId)
         (opened owner : OwnerFacts D) (turns : List Turn) →
         IsOpened control door connections journal queues opened →
-        (all : TurnsTo D.Peer D.counts D.given opened turns owner) →
+        (all : TurnsTo (OwnerTurned D.Peer D.counts D.given) opened turns owner) →
         filter is_login (commands_owned D.Peer D.counts D.given opened turns owner all)
         ≡ filter is_login (commands_settled D.Peer D.counts D.given opened turns owner all) ++ owner.logins }
     ensures others { (control : ControlFacts) (door : D) (connections : ℕ) (journal : Bool) (queues : List TableId)
         (opened owner : OwnerFacts D) (turns : List Turn) →
         IsOpened control door connections journal queues opened →
-        (all : TurnsTo D.Peer D.counts D.given opened turns owner) →
+        (all : TurnsTo (OwnerTurned D.Peer D.counts D.given) opened turns owner) →
         filter is_other (commands_owned D.Peer D.counts D.given opened turns owner all)
         ≡ filter is_other (commands_given D.Peer D.counts D.given opened turns owner all) }
     // A leave is given until it is decided, and nothing is taken before.
     ensures leaves { (control : ControlFacts) (door : D) (connections : ℕ) (journal : Bool) (queues : List TableId)
         (opened owner : OwnerFacts D) (turns : List Turn) →
         IsOpened control door connections journal queues opened →
-        (all : TurnsTo D.Peer D.counts D.given opened turns owner) →
+        (all : TurnsTo (OwnerTurned D.Peer D.counts D.given) opened turns owner) →
         filter_map leave_in (commands_owned D.Peer D.counts D.given opened turns owner all)
         ≡ leaves_decided D.Peer D.counts D.given opened turns owner all ++ listed owner.desk.leave }
 {}
@@ -103,7 +105,7 @@ pub fn commands_are_given_once<D: Entrance>()
 /// makes one reply to its connection, in the order in which that is done, and nothing else makes one.
 pub fn each_command_has_one_reply<D: Entrance>()
     ensures { (old new : OwnerFacts D) (turns : List Turn) →
-        (all : TurnsTo D.Peer D.counts D.given old turns new) →
+        (all : TurnsTo (OwnerTurned D.Peer D.counts D.given) old turns new) →
         map (λ reply. reply.connection) (replies_made D.Peer D.counts D.given old turns new all)
         ≡ connections_settled D.Peer D.counts D.given old turns new all }
 {}

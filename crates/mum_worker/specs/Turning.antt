@@ -42,3 +42,7 @@ module _ {L : Type 0} (counts : L → Counts) (left written : L → Option (List
     pub worked : Bool
     pub steps : StepsPorts opening heard between worked new
     pub answer_is : answer ≡ answer_of new worked
+
+  -- the same, in the order in which a crew says what a turn makes of its role
+  abbrev pub WorkerTurned : Opening → WorkerFacts L → Turn → WorkerFacts L → Type 0
+  WorkerTurned opening old answer new = Turned opening old new answer

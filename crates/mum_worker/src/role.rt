@@ -15,7 +15,7 @@ pub struct WorkerOpening {
 
 impl<L: Link, G: Gate, N: Naming, R: Wait + Copy> Role for Worker<L, G, N, R> {
     ghost use Rattle.mum_worker.specs.Facts.{is_done};
-    ghost use Rattle.mum_worker.specs.Turning.{Turned};
+    ghost use Rattle.mum_worker.specs.Turning.{WorkerTurned};
 
     type Opening = WorkerOpening;
 
@@ -23,7 +23,7 @@ impl<L: Link, G: Gate, N: Naming, R: Wait + Copy> Role for Worker<L, G, N, R> {
 
     ghost has_ended = { is_done };
 
-    ghost turned = { λ old answer new. Turned L.counts L.left L.written L.is_shut N.opening old new answer };
+    ghost turned = { WorkerTurned L.counts L.left L.written L.is_shut N.opening };
 
     fn turn(&mut self) -> Turn {
         Worker::turn(self)

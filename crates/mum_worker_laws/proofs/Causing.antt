@@ -1,6 +1,7 @@
 -- What the answer of a turn shows.
 use Rattle.std.proofs.Common.{◌≡◌, ◌∙◌, ℕ, zero, suc, Bool, true, false, true≢false, ◌||◌, is_some, if◌then◌else◌, List, [], ◌∷◌, ◌++◌, Option, Some, None, refl, ap, sym, subst, inl, inr, ◌⊎◌, ⊎_elim}
 use Rattle.std.specs.List.{list_any}
+use Rattle.mum_crew.specs.Turns.{TurnsTo}
 use Rattle.mum_crew.specs.declared.role.Turn.{Turn}
 use Rattle.mum_crew.specs.declared.role.Turn.TheVariants.{Worked, Idle, Done}
 use Rattle.mum_io.specs.Counts.{Counts}
@@ -14,9 +15,8 @@ use Rattle.mum_worker.specs.Facts.{WorkerFacts, is_done}
 use Rattle.mum_worker.specs.Hearing.{Hears}
 use Rattle.mum_worker.specs.Opening.{HasOpened}
 use Rattle.mum_worker.specs.Stepping.{PortSteps, Shares}
-use Rattle.mum_worker.specs.Turning.{Turned, shares_of}
+use Rattle.mum_worker.specs.Turning.{Turned, WorkerTurned, shares_of}
 use Rattle.mum_worker_laws.specs.Causes.{FindsNothing, HasNothingToDo, HasWorked, StepWorked, is_no_more}
-use Rattle.mum_worker_laws.specs.Laws.{TurnsTo}
 
 neither : (a b : Bool) → a || b ≡ false → (a ≡ false) × (b ≡ false)
 neither true b is = absurd (true≢false is)
@@ -232,11 +232,11 @@ module _ {L : Type 0} (counts : L → Counts) (left written : L → Option (List
       ∙ (sym (ring_ended turned.hears.ring old.bell turned.hears.bell turned.hears.takes)
       ∙ ap (λ (b : BellFacts L). list_any is_no_more b.taken) (sym (bell_after old new turn turned)))))
 
-  turns_ended : (old : WorkerFacts L) (turns : List Turn) (new : WorkerFacts L) → TurnsTo counts left written is_shut opening old turns new → old.ended ≡ list_any is_no_more old.bell.taken → new.ended ≡ list_any is_no_more new.bell.taken
+  turns_ended : (old : WorkerFacts L) (turns : List Turn) (new : WorkerFacts L) → TurnsTo (WorkerTurned counts left written is_shut opening) old turns new → old.ended ≡ list_any is_no_more old.bell.taken → new.ended ≡ list_any is_no_more new.bell.taken
   turns_ended old [] new same was = subst (λ (w : WorkerFacts L). w.ended ≡ list_any is_no_more w.bell.taken) (sym same) was
   turns_ended old (turn ∷ turns) new (mid, turned, rest) was = turns_ended mid turns new rest (turn_ended old mid turn turned was)
 
   pub has_ended : (number : ℕ) (pass : _) (journal : Option ℕ) (opened : WorkerFacts L) (turns : List Turn) (worker : WorkerFacts L) → HasOpened number pass journal opened
-      → TurnsTo counts left written is_shut opening opened turns worker → worker.ended ≡ list_any is_no_more worker.bell.taken
+      → TurnsTo (WorkerTurned counts left written is_shut opening) opened turns worker → worker.ended ≡ list_any is_no_more worker.bell.taken
   has_ended number pass journal opened turns worker begun all =
       turns_ended opened turns worker all (begun.not_ended ∙ ap (λ (l : List (Ring L)). list_any is_no_more l) (sym begun.nothing_taken))

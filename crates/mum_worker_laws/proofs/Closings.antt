@@ -8,13 +8,14 @@ use Rattle.mum_base.specs.declared.number.SessionId.{SessionId}
 use Rattle.mum_base.specs.declared.number.TheConstants.{CONNECTION_LIMIT}
 use Rattle.mum_base.specs.declared.reply.ReplyEnd.{ReplyEnd}
 use Rattle.mum_base.specs.declared.reply.ReplyEnd.TheVariants as ends
+use Rattle.mum_crew.specs.Turns.{TurnsTo}
 use Rattle.mum_crew.specs.declared.role.Turn.{Turn}
 use Rattle.mum_io.specs.Counts.{Counts}
 use Rattle.mum_outbox.specs.declared.rule.TheConstants.{LAST}
 use Rattle.mum_port.specs.Did.{PortDid, action_of, stage_kept}
 use Rattle.mum_port.specs.Facts.{PortFacts, new_port}
 use Rattle.mum_port.specs.Replies.{Answers, Lags}
-use Rattle.mum_port.specs.Stage.{is_closed, is_gone, stage_after_reply}
+use Rattle.mum_port.specs.Stage.{is_closed, is_gone}
 use Rattle.mum_port.specs.Taking.{stage_after_post}
 use Rattle.mum_port.specs.Turn.{LooksWhereItMay, RoutesPacket as PortRoutes, Settled}
 use Rattle.mum_port.specs.declared.passes.Passes.{Passes}
@@ -37,12 +38,11 @@ use Rattle.mum_worker.specs.Boxes.{BoxesFacts}
 use Rattle.mum_worker.specs.Facts.{WorkerFacts, is_of, stays}
 use Rattle.mum_worker.specs.Hearing.{AnswersFirst, Hears, LagsWhereIts, TakesOrTurns}
 use Rattle.mum_worker.specs.Opening.{HasOpened}
-use Rattle.mum_worker.specs.Record.{RecordFacts, after_close, after_step, first_record, has_closing_room, taking_in, without_room}
+use Rattle.mum_worker.specs.Record.{RecordFacts, after_close, first_record, has_closing_room, without_room}
 use Rattle.mum_worker.specs.Routing.{CommonFacts, RoutesPacket}
 use Rattle.mum_worker.specs.Stepping.{PortSteps, Shares}
-use Rattle.mum_worker.specs.Turning.{Turned, shares_of}
+use Rattle.mum_worker.specs.Turning.{Turned, WorkerTurned, shares_of}
 use Rattle.mum_worker_laws.specs.Closings.{closes_one, is_closing_of, is_open_of, is_open_one}
-use Rattle.mum_worker_laws.specs.Laws.{TurnsTo}
 use Rattle.mum_worker_laws.specs.Lives.{IsNew, count, if_taken, ports_taken, taken_in}
 use Rattle.mum_worker_laws.proofs.Counts.{count-append, count-cons, count-left, one}
 use Rattle.mum_worker_laws.proofs.Ending.{ports_new}
@@ -520,7 +520,7 @@ module _ {L : Type 0} (counts : L → Counts) (left written : L → Option (List
             omega (arith, first, second);
       }
 
-  turns_keep : (old : WorkerFacts L) (turns : List Turn) (new : WorkerFacts L) (all : TurnsTo counts left written is_shut opening old turns new) → Balance old.common.kept old.ports 0
+  turns_keep : (old : WorkerFacts L) (turns : List Turn) (new : WorkerFacts L) (all : TurnsTo (WorkerTurned counts left written is_shut opening) old turns new) → Balance old.common.kept old.ports 0
       → Keeps (λ test. count (is_open_one test) (ports_taken counts left written is_shut opening old turns new all)) old.common.kept old.ports new.common.kept new.ports 0
   turns_keep old [] new same balance =
       subst (λ (w : WorkerFacts L). Keeps none_taken old.common.kept old.ports w.common.kept w.ports 0) (sym same) (nothing_keeps old.common.kept old.ports balance)
@@ -549,7 +549,7 @@ module _ {L : Type 0} (counts : L → Counts) (left written : L → Option (List
       omega (arith, rest, opened, tested, same, so)
 
   pub one_closing : (number : ℕ) (pass : _) (room : ℕ) (opened : WorkerFacts L) (turns : List Turn) (worker : WorkerFacts L) (connection : ℕ) → HasOpened number pass (Some room) opened
-      → (all : TurnsTo counts left written is_shut opening opened turns worker)
+      → (all : TurnsTo (WorkerTurned counts left written is_shut opening) opened turns worker)
       → count (is_closing_of connection) worker.common.kept.entries + count (is_open_of connection) worker.ports ≡ count (is_of connection) (ports_taken counts left written is_shut opening opened turns worker all)
   one_closing number pass room opened turns worker connection begun all =
       let kept : RecordFacts = without_room (first_record (Some room)) in

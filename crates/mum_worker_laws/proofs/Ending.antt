@@ -2,6 +2,7 @@
 use Rattle.std.proofs.Common.{◌≡◌, ◌==◌, ◌∙◌, ℕ, ◌+◌, Bool, true, false, not, cond, List, [], ◌∷◌, ◌++◌, All, length, filter, Option, Some, None, refl, ap, sym, subst, inl, inr, arith}
 use Rattle.std.specs.List.{AllByRecursion as Each}
 use Rattle.std.proofs.lemmas.List.Elements.{All-from_recursion, recursion_from_All}
+use Rattle.mum_crew.specs.Turns.{TurnsTo}
 use Rattle.mum_crew.specs.declared.role.Turn.{Turn}
 use Rattle.mum_io.specs.Counts.{Counts}
 use Rattle.mum_port.specs.Did.{action_of}
@@ -24,7 +25,7 @@ use Rattle.mum_worker.specs.Hearing.{Hears, TakesOrTurns}
 use Rattle.mum_worker.specs.Opening.{HasOpened}
 use Rattle.mum_worker.specs.Record.{RecordFacts}
 use Rattle.mum_worker.specs.Routing.{RoutesPacket}
-use Rattle.mum_worker_laws.specs.Laws.{TurnsTo}
+use Rattle.mum_worker.specs.Turning.{WorkerTurned}
 use Rattle.mum_worker_laws.specs.Lives.{HaveLived, IsLife, IsNew, IsOrderly, Life, count, if_taken, is_closed_of, ports_taken, put_by, put_by_all, taken_in}
 use Rattle.mum_worker_laws.proofs.Changing.{IsOwn}
 use Rattle.mum_worker_laws.proofs.Counts.{count-append, count-cons, count-left, each-append, each_both, each_map, one}
@@ -88,7 +89,7 @@ module _ {L : Type 0} (counts : L → Counts) (left written : L → Option (List
   taken_new (Some (Lagging session)) old new hears = tt
   taken_new (Some NoMore) old new hears = tt
 
-  pub ports_new : (old : WorkerFacts L) (turns : List Turn) (new : WorkerFacts L) (all : TurnsTo counts left written is_shut opening old turns new) → Each IsNew (ports_taken counts left written is_shut opening old turns new all)
+  pub ports_new : (old : WorkerFacts L) (turns : List Turn) (new : WorkerFacts L) (all : TurnsTo (WorkerTurned counts left written is_shut opening) old turns new) → Each IsNew (ports_taken counts left written is_shut opening old turns new all)
   ports_new old [] new all = tt
   ports_new old (turn ∷ turns) new (mid, turned, rest) =
       each-append IsNew (taken_in counts left written is_shut turned.hears.ring (record old { bell = turned.hears.bell }) turned.between turned.hears.hears) (ports_taken counts left written is_shut opening mid turns new rest)
@@ -121,7 +122,7 @@ module _ {L : Type 0} (counts : L → Counts) (left written : L → Option (List
       }
 
   firsts_new : (number : ℕ) (pass : _) (journal : Option ℕ) (opened : WorkerFacts L) (turns : List Turn) (worker : WorkerFacts L) → HasOpened number pass journal opened
-      → (all : TurnsTo counts left written is_shut opening opened turns worker) (lives : List (Life L)) → firsts lives ≡ opened.ports ++ ports_taken counts left written is_shut opening opened turns worker all
+      → (all : TurnsTo (WorkerTurned counts left written is_shut opening) opened turns worker) (lives : List (Life L)) → firsts lives ≡ opened.ports ++ ports_taken counts left written is_shut opening opened turns worker all
       → Each (λ (life : Life L). IsNew life.first) lives
   firsts_new number pass journal opened turns worker begun all lives is =
       let taken : firsts lives ≡ ports_taken counts left written is_shut opening opened turns worker all =
@@ -129,7 +130,7 @@ module _ {L : Type 0} (counts : L → Counts) (left written : L → Option (List
       each_map IsNew (λ (life : Life L). life.first) lives (subst (λ (l : List (PortFacts L)). Each IsNew l) (sym taken) (ports_new opened turns worker all))
 
   pub all_orderly : (number : ℕ) (pass : _) (journal : Option ℕ) (opened : WorkerFacts L) (turns : List Turn) (worker : WorkerFacts L) → HasOpened number pass journal opened
-      → (all : TurnsTo counts left written is_shut opening opened turns worker) (lived : HaveLived counts left written is_shut opening opened turns worker all) → All IsOrderly lived.lives
+      → (all : TurnsTo (WorkerTurned counts left written is_shut opening) opened turns worker) (lived : HaveLived counts left written is_shut opening opened turns worker all) → All IsOrderly lived.lives
   all_orderly number pass journal opened turns worker begun all lived =
       All-from_recursion IsOrderly lived.lives
       (each_both (λ (life : Life L). IsNew life.first) (IsLife counts left written is_shut opening) IsOrderly orderly_life lived.lives
@@ -166,7 +167,7 @@ module _ {L : Type 0} (counts : L → Counts) (left written : L → Option (List
   sums_up offered all none put ports taken a b c d = omega (arith, a, b, c, d)
 
   pub one_closed : (number : ℕ) (pass : _) (journal : Option ℕ) (opened : WorkerFacts L) (turns : List Turn) (worker : WorkerFacts L) (connection : ℕ) → HasOpened number pass journal opened
-      → (all : TurnsTo counts left written is_shut opening opened turns worker)
+      → (all : TurnsTo (WorkerTurned counts left written is_shut opening) opened turns worker)
       → count (is_closed_of connection) worker.desk.offered + count (is_of connection) worker.ports ≡ count (is_of connection) (ports_taken counts left written is_shut opening opened turns worker all)
   one_closed number pass journal opened turns worker connection begun all =
       let lasting = turns_live counts left written is_shut opening opened turns worker all [] begun.no_port in

@@ -9,6 +9,7 @@ use Rattle.std.proofs.lemmas.List.Elements.{All-append, All-cons, All-head, All-
 use Rattle.std.proofs.lemmas.List.Kept.{AllPairs-cons}
 use mathlib.Core.List.{IsPrefix}
 use Rattle.mum_base.specs.declared.number.SessionId.{SessionId}
+use Rattle.mum_crew.specs.Turns.{TurnsTo}
 use Rattle.mum_crew.specs.declared.role.Turn.{Turn}
 use Rattle.mum_io.specs.Counts.{Counts}
 use Rattle.mum_outbox.specs.Calls.{Offers}
@@ -42,8 +43,8 @@ use Rattle.mum_worker.specs.Facts.{WorkerFacts}
 use Rattle.mum_worker.specs.Hearing.{Hears, LearnsGiven}
 use Rattle.mum_worker.specs.Routing.{CommonFacts, RoutesPacket}
 use Rattle.mum_worker.specs.Stepping.{PortSteps, Shares}
-use Rattle.mum_worker.specs.Turning.{Turned, shares_of}
-use Rattle.mum_worker_laws.specs.Laws.{Follows, Look, Moment, Told, Looked, SeesFrom, TurnsTo, ask_made, copies_at, copies_made, copy_for, edits_of, edits_told, history, if_sent, if_there, look_acted, look_handled, look_in, look_kept, look_made, look_of_session, look_stepped, looks_along, looks_in, moments_of, offered_in, packets_in, routed_packet, told_by}
+use Rattle.mum_worker.specs.Turning.{Turned, WorkerTurned, shares_of}
+use Rattle.mum_worker_laws.specs.Laws.{Follows, Look, Moment, Told, Looked, SeesFrom, ask_made, copies_at, copies_made, copy_for, edits_of, edits_told, history, if_sent, if_there, look_acted, look_handled, look_in, look_kept, look_made, look_of_session, look_stepped, looks_along, looks_in, moments_of, offered_in, packets_in, routed_packet, told_by}
 
 -- ---- the copies of one packet
 
@@ -354,7 +355,7 @@ module _ (opening : Opening) where
         (go_heard turned.hears.ring (record old { bell = turned.hears.bell }) turned.between turned.hears.hears)
         (go_along turned.between.boxes turned.between.ports (shares_of turned.between turned.heard) turned.steps.steps.stepped (shares_of new turned.worked) turned.steps.steps.along)
 
-    pub go_turns : (old : WorkerFacts L) (turns : List Turn) (new : WorkerFacts L) (all : TurnsTo counts left written is_shut opening old turns new)
+    pub go_turns : (old : WorkerFacts L) (turns : List Turn) (new : WorkerFacts L) (all : TurnsTo (WorkerTurned counts left written is_shut opening) old turns new)
         → Goes opening old.common.router new.common.router (history counts left written is_shut opening old turns new all)
     go_turns old [] new same = same_common old.common new.common (ap (λ (w : WorkerFacts L). w.common) same)
     go_turns old (turn ∷ turns) new (mid, turned, rest) =

@@ -8,6 +8,7 @@ use Rattle.std.proofs.lemmas.List.Quantifiers.{position-Some}
 use Rattle.mum_base.specs.declared.number.Cause.{Cause}
 use Rattle.mum_base.specs.declared.reply.ReplyEnd.{ReplyEnd}
 use Rattle.mum_base.specs.declared.reply.ReplyEnd.TheVariants as ends
+use Rattle.mum_crew.specs.Turns.{TurnsTo}
 use Rattle.mum_crew.specs.declared.role.Turn.{Turn}
 use Rattle.mum_io.specs.Counts.{Counts}
 use Rattle.mum_outbox.specs.Facts.{PassFacts}
@@ -25,8 +26,8 @@ use Rattle.mum_worker.specs.Hearing.{AnswersFirst, Hears, LagsWhereIts, TakesOrT
 use Rattle.mum_worker.specs.Opening.{HasOpened}
 use Rattle.mum_worker.specs.Record.{RecordFacts}
 use Rattle.mum_worker.specs.Stepping.{PortSteps, Shares}
-use Rattle.mum_worker.specs.Turning.{Turned, shares_of}
-use Rattle.mum_worker_laws.specs.Laws.{Moment, Told, TurnsTo, history, look_stepped, looks_along, moments_of, told_by}
+use Rattle.mum_worker.specs.Turning.{Turned, WorkerTurned, shares_of}
+use Rattle.mum_worker_laws.specs.Laws.{Moment, Told, history, look_stepped, looks_along, moments_of, told_by}
 use Rattle.mum_worker_laws.specs.Lives.{HandlesNothing, HasAtMostOne, HaveLived, IsLife, IsNoReplyTo, Life, Said, count, if_taken, is_item_of, is_life_of, items_of, packets_said, ports_taken, put_by, put_by_all, put_of, routed_of, said_by_all, taken_in}
 use Rattle.mum_worker_laws.proofs.Changing.{IsOwn, One, Waits, one_lag, one_reply, one_step}
 use Rattle.mum_worker_laws.proofs.Counts.{count-append, each-append, each_so, left_twice}
@@ -273,7 +274,7 @@ module _ {L : Type 0} (counts : L → Counts) (left written : L → Option (List
         desk = stepped.desk ∙ ap (λ (d : PassFacts DeskItem). d.offered ++ stepped.put) (hear_desk turned.hears.ring (record old { bell = turned.hears.bell }) turned.between turned.hears.hears);
       }
 
-  pub turns_live : (old : WorkerFacts L) (turns : List Turn) (new : WorkerFacts L) (all : TurnsTo counts left written is_shut opening old turns new) (lives : List (Life L)) → old.ports ≡ filter stays (lasts lives)
+  pub turns_live : (old : WorkerFacts L) (turns : List Turn) (new : WorkerFacts L) (all : TurnsTo (WorkerTurned counts left written is_shut opening) old turns new) (lives : List (Life L)) → old.ports ≡ filter stays (lasts lives)
       → Lasts (history counts left written is_shut opening old turns new all) (ports_taken counts left written is_shut opening old turns new all) lives old.desk.offered new.ports new.desk.offered
   turns_live old [] new same lives kept = record {
     put = [];
@@ -302,7 +303,7 @@ module _ {L : Type 0} (counts : L → Counts) (left written : L → Option (List
     pub own : Each WaitsForOwn ports
 
   pub opened_settled : (number : ℕ) (pass : _) (journal : Option ℕ) (opened : WorkerFacts L) (turns : List Turn) (mid : WorkerFacts L) → HasOpened number pass journal opened
-      → TurnsTo counts left written is_shut opening opened turns mid → IsSettled mid.ports
+      → TurnsTo (WorkerTurned counts left written is_shut opening) opened turns mid → IsSettled mid.ports
   opened_settled number pass journal opened turns mid begun all =
       let lasting = turns_live opened turns mid all [] begun.no_port in record {
         stay = ap (λ (l : List (PortFacts L)). filter stays l) lasting.kept ∙ (left_twice stays (lasts lasting.now) ∙ sym lasting.kept);
@@ -316,7 +317,7 @@ module _ {L : Type 0} (counts : L → Counts) (left written : L → Option (List
   sums : (new old now none put : ℕ) → new ≡ old + put → now ≡ none + put → none ≡ 0 → new ≡ old + now
   sums new old now none put a b c = omega (arith, a, b, c)
 
-  pub have_lived : (old : WorkerFacts L) (turns : List Turn) (new : WorkerFacts L) (all : TurnsTo counts left written is_shut opening old turns new) → IsSettled old.ports
+  pub have_lived : (old : WorkerFacts L) (turns : List Turn) (new : WorkerFacts L) (all : TurnsTo (WorkerTurned counts left written is_shut opening) old turns new) → IsSettled old.ports
       → HaveLived counts left written is_shut opening old turns new all
   have_lived old turns new all settled =
       let lasting = turns_live old turns new all (map begin old.ports) (sym settled.stay ∙ ap (λ (l : List (PortFacts L)). filter stays l) (sym (lasts-begin old.ports))) in

@@ -1,10 +1,11 @@
 -- One voice entry for each packet that is routed, over turns.
-use Rattle.std.proofs.Common.{◌≡◌, ◌∙◌, ℕ, ◌+◌, min, Bool, true, false, List, [], ◌∷◌, ◌++◌, append_assoc, map, length, if◌then◌else◌, Option, Some, None, Result, Ok, refl, ap, sym, inl, inr}
+use Rattle.std.proofs.Common.{◌≡◌, ◌∙◌, ℕ, ◌+◌, min, Bool, true, false, List, [], ◌∷◌, ◌++◌, append_assoc, map, length, if◌then◌else◌, Option, Some, None, Result, Ok, ap, sym, inl, inr}
 use Rattle.std.specs.List.{filter_map}
 use Rattle.std.proofs.lemmas.List.{append-nil, map-append}
 use Rattle.std.proofs.lemmas.List.Elements.{filter_map-append}
 use Rattle.mum_base.specs.declared.number.Cause.{Cause}
 use Rattle.mum_base.specs.declared.number.SessionId.{SessionId}
+use Rattle.mum_crew.specs.Turns.{TurnsTo}
 use Rattle.mum_crew.specs.declared.role.Turn.{Turn}
 use Rattle.mum_io.specs.Counts.{Counts}
 use Rattle.mum_port.specs.Facts.{PortFacts}
@@ -17,7 +18,6 @@ use Rattle.mum_published.specs.Facts.{Opening}
 use Rattle.mum_record.specs.declared.journal.WorkerEntry.{WorkerEntry}
 use Rattle.mum_record.specs.declared.journal.WorkerEntry.TheVariants as entries
 use Rattle.mum_router.specs.Facts.{RouterFacts}
-use Rattle.mum_router.specs.Offering.{mark_of}
 use Rattle.mum_session.specs.Action.{action}
 use Rattle.mum_session.specs.Machine.{Machine, session_of}
 use Rattle.mum_session.specs.declared.action.Action.{Action}
@@ -30,11 +30,11 @@ use Rattle.mum_worker.specs.Boxes.{BoxesFacts}
 use Rattle.mum_worker.specs.Facts.{WorkerFacts}
 use Rattle.mum_worker.specs.Hearing.{Hears, LagsWhereIts, TakesOrTurns}
 use Rattle.mum_worker.specs.Opening.{HasOpened}
-use Rattle.mum_worker.specs.Record.{RecordFacts, after_close, after_step, first_record, has_closing_room, without_room}
+use Rattle.mum_worker.specs.Record.{RecordFacts, after_close, after_step, has_closing_room}
 use Rattle.mum_worker.specs.Routing.{CommonFacts, RoutesPacket}
 use Rattle.mum_worker.specs.Stepping.{PortSteps, Shares}
-use Rattle.mum_worker.specs.Turning.{Turned, shares_of}
-use Rattle.mum_worker_laws.specs.Laws.{Look, Moment, Told, Looked, TurnsTo, history, look_acted, look_handled, look_in, look_kept, look_made, look_of_session, look_stepped, looks_along, looks_in, moments_of, told_by}
+use Rattle.mum_worker.specs.Turning.{Turned, WorkerTurned, shares_of}
+use Rattle.mum_worker_laws.specs.Laws.{Look, Moment, Told, history, look_acted, look_handled, look_in, look_kept, look_made, look_of_session, look_stepped, looks_along, looks_in, moments_of, told_by}
 use Rattle.mum_worker_laws.specs.Voices.{talk_in, talk_made}
 
 -- these moments were written down: each look has an entry, where a journal is kept
@@ -199,7 +199,7 @@ module _ (opening : Opening) where
         (heard turned.hears.ring (record old { bell = turned.hears.bell }) turned.between turned.hears.hears)
         (along turned.between.boxes turned.between.ports (shares_of turned.between turned.heard) turned.steps.steps.stepped (shares_of new turned.worked) turned.steps.steps.along)
 
-    turns_write : (old : WorkerFacts L) (turns : List Turn) (new : WorkerFacts L) (all : TurnsTo counts left written is_shut opening old turns new)
+    turns_write : (old : WorkerFacts L) (turns : List Turn) (new : WorkerFacts L) (all : TurnsTo (WorkerTurned counts left written is_shut opening) old turns new)
         → Writes (history counts left written is_shut opening old turns new all) old.common.kept new.common.kept
     turns_write old [] new same = same_common old.common new.common (ap (λ (w : WorkerFacts L). w.common) same)
     turns_write old (turn ∷ turns) new (mid, turned, rest) =
@@ -207,7 +207,7 @@ module _ (opening : Opening) where
         old.common.kept mid.common.kept new.common.kept
         (turn_writes old mid turn turned) (turns_write mid turns new rest)
 
-    pub one_entry_each : (number : ℕ) (pass : _) (room : ℕ) (opened : WorkerFacts L) (turns : List Turn) (worker : WorkerFacts L) → HasOpened number pass (Some room) opened → (all : TurnsTo counts left written is_shut opening opened turns worker)
+    pub one_entry_each : (number : ℕ) (pass : _) (room : ℕ) (opened : WorkerFacts L) (turns : List Turn) (worker : WorkerFacts L) → HasOpened number pass (Some room) opened → (all : TurnsTo (WorkerTurned counts left written is_shut opening) opened turns worker)
         → filter_map talk_in worker.common.kept.entries ≡ map talk_made (looks_in (history counts left written is_shut opening opened turns worker all))
     one_entry_each number pass room opened turns worker begun all =
         (turns_write opened turns worker all).voices (ap (λ (k : RecordFacts). k.journal) begun.kept_is)

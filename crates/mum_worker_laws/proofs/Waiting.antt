@@ -4,6 +4,7 @@ use Rattle.std.specs.List.{AllByRecursion as Each}
 use Rattle.std.proofs.lemmas.Bool.{eqb-true}
 use Rattle.std.proofs.lemmas.List.Elements.{All-from_recursion, recursion_from_All}
 use Rattle.mum_base.specs.declared.number.SessionId.{SessionId}
+use Rattle.mum_crew.specs.Turns.{TurnsTo}
 use Rattle.mum_crew.specs.declared.role.Turn.{Turn}
 use Rattle.mum_frame.specs.declared.frame.Frame.{Frame}
 use Rattle.mum_io.specs.Counts.{Counts}
@@ -31,8 +32,8 @@ use Rattle.mum_worker.specs.Hearing.{AnswersFirst, Hears, LagsWhereIts, TakesOrT
 use Rattle.mum_worker.specs.Record.{RecordFacts}
 use Rattle.mum_worker.specs.Routing.{CommonFacts, RoutesPacket}
 use Rattle.mum_worker.specs.Stepping.{PortSteps, Shares}
-use Rattle.mum_worker.specs.Turning.{shares_of}
-use Rattle.mum_worker_laws.specs.Laws.{Moment, TurnsTo, history, look_acted, look_handled, look_kept, look_made, look_of_session, look_stepped, looks_along, moments_of, told_by}
+use Rattle.mum_worker.specs.Turning.{WorkerTurned, shares_of}
+use Rattle.mum_worker_laws.specs.Laws.{Moment, history, look_acted, look_handled, look_kept, look_made, look_of_session, look_stepped, looks_along, moments_of, told_by}
 use Rattle.mum_worker_laws.specs.Lives.{AwaitsReply, IsNoPacketOf, IsNoReplyTo, IsOfAnother, if_taken, ports_taken, taken_in}
 use Rattle.mum_worker_laws.proofs.Changing.{awaits_lagged, nothing_handled, place_answered, place_lagged}
 use Rattle.mum_worker_laws.proofs.Counts.{each-append, each_back, each_front, each_left}
@@ -187,7 +188,7 @@ module _ (opening : Opening) (asked : ℕ) where
 
     -- ---- the turns
 
-    none_of_it : (old : WorkerFacts L) (turns : List Turn) (new : WorkerFacts L) (all : TurnsTo counts left written is_shut opening old turns new)
+    none_of_it : (old : WorkerFacts L) (turns : List Turn) (new : WorkerFacts L) (all : TurnsTo (WorkerTurned counts left written is_shut opening) old turns new)
         → Each (IsNoReplyTo asked) (history counts left written is_shut opening old turns new all) → Each (IsOfAnother asked) (ports_taken counts left written is_shut opening old turns new all)
         → Each (AwaitsReply asked) old.ports → Each (IsNoPacketOf asked) (history counts left written is_shut opening old turns new all)
     none_of_it old [] new all spared others await = tt
@@ -213,7 +214,7 @@ module _ (opening : Opening) (asked : ℕ) where
         none_told (Some (Lagging session)) = tt
         none_told (Some NoMore) = tt
 
-    pub no_packet : (old : WorkerFacts L) (turns : List Turn) (new : WorkerFacts L) (all : TurnsTo counts left written is_shut opening old turns new) → All (AwaitsReply asked) old.ports
+    pub no_packet : (old : WorkerFacts L) (turns : List Turn) (new : WorkerFacts L) (all : TurnsTo (WorkerTurned counts left written is_shut opening) old turns new) → All (AwaitsReply asked) old.ports
         → All (IsNoReplyTo asked) (history counts left written is_shut opening old turns new all) → All (IsOfAnother asked) (ports_taken counts left written is_shut opening old turns new all)
         → All (IsNoPacketOf asked) (history counts left written is_shut opening old turns new all)
     no_packet old turns new all await spared others =

@@ -3,13 +3,15 @@ use Rattle.std.proofs.Common.{◌≡◌, ◌⊎◌, ℕ, List, [], ◌∷◌, Op
 use Rattle.std.specs.Prelude.{All}
 use Rattle.std.proofs.lemmas.List.Elements.{All-cons, All-head, All-nil}
 use mathlib.Core.List.{IsPrefix}
+use Rattle.mum_crew.specs.Turns.{TurnsTo}
 use Rattle.mum_crew.specs.declared.role.Turn.{Turn}
 use Rattle.mum_io.specs.Counts.{Counts}
 use Rattle.mum_published.proofs.Prefixes.{prefix_trans}
 use Rattle.mum_published.specs.Facts.{Opening, PassFacts}
 use Rattle.mum_state.specs.declared.edit.Edit.{Edit}
 use Rattle.mum_worker.specs.Facts.{WorkerFacts}
-use Rattle.mum_worker_laws.specs.Laws.{AreOfOneList, Look, Moment, Told, Looked, TurnsTo, history, looks_in}
+use Rattle.mum_worker.specs.Turning.{WorkerTurned}
+use Rattle.mum_worker_laws.specs.Laws.{AreOfOneList, Look, Moment, Told, Looked, history, looks_in}
 use Rattle.mum_worker_laws.proofs.Going.{IsSeen, all_on, all_tail, go_turns}
 
 -- ---- two beginnings of one list
@@ -51,7 +53,7 @@ looks_pair published looks others all rest =
     looks all
 
 module _ {L : Type 0} (counts : L → Counts) (left written : L → Option (List ℕ)) (is_shut : L → Bool) (opening : Opening) where
-  pub looks_within : (old : WorkerFacts L) (turns : List Turn) (new : WorkerFacts L) (all : TurnsTo counts left written is_shut opening old turns new)
+  pub looks_within : (old : WorkerFacts L) (turns : List Turn) (new : WorkerFacts L) (all : TurnsTo (WorkerTurned counts left written is_shut opening) old turns new)
       → All (SawOf new.common.router.pass.seen) (looks_in (history counts left written is_shut opening old turns new all))
   looks_within old turns new all =
       looks_seen new.common.router.pass (history counts left written is_shut opening old turns new all)

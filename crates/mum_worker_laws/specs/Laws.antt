@@ -1,9 +1,10 @@
 -- The turns of a worker, one after another, and what came of them.
-use Rattle.std.specs.Prelude.{◌≡◌, ◌==◌, ◌⊎◌, ⊤, ℕ, Bool, true, false, List, [], ◌∷◌, ◌++◌, map, slice_get, Option, Some, None}
+use Rattle.std.specs.Prelude.{◌==◌, ◌⊎◌, ⊤, ℕ, Bool, true, false, List, [], ◌∷◌, ◌++◌, map, slice_get, Option, Some, None}
 use mathlib.Core.Logic.{inl, inr}
 use Rattle.std.specs.List.{filter_map}
 use mathlib.Core.List.{IsPrefix}
 use Rattle.mum_base.specs.declared.number.SessionId.{SessionId}
+use Rattle.mum_crew.specs.Turns.{TurnsTo}
 use Rattle.mum_crew.specs.declared.role.Turn.{Turn}
 use Rattle.mum_io.specs.Counts.{Counts}
 use Rattle.mum_outbox.specs.Facts.{PassFacts}
@@ -32,7 +33,7 @@ use Rattle.mum_worker.specs.Boxes.{BoxesFacts}
 use Rattle.mum_worker.specs.Facts.{WorkerFacts}
 use Rattle.mum_worker.specs.Routing.{CommonFacts, RoutesPacket}
 use Rattle.mum_worker.specs.Stepping.{PortSteps, Shares}
-use Rattle.mum_worker.specs.Turning.{Turned, shares_of}
+use Rattle.mum_worker.specs.Turning.{Turned, WorkerTurned, shares_of}
 
 -- ---- what happens
 
@@ -186,11 +187,6 @@ told_by None = []
 told_by (Some ring) = told_of ring
 
 module _ {L : Type 0} (counts : L → Counts) (left written : L → Option (List ℕ)) (is_shut : L → Bool) (opening : Opening) where
-  -- the turns, one after another, lead from this worker to that
-  abbrev pub TurnsTo : WorkerFacts L → List Turn → WorkerFacts L → Type 0
-  TurnsTo old [] new = new ≡ old
-  TurnsTo old (turn ∷ turns) new = (mid : WorkerFacts L) × Turned counts left written is_shut opening old mid turn × TurnsTo mid turns new
-
   -- what a turn heard and routed, in order
   abbrev pub moments_of : (old new : WorkerFacts L) (turn : Turn) → Turned counts left written is_shut opening old new turn → List Moment
   moments_of old new turn turned =
@@ -199,6 +195,6 @@ module _ {L : Type 0} (counts : L → Counts) (left written : L → Option (List
       turned.steps.steps.stepped (shares_of new turned.worked) turned.steps.steps.along
 
   -- the replies that the turns heard, and the packets that they routed, in order
-  abbrev pub history : (old : WorkerFacts L) (turns : List Turn) (new : WorkerFacts L) → TurnsTo old turns new → List Moment
+  abbrev pub history : (old : WorkerFacts L) (turns : List Turn) (new : WorkerFacts L) → TurnsTo (WorkerTurned counts left written is_shut opening) old turns new → List Moment
   history old [] new all = []
   history old (turn ∷ turns) new all = moments_of old all.0 turn all.1 ++ history all.0 turns new all.2

@@ -4,6 +4,7 @@ use mathlib.Core.Logic.{inl, inr}
 use Rattle.std.specs.List.{filter_map, flat_map}
 use Rattle.mum_base.specs.declared.number.Cause.TheVariants.{End}
 use Rattle.mum_base.specs.declared.number.SessionId.{SessionId}
+use Rattle.mum_crew.specs.Turns.{TurnsTo}
 use Rattle.mum_crew.specs.declared.role.Turn.{Turn}
 use Rattle.mum_frame.specs.declared.frame.Frame.{Frame}
 use Rattle.mum_frame.specs.Frame.{IsFrame, frame_spelling}
@@ -26,7 +27,8 @@ use Rattle.mum_worker.specs.Facts.{WorkerFacts, is_of, stays}
 use Rattle.mum_worker.specs.Hearing.{Hears, TakesOrTurns}
 use Rattle.mum_worker.specs.Record.{RecordFacts}
 use Rattle.mum_worker.specs.Routing.{RoutesPacket}
-use Rattle.mum_worker_laws.specs.Laws.{Moment, Told, Looked, TurnsTo, history}
+use Rattle.mum_worker.specs.Turning.{WorkerTurned}
+use Rattle.mum_worker_laws.specs.Laws.{Moment, Told, Looked, history}
 
 -- ---- counting
 
@@ -205,7 +207,7 @@ module _ {L : Type 0} (counts : L → Counts) (left written : L → Option (List
 
   -- the ports that turns took in, in order
   abbrev pub ports_taken : (old : WorkerFacts L) (turns : List Turn) (new : WorkerFacts L)
-      → TurnsTo counts left written is_shut opening old turns new → List (PortFacts L)
+      → TurnsTo (WorkerTurned counts left written is_shut opening) old turns new → List (PortFacts L)
   ports_taken old [] new all = []
   ports_taken old (turn ∷ turns) new all =
       taken_in counts left written is_shut all.1.hears.ring (record old { bell = all.1.hears.bell }) all.1.between all.1.hears.hears
@@ -213,7 +215,7 @@ module _ {L : Type 0} (counts : L → Counts) (left written : L → Option (List
 
   -- what became of the ports of a worker over turns
   pub record HaveLived (old : WorkerFacts L) (turns : List Turn) (new : WorkerFacts L)
-      (all : TurnsTo counts left written is_shut opening old turns new) : Type 0 where
+      (all : TurnsTo (WorkerTurned counts left written is_shut opening) old turns new) : Type 0 where
     pub lives : List (Life L)
     -- each port that was there has a life, and then each that was taken in, and no other
     pub begun : map (λ (life : Life L). life.first) lives ≡ old.ports ++ ports_taken old turns new all

@@ -3,14 +3,14 @@
 
 ghost use Rattle.std.specs.Prelude.{◌≡◌, ◌↔◌, IsTrue, ℕ, List, Option};
 ghost use Rattle.std.specs.List.{list_any};
+ghost use Rattle.mum_crew.specs.Turns.{TurnsTo};
 ghost use Rattle.mum_crew.specs.declared.role.Turn.{Turn};
 ghost use Rattle.mum_crew.specs.declared.role.Turn.TheVariants.{Worked, Idle, Done};
 ghost use Rattle.mum_published.specs.Facts.{Opening, PassFacts};
 ghost use Rattle.mum_worker.specs.Facts.{WorkerFacts, is_done};
 ghost use Rattle.mum_worker.specs.Opening.{HasOpened};
-ghost use Rattle.mum_worker.specs.Turning.{Turned};
+ghost use Rattle.mum_worker.specs.Turning.{Turned, WorkerTurned};
 ghost use Rattle.mum_worker_laws.specs.Causes.{HasNothingToDo, HasWorked, is_no_more};
-ghost use Rattle.mum_worker_laws.specs.Laws.{TurnsTo};
 
 use mum_io::Link;
 
@@ -30,6 +30,6 @@ pub fn answers_have_causes<L: Link>()
     // That no connection comes any more is known exactly where the bell gave that word.
     ensures ended { (opening : Opening) (number : ℕ) (pass : PassFacts) (journal : Option ℕ)
         (opened worker : WorkerFacts L) (turns : List Turn) → HasOpened number pass journal opened →
-        TurnsTo L.counts L.left L.written L.is_shut opening opened turns worker →
+        TurnsTo (WorkerTurned L.counts L.left L.written L.is_shut opening) opened turns worker →
         worker.ended ≡ list_any is_no_more worker.bell.taken }
 {}

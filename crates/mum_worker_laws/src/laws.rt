@@ -4,6 +4,7 @@
 ghost use Rattle.std.specs.Prelude.{◌≡◌, ◌++◌, ℕ, Bool, List, Option, Some, map};
 ghost use Rattle.std.specs.List.{All, AllPairs, filter_map, flat_map};
 ghost use mathlib.Core.List.{IsPrefix};
+ghost use Rattle.mum_crew.specs.Turns.{TurnsTo};
 ghost use Rattle.mum_crew.specs.declared.role.Turn.{Turn};
 ghost use Rattle.mum_published.specs.Facts.{Opening, PassFacts};
 ghost use Rattle.mum_router.specs.Laws.{HaveEntries};
@@ -11,8 +12,8 @@ ghost use Rattle.mum_state.specs.Proper.{IsProper};
 ghost use Rattle.mum_state.specs.declared.edit.Edit.{Edit};
 ghost use Rattle.mum_worker.specs.Facts.{WorkerFacts};
 ghost use Rattle.mum_worker.specs.Opening.{HasOpened};
-ghost use Rattle.mum_worker.specs.Turning.{Turned};
-ghost use Rattle.mum_worker_laws.specs.Laws.{AreOfOneList, Follows, SeesFrom, TurnsTo, ask_made, copies_at, copies_made, history, looks_in, moments_of, packets_in};
+ghost use Rattle.mum_worker.specs.Turning.{Turned, WorkerTurned};
+ghost use Rattle.mum_worker_laws.specs.Laws.{AreOfOneList, Follows, SeesFrom, ask_made, copies_at, copies_made, history, looks_in, moments_of, packets_in};
 ghost use Rattle.mum_worker_laws.specs.Voices.{talk_in, talk_made};
 
 use mum_io::Link;
@@ -22,7 +23,7 @@ use mum_io::Link;
 pub fn looks_are_asks<L: Link>()
     ensures { (opening : Opening) (number : ℕ) (pass : PassFacts) (journal : Option ℕ)
         (opened worker : WorkerFacts L) (turns : List Turn) → HasOpened number pass journal opened →
-        (all : TurnsTo L.counts L.left L.written L.is_shut opening opened turns worker) →
+        (all : TurnsTo (WorkerTurned L.counts L.left L.written L.is_shut opening) opened turns worker) →
         worker.common.router.pass.asks
         ≡ pass.asks ++ map ask_made (looks_in (history L.counts L.left L.written L.is_shut opening opened turns worker all)) }
 {}
@@ -32,7 +33,7 @@ pub fn looks_are_asks<L: Link>()
 pub fn voice_entries_are_the_looks<L: Link>()
     ensures { (opening : Opening) (number : ℕ) (pass : PassFacts) (room : ℕ)
         (opened worker : WorkerFacts L) (turns : List Turn) → HasOpened number pass (Some room) opened →
-        (all : TurnsTo L.counts L.left L.written L.is_shut opening opened turns worker) →
+        (all : TurnsTo (WorkerTurned L.counts L.left L.written L.is_shut opening) opened turns worker) →
         filter_map talk_in worker.common.kept.entries
         ≡ map talk_made (looks_in (history L.counts L.left L.written L.is_shut opening opened turns worker all)) }
 {}
@@ -42,12 +43,12 @@ pub fn voice_entries_are_the_looks<L: Link>()
 pub fn later_looks_see_more<L: Link>()
     ensures follows { (opening : Opening) (number : ℕ) (pass : PassFacts) (journal : Option ℕ)
         (opened worker : WorkerFacts L) (turns : List Turn) → HasOpened number pass journal opened →
-        (all : TurnsTo L.counts L.left L.written L.is_shut opening opened turns worker) →
+        (all : TurnsTo (WorkerTurned L.counts L.left L.written L.is_shut opening) opened turns worker) →
         AllPairs Follows (history L.counts L.left L.written L.is_shut opening opened turns worker all) }
     // What the pass knew as the worker opened begins each list.
     ensures known { (opening : Opening) (number : ℕ) (pass : PassFacts) (journal : Option ℕ)
         (opened worker : WorkerFacts L) (turns : List Turn) → HasOpened number pass journal opened →
-        (all : TurnsTo L.counts L.left L.written L.is_shut opening opened turns worker) →
+        (all : TurnsTo (WorkerTurned L.counts L.left L.written L.is_shut opening) opened turns worker) →
         All (SeesFrom pass.known) (history L.counts L.left L.written L.is_shut opening opened turns worker all) }
 {}
 
@@ -55,7 +56,7 @@ pub fn later_looks_see_more<L: Link>()
 /// worker on.
 pub fn looks_are_within<L: Link>()
     ensures { (opening : Opening) (old worker : WorkerFacts L) (turns : List Turn) →
-        (all : TurnsTo L.counts L.left L.written L.is_shut opening old turns worker) →
+        (all : TurnsTo (WorkerTurned L.counts L.left L.written L.is_shut opening) old turns worker) →
         All (λ look. IsPrefix look.edits worker.common.router.pass.seen)
         (looks_in (history L.counts L.left L.written L.is_shut opening old turns worker all)) }
 {}
@@ -65,15 +66,15 @@ pub fn looks_are_within<L: Link>()
 pub fn looks_are_of_one_list<L: Link>()
     // Each packet is routed at a beginning of it.
     ensures begins { (opening : Opening) (old worker : WorkerFacts L) (turns : List Turn) (published : List Edit) →
-        (all : TurnsTo L.counts L.left L.written L.is_shut opening old turns worker) →
+        (all : TurnsTo (WorkerTurned L.counts L.left L.written L.is_shut opening) old turns worker) →
         IsPrefix worker.common.router.pass.seen published →
         All (λ look. IsPrefix look.edits published)
         (looks_in (history L.counts L.left L.written L.is_shut opening old turns worker all)) }
     // Of two packets, of one worker or of two, the list of one goes on from that of the other.
     ensures pairs { (opening : Opening) (old worker second other : WorkerFacts L) (turns others : List Turn)
         (published : List Edit) →
-        (all : TurnsTo L.counts L.left L.written L.is_shut opening old turns worker) →
-        (rest : TurnsTo L.counts L.left L.written L.is_shut opening second others other) →
+        (all : TurnsTo (WorkerTurned L.counts L.left L.written L.is_shut opening) old turns worker) →
+        (rest : TurnsTo (WorkerTurned L.counts L.left L.written L.is_shut opening) second others other) →
         IsPrefix worker.common.router.pass.seen published → IsPrefix other.common.router.pass.seen published →
         All (λ look. All (λ next. AreOfOneList look.edits next.edits)
         (looks_in (history L.counts L.left L.written L.is_shut opening second others other rest)))
@@ -85,7 +86,7 @@ pub fn looks_are_of_one_list<L: Link>()
 pub fn copies_keep_their_order<L: Link>()
     ensures { (opening : Opening) (number : ℕ) (pass : PassFacts) (journal : Option ℕ)
         (opened worker : WorkerFacts L) (turns : List Turn) (slot : ℕ) → HasOpened number pass journal opened →
-        (all : TurnsTo L.counts L.left L.written L.is_shut opening opened turns worker) →
+        (all : TurnsTo (WorkerTurned L.counts L.left L.written L.is_shut opening) opened turns worker) →
         copies_at slot worker.common.router.outs
         ≡ copies_at slot opened.common.router.outs
         ++ flat_map (copies_made slot)
@@ -99,7 +100,7 @@ pub fn routes_are_kept<L: Link>()
     ensures { (opening : Opening) (number : ℕ) (pass : PassFacts) (journal : Option ℕ)
         (opened old new : WorkerFacts L) (before : List Turn) (answer : Turn) → HasOpened number pass journal opened →
         pass.opening ≡ opening → IsProper opening.state →
-        TurnsTo L.counts L.left L.written L.is_shut opening opened before old →
+        TurnsTo (WorkerTurned L.counts L.left L.written L.is_shut opening) opened before old →
         (turned : Turned L.counts L.left L.written L.is_shut opening old new answer) →
         HaveEntries opening (packets_in (moments_of L.counts L.left L.written L.is_shut opening old new answer turned))
         new.common.router.pass.seen new.common.router.caches.routes }

@@ -3,6 +3,7 @@
 
 ghost use Rattle.std.specs.Prelude.{◌≡◌, ◌+◌, IsTrue, ℕ, List, Option, Some};
 ghost use Rattle.std.specs.List.{All};
+ghost use Rattle.mum_crew.specs.Turns.{TurnsTo};
 ghost use Rattle.mum_crew.specs.declared.role.Turn.{Turn};
 ghost use Rattle.mum_port.specs.Did.{PortDid, action_of};
 ghost use Rattle.mum_port.specs.Facts.{PortFacts};
@@ -13,8 +14,9 @@ ghost use Rattle.mum_session.specs.Machine.{Machine};
 ghost use Rattle.mum_worker.specs.Facts.{WorkerFacts, is_of};
 ghost use Rattle.mum_worker.specs.Opening.{HasOpened};
 ghost use Rattle.mum_worker.specs.Routing.{RoutesPacket};
+ghost use Rattle.mum_worker.specs.Turning.{WorkerTurned};
 ghost use Rattle.mum_worker_laws.specs.Closings.{is_closing_of, is_open_of};
-ghost use Rattle.mum_worker_laws.specs.Laws.{TurnsTo, history};
+ghost use Rattle.mum_worker_laws.specs.Laws.{history};
 ghost use Rattle.mum_worker_laws.specs.Lives.{AwaitsReply, HaveLived, IsNoPacketOf, IsNoReplyTo};
 ghost use Rattle.mum_worker_laws.specs.Lives.{IsOfAnother, IsOrderly, count, is_closed_of, ports_taken};
 
@@ -25,7 +27,7 @@ use mum_io::Link;
 pub fn each_connection_closes_once<L: Link>()
     ensures { (opening : Opening) (number : ℕ) (pass : PassFacts) (journal : Option ℕ)
         (opened worker : WorkerFacts L) (turns : List Turn) (connection : ℕ) → HasOpened number pass journal opened →
-        (all : TurnsTo L.counts L.left L.written L.is_shut opening opened turns worker) →
+        (all : TurnsTo (WorkerTurned L.counts L.left L.written L.is_shut opening) opened turns worker) →
         count (is_closed_of connection) worker.desk.offered + count (is_of connection) worker.ports
         ≡ count (is_of connection) (ports_taken L.counts L.left L.written L.is_shut opening opened turns worker all) }
 {}
@@ -35,7 +37,7 @@ pub fn each_connection_closes_once<L: Link>()
 pub fn each_connection_has_one_closing_entry<L: Link>()
     ensures { (opening : Opening) (number : ℕ) (pass : PassFacts) (room : ℕ)
         (opened worker : WorkerFacts L) (turns : List Turn) (connection : ℕ) → HasOpened number pass (Some room) opened →
-        (all : TurnsTo L.counts L.left L.written L.is_shut opening opened turns worker) →
+        (all : TurnsTo (WorkerTurned L.counts L.left L.written L.is_shut opening) opened turns worker) →
         count (is_closing_of connection) worker.common.kept.entries + count (is_open_of connection) worker.ports
         ≡ count (is_of connection) (ports_taken L.counts L.left L.written L.is_shut opening opened turns worker all) }
 {}
@@ -46,13 +48,13 @@ pub fn ports_live<L: Link>()
     // From any moment of a worker on.
     ensures lives { (opening : Opening) (number : ℕ) (pass : PassFacts) (journal : Option ℕ)
         (opened old worker : WorkerFacts L) (before turns : List Turn) → HasOpened number pass journal opened →
-        TurnsTo L.counts L.left L.written L.is_shut opening opened before old →
-        (all : TurnsTo L.counts L.left L.written L.is_shut opening old turns worker) →
+        TurnsTo (WorkerTurned L.counts L.left L.written L.is_shut opening) opened before old →
+        (all : TurnsTo (WorkerTurned L.counts L.left L.written L.is_shut opening) old turns worker) →
         HaveLived L.counts L.left L.written L.is_shut opening old turns worker all }
     // From the opening on, each port handles frames, writes bytes and puts commands in their order.
     ensures orderly { (opening : Opening) (number : ℕ) (pass : PassFacts) (journal : Option ℕ)
         (opened worker : WorkerFacts L) (turns : List Turn) → HasOpened number pass journal opened →
-        (all : TurnsTo L.counts L.left L.written L.is_shut opening opened turns worker) →
+        (all : TurnsTo (WorkerTurned L.counts L.left L.written L.is_shut opening) opened turns worker) →
         (lived : HaveLived L.counts L.left L.written L.is_shut opening opened turns worker all) →
         All IsOrderly lived.lives }
 {}
@@ -65,7 +67,7 @@ pub fn a_reply_comes_before_the_next_packet<L: Link>()
         Steps L.counts L.left L.written L.is_shut (RoutesPacket opening) old machine did new →
         asked_item (action_of machine did.handled) ≡ Some item → IsTrue new.machine.awaits }
     ensures packets { (opening : Opening) (old worker : WorkerFacts L) (turns : List Turn) (connection : ℕ) →
-        (all : TurnsTo L.counts L.left L.written L.is_shut opening old turns worker) →
+        (all : TurnsTo (WorkerTurned L.counts L.left L.written L.is_shut opening) old turns worker) →
         All (AwaitsReply connection) old.ports →
         All (IsNoReplyTo connection) (history L.counts L.left L.written L.is_shut opening old turns worker all) →
         All (IsOfAnother connection) (ports_taken L.counts L.left L.written L.is_shut opening old turns worker all) →

@@ -1,0 +1,2 @@
+pub mod Lasting
+mod StandardFacts

@@ -1,0 +1,17 @@
+use Rattle.std.proofs.Common.{◌∙◌, List, ap, arith}
+use Rattle.std.specs.List.{flat_map}
+use Rattle.std.proofs.lemmas.List.{take_all}
+use Rattle.mum_base.specs.declared.number.ChannelId.{ChannelId}
+use Rattle.mum_kept.specs.Kept.{kept_of}
+use Rattle.mum_kept.proofs.Lasting.{kept_by_id, pieces_at}
+use Rattle.mum_kept.proofs.kept.kept_channels.Goals as goal
+
+pub loop-id-preserved : goal.loop-id-preserved
+loop-id-preserved c =
+    pieces_at (kept_of c.args.state.now) c.args.ids.now c.loop-id.id-index _ c.loop-id.channels.items _ c.loop-id-test.true c.loop-id.invariant c.in_ok-add_channel.ensures
+
+pub returns : goal.returns
+returns c =
+    c.loop-id.invariant
+    ∙ ap (λ (ids : List ChannelId). flat_map (kept_of c.args.state.now) ids) (take_all c.loop-id.id-index c.args.ids.now (omega arith) ∙ c.requires.ids)
+    ∙ kept_by_id c.args.state.now c.requires.rise

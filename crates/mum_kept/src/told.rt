@@ -1,0 +1,110 @@
+//! A channel's policy as the payload of the ACL message that answers a query for it.
+
+ghost use Rattle.std.specs.Prelude.{◌≡◌, IfOk, map};
+ghost use Rattle.mum_kept.specs.Policy.{policy_payload};
+ghost use Rattle.mum_rules_tree.specs.Policy.{account_told, acl_told, group_name_told, group_told, line_told, numbers};
+
+use mum_base::{AccountId, ChannelId, Items, Octets, OutOfMemory, Text};
+use mum_msg_rule::{Acl, AclGroup, AclLine, Message};
+use mum_policy::{AclEntry, ChannelPolicy, Group, Whom};
+use std::alloc::Global;
+
+fn numbers(alloc: Global, accounts: &[AccountId]) -> Result<Items<u32>, OutOfMemory>
+    ensures { IfOk result (λ listed. listed ≡ numbers accounts.now) }
+{
+    let mut listed = Vec::with_capacity(alloc, accounts.len())?;
+    for account in accounts {
+        listed.push(account.0)?;
+    }
+    Ok(Items::from_vec(listed))
+}
+
+fn group_told(alloc: Global, group: &Group) -> Result<AclGroup, OutOfMemory>
+    ensures { IfOk result (λ told. told ≡ group_told group.now) }
+{
+    Ok(AclGroup {
+        name: Some(group.name.share()?),
+        inherited: Some(false),
+        inherit: Some(group.inherit),
+        inheritable: Some(group.inheritable),
+        add: numbers(alloc, group.add.as_slice())?,
+        remove: numbers(alloc, group.remove.as_slice())?,
+        inherited_members: Items::new(alloc),
+    })
+}
+
+fn account_told(whom: &Whom) -> Option<u32>
+    ensures { result ≡ account_told whom.now }
+{
+    match whom {
+        Whom::Account(account) => Some(account.0),
+        Whom::Group(_) => None,
+    }
+}
+
+fn group_name_told(whom: &Whom) -> Result<Option<Text>, OutOfMemory>
+    ensures { IfOk result (λ name. name ≡ group_name_told whom.now) }
+{
+    match whom {
+        Whom::Account(_) => Ok(None),
+        Whom::Group(name) => Ok(Some(name.share()?)),
+    }
+}
+
+fn line_told(entry: &AclEntry) -> Result<AclLine, OutOfMemory>
+    ensures { IfOk result (λ told. told ≡ line_told entry.now) }
+{
+    Ok(AclLine {
+        apply_here: Some(entry.here),
+        apply_subs: Some(entry.subs),
+        inherited: Some(false),
+        user_id: account_told(&entry.whom),
+        group: group_name_told(&entry.whom)?,
+        grant: Some(entry.grant.0),
+        deny: Some(entry.deny.0),
+    })
+}
+
+fn groups_told(alloc: Global, groups: &[Group]) -> Result<Items<AclGroup>, OutOfMemory>
+    ensures { IfOk result (λ told. told ≡ map group_told groups.now) }
+{
+    let mut told = Vec::with_capacity(alloc, groups.len())?;
+    for group in groups {
+        told.push(group_told(alloc, group)?)?;
+    }
+    Ok(Items::from_vec(told))
+}
+
+fn lines_told(alloc: Global, entries: &[AclEntry]) -> Result<Items<AclLine>, OutOfMemory>
+    ensures { IfOk result (λ told. told ≡ map line_told entries.now) }
+{
+    let mut told = Vec::with_capacity(alloc, entries.len())?;
+    for entry in entries {
+        told.push(line_told(entry)?)?;
+    }
+    Ok(Items::from_vec(told))
+}
+
+fn acl_told(alloc: Global, id: ChannelId, policy: &ChannelPolicy) -> Result<Acl, OutOfMemory>
+    ensures { IfOk result (λ told. told ≡ acl_told id policy.now) }
+{
+    Ok(Acl {
+        channel_id: Some(id.0),
+        inherit_acls: Some(policy.inherit_acls),
+        groups: groups_told(alloc, policy.groups.as_slice())?,
+        acls: lines_told(alloc, policy.acls.as_slice())?,
+        query: None,
+    })
+}
+
+/// What answers a query for the policy of the channel.
+pub(crate) fn policy_payload(
+    alloc: Global,
+    id: ChannelId,
+    policy: &ChannelPolicy,
+) -> Result<Octets, OutOfMemory>
+    ensures { IfOk result (λ payload. payload ≡ policy_payload id policy.now) }
+{
+    let told = acl_told(alloc, id, policy)?;
+    told.encode(alloc)
+}

@@ -20,6 +20,7 @@ import sqlite3
 import subprocess
 import sys
 import tempfile
+from concurrent.futures import ThreadPoolExecutor
 
 from client import VOICE, Client
 from trial import PASSWORD, RELAY, Installation, run_checks, wait
@@ -243,9 +244,18 @@ class Conversation:
         self.at, self.sound, self.ann, self.bob, self.pictures = at, sound, ann, bob, pictures
         self.probe = Client(at.port).log_in("SuperUser", PASSWORD)
 
+    def done(self, work):
+        """What some work gives. The probe pings meanwhile: the relay closes a client from which nothing comes for ten
+        seconds, and the work takes longer where the machine does much else."""
+        with ThreadPoolExecutor(1) as worker:
+            given = worker.submit(work)
+            while not given.done():
+                self.probe.stay(0.1)
+            return given.result()
+
     def picture(self, what):
         for client in (self.ann, self.bob):
-            client.picture(os.path.join(self.pictures, f"{what}-{client.name}.png"))
+            self.done(lambda: client.picture(os.path.join(self.pictures, f"{what}-{client.name}.png")))
 
     def settle(self):
         self.probe.stay(SETTLE)
@@ -257,7 +267,8 @@ class Conversation:
     def hear(self, seconds, ann, bob):
         """Whether ann and bob hear the other in each second, or in none."""
         samples = self.sound.recorded(["ann", "bob"], seconds, lambda: self.probe.stay(seconds + 0.5))
-        heard = {"ann": seconds_heard(samples["ann"], TONES["bob"]), "bob": seconds_heard(samples["bob"], TONES["ann"])}
+        heard = self.done(lambda: {"ann": seconds_heard(samples["ann"], TONES["bob"]),
+                                   "bob": seconds_heard(samples["bob"], TONES["ann"])})
         for name, wanted in (("ann", ann), ("bob", bob)):
             if wanted:
                 assert heard[name] >= seconds - 1, f"{name} hears the other in {heard[name]} of {seconds} seconds"
@@ -280,11 +291,11 @@ class Conversation:
 
     def they_change_channels(self):
         room = self.probe.channels["Room 1"]
-        self.bob.enter("Room 1")
+        self.done(lambda: self.bob.enter("Room 1"))
         self.probe.wait_until(lambda: self.where(self.bob) == room or None)
         self.settle()
         apart = self.hear(3, ann=False, bob=False)
-        self.ann.enter("Room 1")
+        self.done(lambda: self.ann.enter("Room 1"))
         self.probe.wait_until(lambda: self.where(self.ann) == room or None)
         self.settle()
         together = self.hear(4, ann=True, bob=True)
@@ -292,21 +303,21 @@ class Conversation:
         return f"apart: {apart}; together: {together}"
 
     def one_mutes(self):
-        self.ann.mute(True)
+        self.done(lambda: self.ann.mute(True))
         self.probe.wait_until(lambda: self.probe.user("ann")[1].get("self_mute") or None)
         self.settle()
         mute = self.hear(3, ann=True, bob=False)
         self.picture("mute")
-        self.ann.mute(False)
+        self.done(lambda: self.ann.mute(False))
         self.probe.wait_until(lambda: self.probe.user("ann")[1].get("self_mute") is False or None)
         self.settle()
         return f"mute: {mute}; then: {self.hear(3, ann=True, bob=True)}"
 
     def one_is_denied_by_the_permission(self):
-        self.ann.enter("Staff")
+        self.done(lambda: self.ann.enter("Staff"))
         self.settle()
         self.picture("denied")
-        text = self.ann.log()
+        text = self.done(self.ann.log)
         line = re.search(r".*\bdenied\b.*", text, re.I)
         assert line and "Enter" in line.group() and "Staff" in line.group(), text
         assert self.where(self.ann) == self.probe.channels["Room 1"]
@@ -317,13 +328,13 @@ class Conversation:
         self.probe.wait_until(lambda: self.probe.user("bob") is None or None)
         self.settle()
         self.picture("kicked")
-        text = self.bob.log()
+        text = self.done(self.bob.log)
         line = re.search(r".*\bkicked\b.*", text, re.I)
         assert line and "the end of the trial" in line.group(), text
         return line.group()
 
     def nobody_was_disconnected_otherwise(self):
-        text = self.ann.log()
+        text = self.done(self.ann.log)
         assert not re.search("disconnected|connection failed|timed out|reconnect", text, re.I), text
         assert self.probe.user("ann")
 

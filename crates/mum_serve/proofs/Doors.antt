@@ -1,9 +1,9 @@
 -- The door of a run that did not come to its end.
 use Rattle.std.proofs.Common.{◌≡◌, ◌∙◌, ℕ, Bool, List, ◌∷◌, Option, IfSome, sym, ap, subst}
 use Rattle.std.specs.List.{AllByRecursion}
-use Rattle.mum_io.specs.Counts.{Counts}
 use Rattle.mum_doorway.specs.declared.opening.DoorOpening.{DoorOpening}
 use Rattle.mum_state.specs.State.{StateValue}
+use Rattle.mum_serve.specs.Facts.{DoorFacts, LinkFacts}
 use Rattle.mum_serve.specs.Joined.{HasDoor}
 use Rattle.mum_serve.specs.Roles.{Collects, owners_in}
 use Rattle.mum_serve.specs.Serving.{Runs, Serves, opening_at}
@@ -14,25 +14,25 @@ use Rattle.mum_serve.specs.declared.server.Served.{Served}
 use Rattle.mum_serve.specs.declared.server.Served.TheVariants as ends
 use Rattle.mum_serve.specs.declared.totals.Totals.{Totals}
 
-module _ {D : Type 0} (counts : D → Counts) (given : D → ℕ) (opened_at : D → Option (List ℕ)) where
+module _ {D : Type 0} (doors : DoorFacts D) where
   -- roles that took no turn give the door back
   pub door_kept : {G N R L : Type 0} (state : StateValue) (opening : DoorOpening) (back begun : List (Roles D G N R L)) (totals : Totals) (entries : Entries) (no_memory door_failed : Bool) (door left : D)
       → back ≡ begun → AllByRecursion (HasDoor door) (owners_in begun)
-      → Collects counts given opened_at state opening back totals entries no_memory door_failed left → left ≡ door
+      → Collects doors state opening back totals entries no_memory door_failed left → left ≡ door
   door_kept {G} {N} {R} {L} state opening back begun totals entries no_memory door_failed door left same has collected =
       let now : AllByRecursion (HasDoor door) (owners_in (roles.Owner collected.owner ∷ collected.others)) =
       subst (λ (xs : List (Roles D G N R L)). AllByRecursion (HasDoor door) (owners_in xs)) (sym same ∙ collected.are) has in
       collected.came.door_is ∙ now.0
 
   -- what was run over a door that was opened is what was served over it
-  pub serves_so : (L : Type 0) (address : List ℕ) (state : StateValue) (journal : Bool) (connections workers : ℕ) (door opened left : D) (served : Served)
-      → counts opened ≡ counts door → given opened ≡ given door → IfSome (opened_at opened) (λ known. known ≡ address)
-      → Runs L counts given opened_at state (opening_at counts given opened_at opened) journal connections workers served left
-      → Serves L counts given opened_at address state journal connections workers door served left
-  serves_so L address state journal connections workers door opened left (ends.Whole totals entries no_memory door_failed) counted gave at runs =
+  pub serves_so : {L : Type 0} (links : LinkFacts L) (address : List ℕ) (state : StateValue) (journal : Bool) (connections workers : ℕ) (door opened left : D) (served : Served)
+      → doors.counts opened ≡ doors.counts door → doors.given opened ≡ doors.given door → IfSome (doors.opened_at opened) (λ known. known ≡ address)
+      → Runs links doors state (opening_at doors opened) journal connections workers served left
+      → Serves links doors address state journal connections workers door served left
+  serves_so links address state journal connections workers door opened left (ends.Whole totals entries no_memory door_failed) counted gave at runs =
       record { opened = opened; counted = counted; gave = gave; at = at; run = runs }
-  serves_so L address state journal connections workers door opened left ends.DoorFault counted gave at runs = absurd runs
-  serves_so L address state journal connections workers door opened left ends.CrewFault counted gave at runs =
+  serves_so links address state journal connections workers door opened left ends.DoorFault counted gave at runs = absurd runs
+  serves_so links address state journal connections workers door opened left ends.CrewFault counted gave at runs =
       record { counted = ap (λ (o : DoorOpening). o.counts) runs ∙ counted; gave = ap (λ (o : DoorOpening). o.given) runs ∙ gave }
-  serves_so L address state journal connections workers door opened left ends.OutOfMemory counted gave at runs =
+  serves_so links address state journal connections workers door opened left ends.OutOfMemory counted gave at runs =
       record { counted = ap (λ (o : DoorOpening). o.counts) runs ∙ counted; gave = ap (λ (o : DoorOpening). o.given) runs ∙ gave }

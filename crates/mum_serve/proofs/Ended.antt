@@ -5,7 +5,6 @@ use Rattle.std.proofs.lemmas.List.Elements.{All-head, All-tail}
 use Rattle.std.proofs.lemmas.List.{length-map}
 use Rattle.mum_crew.specs.declared.crew.CrewEnd.{CrewEnd}
 use Rattle.mum_crew.specs.declared.crew.CrewEnd.TheVariants.{Ran, Refused, NoMemory}
-use Rattle.mum_io.specs.Counts.{Counts, Rose}
 use Rattle.mum_doorway.specs.declared.opening.DoorOpening.{DoorOpening}
 use Rattle.mum_owner.specs.Facts.{OwnerFacts}
 use Rattle.mum_owner.specs.Opened.{opening_of as owner_opening}
@@ -16,6 +15,7 @@ use Rattle.mum_worker.specs.declared.role.WorkerOpening.{WorkerOpening}
 use Rattle.mum_serve.specs.Roles.{AreLed, AreWorkers, Collects, has_ended, opening_of, role_openings, with_workers, worker_opening, worker_openings, workers_in}
 use Rattle.mum_record.specs.Journal.{Each, IsWritableEntry}
 use Rattle.mum_record.specs.declared.journal.WorkerEntry.{WorkerEntry}
+use Rattle.mum_serve.specs.Facts.{DoorFacts, LinkFacts}
 use Rattle.mum_serve.specs.Journals.{entries_of}
 use Rattle.mum_serve.specs.Serving.{HasRun}
 use Rattle.mum_serve.specs.declared.entries.Entries.{Entries}
@@ -185,10 +185,10 @@ module _ {D G N R L : Type 0} where
     all_done others (All-tail (λ role. IsTrue (has_ended role)) (roles.Worker worker) others ended),
   )
 
-  pub has_run : (counts : D → Counts) (given : D → ℕ) (opened_at : D → Option (List ℕ)) (state : StateValue) (door : DoorOpening) (journal : Bool) (connections workers : ℕ) (back : List (Roles D G N R L)) (totals : Totals) (entries : Entries) (no_memory door_failed : Bool) (left : D)
+  pub has_run : (links : LinkFacts L) (doors : DoorFacts D) (state : StateValue) (door : DoorOpening) (journal : Bool) (connections workers : ℕ) (back : List (Roles D G N R L)) (totals : Totals) (entries : Entries) (no_memory door_failed : Bool) (left : D)
       → map (opening_of state door) back ≡ role_openings state door journal connections workers → All (λ role. IsTrue (has_ended role)) back
-      → Collects counts given opened_at state door back totals entries no_memory door_failed left → HasRun L counts given opened_at state door journal connections workers totals entries no_memory door_failed left
-  has_run counts given opened_at state door journal connections workers back totals entries no_memory door_failed left openings_are ended collected =
+      → Collects doors state door back totals entries no_memory door_failed left → HasRun links doors state door journal connections workers totals entries no_memory door_failed left
+  has_run links doors state door journal connections workers back totals entries no_memory door_failed left openings_are ended collected =
       let owner = collected.owner in
       let others = collected.others in
       let same : map (opening_of state door) (roles.Owner owner ∷ others) ≡ role_openings state door journal connections workers =

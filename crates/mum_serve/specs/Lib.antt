@@ -1,3 +1,4 @@
+pub mod Facts
 pub mod Queues
 pub mod Totals
 pub mod Journals

@@ -1,7 +1,7 @@
 -- The roles of a server: with what they were opened, and what they came to.
 use Rattle.std.specs.Prelude.{◌≡◌, ⊤, ℕ, zero, suc, ◌+◌, ◌||◌, Bool, true, false, List, [], ◌∷◌, length, map, Option}
 use Rattle.mum_crew.specs.declared.role.Turn.{Turn}
-use Rattle.mum_io.specs.Counts.{Counts, NoneFalls, Rose}
+use Rattle.mum_io.specs.Counts.{NoneFalls, Rose}
 use Rattle.mum_owner.specs.Decided.{HasWritten}
 use Rattle.mum_doorway.specs.Doors.{NoMoreCome, given_after_all}
 use Rattle.mum_owner.specs.Facts.{OwnerFacts}
@@ -14,6 +14,7 @@ use Rattle.mum_state.specs.State.{StateValue}
 use Rattle.mum_worker.specs.Facts.{WorkerFacts, is_done}
 use Rattle.mum_worker.specs.Turning.{Turned}
 use Rattle.mum_worker.specs.declared.role.WorkerOpening.{WorkerOpening}
+use Rattle.mum_serve.specs.Facts.{DoorFacts, LinkFacts}
 use Rattle.mum_serve.specs.Journals.{AreWritable, entries_of}
 use Rattle.mum_serve.specs.Totals.{nothing, totals_of, with_worker}
 use Rattle.mum_serve.specs.declared.entries.Entries.{Entries}
@@ -79,13 +80,13 @@ module _ {D G N R L : Type 0} where
 
 -- ---- their turns
 
-module _ {D G N R L : Type 0} (counts : D → Counts) (given : D → ℕ) (link_counts : L → Counts) (left written : L → Option (List ℕ)) (is_shut : L → Bool) (opening : Opening) where
+module _ {D G N R L : Type 0} (links : LinkFacts L) (doors : DoorFacts D) (opening : Opening) where
   -- a turn of the owner is one of an owner, and a turn of a worker is one of a worker
   abbrev pub RoleTurned : Roles D G N R L → Turn → Roles D G N R L → Type 0
-  RoleTurned (roles.Owner old) answer (roles.Owner new) = OwnerTurned L counts given old answer new
+  RoleTurned (roles.Owner old) answer (roles.Owner new) = OwnerTurned L doors.counts doors.given old answer new
   RoleTurned (roles.Owner old) answer (roles.Worker new) = ⊥
   RoleTurned (roles.Worker old) answer (roles.Owner new) = ⊥
-  RoleTurned (roles.Worker old) answer (roles.Worker new) = Turned link_counts left written is_shut opening old new answer
+  RoleTurned (roles.Worker old) answer (roles.Worker new) = Turned links.counts links.left links.written links.is_shut opening old new answer
 
 -- ---- how they end
 
@@ -94,7 +95,7 @@ abbrev pub with_workers : {L : Type 0} → List (WorkerFacts L) → WorkerTotals
 with_workers [] totals = totals
 with_workers (worker ∷ others) totals = with_workers others (with_worker worker totals)
 
-module _ {D L : Type 0} (counts : D → Counts) (given : D → ℕ) (opened_at : D → Option (List ℕ)) where
+module _ {D L : Type 0} (doors : DoorFacts D) where
   -- what a server of this owner and these workers came to: its totals, what was written down, whether memory ran out in
   -- a role, whether the owner found that the door failed, which it counted exactly then, and the door, at the address at which it was opened. Where a
   -- journal was asked for, the control entries are the commands that were decided, and what they accepted is all that was
@@ -107,20 +108,20 @@ module _ {D L : Type 0} (counts : D → Counts) (given : D → ℕ) (opened_at :
     pub writable : AreWritable entries
     pub sums : totals ≡ totals_of owner.guests.given (length (appended owner.control.publisher)) (with_workers workers nothing)
     pub memory : no_memory ≡ (owner.scribe.no_memory || (with_workers workers nothing).no_memory)
-    pub counted : NoneFalls opening.counts (counts door)
+    pub counted : NoneFalls opening.counts (doors.counts door)
     pub failed_is : door_failed ≡ owner.doorway.failed
-    pub failed : door_failed ≡ true → Rose opening.counts.faults (counts door).faults
-    pub steady : door_failed ≡ false → (counts door).faults ≡ opening.counts.faults
-    pub gave : given door ≡ given_after_all opening.given owner.guests.given
-    pub address : opened_at door ≡ opening.opened_at
+    pub failed : door_failed ≡ true → Rose opening.counts.faults (doors.counts door).faults
+    pub steady : door_failed ≡ false → (doors.counts door).faults ≡ opening.counts.faults
+    pub gave : doors.given door ≡ given_after_all opening.given owner.guests.given
+    pub address : doors.opened_at door ≡ opening.opened_at
     pub door_is : door ≡ owner.doorway.door
-    pub over : owner_has_ended owner ≡ true → NoMoreCome owner.guests.given owner.guests.limit opening.counts (counts door)
+    pub over : owner_has_ended owner ≡ true → NoMoreCome owner.guests.given owner.guests.limit opening.counts (doors.counts door)
 
-module _ {D G N R L : Type 0} (counts : D → Counts) (given : D → ℕ) (opened_at : D → Option (List ℕ)) where
+module _ {D G N R L : Type 0} (doors : DoorFacts D) where
   -- the roles are an owner and workers, and this is what they came to
   pub record Collects (state : StateValue) (opening : DoorOpening) (all : List (Roles D G N R L)) (totals : Totals) (entries : Entries) (no_memory door_failed : Bool) (door : D) : Type 0 where
     pub owner : OwnerFacts D
     pub others : List (Roles D G N R L)
     pub are : all ≡ roles.Owner owner ∷ others
     pub workers : AreWorkers others
-    pub came : CameTo counts given opened_at state opening owner (workers_in others) totals entries no_memory door_failed door
+    pub came : CameTo doors state opening owner (workers_in others) totals entries no_memory door_failed door

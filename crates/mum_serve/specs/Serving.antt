@@ -3,12 +3,13 @@ use Rattle.std.specs.Prelude.{◌≡◌, ℕ, Bool, true, List, map, Option, Som
 use Rattle.std.specs.List.{AllByRecursion}
 use Rattle.mum_crew.specs.Crew.{CrewCounts, RunCounts}
 use Rattle.mum_crew.specs.declared.crew.CrewEnd.TheVariants.{Ran, Refused}
-use Rattle.mum_io.specs.Counts.{Counts, CountsFault}
+use Rattle.mum_io.specs.Counts.{CountsFault}
 use Rattle.mum_owner.specs.Facts.{OwnerFacts}
 use Rattle.mum_owner.specs.Turned.{has_ended as owner_has_ended}
 use Rattle.mum_doorway.specs.declared.opening.DoorOpening.{DoorOpening}
 use Rattle.mum_state.specs.State.{StateValue}
 use Rattle.mum_worker.specs.Facts.{WorkerFacts, is_done}
+use Rattle.mum_serve.specs.Facts.{DoorFacts, LinkFacts}
 use Rattle.mum_serve.specs.Roles.{CameTo, worker_opening, worker_openings}
 use Rattle.mum_serve.specs.declared.entries.Entries.{Entries}
 use Rattle.mum_serve.specs.declared.server.Served.{Served}
@@ -16,8 +17,8 @@ use Rattle.mum_serve.specs.declared.server.Served.TheVariants.{Whole, DoorFault,
 use Rattle.mum_serve.specs.declared.totals.Totals.{Totals}
 
 -- what a door has counted so far
-abbrev pub opening_at : {D : Type 0} → (D → Counts) → (D → ℕ) → (D → Option (List ℕ)) → D → DoorOpening
-opening_at counts given opened_at door = record { counts = counts door; given = given door; opened_at = opened_at door }
+abbrev pub opening_at : {D : Type 0} → DoorFacts D → D → DoorOpening
+opening_at doors door = record { counts = doors.counts door; given = doors.given door; opened_at = doors.opened_at door }
 
 -- where all were served, the crew counted a run, and where it did not start, that; nothing else changes its counts
 abbrev pub RunsCounted : Served → CrewCounts → CrewCounts → Type 0
@@ -26,7 +27,7 @@ RunsCounted DoorFault old new = new ≡ old
 RunsCounted CrewFault old new = RunCounts Refused old new
 RunsCounted OutOfMemory old new = new ≡ old
 
-module _ {D : Type 0} (L : Type 0) (counts : D → Counts) (given : D → ℕ) (opened_at : D → Option (List ℕ)) where
+module _ {D L : Type 0} (links : LinkFacts L) (doors : DoorFacts D) where
   -- an owner and workers were opened from this state, with a journal or without one; each has ended, and this is what
   -- they came to
   pub record HasRun (state : StateValue) (opening : DoorOpening) (journal : Bool) (connections workers : ℕ) (totals : Totals) (entries : Entries) (no_memory door_failed : Bool) (door : D) : Type 0 where
@@ -37,32 +38,32 @@ module _ {D : Type 0} (L : Type 0) (counts : D → Counts) (given : D → ℕ) (
     pub numbers : map worker_opening crew ≡ worker_openings journal 0 workers
     pub owner_ended : owner_has_ended owner ≡ true
     pub crew_ended : AllByRecursion (λ worker. is_done worker ≡ true) crew
-    pub came : CameTo counts given opened_at state opening owner crew totals entries no_memory door_failed door
+    pub came : CameTo doors state opening owner crew totals entries no_memory door_failed door
 
   -- where all were served, the roles have run, and else the door is as it was
   abbrev pub Runs : StateValue → DoorOpening → Bool → ℕ → ℕ → Served → D → Type 0
   Runs state opening journal connections workers (Whole totals entries no_memory door_failed) door =
       HasRun state opening journal connections workers totals entries no_memory door_failed door
   Runs state opening journal connections workers DoorFault door = ⊥
-  Runs state opening journal connections workers others door = opening_at counts given opened_at door ≡ opening
+  Runs state opening journal connections workers others door = opening_at doors door ≡ opening
 
   -- the door was opened at this address, and the roles have run over it
   pub record OpensAndRuns (address : List ℕ) (state : StateValue) (journal : Bool) (connections workers : ℕ) (door : D) (totals : Totals) (entries : Entries) (no_memory door_failed : Bool) (left : D) : Type 0 where
     pub opened : D
-    pub counted : counts opened ≡ counts door
-    pub gave : given opened ≡ given door
-    pub at : IfSome (opened_at opened) (λ known. known ≡ address)
-    pub run : HasRun state (opening_at counts given opened_at opened) journal connections workers totals entries no_memory door_failed left
+    pub counted : doors.counts opened ≡ doors.counts door
+    pub gave : doors.given opened ≡ doors.given door
+    pub at : IfSome (doors.opened_at opened) (λ known. known ≡ address)
+    pub run : HasRun state (opening_at doors opened) journal connections workers totals entries no_memory door_failed left
 
   -- the door counted a fault and nothing else, and gave no connection
   pub record StaysShut (door left : D) : Type 0 where
-    pub counted : CountsFault (counts door) (counts left)
-    pub gave : given left ≡ given door
+    pub counted : CountsFault (doors.counts door) (doors.counts left)
+    pub gave : doors.given left ≡ doors.given door
 
   -- the door counted nothing, and gave no connection
   pub record IsUnasked (door left : D) : Type 0 where
-    pub counted : counts left ≡ counts door
-    pub gave : given left ≡ given door
+    pub counted : doors.counts left ≡ doors.counts door
+    pub gave : doors.given left ≡ doors.given door
 
   -- where all were served, the door was opened and the roles have run over it; or the door did not open; or nobody asked it
   -- for a connection

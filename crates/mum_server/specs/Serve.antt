@@ -2,6 +2,7 @@
 use Rattle.std.specs.Prelude.{◌≡◌, ⊤, ℕ, Bool, List, [], ◌∷◌, ◌++◌, codes, Option, Some, None}
 use Rattle.mum_crew.specs.Crew.{CrewCounts}
 use Rattle.mum_io.specs.Counts.{Counts, Rose}
+use Rattle.mum_serve.specs.Facts.{DoorFacts, LinkFacts}
 use Rattle.mum_serve.specs.Program.{EndsAt, ReadsCounted, RunsInCrew, WritesCounted}
 use Rattle.mum_serve.specs.declared.program.ServerEnd.{ServerEnd}
 use Rattle.mum_serve.specs.declared.program.ServerEnd.TheVariants as ends
@@ -33,12 +34,12 @@ abbrev pub DoorFailed : {D : Type 0} → (D → Counts) → Option D → Option 
 DoorFailed counts (Some door) (Some left) = Rose (counts door).faults (counts left).faults
 DoorFailed counts door left = ⊥
 
-module _ {D : Type 0} (L : Type 0) (counts : D → Counts) (given : D → ℕ) (opened_at : D → Option (List ℕ)) where
+module _ {D L : Type 0} (links : LinkFacts L) (doors : DoorFacts D) where
   -- a server was run at this address for this many connections, with a journal or without one: how it ended, and what was
   -- answered and said of that
   pub record RunsServer (address : List ℕ) (connections : ℕ) (journal : Bool) (input input_after : InputFacts) (output output_after errors errors_after : SinkFacts) (door left : Option D) (crew crew_after : CrewCounts) (status : ℕ) : Type 0 where
     pub end : ServerEnd
-    pub ends : EndsAt L counts given opened_at address journal connections input.left end door left output.written output_after.written crew crew_after
+    pub ends : EndsAt links doors address journal connections input.left end door left output.written output_after.written crew crew_after
     pub runs : RunsInCrew end crew crew_after
     pub reads : ReadsCounted end input.faults input_after.faults
     pub writes : WritesCounted end output.faults output_after.faults

@@ -6,7 +6,7 @@ use Rattle.mum_state.specs.State.{StateValue}
 use Rattle.mum_serve.specs.Facts.{DoorFacts, LinkFacts}
 use Rattle.mum_serve.specs.Joined.{HasDoor}
 use Rattle.mum_serve.specs.Roles.{Collects, owners_in}
-use Rattle.mum_serve.specs.Serving.{Runs, Serves, opening_at}
+use Rattle.mum_serve.specs.Serving.{Runs, Serves}
 use Rattle.mum_serve.specs.declared.entries.Entries.{Entries}
 use Rattle.mum_serve.specs.declared.roles.Roles.{Roles}
 use Rattle.mum_serve.specs.declared.roles.Roles.TheVariants as roles
@@ -27,12 +27,12 @@ module _ {D : Type 0} (doors : DoorFacts D) where
   -- what was run over a door that was opened is what was served over it
   pub serves_so : {L : Type 0} (links : LinkFacts L) (address : List ℕ) (state : StateValue) (journal : Bool) (connections workers : ℕ) (door opened left : D) (served : Served)
       → doors.counts opened ≡ doors.counts door → doors.given opened ≡ doors.given door → IfSome (doors.opened_at opened) (λ known. known ≡ address)
-      → Runs links doors state (opening_at doors opened) journal connections workers served left
+      → Runs links doors state opened journal connections workers served left
       → Serves links doors address state journal connections workers door served left
   serves_so links address state journal connections workers door opened left (ends.Whole totals entries no_memory door_failed) counted gave at runs =
       record { opened = opened; counted = counted; gave = gave; at = at; run = runs }
   serves_so links address state journal connections workers door opened left ends.DoorFault counted gave at runs = absurd runs
   serves_so links address state journal connections workers door opened left ends.CrewFault counted gave at runs =
-      record { counted = ap (λ (o : DoorOpening). o.counts) runs ∙ counted; gave = ap (λ (o : DoorOpening). o.given) runs ∙ gave }
+      record { counted = ap doors.counts runs ∙ counted; gave = ap doors.given runs ∙ gave }
   serves_so links address state journal connections workers door opened left ends.OutOfMemory counted gave at runs =
-      record { counted = ap (λ (o : DoorOpening). o.counts) runs ∙ counted; gave = ap (λ (o : DoorOpening). o.given) runs ∙ gave }
+      record { counted = ap doors.counts runs ∙ counted; gave = ap doors.given runs ∙ gave }

@@ -1,8 +1,9 @@
 -- The roles after their last turn.
 use Rattle.std.proofs.Common.{◌≡◌, ◌∙◌, ℕ, zero, suc, ◌+◌, ◌<◌, ◌||◌, ◌⊎◌, Bool, true, false, List, [], ◌∷◌, ◌++◌, append_assoc, append-nil, length, map, Option, drop, slice_index_or, IsTrue, refl, sym, ap, subst, arith}
-use Rattle.std.specs.List.{All, AllByRecursion}
+use Rattle.std.specs.List.{All, AllByRecursion, AllZip}
 use Rattle.std.proofs.lemmas.List.Elements.{All-head, All-tail}
 use Rattle.std.proofs.lemmas.List.{length-map}
+use Rattle.mum_crew.specs.Turns.{TurnsLead}
 use Rattle.mum_crew.specs.declared.crew.CrewEnd.{CrewEnd}
 use Rattle.mum_crew.specs.declared.crew.CrewEnd.TheVariants.{Ran, Refused, NoMemory}
 use Rattle.mum_doorway.specs.declared.opening.DoorOpening.{DoorOpening}
@@ -12,12 +13,12 @@ use Rattle.mum_owner.specs.Turned.{has_ended as owner_has_ended}
 use Rattle.mum_state.specs.State.{StateValue}
 use Rattle.mum_worker.specs.Facts.{WorkerFacts, is_done}
 use Rattle.mum_worker.specs.declared.role.WorkerOpening.{WorkerOpening}
-use Rattle.mum_serve.specs.Roles.{AreLed, AreWorkers, Collects, has_ended, opening_of, role_openings, with_workers, worker_opening, worker_openings, workers_in}
+use Rattle.mum_serve.specs.Roles.{AreLed, AreWorkers, CameTo, Collects, RoleTurned, has_ended, opening_of, role_openings, with_workers, worker_opening, worker_openings, workers_in}
 use Rattle.mum_record.specs.Journal.{Each, IsWritableEntry}
 use Rattle.mum_record.specs.declared.journal.WorkerEntry.{WorkerEntry}
 use Rattle.mum_serve.specs.Facts.{DoorFacts, LinkFacts}
 use Rattle.mum_serve.specs.Journals.{entries_of}
-use Rattle.mum_serve.specs.Serving.{HasRun}
+use Rattle.mum_serve.specs.Serving.{HasRun, opening_at}
 use Rattle.mum_serve.specs.declared.entries.Entries.{Entries}
 use Rattle.mum_serve.specs.Totals.{with_worker}
 use Rattle.mum_serve.specs.declared.roles.RoleOpening.{RoleOpening}
@@ -26,6 +27,8 @@ use Rattle.mum_serve.specs.declared.roles.Roles.{Roles}
 use Rattle.mum_serve.specs.declared.roles.Roles.TheVariants as roles
 use Rattle.mum_serve.specs.declared.totals.Totals.{Totals}
 use Rattle.mum_serve.specs.declared.totals.WorkerTotals.{WorkerTotals}
+use Rattle.mum_published.specs.Facts.{Opening}
+use Rattle.mum_serve.proofs.Turning.{Begun, have_turned}
 
 -- the connections and the journal in the opening of an owner
 abbrev limit_in : RoleOpening → ℕ
@@ -185,10 +188,12 @@ module _ {D G N R L : Type 0} where
     all_done others (All-tail (λ role. IsTrue (has_ended role)) (roles.Worker worker) others ended),
   )
 
-  pub has_run : (links : LinkFacts L) (doors : DoorFacts D) (state : StateValue) (door : DoorOpening) (journal : Bool) (connections workers : ℕ) (back : List (Roles D G N R L)) (totals : Totals) (entries : Entries) (no_memory door_failed : Bool) (left : D)
-      → map (opening_of state door) back ≡ role_openings state door journal connections workers → All (λ role. IsTrue (has_ended role)) back
-      → Collects doors state door back totals entries no_memory door_failed left → HasRun links doors state door journal connections workers totals entries no_memory door_failed left
-  has_run links doors state door journal connections workers back totals entries no_memory door_failed left openings_are ended collected =
+  pub has_run : (links : LinkFacts L) (doors : DoorFacts D) (began : Opening) (door : DoorOpening) (opened : D) (journal : Bool) (connections workers : ℕ) (begun back : List (Roles D G N R L)) (totals : Totals) (entries : Entries) (no_memory door_failed : Bool) (left : D)
+      → opening_at doors opened ≡ door → Begun began opened journal connections workers begun → AllZip (TurnsLead (RoleTurned links doors began)) begun back
+      → map (opening_of began.state door) back ≡ role_openings began.state door journal connections workers → All (λ role. IsTrue (has_ended role)) back
+      → Collects doors began.state door back totals entries no_memory door_failed left → HasRun links doors began.state opened journal connections workers totals entries no_memory door_failed left
+  has_run links doors began door opened journal connections workers begun back totals entries no_memory door_failed left opened_at begins turned openings_are ended collected =
+      let state = began.state in
       let owner = collected.owner in
       let others = collected.others in
       let same : map (opening_of state door) (roles.Owner owner ∷ others) ≡ role_openings state door journal connections workers =
@@ -198,10 +203,15 @@ module _ {D G N R L : Type 0} where
       record {
         owner = owner;
         crew = workers_in others;
+        began = began;
+        began_at = refl;
+        turned = have_turned links doors began opened journal connections workers begun back owner others collected.are collected.workers begins turned;
         limit = ap (λ (xs : List RoleOpening). limit_in (first_in xs)) same;
         journal_is = ap (λ (xs : List RoleOpening). journal_in (first_in xs)) same;
         numbers = numbers_so state door others (worker_openings journal 0 workers) (ap rest_in same);
         owner_ended = All-head (λ role. IsTrue (has_ended role)) (roles.Owner owner) others done;
         crew_ended = all_done others (All-tail (λ role. IsTrue (has_ended role)) (roles.Owner owner) others done);
-        came = collected.came;
+        came =
+            subst (λ (o : DoorOpening). CameTo doors state o owner (workers_in others) totals entries no_memory door_failed left) (sym opened_at) collected.came;
+        one_list = collected.one_list;
       }

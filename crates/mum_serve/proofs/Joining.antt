@@ -1,21 +1,25 @@
 -- The roles that are opened over the queues, one after another.
-use Rattle.std.proofs.Common.{◌≡◌, ◌∙◌, ℕ, Bool, List, [], ◌∷◌, ◌++◌, length, map, Option, refl, sym, ap, subst, arith}
+use Rattle.std.proofs.Common.{◌≡◌, ◌∙◌, ℕ, ◌+◌, Bool, List, [], ◌∷◌, ◌++◌, length, length-append, map, Option, refl, sym, ap, subst, arith}
 use Rattle.std.specs.List.{AllByRecursion}
 use Rattle.atomic_table.specs.Seated.{TableId}
 use Rattle.mum_control.specs.Facts.{ControlFacts}
+use Rattle.mum_control.specs.Posting.{IsOpened as IsOpenedControl}
 use Rattle.mum_outbox.specs.Calls.{IsNewPass}
 use Rattle.mum_outbox.specs.Facts.{PassFacts, QueueFacts}
 use Rattle.mum_owner.specs.Bell.{new_side}
 use Rattle.mum_owner.specs.Facts.{OwnerFacts}
 use Rattle.mum_owner.specs.Opened.{IsOpened}
 use Rattle.mum_port.specs.declared.item.DeskItem.{DeskItem}
+use Rattle.mum_published.specs.Calls.{IsFresh, appended}
+use Rattle.mum_published.specs.Facts.{Opening, PassFacts as Pass, PublisherFacts}
 use Rattle.mum_published.specs.declared.naming.Naming.{Ghosts}
 use Rattle.mum_worker.specs.Bell.{BellFacts}
 use Rattle.mum_worker.specs.Boxes.{queues as queues_of}
 use Rattle.mum_worker.specs.Facts.{WorkerFacts}
-use Rattle.mum_worker.specs.Opening.{JoinsShared}
+use Rattle.mum_worker.specs.Opening.{HasOpened, JoinsShared}
 use Rattle.mum_worker.specs.declared.worker.Shared.{Shared}
-use Rattle.mum_serve.specs.Joined.{AreJoined, AreOver, HasDoor, IsJoinedTo, IsOver, KeepsFor, OpensOver, bell_queues, post_queues, side_queues}
+use Rattle.mum_serve.specs.Joined.{AreJoined, AreOver, HasDoor, IsJoinedTo, IsOver, OpensOver, bell_queues, post_queues, side_queues}
+use Rattle.mum_serve.specs.Opened.{AreOpenedFrom, ControlBegins, OwnerBegins, WorkerBegins}
 use Rattle.mum_serve.specs.Queues.{AreShared, SharesQueues, bells_of}
 use Rattle.mum_serve.specs.Roles.{AreLed, AreWorkers, owners_in, workers_in}
 use Rattle.mum_serve.specs.declared.roles.Roles.{Roles}
@@ -46,10 +50,38 @@ module _ {D : Type 0} where
   has_door door posts desk bells [] over = tt
   has_door door posts desk bells (owner ∷ owners) over = (over.0.door_is, has_door door posts desk bells owners over.1)
 
+-- a control owner that was opened over a published state, to which nothing was appended, is new
+pub control_begins : (opening : Opening) (publisher : PublisherFacts) (posts : List QueueFacts) (control : ControlFacts)
+    → publisher.opening ≡ opening → appended publisher ≡ [] → IsOpenedControl publisher posts control → ControlBegins opening control
+control_begins opening publisher posts control of nothing opened =
+    let is = ap (λ (k : ControlFacts). k.publisher) opened.others in
+    record {
+      posts = posts;
+      opened = subst (λ (p : PublisherFacts). IsOpenedControl p posts control) (sym is) opened;
+      opening_is = ap (λ (p : PublisherFacts). p.opening) is ∙ of;
+      nothing = ap (λ (p : PublisherFacts). appended p) is ∙ nothing;
+    }
+
+module _ {D : Type 0} where
+  -- and so is the owner that was opened over it
+  pub owner_begins : (opening : Opening) (control : ControlFacts) (door : D) (journal : Bool) (connections : ℕ) (bells : List TableId) (desk : QueueFacts) (owner : OwnerFacts D)
+      → ControlBegins opening control → IsOpened control door connections journal bells owner → IsNewPass desk owner.desk.pass
+      → OwnerBegins opening door journal connections owner
+  owner_begins opening control door journal connections bells desk owner begins opened new =
+      let is = ap (λ (o : OwnerFacts D). o.control) opened in
+      record {
+        bells = bells;
+        opened = subst (λ (k : ControlFacts). IsOpened k door connections journal bells owner) (sym is) opened;
+        control = subst (ControlBegins opening) (sym is) begins;
+        desk = desk;
+        nothing_taken = new;
+      }
+
 module _ {D G N R L : Type 0} where
-  pub over_alone : (door : D) (posts : List TableId) (desk : TableId) (bells : List TableId) (old new : List (Roles D G N R L)) (owner : OwnerFacts D)
-      → old ≡ [] → new ≡ old ++ roles.Owner owner ∷ [] → IsOver door posts desk bells owner → AllByRecursion (IsOver door posts desk bells) (owners_in new)
-  over_alone door posts desk bells old new owner nobody pushed over = rw (pushed, nobody) (over, tt)
+  -- what holds of the owner holds of all that there are
+  pub alone : (P : OwnerFacts D → Type 0) (old new : List (Roles D G N R L)) (owner : OwnerFacts D)
+      → old ≡ [] → new ≡ old ++ roles.Owner owner ∷ [] → P owner → AllByRecursion P (owners_in new)
+  alone P old new owner nobody pushed holds = rw (pushed, nobody) (holds, tt)
 
   pub no_worker_yet : (old new : List (Roles D G N R L)) (owner : OwnerFacts D) → old ≡ [] → new ≡ old ++ roles.Owner owner ∷ [] → workers_in new ≡ []
   no_worker_yet old new owner nobody pushed = rw (pushed, nobody) refl
@@ -100,15 +132,36 @@ module _ {L N : Type 0} {naming : Ghosts N} where
   over_behind one rest (top ∷ all) (first ∷ old) worker over joins = (over.0, over_behind one rest all old worker over.1 joins)
 
   -- the next worker works over what is next
-  pub over_more : (closings : Option ℕ) (one : Shared L N naming) (left rest all : List (Shared L N naming)) (old new : List (WorkerFacts L))
-      → left ≡ one ∷ rest → AreOver left all old → OpensOver one closings old new → AreOver rest all new
-  over_more closings one left rest all old new is over opens =
+  pub over_more : (opening : Opening) (closings : Option ℕ) (number : ℕ) (one : Shared L N naming) (left rest all : List (Shared L N naming)) (old new : List (WorkerFacts L))
+      → left ≡ one ∷ rest → AreOver left all old → OpensOver opening one closings number old new → AreOver rest all new
+  over_more opening closings number one left rest all old new is over opens =
       let now = subst (λ (xs : List (Shared L N naming)). AreOver xs all old) is over in
       subst (AreOver rest all) (sym opens.behind) (over_behind one rest all old opens.worker now opens.joins)
 
-  pub keeps_more : (closings : Option ℕ) (one : Shared L N naming) (old new : List (WorkerFacts L)) → AllByRecursion (KeepsFor closings) old → OpensOver one closings old new → AllByRecursion (KeepsFor closings) new
-  keeps_more closings one old new keeps opens =
-      subst (AllByRecursion (KeepsFor closings)) (sym opens.behind) (all_behind (KeepsFor closings) old opens.worker keeps opens.keeps)
+  opened_behind : (opening : Opening) (closings : Option ℕ) (first next : ℕ) (old : List (WorkerFacts L)) (worker : WorkerFacts L)
+      → next ≡ first + length old → AreOpenedFrom opening closings first old → WorkerBegins opening closings next worker → AreOpenedFrom opening closings first (old ++ worker ∷ [])
+  opened_behind opening closings first next [] worker is all begins = (subst (λ (n : ℕ). WorkerBegins opening closings n worker) (omega (arith, is)) begins, tt)
+  opened_behind opening closings first next (one ∷ old) worker is all begins =
+      (all.0, opened_behind opening closings (first + 1) next old worker (omega (arith, is)) all.1 begins)
+
+  -- it is numbered behind the others
+  pub opened_with : (opening : Opening) (closings : Option ℕ) (number : ℕ) (one : Shared L N naming) (old new : List (WorkerFacts L))
+      → length old ≡ number → AreOpenedFrom opening closings 0 old → OpensOver opening one closings number old new → AreOpenedFrom opening closings 0 new
+  opened_with opening closings number one old new many all opens =
+      subst (AreOpenedFrom opening closings 0) (sym opens.behind) (opened_behind opening closings 0 number old opens.worker (omega (arith, many)) all opens.begins)
+
+  pub many_with : (opening : Opening) (closings : Option ℕ) (number : ℕ) (one : Shared L N naming) (old new : List (WorkerFacts L))
+      → length old ≡ number → OpensOver opening one closings number old new → length new ≡ number + 1
+  many_with opening closings number one old new many opens =
+      let all = ap (λ (ws : List (WorkerFacts L)). length ws) opens.behind in
+      let last = length-append old (opens.worker ∷ []) in
+      omega (arith, all, last, many)
+
+  -- and is new
+  pub begins_so : (opening : Opening) (pass : Pass) (closings : Option ℕ) (number : ℕ) (one : Shared L N naming) (worker : WorkerFacts L)
+      → IsFresh opening pass → HasOpened number pass closings worker → JoinsShared one worker → WorkerBegins opening closings number worker
+  begins_so opening pass closings number one worker fresh opened joins =
+      record { opened = subst (λ (p : Pass). HasOpened number p closings worker) fresh opened; unused = joins.unused }
 
   -- nothing is left for others
   pub over_all : (rest all : List (Shared L N naming)) (workers : List (WorkerFacts L)) → length rest ≡ 0 → AreOver rest all workers → AreOver [] all workers

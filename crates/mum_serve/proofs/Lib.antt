@@ -1,6 +1,7 @@
 mod Sharing
 mod Joining
 mod Leading
+mod Turning
 mod Ended
 mod Limited
 mod Refused

@@ -6,12 +6,13 @@ use Rattle.mum_outbox.specs.Facts.{PassFacts}
 use Rattle.mum_outbox.specs.declared.parcel.PostParcel.{PostParcel}
 use Rattle.mum_owner.specs.Bell.{SideFacts}
 use Rattle.mum_owner.specs.Facts.{OwnerFacts}
+use Rattle.mum_published.specs.Facts.{Opening}
 use Rattle.mum_published.specs.declared.naming.Naming.{Ghosts}
 use Rattle.mum_worker.specs.Boxes.{queues as queues_of}
 use Rattle.mum_worker.specs.Facts.{WorkerFacts}
 use Rattle.mum_worker.specs.Opening.{JoinsShared, out_queues}
-use Rattle.mum_worker.specs.Record.{first_record, without_room}
 use Rattle.mum_worker.specs.declared.worker.Shared.{Shared}
+use Rattle.mum_serve.specs.Opened.{WorkerBegins}
 use Rattle.mum_serve.specs.Roles.{workers_in}
 use Rattle.mum_serve.specs.declared.roles.Roles.{Roles}
 use Rattle.mum_serve.specs.declared.roles.Roles.TheVariants as roles
@@ -73,11 +74,6 @@ module _ {D : Type 0} where
     pub desk_is : owner.desk.pass.queue ≡ desk
     pub bells_are : side_queues owner.bells ≡ bells
 
-module _ {L : Type 0} where
-  -- a worker has the room of closing entries that is said, and has kept nothing yet
-  abbrev pub KeepsFor : Option ℕ → WorkerFacts L → Type 0
-  KeepsFor closings worker = worker.common.kept ≡ without_room (first_record closings)
-
 module _ {L N : Type 0} {naming : Ghosts N} where
   -- each worker works over what is shared at its place; the rest of it is for nobody yet
   abbrev pub AreOver : (rest all : List (Shared L N naming)) → List (WorkerFacts L) → Type 0
@@ -85,9 +81,9 @@ module _ {L N : Type 0} {naming : Ghosts N} where
   AreOver rest [] (worker ∷ workers) = ⊥
   AreOver rest (one ∷ all) (worker ∷ workers) = JoinsShared one worker × AreOver rest all workers
 
-  -- one worker more stands behind the others: it works over what is shared, and has the room that is said
-  pub record OpensOver (shared : Shared L N naming) (closings : Option ℕ) (old new : List (WorkerFacts L)) : Type 0 where
+  -- one worker more stands behind the others: the worker of this number, which is new, and works over what is shared
+  pub record OpensOver (opening : Opening) (shared : Shared L N naming) (closings : Option ℕ) (number : ℕ) (old new : List (WorkerFacts L)) : Type 0 where
     pub worker : WorkerFacts L
     pub behind : new ≡ old ++ worker ∷ []
     pub joins : JoinsShared shared worker
-    pub keeps : KeepsFor closings worker
+    pub begins : WorkerBegins opening closings number worker

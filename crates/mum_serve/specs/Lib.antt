@@ -1,9 +1,12 @@
 pub mod Facts
+pub mod OneList
+pub mod Opened
 pub mod Queues
 pub mod Totals
 pub mod Journals
 pub mod Roles
 pub mod Joined
 pub mod Opening
+pub mod Running
 pub mod Serving
 pub mod Program

@@ -12,10 +12,11 @@ use Rattle.mum_published.specs.Calls.{appended}
 use Rattle.mum_published.specs.Facts.{Opening}
 use Rattle.mum_state.specs.State.{StateValue}
 use Rattle.mum_worker.specs.Facts.{WorkerFacts, is_done}
-use Rattle.mum_worker.specs.Turning.{Turned}
+use Rattle.mum_worker.specs.Turning.{WorkerTurned}
 use Rattle.mum_worker.specs.declared.role.WorkerOpening.{WorkerOpening}
 use Rattle.mum_serve.specs.Facts.{DoorFacts, LinkFacts}
 use Rattle.mum_serve.specs.Journals.{AreWritable, entries_of}
+use Rattle.mum_serve.specs.OneList.{AreWithin}
 use Rattle.mum_serve.specs.Totals.{nothing, totals_of, with_worker}
 use Rattle.mum_serve.specs.declared.entries.Entries.{Entries}
 use Rattle.mum_serve.specs.declared.roles.RoleOpening.{RoleOpening}
@@ -86,7 +87,7 @@ module _ {D G N R L : Type 0} (links : LinkFacts L) (doors : DoorFacts D) (openi
   RoleTurned (roles.Owner old) answer (roles.Owner new) = OwnerTurned L doors.counts doors.given old answer new
   RoleTurned (roles.Owner old) answer (roles.Worker new) = ⊥
   RoleTurned (roles.Worker old) answer (roles.Owner new) = ⊥
-  RoleTurned (roles.Worker old) answer (roles.Worker new) = Turned links.counts links.left links.written links.is_shut opening old new answer
+  RoleTurned (roles.Worker old) answer (roles.Worker new) = WorkerTurned links.counts links.left links.written links.is_shut opening old answer new
 
 -- ---- how they end
 
@@ -118,10 +119,11 @@ module _ {D L : Type 0} (doors : DoorFacts D) where
     pub over : owner_has_ended owner ≡ true → NoMoreCome owner.guests.given owner.guests.limit opening.counts (doors.counts door)
 
 module _ {D G N R L : Type 0} (doors : DoorFacts D) where
-  -- the roles are an owner and workers, and this is what they came to
+  -- the roles are an owner and workers, this is what they came to, and what the workers saw begins what was published
   pub record Collects (state : StateValue) (opening : DoorOpening) (all : List (Roles D G N R L)) (totals : Totals) (entries : Entries) (no_memory door_failed : Bool) (door : D) : Type 0 where
     pub owner : OwnerFacts D
     pub others : List (Roles D G N R L)
     pub are : all ≡ roles.Owner owner ∷ others
     pub workers : AreWorkers others
     pub came : CameTo doors state opening owner (workers_in others) totals entries no_memory door_failed door
+    pub one_list : AreWithin owner.control.publisher.published (workers_in others)

@@ -7,10 +7,13 @@ use Rattle.mum_io.specs.Counts.{CountsFault}
 use Rattle.mum_owner.specs.Facts.{OwnerFacts}
 use Rattle.mum_owner.specs.Turned.{has_ended as owner_has_ended}
 use Rattle.mum_doorway.specs.declared.opening.DoorOpening.{DoorOpening}
+use Rattle.mum_published.specs.Facts.{Opening}
 use Rattle.mum_state.specs.State.{StateValue}
 use Rattle.mum_worker.specs.Facts.{WorkerFacts, is_done}
 use Rattle.mum_serve.specs.Facts.{DoorFacts, LinkFacts}
 use Rattle.mum_serve.specs.Roles.{CameTo, worker_opening, worker_openings}
+use Rattle.mum_serve.specs.OneList.{AreWithin}
+use Rattle.mum_serve.specs.Running.{HaveTurned}
 use Rattle.mum_serve.specs.declared.entries.Entries.{Entries}
 use Rattle.mum_serve.specs.declared.server.Served.{Served}
 use Rattle.mum_serve.specs.declared.server.Served.TheVariants.{Whole, DoorFault, CrewFault, OutOfMemory}
@@ -28,24 +31,28 @@ RunsCounted CrewFault old new = RunCounts Refused old new
 RunsCounted OutOfMemory old new = new ≡ old
 
 module _ {D L : Type 0} (links : LinkFacts L) (doors : DoorFacts D) where
-  -- an owner and workers were opened from this state, with a journal or without one; each has ended, and this is what
-  -- they came to
-  pub record HasRun (state : StateValue) (opening : DoorOpening) (journal : Bool) (connections workers : ℕ) (totals : Totals) (entries : Entries) (no_memory door_failed : Bool) (door : D) : Type 0 where
+  -- an owner and workers were opened from this state over a door that was open, with a journal or without one; turns led
+  -- each of them to its end, this is what they came to, and what the workers saw begins what was published
+  pub record HasRun (state : StateValue) (opened : D) (journal : Bool) (connections workers : ℕ) (totals : Totals) (entries : Entries) (no_memory door_failed : Bool) (door : D) : Type 0 where
     pub owner : OwnerFacts D
     pub crew : List (WorkerFacts L)
+    pub began : Opening
+    pub began_at : began.state ≡ state
+    pub turned : HaveTurned links doors began opened journal connections workers owner crew
     pub limit : owner.guests.limit ≡ connections
     pub journal_is : owner.scribe.is_asked ≡ journal
     pub numbers : map worker_opening crew ≡ worker_openings journal 0 workers
     pub owner_ended : owner_has_ended owner ≡ true
     pub crew_ended : AllByRecursion (λ worker. is_done worker ≡ true) crew
-    pub came : CameTo doors state opening owner crew totals entries no_memory door_failed door
+    pub came : CameTo doors state (opening_at doors opened) owner crew totals entries no_memory door_failed door
+    pub one_list : AreWithin owner.control.publisher.published crew
 
   -- where all were served, the roles have run, and else the door is as it was
-  abbrev pub Runs : StateValue → DoorOpening → Bool → ℕ → ℕ → Served → D → Type 0
-  Runs state opening journal connections workers (Whole totals entries no_memory door_failed) door =
-      HasRun state opening journal connections workers totals entries no_memory door_failed door
-  Runs state opening journal connections workers DoorFault door = ⊥
-  Runs state opening journal connections workers others door = opening_at doors door ≡ opening
+  abbrev pub Runs : StateValue → D → Bool → ℕ → ℕ → Served → D → Type 0
+  Runs state opened journal connections workers (Whole totals entries no_memory door_failed) door =
+      HasRun state opened journal connections workers totals entries no_memory door_failed door
+  Runs state opened journal connections workers DoorFault door = ⊥
+  Runs state opened journal connections workers others door = door ≡ opened
 
   -- the door was opened at this address, and the roles have run over it
   pub record OpensAndRuns (address : List ℕ) (state : StateValue) (journal : Bool) (connections workers : ℕ) (door : D) (totals : Totals) (entries : Entries) (no_memory door_failed : Bool) (left : D) : Type 0 where
@@ -53,7 +60,7 @@ module _ {D L : Type 0} (links : LinkFacts L) (doors : DoorFacts D) where
     pub counted : doors.counts opened ≡ doors.counts door
     pub gave : doors.given opened ≡ doors.given door
     pub at : IfSome (doors.opened_at opened) (λ known. known ≡ address)
-    pub run : HasRun state (opening_at doors opened) journal connections workers totals entries no_memory door_failed left
+    pub run : HasRun state opened journal connections workers totals entries no_memory door_failed left
 
   -- the door counted a fault and nothing else, and gave no connection
   pub record StaysShut (door left : D) : Type 0 where

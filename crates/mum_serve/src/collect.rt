@@ -6,6 +6,7 @@ ghost use Rattle.mum_record.specs.Journal.{Each, IsWritableEntry};
 ghost use Rattle.mum_serve.specs.Facts.{door_facts};
 ghost use Rattle.mum_serve.specs.Joined.{HasDoor};
 ghost use Rattle.mum_serve.specs.Journals.{entries_of};
+ghost use Rattle.mum_serve.specs.OneList.{AreWithin};
 ghost use Rattle.mum_serve.specs.Roles.{AreLed, AreWorkers, Collects, owners_in, with_workers, workers_in};
 ghost use Rattle.mum_serve.specs.Totals.{nothing};
 ghost use Rattle.mum_serve.specs.declared.roles.Roles.TheVariants as kinds;
@@ -45,6 +46,22 @@ fn take_owner<'a, D: Door + Send, G: Gate, N: Serving, R: Wait + Copy + Send>(
         unreachable!()
     };
     owner
+}
+
+// Compares what each of these workers saw and learnt with what the owner published, which begins with it.
+fn compare<'a, D: Door + Send, G: Gate, N: Serving, R: Wait + Copy + Send>(
+    owner: &Owner<'a, D, N, R>,
+    workers: &[Roles<'a, D, G, N, R>],
+)
+    requires { AreWorkers workers.now }
+    ensures { AreWithin owner.now.control.publisher.published (workers_in workers.now) }
+{
+    for role in workers {
+        match role {
+            Roles::Worker(worker) => owner.has_shown(worker.pass()),
+            Roles::Owner(_) => unreachable!(),
+        }
+    }
 }
 
 // Ends these workers. What they wrote down goes into the room for it.
@@ -91,7 +108,8 @@ pub(crate) fn door_of<D: Door + Send, G: Gate, N: Serving, R: Wait + Copy + Send
     door
 }
 
-/// Ends all roles. There is room for what each worker wrote down.
+/// Compares what the workers saw with what the owner published, and ends all roles. There is room for what each worker
+/// wrote down.
 pub(crate) fn collect<D: Door + Send, G: Gate, N: Serving, R: Wait + Copy + Send>(
     roles: Vec<Roles<'_, D, G, N, R>>,
     room: Vec<Items<WorkerEntry>>,
@@ -104,6 +122,7 @@ pub(crate) fn collect<D: Door + Send, G: Gate, N: Serving, R: Wait + Copy + Send
 {
     let mut roles = roles;
     let owner = take_owner(&mut roles);
+    compare(&owner, &roles);
     let OwnerEnd {
         door,
         connections,

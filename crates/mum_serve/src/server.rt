@@ -6,7 +6,7 @@ ghost use Rattle.mum_published.specs.Calls.{IsFresh, appended, latest};
 ghost use Rattle.mum_base.specs.declared.number.TheConstants.{PLACES as places, SLOTS as slots};
 ghost use Rattle.mum_serve.specs.Facts.{door_facts, link_facts};
 ghost use Rattle.mum_serve.specs.Opening.{opening_edits};
-ghost use Rattle.mum_serve.specs.Serving.{Runs, RunsCounted, Serves, ServesOver, opening_at};
+ghost use Rattle.mum_serve.specs.Serving.{Runs, RunsCounted, Serves, ServesOver};
 ghost use Rattle.mum_state.specs.After.{after, all_fit};
 ghost use Rattle.mum_state.specs.Fits.{fits};
 ghost use Rattle.mum_state.specs.Proper.{IsProper};
@@ -75,7 +75,7 @@ fn run<N: Serving + Send, R: Wait + Copy + Send, D: Door + Send, C: Crew>(
     requires connections { 0 < connections }
     ensures counts { RunsCounted result.0 (C.counts crew.old) (C.counts crew.new) }
     ensures runs { Runs (link_facts D.Conn.counts D.Conn.left D.Conn.written D.Conn.is_shut)
-        (door_facts D.counts D.given D.opened_at) N.opening.state N.door journal connections workers
+        (door_facts D.counts D.given D.opened_at) N.opening.state door journal connections workers
         result.0 result.1 }
 {
     let Started { roles, room } = match roles::<D, N, R>(
@@ -179,8 +179,8 @@ fn run_opened<R: Wait + Copy + Send, D: Door + Send, C: Crew>(
     requires connections { 0 < connections }
     ensures counts { RunsCounted result.0 (C.counts crew.old) (C.counts crew.new) }
     ensures runs { Runs (link_facts D.Conn.counts D.Conn.left D.Conn.written D.Conn.is_shut)
-        (door_facts D.counts D.given D.opened_at) publisher.old.opening.state
-        (opening_at (door_facts D.counts D.given D.opened_at) door) journal connections workers result.0 result.1 }
+        (door_facts D.counts D.given D.opened_at) publisher.old.opening.state door journal connections
+        workers result.0 result.1 }
 {
     run::<Brand, R, D, C>(
         rt,

@@ -3,8 +3,9 @@
 ghost use Rattle.std.specs.Prelude.{◌≡◌, ◌<◌, ◌≤◌, ◌++◌, ◌∷◌, [], IfErr, IfOk, OnOk, is_some, length, map, vec_capacity};
 ghost use Rattle.std.specs.List.{All, AllByRecursion};
 ghost use Rattle.mum_published.specs.Calls.{IsFresh, appended, latest};
-ghost use Rattle.mum_serve.specs.Joined.{AreJoined, AreOver, HasDoor, IsOver, KeepsFor, OpensOver, post_queues};
+ghost use Rattle.mum_serve.specs.Joined.{AreJoined, AreOver, HasDoor, IsOver, OpensOver, post_queues};
 ghost use Rattle.mum_serve.specs.Journals.{closing_room as room_for};
+ghost use Rattle.mum_serve.specs.Opened.{AreOpened, ControlBegins, OwnerBegins};
 ghost use Rattle.mum_serve.specs.Queues.{AreShared, HasBoxes};
 ghost use Rattle.mum_serve.specs.Roles.{AreLed, opening_of, owners_in, role_openings, worker_openings, workers_in};
 ghost use Rattle.mum_serve.specs.declared.roles.RoleOpening.TheVariants as openings;
@@ -56,8 +57,9 @@ fn make_parts<'a, D: Door + Send, N: Serving, R: Wait + Copy + Send>(
 ) -> Result<Parts<'a, D, N, R>, OutOfMemory>
     requires opening { publisher.old.opening ≡ N.opening }
     requires state { state ≡ latest publisher.old }
+    requires fresh { appended publisher.old ≡ [] }
     requires pending { publisher.old.pending ≡ [] }
-    ensures control { IfOk result (λ parts. parts.control.publisher ≡ publisher.old) }
+    ensures control { IfOk result (λ parts. ControlBegins N.opening parts.control) }
     ensures bells { IfOk result (λ parts. length parts.bells.items ≡ workers) }
     ensures shared { IfOk result (λ parts. length parts.shared.items ≡ workers) }
     ensures boxes { IfOk result (λ parts. All HasBoxes parts.shared.items) }
@@ -99,8 +101,7 @@ fn lead<'a, D: Door + Send, N: Serving, R: Wait + Copy + Send>(
     connections: u32,
     roles: &mut Vec<Roles<'a, D, FreeGate, N, R>>,
 ) -> Result<(), D>
-    requires opening { control.publisher.opening ≡ N.opening }
-    requires fresh { appended control.publisher ≡ [] }
+    requires control { ControlBegins N.opening control }
     requires bells { 0 < length bells.items }
     requires door { record { counts = D.counts door; given = D.given door; opened_at = D.opened_at door } ≡ N.door }
     requires connections { 0 < connections }
@@ -111,6 +112,8 @@ fn lead<'a, D: Door + Send, N: Serving, R: Wait + Copy + Send>(
         ≡ role_openings N.opening.state N.door journal connections 0) }
     ensures over { OnOk result (AllByRecursion
         (IsOver door (post_queues control.entry.posts) desk.queue (queues_of bells.items)) (owners_in roles.new.items)) }
+    ensures begins { OnOk result (AllByRecursion
+        (OwnerBegins N.opening door journal connections) (owners_in roles.new.items)) }
     ensures alone { OnOk result (workers_in roles.new.items ≡ []) }
     ensures back { IfErr result (λ back. back ≡ door) }
 {
@@ -137,7 +140,8 @@ fn push_worker<'a, D: Door + Send, N: Serving, R: Wait + Copy + Send>(
     ensures pushed { OnOk result (map (opening_of N.opening.state N.door) roles.new.items
         ≡ map (opening_of N.opening.state N.door) roles.old.items ++ openings.Worker (record { number = number; journal = is_some closings }) ∷ []) }
     ensures owners { owners_in roles.new.items ≡ owners_in roles.old.items }
-    ensures over { OnOk result (OpensOver ends closings (workers_in roles.old.items) (workers_in roles.new.items)) }
+    ensures over { OnOk result
+        (OpensOver N.opening ends closings number (workers_in roles.old.items) (workers_in roles.new.items)) }
 {
     let worker = Worker::open(*rt, alloc, number, pass, ends, FreeGate, closings)?;
     roles.push(Roles::Worker(worker))?;
@@ -166,7 +170,7 @@ fn push_workers<'a, D: Door + Send, N: Serving, R: Wait + Copy + Send>(
         ≡ map (opening_of N.opening.state N.door) roles.old.items ++ map openings.Worker (worker_openings (is_some closings) 0 workers)) }
     ensures owners { owners_in roles.new.items ≡ owners_in roles.old.items }
     ensures over { OnOk result (AreOver [] shared.items (workers_in roles.new.items)) }
-    ensures rooms { OnOk result (AllByRecursion (KeepsFor closings) (workers_in roles.new.items)) }
+    ensures opened { OnOk result (AreOpened N.opening closings workers (workers_in roles.new.items)) }
 {
     let mut passes = passes.into_iter();
     let mut shared = shared.into_iter();
@@ -208,8 +212,10 @@ pub(crate) fn roles<'a, D: Door + Send, N: Serving, R: Wait + Copy + Send>(
         ≡ role_openings N.opening.state N.door journal connections workers) }
     ensures room { IfOk result (λ started. (started.room.items ≡ []) × (workers ≤ vec_capacity started.room)) }
     ensures joined { IfOk result (λ started. AreJoined started.roles.items) }
-    ensures rooms { IfOk result (λ started.
-        AllByRecursion (KeepsFor (room_for journal connections workers)) (workers_in started.roles.items)) }
+    ensures begins { IfOk result (λ started.
+        AllByRecursion (OwnerBegins N.opening door journal connections) (owners_in started.roles.items)) }
+    ensures opened { IfOk result (λ started.
+        AreOpened N.opening (room_for journal connections workers) workers (workers_in started.roles.items)) }
     ensures door { IfOk result (λ started.
         AllByRecursion (HasDoor door) (owners_in started.roles.items)) }
     ensures back { IfErr result (λ back. back ≡ door) }

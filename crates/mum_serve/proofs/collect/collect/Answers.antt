@@ -48,4 +48,5 @@ returns g c =
         door_is = end.door;
         over = subst (λ (n : ℕ). has_ended owner ≡ true → NoMoreCome n owner.guests.limit g.N.Doorside.door.counts (g.D.Door.counts left)) end.connections end.over;
       };
+      one_list = c.compare.ensures;
     }

@@ -1,9 +1,8 @@
 -- What the crew gives back is what it was given, and has run where the crew did.
-use Rattle.std.proofs.Common.{◌∙◌, ap, subst, arith}
+use Rattle.std.proofs.Common.{◌∙◌, subst, arith}
 use Rattle.mum_crew.specs.Crew.{RunCounts}
 use Rattle.mum_crew.specs.declared.crew.CrewEnd.{CrewEnd}
 use Rattle.mum_serve.specs.Facts.{door_facts}
-use Rattle.mum_serve.specs.Serving.{opening_at}
 use Rattle.mum_serve.proofs.Doors.{door_kept}
 use Rattle.mum_serve.proofs.Ended.{as_many_back, as_many_opened, has_run, led_back}
 use Rattle.mum_serve.proofs.server.run.Goals as goal
@@ -36,26 +35,24 @@ returns-in-NoMemory-clause-counts g c =
 pub returns-in-Ran-clause-runs : goal.returns-in-Ran-clause-runs
 returns-in-Ran-clause-runs g c =
     let run = c.run-run in
-    has_run _ _ g.N.Naming.opening.state g.N.Doorside.door c.args.journal c.args.connections c.args.workers run.result.roles.items _ _ _ _ _
+    let started = c.in-Ok.ensures in
+    has_run _ _ g.N.Naming.opening g.N.Doorside.door c.args.door c.args.journal c.args.connections c.args.workers c.in-Ok.started.roles.items run.result.roles.items _ _ _ _ _
+    c.requires.door (record { led = started.led; begins = started.begins; opened = started.opened; joined = started.joined }) (run.ensures.turned c.in-Ran.is)
     (run.ensures.openings c.in-Ran.is ∙ c.in-Ok.ensures.openings) (run.ensures.ended c.in-Ran.is) c.collect-door.ensures
 
 -- the door comes back as it was
 
 pub returns-in-Err-clause-runs : goal.returns-in-Err-clause-runs
-returns-in-Err-clause-runs g c = ap (opening_at (door_facts g.D.Door.counts g.D.Door.given g.D.Door.opened_at)) c.in-Err.ensures.back ∙ c.requires.door
+returns-in-Err-clause-runs g c = c.in-Err.ensures.back
 
 pub returns-in-Refused-clause-runs : goal.returns-in-Refused-clause-runs
 returns-in-Refused-clause-runs g c =
     let run = c.run-run in
-    ap (opening_at (door_facts g.D.Door.counts g.D.Door.given g.D.Door.opened_at))
-    (door_kept (door_facts g.D.Door.counts g.D.Door.given g.D.Door.opened_at) g.N.Naming.opening.state g.N.Doorside.door run.result.roles.items c.in-Ok.started.roles.items _ _ _ _ c.args.door _
-    (run.ensures.refused c.in-Refused.is) c.in-Ok.ensures.door c.collect-door.ensures)
-    ∙ c.requires.door
+    door_kept (door_facts g.D.Door.counts g.D.Door.given g.D.Door.opened_at) g.N.Naming.opening.state g.N.Doorside.door run.result.roles.items c.in-Ok.started.roles.items _ _ _ _ c.args.door _
+    (run.ensures.refused c.in-Refused.is) c.in-Ok.ensures.door c.collect-door.ensures
 
 pub returns-in-NoMemory-clause-runs : goal.returns-in-NoMemory-clause-runs
 returns-in-NoMemory-clause-runs g c =
     let run = c.run-run in
-    ap (opening_at (door_facts g.D.Door.counts g.D.Door.given g.D.Door.opened_at))
-    (door_kept (door_facts g.D.Door.counts g.D.Door.given g.D.Door.opened_at) g.N.Naming.opening.state g.N.Doorside.door run.result.roles.items c.in-Ok.started.roles.items _ _ _ _ c.args.door _
-    (run.ensures.no_memory c.in-NoMemory.is) c.in-Ok.ensures.door c.collect-door.ensures)
-    ∙ c.requires.door
+    door_kept (door_facts g.D.Door.counts g.D.Door.given g.D.Door.opened_at) g.N.Naming.opening.state g.N.Doorside.door run.result.roles.items c.in-Ok.started.roles.items _ _ _ _ c.args.door _
+    (run.ensures.no_memory c.in-NoMemory.is) c.in-Ok.ensures.door c.collect-door.ensures

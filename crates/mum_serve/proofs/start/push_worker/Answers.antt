@@ -1,5 +1,5 @@
 -- The worker stands behind the others, over what is shared with it.
-use Rattle.mum_serve.proofs.Joining.{owners_stay, worker_behind}
+use Rattle.mum_serve.proofs.Joining.{begins_so, owners_stay, worker_behind}
 use Rattle.mum_serve.proofs.Leading.{led_more, opened_more}
 use Rattle.mum_serve.proofs.start.push_worker.Goals as goal
 
@@ -20,5 +20,6 @@ returns-clause-over g c = record {
   worker = c.in_ok-worker.worker;
   behind = worker_behind c.args.roles.now.items c.push.new.self.items c.in_ok-worker.worker c.in_ok-push.ensures.items;
   joins = c.in_ok-worker.ensures.joins;
-  keeps = c.in_ok-worker.ensures.opened.kept_is;
+  begins =
+      begins_so g.N.Naming.opening c.args.pass c.args.closings c.args.number c.args.ends c.in_ok-worker.worker c.requires.pass c.in_ok-worker.ensures.opened c.in_ok-worker.ensures.joins;
 }

@@ -6,7 +6,7 @@ use Rattle.std.proofs.lemmas.List.Elements.{All-head, All-rest}
 use Rattle.mum_published.specs.Calls.{IsFresh}
 use Rattle.mum_serve.specs.Queues.{HasBoxes}
 use Rattle.mum_serve.specs.Roles.{opening_of, workers_in}
-use Rattle.mum_serve.proofs.Joining.{keeps_more, over_more}
+use Rattle.mum_serve.proofs.Joining.{many_with, opened_with, over_more}
 use Rattle.mum_serve.proofs.Leading.{goes_on}
 use Rattle.mum_serve.proofs.start.push_workers.Goals as goal
 
@@ -43,7 +43,8 @@ workers-preserved g c =
       c.push_worker.ensures.led,
       goes_on (is_some c.args.closings) (view c.args.roles.now.items) (view c.workers.roles.items) (view c.push_worker.new.roles.items) c.workers.number was.7 c.in_ok-push_worker.ensures.pushed,
       c.push_worker.ensures.owners ∙ was.8,
-      over_more c.args.closings c.in-Some-Some.ends (into_iter_items c.workers.shared) (into_iter_items c.next-in-workers.new.self) c.args.shared.items (workers_in c.workers.roles.items) (workers_in c.push_worker.new.roles.items)
+      over_more g.N.Naming.opening c.args.closings c.workers.number c.in-Some-Some.ends (into_iter_items c.workers.shared) (into_iter_items c.next-in-workers.new.self) c.args.shared.items (workers_in c.workers.roles.items) (workers_in c.push_worker.new.roles.items)
           ends.0 was.9 c.in_ok-push_worker.ensures.over,
-      keeps_more c.args.closings c.in-Some-Some.ends (workers_in c.workers.roles.items) (workers_in c.push_worker.new.roles.items) was.10 c.in_ok-push_worker.ensures.over,
+      opened_with g.N.Naming.opening c.args.closings c.workers.number c.in-Some-Some.ends (workers_in c.workers.roles.items) (workers_in c.push_worker.new.roles.items) was.11 was.10 c.in_ok-push_worker.ensures.over,
+      many_with g.N.Naming.opening c.args.closings c.workers.number c.in-Some-Some.ends (workers_in c.workers.roles.items) (workers_in c.push_worker.new.roles.items) was.11 c.in_ok-push_worker.ensures.over,
     )

@@ -2,7 +2,8 @@
 use Rattle.std.proofs.Common.{◌∙◌, ℕ, ◌∷◌, ◌++◌, Bool, List, Option, ap, is_some, map, subst, sym}
 use Rattle.std.specs.List.{AllByRecursion}
 use Rattle.mum_owner.specs.Opened.{opening_of as owner_opening}
-use Rattle.mum_serve.specs.Joined.{HasDoor, KeepsFor}
+use Rattle.mum_serve.specs.Joined.{HasDoor}
+use Rattle.mum_serve.specs.Opened.{AreOpened, OwnerBegins}
 use Rattle.mum_serve.specs.Roles.{worker_openings, workers_in}
 use Rattle.mum_serve.specs.declared.roles.RoleOpening.{RoleOpening}
 use Rattle.mum_serve.specs.declared.roles.RoleOpening.TheVariants as openings
@@ -21,9 +22,13 @@ pub returns-in-Ok-push_workers-clause-joined : goal.returns-in-Ok-push_workers-c
 returns-in-Ok-push_workers-clause-joined g c =
     are_joined c.push_workers.new.roles.items _ c.args.door _ _ _ _ c.push_workers.ensures.led c.push_workers.ensures.owners c.in_ok-lead.ensures.over c.in-Ok.ensures.joined c.in-Ok-push_workers.ensures.over
 
-pub returns-in-Ok-push_workers-clause-rooms : goal.returns-in-Ok-push_workers-clause-rooms
-returns-in-Ok-push_workers-clause-rooms g c =
-    subst (λ (closings : Option ℕ). AllByRecursion (KeepsFor closings) (workers_in c.push_workers.new.roles.items)) c.closing_room-closings.ensures c.in-Ok-push_workers.ensures.rooms
+pub returns-in-Ok-push_workers-clause-begins : goal.returns-in-Ok-push_workers-clause-begins
+returns-in-Ok-push_workers-clause-begins g c =
+    subst (AllByRecursion (OwnerBegins g.N.Naming.opening c.args.door c.args.journal c.args.connections)) (sym c.push_workers.ensures.owners) c.in_ok-lead.ensures.begins
+
+pub returns-in-Ok-push_workers-clause-opened : goal.returns-in-Ok-push_workers-clause-opened
+returns-in-Ok-push_workers-clause-opened g c =
+    subst (λ (closings : Option ℕ). AreOpened g.N.Naming.opening closings c.args.workers (workers_in c.push_workers.new.roles.items)) c.closing_room-closings.ensures c.in-Ok-push_workers.ensures.opened
 
 pub returns-in-Ok-push_workers-clause-door : goal.returns-in-Ok-push_workers-clause-door
 returns-in-Ok-push_workers-clause-door g c =

@@ -1,0 +1,51 @@
+-- The roles of a server as they are opened.
+use Rattle.std.specs.Prelude.{◌≡◌, ⊤, ℕ, ◌+◌, Bool, List, [], ◌∷◌, length, Option}
+use Rattle.std.specs.List.{All}
+use Rattle.atomic_table.specs.Seated.{TableId}
+use Rattle.mum_control.specs.Facts.{ControlFacts}
+use Rattle.mum_control.specs.Posting.{IsOpened as IsOpenedControl}
+use Rattle.mum_outbox.specs.Calls.{IsNewPass}
+use Rattle.mum_outbox.specs.Facts.{QueueFacts}
+use Rattle.mum_owner.specs.Facts.{OwnerFacts}
+use Rattle.mum_owner.specs.Opened.{IsOpened}
+use Rattle.mum_published.specs.Calls.{appended}
+use Rattle.mum_published.specs.Facts.{Opening, PassFacts}
+use Rattle.mum_worker.specs.Facts.{WorkerFacts}
+use Rattle.mum_worker.specs.Opening.{HasOpened, IsUnused}
+
+-- the control owner is new, of this published state, to which nothing was appended
+pub record ControlBegins (opening : Opening) (control : ControlFacts) : Type 0 where
+  pub posts : List QueueFacts
+  pub opened : IsOpenedControl control.publisher posts control
+  pub opening_is : control.publisher.opening ≡ opening
+  pub nothing : appended control.publisher ≡ []
+
+module _ {D : Type 0} where
+  -- the owner is new, over this door, and so are its control owner and its pass of the desk
+  pub record OwnerBegins (opening : Opening) (door : D) (journal : Bool) (connections : ℕ) (owner : OwnerFacts D) : Type 0 where
+    pub bells : List TableId
+    pub opened : IsOpened owner.control door connections journal bells owner
+    pub control : ControlBegins opening owner.control
+    pub desk : QueueFacts
+    pub nothing_taken : IsNewPass desk owner.desk.pass
+
+-- the pass of a worker that has seen, learnt and asked nothing
+abbrev pub fresh_pass : Opening → PassFacts
+fresh_pass opening = record { opening = opening; seen = []; known = []; asks = [] }
+
+module _ {L : Type 0} where
+  -- the worker of this number is new, and has offered no copy. With a journal it has room for so many closing entries
+  pub record WorkerBegins (opening : Opening) (closings : Option ℕ) (number : ℕ) (worker : WorkerFacts L) : Type 0 where
+    pub opened : HasOpened number (fresh_pass opening) closings worker
+    pub unused : All IsUnused worker.common.router.outs
+
+  -- such are these workers, numbered from this number on
+  abbrev pub AreOpenedFrom : Opening → Option ℕ → ℕ → List (WorkerFacts L) → Type 0
+  AreOpenedFrom opening closings number [] = ⊤
+  AreOpenedFrom opening closings number (worker ∷ workers) =
+      WorkerBegins opening closings number worker × AreOpenedFrom opening closings (number + 1) workers
+
+  -- and there are so many
+  pub record AreOpened (opening : Opening) (closings : Option ℕ) (count : ℕ) (workers : List (WorkerFacts L)) : Type 0 where
+    pub many : length workers ≡ count
+    pub each : AreOpenedFrom opening closings 0 workers

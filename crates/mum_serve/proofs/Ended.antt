@@ -28,7 +28,7 @@ use Rattle.mum_serve.specs.declared.roles.Roles.TheVariants as roles
 use Rattle.mum_serve.specs.declared.totals.Totals.{Totals}
 use Rattle.mum_serve.specs.declared.totals.WorkerTotals.{WorkerTotals}
 use Rattle.mum_published.specs.Facts.{Opening}
-use Rattle.mum_serve.proofs.Turning.{Begun, have_turned}
+use Rattle.mum_serve.proofs.Turning.{AreBegun, have_turned}
 
 -- the connections and the journal in the opening of an owner
 abbrev limit_in : RoleOpening → ℕ
@@ -189,7 +189,7 @@ module _ {D G N R L : Type 0} where
   )
 
   pub has_run : (links : LinkFacts L) (doors : DoorFacts D) (began : Opening) (door : DoorOpening) (opened : D) (journal : Bool) (connections workers : ℕ) (begun back : List (Roles D G N R L)) (totals : Totals) (entries : Entries) (no_memory door_failed : Bool) (left : D)
-      → opening_at doors opened ≡ door → Begun began opened journal connections workers begun → AllZip (TurnsLead (RoleTurned links doors began)) begun back
+      → opening_at doors opened ≡ door → AreBegun began opened journal connections workers begun → AllZip (TurnsLead (RoleTurned links doors began)) begun back
       → map (opening_of began.state door) back ≡ role_openings began.state door journal connections workers → All (λ role. IsTrue (has_ended role)) back
       → Collects doors began.state door back totals entries no_memory door_failed left → HasRun links doors began.state opened journal connections workers totals entries no_memory door_failed left
   has_run links doors began door opened journal connections workers begun back totals entries no_memory door_failed left opened_at begins turned openings_are ended collected =
@@ -205,7 +205,7 @@ module _ {D G N R L : Type 0} where
         crew = workers_in others;
         began = began;
         began_at = refl;
-        turned = have_turned links doors began opened journal connections workers begun back owner others collected.are collected.workers begins turned;
+        turned = have_turned G N R links doors began opened journal connections workers begun back owner others collected.are collected.workers begins turned;
         limit = ap (λ (xs : List RoleOpening). limit_in (first_in xs)) same;
         journal_is = ap (λ (xs : List RoleOpening). journal_in (first_in xs)) same;
         numbers = numbers_so state door others (worker_openings journal 0 workers) (ap rest_in same);

@@ -124,6 +124,15 @@ module _ {D G N R L : Type 0} where
   pub worker_behind : (old new : List (Roles D G N R L)) (worker : WorkerFacts L) → new ≡ old ++ roles.Worker worker ∷ [] → workers_in new ≡ workers_in old ++ worker ∷ []
   worker_behind old new worker pushed = ap (λ (xs : List (Roles D G N R L)). workers_in xs) pushed ∙ workers_with old worker
 
+module _ {L : Type 0} where
+  opened_behind : (opening : Opening) (closings : Option ℕ) (first next : ℕ) (old : List (WorkerFacts L)) (worker : WorkerFacts L)
+      → next ≡ first + length old → AreOpenedFrom opening closings first old → WorkerBegins opening closings next worker → AreOpenedFrom opening closings first (old ++ worker ∷ [])
+  opened_behind opening closings first next [] worker is all begins =
+      let same : next ≡ first = omega (arith, is) in
+      (subst (λ (n : ℕ). WorkerBegins opening closings n worker) same begins, tt)
+  opened_behind opening closings first next (one ∷ old) worker is all begins =
+      (all.0, opened_behind opening closings (first + 1) next old worker (omega (arith, is)) all.1 begins)
+
 module _ {L N : Type 0} {naming : Ghosts N} where
   over_behind : (one : Shared L N naming) (rest all : List (Shared L N naming)) (old : List (WorkerFacts L)) (worker : WorkerFacts L)
       → AreOver (one ∷ rest) all old → JoinsShared one worker → AreOver rest all (old ++ worker ∷ [])
@@ -137,12 +146,6 @@ module _ {L N : Type 0} {naming : Ghosts N} where
   over_more opening closings number one left rest all old new is over opens =
       let now = subst (λ (xs : List (Shared L N naming)). AreOver xs all old) is over in
       subst (AreOver rest all) (sym opens.behind) (over_behind one rest all old opens.worker now opens.joins)
-
-  opened_behind : (opening : Opening) (closings : Option ℕ) (first next : ℕ) (old : List (WorkerFacts L)) (worker : WorkerFacts L)
-      → next ≡ first + length old → AreOpenedFrom opening closings first old → WorkerBegins opening closings next worker → AreOpenedFrom opening closings first (old ++ worker ∷ [])
-  opened_behind opening closings first next [] worker is all begins = (subst (λ (n : ℕ). WorkerBegins opening closings n worker) (omega (arith, is)) begins, tt)
-  opened_behind opening closings first next (one ∷ old) worker is all begins =
-      (all.0, opened_behind opening closings (first + 1) next old worker (omega (arith, is)) all.1 begins)
 
   -- it is numbered behind the others
   pub opened_with : (opening : Opening) (closings : Option ℕ) (number : ℕ) (one : Shared L N naming) (old new : List (WorkerFacts L))

@@ -3,6 +3,7 @@ mod Joining
 mod Leading
 mod Turning
 mod Ended
+mod Comparing
 mod Limited
 mod Refused
 mod Judged

@@ -19,31 +19,31 @@ use Rattle.mum_serve.specs.declared.roles.Roles.TheVariants as roles
 
 module _ {D G N R L : Type 0} where
   -- what is known of all roles before their first turn
-  pub record Begun (opening : Opening) (door : D) (journal : Bool) (connections workers : ℕ) (all : List (Roles D G N R L)) : Type 0 where
+  pub record AreBegun (opening : Opening) (door : D) (journal : Bool) (connections workers : ℕ) (all : List (Roles D G N R L)) : Type 0 where
     pub led : AreLed all
     pub begins : AllByRecursion (OwnerBegins opening door journal connections) (owners_in all)
     pub opened : AreOpened opening (closing_room journal connections workers) workers (workers_in all)
     pub joined : AreJoined all
 
-  owner_or : OwnerFacts D → Roles D G N R L → OwnerFacts D
+  abbrev owner_or : OwnerFacts D → Roles D G N R L → OwnerFacts D
   owner_or other (roles.Owner owner) = owner
   owner_or other (roles.Worker worker) = other
 
-  worker_or : WorkerFacts L → Roles D G N R L → WorkerFacts L
+  abbrev worker_or : WorkerFacts L → Roles D G N R L → WorkerFacts L
   worker_or other (roles.Owner owner) = other
   worker_or other (roles.Worker worker) = worker
 
-module _ {D G N R L : Type 0} (links : LinkFacts L) (doors : DoorFacts D) (opening : Opening) where
+module _ {D L : Type 0} (G N R : Type 0) (links : LinkFacts L) (doors : DoorFacts D) (opening : Opening) where
   -- between two turns an owner is an owner, and a worker a worker
-  owner_turns : (old new : OwnerFacts D) (turns : List Turn) → TurnsTo (RoleTurned {D} {G} {N} {R} {L} links doors opening) (roles.Owner old) turns (roles.Owner new)
+  owner_turns : (old new : OwnerFacts D) (turns : List Turn) → TurnsTo (RoleTurned {G = G} {N = N} {R = R} links doors opening) (roles.Owner old) turns (roles.Owner new)
       → TurnsTo (OwnerTurned L doors.counts doors.given) old turns new
-  owner_turns old new [] all = ap (owner_or {D} {G} {N} {R} {L} old) all
+  owner_turns old new [] all = ap (λ (role : Roles D G N R L). owner_or old role) all
   owner_turns old new (turn ∷ turns) (roles.Owner mid, did, rest) = (mid, did, owner_turns mid new turns rest)
   owner_turns old new (turn ∷ turns) (roles.Worker mid, did, rest) = absurd did
 
-  worker_turns : (old new : WorkerFacts L) (turns : List Turn) → TurnsTo (RoleTurned {D} {G} {N} {R} {L} links doors opening) (roles.Worker old) turns (roles.Worker new)
+  worker_turns : (old new : WorkerFacts L) (turns : List Turn) → TurnsTo (RoleTurned {G = G} {N = N} {R = R} links doors opening) (roles.Worker old) turns (roles.Worker new)
       → TurnsTo (WorkerTurned links.counts links.left links.written links.is_shut opening) old turns new
-  worker_turns old new [] all = ap (worker_or {D} {G} {N} {R} {L} old) all
+  worker_turns old new [] all = ap (λ (role : Roles D G N R L). worker_or old role) all
   worker_turns old new (turn ∷ turns) (roles.Owner mid, did, rest) = absurd did
   worker_turns old new (turn ∷ turns) (roles.Worker mid, did, rest) = (mid, did, worker_turns mid new turns rest)
 
@@ -59,7 +59,7 @@ module _ {D G N R L : Type 0} (links : LinkFacts L) (doors : DoorFacts D) (openi
 
   -- what the roles were and what they are, with the turns between
   pub have_turned : (door : D) (journal : Bool) (connections workers : ℕ) (begun back : List (Roles D G N R L)) (owner : OwnerFacts D) (others : List (Roles D G N R L))
-      → back ≡ roles.Owner owner ∷ others → AreWorkers others → Begun opening door journal connections workers begun → AllZip (TurnsLead (RoleTurned links doors opening)) begun back
+      → back ≡ roles.Owner owner ∷ others → AreWorkers others → AreBegun opening door journal connections workers begun → AllZip (TurnsLead (RoleTurned links doors opening)) begun back
       → HaveTurned links doors opening door journal connections workers owner (workers_in others)
   have_turned door journal connections workers [] back owner others is are begun turned = absurd begun.led
   have_turned door journal connections workers (roles.Worker worker ∷ rest) back owner others is are begun turned = absurd begun.led

@@ -51,12 +51,12 @@ fn take_owner<'a, D: Door + Send, G: Gate, N: Serving, R: Wait + Copy + Send>(
 // Compares what each of these workers saw and learnt with what the owner published, which begins with it.
 fn compare<'a, D: Door + Send, G: Gate, N: Serving, R: Wait + Copy + Send>(
     owner: &Owner<'a, D, N, R>,
-    workers: &[Roles<'a, D, G, N, R>],
+    crew: &[Roles<'a, D, G, N, R>],
 )
-    requires { AreWorkers workers.now }
-    ensures { AreWithin owner.now.control.publisher.published (workers_in workers.now) }
+    requires { AreWorkers crew.now }
+    ensures { AreWithin owner.now.control.publisher.published (workers_in crew.now) }
 {
-    for role in workers {
+    for role in crew {
         match role {
             Roles::Worker(worker) => owner.has_shown(worker.pass()),
             Roles::Owner(_) => unreachable!(),

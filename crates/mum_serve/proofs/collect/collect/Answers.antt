@@ -1,9 +1,12 @@
 -- The first of the roles is the owner, and the others are workers.
-use Rattle.std.proofs.Common.{◌≡◌, ◌∙◌, ℕ, ◌||◌, Bool, true, length, ap, refl, sym, subst, arith}
+use Rattle.std.proofs.Common.{◌≡◌, ◌∙◌, ℕ, ◌||◌, Bool, true, List, length, ap, refl, sym, subst, arith}
 use Rattle.mum_doorway.specs.Doors.{NoMoreCome, given_after_all}
 use Rattle.mum_owner.specs.Turned.{has_ended}
 use Rattle.mum_published.specs.Facts.{Opening}
+use Rattle.mum_serve.specs.OneList.{AreWithin}
+use Rattle.mum_serve.specs.Roles.{workers_in}
 use Rattle.mum_serve.specs.Totals.{totals_of}
+use Rattle.mum_serve.specs.declared.roles.Roles.{Roles}
 use Rattle.mum_serve.specs.declared.totals.WorkerTotals.{WorkerTotals}
 use Rattle.mum_serve.proofs.collect.collect.Goals.{then-no_memory, else-no_memory}
 use Rattle.mum_serve.proofs.collect.collect.Goals as goal
@@ -48,5 +51,5 @@ returns g c =
         door_is = end.door;
         over = subst (λ (n : ℕ). has_ended owner ≡ true → NoMoreCome n owner.guests.limit g.N.Doorside.door.counts (g.D.Door.counts left)) end.connections end.over;
       };
-      one_list = c.compare.ensures;
+      one_list = subst (λ (xs : List (Roles _ _ _ _ _)). AreWithin owner.control.publisher.published (workers_in xs)) c.deref.ensures.value c.compare.ensures;
     }

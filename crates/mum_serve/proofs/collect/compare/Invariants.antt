@@ -1,11 +1,7 @@
 use Rattle.std.proofs.Common.{drop}
-use Rattle.mum_serve.specs.OneList.{AreWithin}
-use Rattle.mum_serve.specs.Roles.{AreWorkers, workers_in}
+use Rattle.mum_serve.proofs.Comparing.{Compared}
 use Rattle.mum_serve.proofs.collect.compare.Given as goal
 
--- what is left to be compared
+-- those before this one were compared
 abbrev pub invariant-loop-role : goal.invariant-loop-role
-invariant-loop-role g l =
-    AreWorkers (drop l.role-index l.fn.workers.now)
-    × (AreWithin l.fn.owner.now.control.publisher.published (workers_in (drop l.role-index l.fn.workers.now))
-    → AreWithin l.fn.owner.now.control.publisher.published (workers_in l.fn.workers.now))
+invariant-loop-role g l = Compared l.fn.owner.control.publisher.published (drop l.role-index l.fn.crew) l.fn.crew

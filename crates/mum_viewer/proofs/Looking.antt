@@ -1,5 +1,5 @@
 -- What a look finds, and whether the text that was kept is still right.
-use Rattle.std.proofs.Common.{◌≡◌, ℕ, ◌==◌, List, length, Option, Some, None, Result, Ok, Err, true, sym, ap, subst, ◌∙◌, arith}
+use Rattle.std.proofs.Common.{◌≡◌, ℕ, ◌==◌, List, length, Option, Some, None, Result, Ok, Err, true, sym, ap, ◌∙◌, arith}
 use Rattle.std.specs.Prelude.{IfOk, IfSome}
 use Rattle.std.specs.declared.alloc.AllocError.{AllocError}
 use Rattle.std.proofs.lemmas.Bool.{eqb-true}
@@ -38,8 +38,3 @@ found_text old new picture (Err error) found is = record { edits = found.edits; 
 pub nothing_found : {X Y : Type 0} (shows : StateValue → X) (other : StateValue → Y) (old new : PassFacts) (found : Result X AllocError) (error : AllocError)
     → Looks shows old found new → Looks other old (Err error) new
 nothing_found shows other old new found error look = record { edits = look.edits; met = look.met; asked = look.asked; is = tt }
-
--- the text is that of the state that is known then
-pub known_text : (old new : PassFacts) (text : List ℕ) → Looks view_text old (Ok text) new → text ≡ view_text (state_of new.opening new.known)
-known_text old new text found =
-    subst (λ (pass : PassFacts). text ≡ view_text (state_of pass.opening pass.known)) (sym found.asked) found.is

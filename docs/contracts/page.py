@@ -9,19 +9,20 @@ HEAD = """# Every public call
 `docs/calls` writes this page from the sources, and the gate compares it with them. A row has the calls of a crate of \
 which the contracts have the same form:
 
-- **Answers**: what refuses it, in the order in which the definitions name the cases, or `None`; and the type of the \
-answer where that is one of several cases, which are [at the end](#answers-of-several-cases).
-- **Requires**, **Ensures**: the labels of the clauses; `requires` or `ensures` is a clause without a label.
-- **Leaves**: of a call that could change something, the clauses that say what it leaves where it is refused or memory \
+- **Answers**: what refuses a call, in the order in which the definitions name the cases; `None`, `OutOfMemory`; and \
+the type of the answer where that is one of several cases, which are [at the end](#answers-of-several-cases). A dash \
+is for one plain answer.
+- **Clauses**: the labels of what a call requires, and of what it ensures; `requires` or `ensures` is a clause without \
+a label. Of a call that could change something, the clauses in bold say what it leaves where it is refused or memory \
 ran out. Where the answer is one of several cases, the clauses say of each what it leaves.
-- **May**: *run out*, where the type of the answer says that memory may run out; *wait*, where the signature of the \
-call or of its block carries `Wait`. Such a call may wait for other threads, and what it ensures it ensures where it \
-returns. Every other call returns; a call of a trait may wait where the type that implements it carries `Wait`.
+- *May wait* is said of a call where its signature or that of its block carries `Wait`: it may wait for other threads, \
+and what it ensures it ensures where it returns. Every other call returns; a call of a trait may wait where the type \
+that implements it carries `Wait`.
 
 Laws are functions that do nothing; they are in [PROMISES.md](PROMISES.md). A type that implements a trait of this \
 page has the calls and the contracts of that trait.
 """
-COLUMNS = "| Call | Answers | Requires | Ensures | Leaves | May |\n|---|---|---|---|---|---|\n"
+COLUMNS = "| Call | Answers | Clauses |\n|---|---|---|\n"
 CASES = "\n## Answers of several cases\n\n| Type | Crate | Cases |\n|---|---|---|\n"
 
 
@@ -36,14 +37,17 @@ def listed(words):
 
 
 def row_of(call, cases):
-    """The cells of a call, without its name."""
+    """What a row says of a call: whether it may wait, its answers, and its clauses."""
     words, memory = answers_of(call, cases)
-    ensured = [clause for clause in call.clauses if clause.kind == "ensures"]
     refusable = (words or memory) and "mut " in call.signature
-    left = [clause.label for clause in ensured if refusable and leaves(call, clause, "None" in words)]
-    required = [clause.label for clause in call.clauses if clause.kind == "requires"]
-    may = [word for word, holds in (("run out", memory), ("wait", call.waits)) if holds]
-    return (*map(listed, (words, required, [clause.label for clause in ensured], left)), ", ".join(may) or DASH)
+    required = listed(clause.label for clause in call.clauses if clause.kind == "requires")
+    ensured = ", ".join(
+        f"**`{clause.label}`**" if refusable and leaves(call, clause, "None" in words) else f"`{clause.label}`"
+        for clause in call.clauses
+        if clause.kind == "ensures"
+    )
+    clauses = "; ".join(part for part in (f"requires {required}" * (required != DASH), ensured) if part)
+    return " *may wait*" if call.waits else "", listed([*words, *["OutOfMemory"] * memory]), clauses
 
 
 def section_of(crate, traits, cases):
@@ -52,7 +56,9 @@ def section_of(crate, traits, cases):
     for call in calls_of(crate):
         if not call.shows:
             (rows.setdefault(row_of(call, cases), {}) if call.clauses else bare)[call.name] = True
-    lines = "".join(f"| {listed(names)} | {' | '.join(row)} |\n" for row, names in rows.items())
+    lines = "".join(
+        f"| {listed(names)}{waits} | {answers} | {clauses} |\n" for (waits, answers, clauses), names in rows.items()
+    )
     parts = [COLUMNS + lines] if lines else []
     parts += [f"Without a contract: {listed(bare)}.\n"] if bare else []
     found = implemented(crate, traits)

@@ -6,9 +6,10 @@ import struct
 import time
 
 from .server import connect
-from .talkers import CHANNEL, HEADER, first_number, frame, login
+from .talkers import CHANNEL, login
 
-from client import (AUTHENTICATE, PING, SERVER_SYNC, TEXT_MESSAGE, USER_STATE, VERSION, VOICE, field, message, varint)
+from client import AUTHENTICATE, PING, SERVER_SYNC, TEXT_MESSAGE, USER_STATE, VOICE
+from reader.wire import HEADER, field, frame, message, read_frames, read_varint, varint
 
 ACL, QUERY, TARGET, CHANNEL_STATE = 13, 20, 19, 7
 GREATEST_PAYLOAD, COMMAND_LIMIT, TEXT_LIMIT = 8_388_607, 65_000, 20_000
@@ -85,17 +86,12 @@ class Enemy:
                 self.look_for_session(piece)
 
     def look_for_session(self, piece):
-        data, at = self.received + piece, 0
-        while len(data) - at >= 6:
-            kind, length = HEADER.unpack_from(data, at)
-            if len(data) - at - 6 < length:
-                break
+        frames, self.received = read_frames(self.received + piece)
+        for kind, payload in frames:
             if kind == SERVER_SYNC:
-                self.session, self.received = first_number(data, at + 7)[0], b""
+                self.session, self.received = read_varint(payload, 1)[0], b""
                 self.crowd.logins += 1
                 return
-            at += 6 + length
-        self.received = data[at:]
 
     def lose(self):
         """The server closed it."""

@@ -2,41 +2,24 @@
 
 import os
 import selectors
-import struct
 import sys
 import time
 
 from .server import TOP, connect
 
 sys.path.insert(0, os.path.join(TOP, "relay/tests"))
-from client import (AUTHENTICATE, PERMISSION_DENIED, PING, REJECT, SERVER_SYNC, USER_STATE, VERSION, VOICE,  # noqa: E402
-                    message)
+from client import AUTHENTICATE, PERMISSION_DENIED, PING, REJECT, SERVER_SYNC, USER_STATE, VERSION, VOICE  # noqa: E402
+from reader.wire import frame, message, read_frames, read_varint  # noqa: E402
 
 TALKERS = 20
 PACKETS_A_SECOND = 25
 CHANNEL = 1
 PING_EVERY = 5
 AUDIO = bytes(range(56))
-HEADER = struct.Struct(">HI")
-
-
-def frame(kind, payload=b""):
-    return HEADER.pack(kind, len(payload)) + payload
 
 
 def login(name):
     return frame(VERSION, message((1, 0x10400), (2, "hostile"))) + frame(AUTHENTICATE, message((1, name), (5, 1)))
-
-
-def first_number(data, at):
-    """A varint of a message, and where it ends."""
-    number = shift = 0
-    while True:
-        digit = data[at]
-        number |= (digit & 127) << shift
-        at, shift = at + 1, shift + 7
-        if digit < 128:
-            return number, at
 
 
 class Guest:
@@ -79,22 +62,16 @@ class Guest:
         self.take_frames(self.kept + piece, time.monotonic())
 
     def take_frames(self, data, now):
-        at, end, unpack = 0, len(data), HEADER.unpack_from
-        while end - at >= 6:
-            kind, length = unpack(data, at)
-            after = at + 6 + length
-            if after > end:
-                break
+        frames, self.kept = read_frames(data)
+        for kind, payload in frames:
             if kind == VOICE:
-                self.hear(data[at + 6:after], now)
-            elif kind == USER_STATE or kind == SERVER_SYNC or kind == REJECT or kind == PERMISSION_DENIED:
-                self.take(kind, data[at + 6:after], now)
-            at = after
-        self.kept = data[at:]
+                self.hear(payload, now)
+            elif kind in (USER_STATE, SERVER_SYNC, REJECT, PERMISSION_DENIED):
+                self.take(kind, payload, now)
 
     def take(self, kind, payload, now):
         if kind == SERVER_SYNC:
-            self.session, self.synced = first_number(payload, 1)[0], now
+            self.session, self.synced = read_varint(payload, 1)[0], now
         elif kind in (REJECT, PERMISSION_DENIED):
             self.faults.append(f"{self.name}: it was denied something")
 
@@ -114,7 +91,7 @@ class Talker(Guest):
         super().take(kind, payload, now)
         if kind == USER_STATE and self.session is not None and not self.is_there:
             place = message((5, CHANNEL))
-            self.is_there = payload[:1] == b"\x08" and first_number(payload, 1)[0] == self.session and place in payload
+            self.is_there = payload[:1] == b"\x08" and read_varint(payload, 1)[0] == self.session and place in payload
 
     def enter(self):
         self.send(frame(USER_STATE, message((1, self.session), (5, CHANNEL))))

@@ -1,5 +1,5 @@
 """Answers of the lines that are calls on a server: what is decided, what is told, who hears."""
-from . import mumble, program
+from . import mumble, program, wire
 from .asking import Attempt, attempt, notices, told_text, verdict_text
 from .messages import message_of
 from .policies import policy_text, shown
@@ -233,7 +233,7 @@ def heard_by(scene, word, words):
     packet = bytes([0x80 | SPEAKING[word](words)]) + bytes.fromhex(VOICE)
     steps = scene.moved_to_worker(user, 1)
     at = len(steps) if user.left_at is None else user.left_at
-    spoken = steps[:at] + [f"frame {user.connection} {mumble.put_frame(mumble.VOICE, packet).hex()}"] + steps[at:]
+    spoken = steps[:at] + [f"frame {user.connection} {wire.frame(mumble.VOICE, packet).hex()}"] + steps[at:]
     spoken += ["publish", f"look 1 {scene.revision}"]
     told = program.tell(scene.configuration.document(), spoken, workers=2)
     if len(told.steps) < len(spoken):

@@ -2,7 +2,7 @@
 from collections import Counter
 from pathlib import Path
 
-from . import mumble, program
+from . import mumble, program, wire
 from .script import login_frame, refusal_of
 from .table import NoCase
 
@@ -47,7 +47,7 @@ def steps_of(frames, revisions):
     steps, places, revision = came_and_left() + [f"open {CLIENT} 0"], [], 0
     for place, (kind, payload) in enumerate(frames):
         places.append(len(steps))
-        steps.append(f"frame {CLIENT} {mumble.put_frame(kind, payload).hex()}")
+        steps.append(f"frame {CLIENT} {wire.frame(kind, payload).hex()}")
         if kind in COMMANDS:
             steps += [f"edit {CLIENT}", f"tell {CLIENT} -"] + (listener_comes() if place == 1 else []) + ["publish"]
             revision = revisions.get(place, revision)

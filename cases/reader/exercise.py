@@ -1,7 +1,7 @@
 """Exercises, drawn a second time by docs/FORMATS.md, and replayed: the program must count the same."""
 from collections import Counter
 
-from . import mumble, program
+from . import mumble, program, wire
 from .table import NoCase
 from .words import number
 
@@ -137,7 +137,7 @@ class Exercise:
         """A user speaks in a round, and each of its audience drains a copy."""
         packet = bytes([0x80 | target]) + mumble.put_voice_number(place) + bytes.fromhex("03aabbcc")
         worker, hear = (who - 1) % WORKERS, self.audience(who, target)
-        self.steps += [f"frame {who} {mumble.put_frame(mumble.VOICE, packet).hex()}", f"look {worker} {self.revision}"]
+        self.steps += [f"frame {who} {wire.frame(mumble.VOICE, packet).hex()}", f"look {worker} {self.revision}"]
         self.steps += [f"offer {worker}"] * len(hear) + [f"drain {one}" for one in hear]
 
     def round(self, place, who, verb, what):

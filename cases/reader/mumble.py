@@ -1,6 +1,8 @@
-"""Frames, fields and messages of the Mumble protocol, and the names of their numbers (Mumble.proto 1.4)."""
+"""Messages of the Mumble protocol by the names of their fields and numbers (Mumble.proto 1.4)."""
 import unicodedata
 from dataclasses import dataclass, field
+
+from . import wire
 
 VERSION, VOICE, LOGIN, PING, REJECT, SYNC = 0, 1, 2, 3, 4, 5
 CHANNEL_REMOVE, CHANNEL_STATE, USER_REMOVE, USER_STATE = 6, 7, 8, 9
@@ -95,34 +97,7 @@ NAMES = {
 }
 
 
-# ---- numbers and frames
-
-def put_varint(number):
-    """A number as the varint of a message, signed ones in ten bytes."""
-    number &= (1 << 64) - 1
-    out = bytearray()
-    while number >= 0x80:
-        out.append(number & 0x7F | 0x80)
-        number >>= 7
-    out.append(number)
-    return bytes(out)
-
-
-def varint(payload, at):
-    """The varint of a message at a place, and the place behind it."""
-    value = shift = 0
-    while True:
-        byte = payload[at]
-        value |= (byte & 0x7F) << shift
-        shift, at = shift + 7, at + 1
-        if byte < 0x80:
-            return value, at
-
-
-def put_frame(kind, payload):
-    """A whole frame: two bytes of type, four of length, the payload."""
-    return kind.to_bytes(2, "big") + len(payload).to_bytes(4, "big") + payload
-
+# ---- frames and voice
 
 def split_frame(digits):
     """The type of a frame in hexadecimal digits, and its payload."""
@@ -154,22 +129,6 @@ def put_voice_number(number):
 NUMBERS = ("number", "signed", "flag")
 
 
-def raw_fields(payload):
-    """The fields of a payload: triples of a number, a wire type and a value, which is a number or bytes."""
-    at = 0
-    while at < len(payload):
-        key, at = varint(payload, at)
-        if key & 7 == 0:
-            value, at = varint(payload, at)
-        elif key & 7 == 2:
-            size, at = varint(payload, at)
-            value, at = payload[at:at + size], at + size
-        else:
-            size = 8 if key & 7 == 1 else 4
-            value, at = payload[at:at + size], at + size
-        yield key >> 3, key & 7, value
-
-
 def value_of(known, value):
     """The value of a field as Python has it."""
     if known.kind == "flag":
@@ -186,13 +145,13 @@ def value_of(known, value):
 def decode_by(table, payload):
     """The fields of a payload by their names, in the order in which they come first."""
     message = {}
-    for number, wire, value in raw_fields(payload):
+    for number, wire_type, value in wire.read_fields(payload):
         known = table.get(number)
         if known is None:
             continue
-        if known.many and known.kind in NUMBERS and wire == 2:
+        if known.many and known.kind in NUMBERS and wire_type == wire.BLOCK:
             message.setdefault(known.name, []).extend(value_of(known, one) for one in unpacked(value))
-        elif wire != (0 if known.kind in NUMBERS else 2):
+        elif wire_type != (wire.NUMBER if known.kind in NUMBERS else wire.BLOCK):
             continue
         elif known.many:
             message.setdefault(known.name, []).append(value_of(known, value))
@@ -205,7 +164,7 @@ def unpacked(block):
     """The numbers of a packed list."""
     at = 0
     while at < len(block):
-        value, at = varint(block, at)
+        value, at = wire.read_varint(block, at)
         yield value
 
 
@@ -217,12 +176,8 @@ def decode(kind, payload):
 def put_field(number, known, value):
     """One field: its key and its value."""
     if known.kind in NUMBERS:
-        return put_varint(number << 3) + put_varint(int(value))
-    if known.kind == "block":
-        value = encode_by(known.inside, value)
-    elif known.kind == "text":
-        value = value.encode()
-    return put_varint(number << 3 | 2) + put_varint(len(value)) + value
+        return wire.field(number, int(value))
+    return wire.field(number, encode_by(known.inside, value) if known.kind == "block" else value)
 
 
 def encode_by(table, message):
@@ -244,7 +199,7 @@ def encode(kind, message):
 
 def frame_of(kind, message):
     """The digits of a whole frame with a message."""
-    return put_frame(kind, encode(kind, message)).hex()
+    return wire.frame(kind, encode(kind, message)).hex()
 
 
 # ---- permissions

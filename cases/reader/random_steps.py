@@ -5,7 +5,7 @@ the program, and a round whose steps are not allowed there is left out.
 """
 import random
 
-from . import mumble, program
+from . import mumble, program, wire
 
 NAMES = ["ann", "bob", "cat", "dan", "eve", "x<y&z", "a\u2028b", "bad\u0007name", " space"]
 TEXTS = ["hello", "a\u0001b\u0000c", "<b>&amp;\"'", "é" * 40, "x" * 200, "tab\there\nthere"]
@@ -67,7 +67,7 @@ def speech(draw, connection, worker, lines):
     drained; what it says may be no packet."""
     packet = bytes([0x80 | draw.choice([0, 0, 0, 1, 2, 31]), draw.randrange(128)]) + bytes.fromhex("03aabbcc")
     packet = draw.choice([packet, packet, packet, packet, b"\x20"])
-    frame = mumble.put_frame(mumble.VOICE, packet).hex()
+    frame = wire.frame(mumble.VOICE, packet).hex()
     others = [f"offer {worker}", f"offer {worker}", f"drain {draw.randrange(1, connection + 1)}"]
     return [f"frame {connection} {frame}", f"look {worker} {draw.choice([published(lines), newest(lines)])}"] + others[:draw.randrange(4)]
 

@@ -6,7 +6,7 @@ what is left ends as that of the journal does. Names of users and of channels, a
 import json
 import re
 
-from . import mumble
+from . import mumble, wire
 from .configuration import sha256
 
 DIGITS = "0123456789abcdefghijklmnopqrstuvwxyz"
@@ -57,11 +57,11 @@ def spans_of(payload):
     """The fields of a payload with the places of what they hold: number, wire type, first byte, last byte and one."""
     at = 0
     while at < len(payload):
-        key, at = mumble.varint(payload, at)
+        key, at = wire.read_varint(payload, at)
         if key & 7 == 0:
-            _, end = mumble.varint(payload, at)
+            _, end = wire.read_varint(payload, at)
         elif key & 7 == 2:
-            size, at = mumble.varint(payload, at)
+            size, at = wire.read_varint(payload, at)
             end = at + size
         else:
             end = at + (8 if key & 7 == 1 else 4)
@@ -74,9 +74,9 @@ def spans_of(payload):
 def with_blocks_changed(payload, table, change):
     """A payload in which `change` gave each block of a known field, of the same length."""
     out = bytearray(payload)
-    for number, wire, first, last in spans_of(payload):
+    for number, wire_type, first, last in spans_of(payload):
         known = table.get(number)
-        if known is not None and wire == 2:
+        if known is not None and wire_type == wire.BLOCK:
             block = change(known, payload[first:last])
             assert len(block) == last - first
             out[first:last] = block

@@ -1,7 +1,7 @@
 """Recordings as tables spell them: a beginning, and lines or steps behind it, where names stand for frames."""
 import re
 
-from . import mumble, program
+from . import mumble, program, wire
 from .scene import Scene
 from .table import NoCase
 from .words import bytes_of, calls_of, number
@@ -150,7 +150,7 @@ def said_of(steps, told, refusals, lasts):
 def frame_of(word):
     """The digits of a frame that is spelled `TYPE/PAYLOAD`."""
     kind, _, payload = word.partition("/")
-    return mumble.put_frame(number(kind), bytes_of(payload)).hex()
+    return wire.frame(number(kind), bytes_of(payload)).hex()
 
 
 def told_of_frames(name, words):

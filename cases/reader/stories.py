@@ -1,7 +1,7 @@
 """What docs/picture says became of packets of voice, on servers that the calls of a line make."""
 import sys
 
-from . import mumble, program
+from . import mumble, program, wire
 from .answers import SPEAKING, VOICE
 from .asking import posts
 from .scene import Scene
@@ -28,7 +28,7 @@ def answer(question):
 def outcome(scene, word, words):
     """Who hears a packet, or why nobody does."""
     document, user = scene.configuration.document(), scene.user(word_of(words)[0])
-    frame = mumble.put_frame(mumble.VOICE, bytes([0x80 | SPEAKING[word](words)]) + bytes.fromhex(VOICE))
+    frame = wire.frame(mumble.VOICE, bytes([0x80 | SPEAKING[word](words)]) + bytes.fromhex(VOICE))
     steps = delivered(document, scene.steps) + [f"frame {user.connection} {frame.hex()}", f"look 0 {scene.revision}"]
     recording = program.recording_of(document, steps, end=False)
     story = story_of(recording.splitlines(), program.run(["replay"], recording).lines, True)

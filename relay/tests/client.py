@@ -2,8 +2,13 @@
 comes, and knows who is there. It reads only while somebody waits for something."""
 import socket
 import ssl
-import struct
+import sys
 import time
+from pathlib import Path
+
+sys.path.insert(0, str(Path(__file__).resolve().parent.parent.parent / "cases"))
+
+from reader.wire import BLOCK, NUMBER, frame, message, read_fields, read_frames  # noqa: E402
 
 VERSION, VOICE, AUTHENTICATE, PING, REJECT, SERVER_SYNC = 0, 1, 2, 3, 4, 5
 CHANNEL_STATE, USER_REMOVE, USER_STATE, TEXT_MESSAGE, PERMISSION_DENIED, ACL, CRYPT_SETUP = 7, 8, 9, 11, 12, 13, 15
@@ -13,58 +18,10 @@ ENTER, KICK = 0x4, 0x10000
 PATIENCE = 30
 
 
-def varint(number):
-    digits = bytearray()
-    while number >= 128:
-        digits.append(number & 127 | 128)
-        number >>= 7
-    digits.append(number)
-    return bytes(digits)
-
-
-def field(number, value):
-    """One field of a message: a number, a text or bytes."""
-    if isinstance(value, int):
-        return varint(number << 3) + varint(value)
-    data = value.encode() if isinstance(value, str) else value
-    return varint(number << 3 | 2) + varint(len(data)) + data
-
-
-def message(*fields):
-    return b"".join(field(number, value) for number, value in fields)
-
-
-def frame(kind, payload=b""):
-    return struct.pack(">HI", kind, len(payload)) + payload
-
-
 def parse(payload):
     """The fields of a message in their order, numbers and bytes; the last value of a field counts where one is asked
     for by `dict`."""
-    at, found = 0, []
-
-    def read():
-        nonlocal at
-        number = shift = 0
-        while True:
-            digit = payload[at]
-            at += 1
-            number |= (digit & 127) << shift
-            shift += 7
-            if not digit & 128:
-                return number
-
-    while at < len(payload):
-        key = read()
-        if key & 7 == 0:
-            found.append((key >> 3, read()))
-        elif key & 7 == 2:
-            length = read()
-            found.append((key >> 3, payload[at:at + length]))
-            at += length
-        else:
-            at += {1: 8, 5: 4}[key & 7]
-    return found
+    return [(number, value) for number, kind, value in read_fields(payload) if kind in (NUMBER, BLOCK)]
 
 
 def trusting_context():
@@ -108,13 +65,9 @@ class PlainClient:
             raise Ended from fault
         if not piece:
             raise Ended
-        self.kept += piece
-        while len(self.kept) >= 6:
-            kind, length = struct.unpack(">HI", self.kept[:6])
-            if len(self.kept) < 6 + length:
-                break
-            self.take(kind, self.kept[6:6 + length])
-            self.kept = self.kept[6 + length:]
+        frames, self.kept = read_frames(self.kept + piece)
+        for kind, payload in frames:
+            self.take(kind, payload)
         return True
 
     def take(self, kind, payload):

@@ -13,7 +13,8 @@ import tempfile
 import threading
 import time
 
-from client import AUTHENTICATE, REJECT, USER_REMOVE, VERSION, Client, Ended, message, parse, trusting_context
+from client import AUTHENTICATE, REJECT, USER_REMOVE, VERSION, Client, Ended, parse, trusting_context
+from reader.wire import frame, message
 from trial import PASSWORD, PROGRAM, RELAY, free_port, said_by, wait
 
 # The limits of haproxy.cfg: connections at once, logins in two minutes, wrong passwords in five, tries in ten seconds.
@@ -33,7 +34,7 @@ def test(function):
 def login_frames(name, password=None):
     fields = [(1, name), *([(2, password)] if password is not None else []), (5, 1)]
     frames = ((VERSION, message((1, 0x10400), (2, "test"))), (AUTHENTICATE, message(*fields)))
-    return b"".join(struct.pack(">HI", kind, len(payload)) + payload for kind, payload in frames)
+    return b"".join(frame(kind, payload) for kind, payload in frames)
 
 
 def comes_in(port, source, name=None, password=None, context=None):

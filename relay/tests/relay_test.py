@@ -20,8 +20,9 @@ import warnings
 
 import limits_test
 from client import (AUTHENTICATE, CRYPT_SETUP, ENTER, PERMISSION_DENIED, PING, REJECT, TEXT_MESSAGE, USER_REMOVE,
-                    VERSION, VOICE, Client, Ended, message, parse, trusting_context)
+                    VERSION, VOICE, Client, Ended, parse, trusting_context)
 from limits_test import comes_in, is_reported
+from reader.wire import message
 from trial import PASSWORD, PROGRAM, RELAY, UNPROVED, Installation, free_port, run_checks, said_by, wait
 
 # The addresses that the relay keeps out.

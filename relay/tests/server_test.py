@@ -10,14 +10,14 @@ import os
 import re
 import signal
 import socket
-import struct
 import subprocess
 import sys
 import tempfile
 import time
 
 from client import (ACL, AUTHENTICATE, CHANNEL_STATE, ENTER, PATIENCE, REJECT, TEXT_MESSAGE, USER_STATE, VERSION, VOICE,
-                    Ended, PlainClient, message, parse)
+                    Ended, PlainClient, parse)
+from reader.wire import HEADER, frame, message
 from server import HEADER_PATIENCE, LONGEST_HEADER, SIGNATURE, TCP_OVER_IPV6, Server, Tests, header, is_closed, reset
 from trial import RELAY, free_port, wait
 
@@ -145,7 +145,7 @@ def false_headers_are_closed_and_are_no_connections(folder):
 
 @test
 def a_login_may_end_at_each_byte(folder):
-    login = b"".join(struct.pack(">HI", kind, len(payload)) + payload for kind, payload in
+    login = b"".join(frame(kind, payload) for kind, payload in
                      ((VERSION, message((1, 0x10400), (2, "test"))), (AUTHENTICATE, message((1, "cut"), (5, 1)))))
     with Server(folder, 2 * (len(login) + 1) + 1) as server:
         for length in range(len(login) + 1):
@@ -228,7 +228,7 @@ def a_rejection_is_read_in_spite_of_a_megabyte_behind_it(folder):
         client = server.client()
         client.send(AUTHENTICATE, message((1, "guest"), (2, "guessed"), (5, 1)))
         client.stream.setblocking(False)
-        sent, flood = 0, (struct.pack(">HI", TEXT_MESSAGE, 1000) + bytes(1000)) * 1000
+        sent, flood = 0, (HEADER.pack(TEXT_MESSAGE, 1000) + bytes(1000)) * 1000
         try:
             while sent < len(flood):
                 sent += client.stream.send(flood[sent:])
@@ -281,8 +281,7 @@ def a_flood_of_commands_puts_out_nobody(folder):
         slow = server.client(SO_RCVBUF=4096).log_in("slow")
         flooder.wait_until(lambda: flooder.user("slow"))
         began, sent = time.monotonic(), 0
-        flood = b"".join(struct.pack(">HI", USER_STATE, len(payload)) + payload for payload in
-                         (message((9, 1)), message((9, 0)))) * 500
+        flood = (frame(USER_STATE, message((9, 1))) + frame(USER_STATE, message((9, 0)))) * 500
         flooder.stream.setblocking(False)
         slow.stream.settimeout(0.05)
         while time.monotonic() < began + 5:

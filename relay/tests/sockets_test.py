@@ -15,7 +15,8 @@ import sys
 import termios
 import time
 
-from client import AUTHENTICATE, PATIENCE, PING, REJECT, TEXT_MESSAGE, USER_STATE, VOICE, frame, message, parse
+from client import AUTHENTICATE, PATIENCE, PING, REJECT, TEXT_MESSAGE, USER_STATE, VOICE, parse
+from reader.wire import HEADER, frame, message
 from server import HEADER_PATIENCE, SIGNATURE, TCP_OVER_IPV4, TCP_OVER_IPV6, Server, Tests, header, is_closed, reset
 from trial import free_port, wait
 
@@ -367,7 +368,7 @@ def a_long_frame_waits_until_another_link_is_closed(folder):
     with Server(folder, LONG_FRAMES + 2, "unix:the.sock", MURMUR_PACE="none") as server:
         def announce():
             stream = server.connect()
-            stream.sendall(struct.pack(">HI", TEXT_MESSAGE, LONGEST))
+            stream.sendall(HEADER.pack(TEXT_MESSAGE, LONGEST))
             assert is_read(stream, PATIENCE)
             return stream
         # each has its room once the first byte behind the header is read

@@ -13,7 +13,8 @@ import sys
 import threading
 import time
 
-from client import AUTHENTICATE, TEXT_MESSAGE, USER_STATE, VERSION, VOICE, Ended, PlainClient, message
+from client import AUTHENTICATE, TEXT_MESSAGE, USER_STATE, VERSION, VOICE, Ended, PlainClient
+from reader.wire import message
 from server import Server, Tests, header, is_closed
 from trial import PROGRAM, RELAY, free_port, wait
 

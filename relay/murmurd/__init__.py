@@ -1,0 +1,1 @@
+"""The way from Debian's mumble-server to a configuration: relay/from-murmurd."""

@@ -1,2 +1,6 @@
-pub mod Kept
 pub mod Policy
+pub mod Rows
+pub mod Kept
+pub mod Good
+pub mod Prefix
+pub mod Rebuild

@@ -1,9 +1,20 @@
-//! Channels that last: the rows that are kept of a state.
+//! Channels that last: the rows that are kept of a state, whether rows describe the channels of a
+//! server, and the edits that make these channels again.
 #![tactic(auto)]
 
+mod asked;
+mod found;
+mod good;
+mod joined;
 mod kept;
+mod order;
+mod prefix;
+mod rebuilt;
 pub mod rows;
+mod siblings;
 mod told;
 
+pub use good::good_rows;
 pub use kept::kept_rows;
+pub use rebuilt::rebuild;
 pub use rows::{KeptChannel, KeptRows};

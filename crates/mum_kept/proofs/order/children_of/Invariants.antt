@@ -1,0 +1,6 @@
+use Rattle.std.proofs.Common.{◌≡◌, take}
+use Rattle.mum_kept.specs.Rows.{children_of}
+use Rattle.mum_kept.proofs.order.children_of.Given as goal
+
+abbrev pub invariant-loop-channel : goal.invariant-loop-channel
+invariant-loop-channel l = l.listed.items ≡ children_of (take l.channel-index l.channels)

@@ -1,0 +1,18 @@
+use Rattle.std.proofs.Common.{◌≡◌, ◌-◌, length, drop, take, sym, subst, List, rules, arith}
+use Rattle.std.specs.List.Sorted.{IsPartitionedBy}
+use Rattle.std.proofs.lemmas.List.{length-drop, take_all}
+use Rattle.std.proofs.lemmas.List.Sorted.{IsPartitionPoint-from_clause}
+use Rattle.mum_tree.specs.State.{Pair, starts_at}
+use Rattle.mum_tree.proofs.LinkSearch.{own_front}
+use Rattle.mum_kept.proofs.ByParents.{own_parted}
+use Rattle.mum_kept.proofs.order.children_under.Goals as goal
+
+pub returns : goal.returns
+returns c =
+    let links = c.args.listed.now in
+    let of = c.args.parent in
+    let first = c.first_under.result in
+    let rest = take (length links - first) (drop first links) in
+    let whole : rest ≡ drop first links = take_all (length links - first) (drop first links) (omega (arith, length-drop first links)) in
+    let parted = IsPartitionPoint-from_clause (starts_at of) rest c.partition_point.result c.partition_point.ensures.partitioned (subst (λ (xs : List Pair). IsPartitionedBy (starts_at of) xs) (sym whole) (own_parted links first of c.requires c.first_under.ensures.after)) (λ a r f called. search rules) in
+    own_front links rest first c.partition_point.result of whole c.first_under.ensures.before parted

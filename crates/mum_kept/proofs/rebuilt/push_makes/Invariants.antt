@@ -1,0 +1,7 @@
+use Rattle.std.proofs.Common.{◌≡◌, ◌++◌, map, take}
+use Rattle.mum_kept.specs.Rebuild.{make_edit}
+use Rattle.mum_kept.specs.Rows.{below_root}
+use Rattle.mum_kept.proofs.rebuilt.push_makes.Given as goal
+
+abbrev pub invariant-loop-channel : goal.invariant-loop-channel
+invariant-loop-channel l = l.edits.items ≡ l.fn.edits.items ++ map (make_edit l.prefix) (below_root (take l.channel-index l.channels))

@@ -1,0 +1,6 @@
+use Rattle.std.proofs.Common.{◌≡◌, ◌++◌, map, take}
+use Rattle.mum_kept.specs.Rebuild.{policy_edit}
+use Rattle.mum_kept.proofs.rebuilt.push_policies.Given as goal
+
+abbrev pub invariant-loop-channel : goal.invariant-loop-channel
+invariant-loop-channel l = l.edits.items ≡ l.fn.edits.items ++ map policy_edit (take l.channel-index l.channels)

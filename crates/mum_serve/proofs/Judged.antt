@@ -13,9 +13,11 @@ use Rattle.mum_io.specs.Outside.{Appends, AppendsFront, Keeps}
 use Rattle.mum_io.proofs.OutsideLemmas.{AppendsFront-behind, AppendsFront-longer}
 use Rattle.mum_opening.specs.Opening.{document_fault}
 use Rattle.mum_record.specs.declared.journal.Journal.{Journal}
-use Rattle.mum_serve.specs.Journals.{AreWritable, journal_of, journal_text}
-use Rattle.mum_serve.specs.Program.{GivesText, RunsInCrew, WritesAll, WritesCounted, WritesJournal, WritesText, document_of, served_line, written}
+use Rattle.mum_serve.specs.Facts.{DoorFacts, LinkFacts}
+use Rattle.mum_serve.specs.Journals.{AreWritable, journal_of, journal_text, where_asked}
+use Rattle.mum_serve.specs.Program.{EndsWith, GivesText, HasServed, RunsInCrew, WritesAll, WritesCounted, WritesJournal, WritesText, document_of, served_line, written}
 use Rattle.mum_serve.specs.declared.entries.Entries.{Entries}
+use Rattle.mum_serve.specs.declared.program.Input.{Input}
 use Rattle.mum_serve.specs.declared.program.ServerEnd.{ServerEnd}
 use Rattle.mum_serve.specs.declared.program.ServerEnd.TheVariants as ends
 use Rattle.mum_serve.specs.declared.totals.Totals.{Totals}
@@ -140,3 +142,21 @@ all_run (Some journal) totals no_memory door_failed ends.ReadFault old new befor
 all_run (Some journal) totals no_memory door_failed ends.WriteFault old new before after writes rose = rose
 all_run (Some journal) totals no_memory door_failed ends.DoorFault old new before after writes rose = tt
 all_run (Some journal) totals no_memory door_failed ends.OutOfMemory old new before after writes rose = tt
+
+no_crew_fault : (asked : Option Journal) (totals : Totals) (no_memory door_failed : Bool) (old new : Option (List ℕ)) → WritesAll asked totals no_memory door_failed ends.CrewFault old new → ⊥
+no_crew_fault None totals no_memory door_failed old new writes = writes
+no_crew_fault (Some journal) totals no_memory door_failed old new writes = writes.1
+
+module _ {D L : Type 0} (links : LinkFacts L) (doors : DoorFacts D) where
+  -- where all were served the run ends so
+  pub all_served : (address : List ℕ) (journal : Bool) (connections : ℕ) (input : Input) (end : ServerEnd) (door left : Option D) (old new : Option (List ℕ)) (before after : CrewCounts)
+      → HasServed links doors address journal connections input end door left old new before after → EndsWith links doors address journal connections input end door left old new before after
+  all_served address journal connections input ends.Finished door left old new before after served = served
+  all_served address journal connections input (ends.AuditWrong line given defined) door left old new before after served = served
+  all_served address journal connections input ends.CrewFault door left old new before after served =
+      absurd (no_crew_fault (where_asked journal (journal_of input.config.workers input.document served.entries)) served.totals served.no_memory served.door_failed old new served.writes)
+  all_served address journal connections input (ends.BadConfig code key) door left old new before after served = served
+  all_served address journal connections input ends.ReadFault door left old new before after served = served
+  all_served address journal connections input ends.WriteFault door left old new before after served = served
+  all_served address journal connections input ends.DoorFault door left old new before after served = inl served
+  all_served address journal connections input ends.OutOfMemory door left old new before after served = inl served

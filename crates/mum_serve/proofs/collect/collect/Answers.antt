@@ -5,7 +5,6 @@ use Rattle.mum_owner.specs.Turned.{has_ended}
 use Rattle.mum_published.specs.Facts.{Opening}
 use Rattle.mum_serve.specs.OneList.{AreWithin}
 use Rattle.mum_serve.specs.Roles.{workers_in}
-use Rattle.mum_serve.specs.Totals.{totals_of}
 use Rattle.mum_serve.specs.declared.roles.Roles.{Roles}
 use Rattle.mum_serve.specs.declared.totals.WorkerTotals.{WorkerTotals}
 use Rattle.mum_serve.proofs.collect.collect.Goals.{then-no_memory, else-no_memory}

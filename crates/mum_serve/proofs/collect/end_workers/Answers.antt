@@ -1,6 +1,6 @@
 -- Each worker is ended, what it came to is added, and what it wrote down is pushed.
-use Rattle.std.proofs.Common.{◌≡◌, ◌∙◌, ◌+◌, List, [], ◌∷◌, length, length-append, map, ap, arith}
-use Rattle.std.specs.Vec.Iter.{into_iter_items, into_iter_len}
+use Rattle.std.proofs.Common.{◌∙◌, List, [], ◌∷◌, length, length-append, map, ap, arith}
+use Rattle.std.specs.Vec.Iter.{into_iter_items}
 use Rattle.mum_record.specs.declared.journal.WorkerEntry.{WorkerEntry}
 use Rattle.mum_serve.specs.Journals.{entries_of}
 use Rattle.mum_serve.specs.Roles.{with_workers, workers_in}

@@ -1,9 +1,6 @@
 -- The document says what it is read as.
-use Rattle.std.proofs.Common.{Err, Ok, List, ℕ, subst}
 use Rattle.mum_serve.proofs.Limited.{all_behind}
 use Rattle.mum_serve.proofs.Refused.{is_refusal, read_as, refusal_reads, refused_as}
-use Rattle.mum_serve.specs.Program.{Describes, IsRefusal, ReadsCounted}
-use Rattle.mum_serve.specs.declared.program.ServerEnd.{ServerEnd}
 use Rattle.mum_serve.proofs.program.described.Goals as goal
 
 pub returns-in-Ok-clause-describes : goal.returns-in-Ok-clause-describes

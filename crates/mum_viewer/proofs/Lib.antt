@@ -3,6 +3,7 @@ pub mod Answered
 pub mod Causing
 pub mod Copies
 pub mod Counting
+pub mod Few
 pub mod Idle
 pub mod Lists
 pub mod Looking

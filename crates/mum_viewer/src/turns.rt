@@ -1,15 +1,23 @@
 //! What holds of a viewer whatever its turns are, from its opening on. These functions do nothing: each
 //! contract is a theorem.
 
-ghost use Rattle.std.specs.Prelude.{◌≡◌, ◌↔◌, ◌⊎◌, IsTrue, List};
+ghost use Rattle.std.specs.Prelude.{◌≡◌, ◌↔◌, ◌≤◌, ◌⊎◌, IsTrue, List, length};
 ghost use Rattle.std.specs.List.{AllByRecursion};
 ghost use Rattle.mum_crew.specs.declared.role.Turn.{Turn};
 ghost use Rattle.mum_crew.specs.declared.role.Turn.TheVariants.{Done, Idle, Worked};
 ghost use Rattle.mum_doorway.specs.Doors.{given_after_all};
 ghost use Rattle.mum_viewer.specs.Turns.{EndWell, HasAnswered, HasNothingToDo, HasTurned, IsShown, SomeMoved, finished_over};
 ghost use Rattle.mum_viewer.specs.Viewer.{ViewerFacts, ViewerTurned, has_ended};
+ghost use Rattle.mum_viewer.specs.declared.list.TheConstants.{VIEWS_OPEN};
 
 use mum_doorway::Entrance;
+
+/// No more views are open at once than may be.
+pub fn views_are_few<D: Entrance>()
+    ensures { (turns : List Turn) (viewer : ViewerFacts D D.Peer) →
+        HasTurned D.counts D.given D.Peer.counts D.Peer.left D.Peer.written D.Peer.is_shut turns viewer →
+        length viewer.views.list ≤ VIEWS_OPEN }
+{}
 
 /// Each view between two turns is open, and was written a front of the text of the state at the list of an ask.
 pub fn views_are_shown<D: Entrance>()

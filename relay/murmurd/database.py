@@ -1,5 +1,6 @@
 """Reads an existing murmurd's SQLite database, and writes nothing: neither into it nor beside it."""
 import ipaddress
+import re
 import sqlite3
 from contextlib import contextmanager
 from pathlib import Path
@@ -42,8 +43,9 @@ def address_of(path):
         header = file.read(READ_VERSION + 1)
     if header[:len(SQLITE)] != SQLITE:
         raise Refused(Status.NO_DATABASE, "it is no SQLite database" if header else "it is empty")
-    log, index = (Path(f"{path}-{name}") for name in ("wal", "shm"))
-    address = f"{Path(path).resolve().as_uri()}?mode=ro"
+    whole = Path(path).resolve()
+    log, index = (Path(f"{whole}-{name}") for name in ("wal", "shm"))
+    address = f"{whole.as_uri()}?mode=ro"
     if len(header) <= READ_VERSION or header[READ_VERSION] != WRITE_AHEAD:
         return address
     if not log.exists() or log.stat().st_size == 0:
@@ -138,10 +140,7 @@ def text(value, what):
 
 def as_number(value):
     """A number that is kept as a text, or 0 where it is none, as murmurd reads it."""
-    try:
-        return int(value or 0)
-    except ValueError:
-        return 0
+    return int(value) if re.fullmatch(r"\s*[-+]?[0-9]{1,18}\s*", value, re.ASCII) else 0
 
 
 # ---- one virtual server

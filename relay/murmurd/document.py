@@ -133,7 +133,7 @@ def configuration(server, of_file, only_named, report):
     """The text of a configuration of a virtual server and a file of settings."""
     settings = Settings(server.settings, of_file, report)
     document = server_of(settings, report)
-    most_users = settings.number("usersperchannel") or 0
+    most_users = settings.number("usersperchannel", 0) or 0
     document["accounts"] = accounts_of(server, only_named, report)
     document["channels"], new = channels_of(server, most_users, report)
     if links := links_of(server, new, report):

@@ -8,16 +8,20 @@ class Report:
         self.lines = []
 
     def left_out(self, what, why):
-        self.lines.append(f"left out: {what}: {why}")
+        self.lines.append(visible(f"left out: {what}: {why}"))
 
     def changed(self, what, how):
-        self.lines.append(f"changed: {what}: {how}")
+        self.lines.append(visible(f"changed: {what}: {how}"))
 
     def differs(self, what, how):
-        self.lines.append(f"differs: {what}: {how}")
+        self.lines.append(visible(f"differs: {what}: {how}"))
+
+
+def visible(text):
+    """A text on one line, with a question mark for each character that is not seen."""
+    return "".join(one if one.isprintable() else "?" for one in text)
 
 
 def shown(text, most=60):
-    """A text on one line."""
-    line = "".join(one if one.isprintable() else "?" for one in text)
-    return line if len(line) <= most else line[:most - 2] + ".."
+    """The beginning of a text on one line."""
+    return visible(text) if len(text) <= most else visible(text[:most - 2]) + ".."

@@ -1,5 +1,6 @@
 """The settings of a mumble-server: those that have a place in a configuration, and why the others have none."""
 import hashlib
+import re
 
 from .report import shown
 
@@ -42,7 +43,7 @@ REASONS = {
     "port": RELAY, "host": RELAY, "timeout": RELAY,
     "certificate": CERTIFICATE, "key": CERTIFICATE, "passphrase": CERTIFICATE,
     "sslcert": CERTIFICATE, "sslkey": CERTIFICATE, "sslpassphrase": CERTIFICATE, "sslca": CERTIFICATE,
-    "ssldhparams": CERTIFICATE, "sslciphers": CERTIFICATE, "sslsettings": CERTIFICATE,
+    "ssldhparams": CERTIFICATE, "sslciphers": CERTIFICATE,
     "allowping": "UDP is not used", "bonjour": "UDP is not used",
     "database": NO_DATABASE, "sqlite_wal": NO_DATABASE, "dbdriver": NO_DATABASE, "dbusername": NO_DATABASE,
     "dbpassword": NO_DATABASE, "dbhost": NO_DATABASE, "dbport": NO_DATABASE, "dbprefix": NO_DATABASE,
@@ -82,12 +83,12 @@ class Settings:
         self.taken.add(name)
         return self.values.get(name, ("", ""))[0]
 
-    def number(self, name):
-        """The number of a setting above 0, or None."""
+    def number(self, name, least):
+        """The number of a setting, or None where it is not set; what is no number that it may have is reported."""
         value, source = self.values.get(name, ("", ""))
         self.taken.add(name)
-        if value.strip().isascii() and value.strip().isdigit() and int(value) <= GREATEST:
-            return int(value) or None
+        if re.fullmatch(r"\s*[0-9]{1,10}\s*", value, re.ASCII) and least <= int(value) <= GREATEST:
+            return int(value)
         if value:
             self.report.left_out(f"the setting {name} of {source}", f"{shown(value)!r} is no number that it may have")
         return None
@@ -107,7 +108,7 @@ def server_of(settings, report):
         report.left_out("the welcome", f"it has {len(welcome.encode()):,} bytes, and may have {TEXT_LIMIT:,}")
     elif welcome:
         document["welcome"] = welcome
-    if bandwidth := settings.number("bandwidth"):
+    if bandwidth := settings.number("bandwidth", 1):
         document["bandwidth"] = bandwidth
     if password:
         document["server_password_sha256"] = hashlib.sha256(password.encode()).hexdigest()

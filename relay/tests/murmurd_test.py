@@ -143,8 +143,8 @@ LEFT_OUT = {
     "INSERT INTO bans VALUES (1, x'20010DB8000000000000000000000000', 32, '', '', '', '2026-01-02', 3600);":
         "left out: the ban of 2001:db8::/32 from 2026-01-02 for 3,600 seconds: ",
     "UPDATE channels SET name = 'Ours' WHERE channel_id = 0;": "left out: the name of the root, Ours: ",
-    "INSERT INTO channels VALUES (1, 5, 9, 'Lost', 1);":
-        "left out: channel 5 Lost: nothing leads to it from the root: ",
+    "INSERT INTO channels VALUES (1, 5, 9, 'Lost' || char(10, 27), 1);":
+        "left out: channel 5 Lost??: nothing leads to it from the root: ",
     "INSERT INTO channels VALUES (1, 5, 6, 'Round', 1), (1, 6, 5, 'About', 1);":
         "left out: channel 6 About: nothing leads to it from the root: ",
     "INSERT INTO channel_info VALUES (1, 9, 0, 'text');": "left out: a detail of channel 9, which is not there: ",
@@ -159,6 +159,9 @@ LEFT_OUT = {
     "INSERT INTO config VALUES (1, 'registername', 'Ours');": "left out: the setting registername of the database: ",
     "INSERT INTO config VALUES (1, 'novelty', '1');": "left out: the setting novelty of the database: it is not known",
     "INSERT INTO config VALUES (1, 'bandwidth', 'much');": "left out: the setting bandwidth of the database: ",
+    "INSERT INTO config VALUES (1, 'bandwidth', '0');": "left out: the setting bandwidth of the database: '0' is",
+    "INSERT INTO config VALUES (1, 'usersperchannel', printf('%.5000c', '9'));":
+        "left out: the setting usersperchannel of the database: ",
     "INSERT INTO acl VALUES (1, 0, 9, NULL, '', 1, 1, 1, 0);": "left out: entry 4 of the root: it is for nobody",
     "INSERT INTO acl VALUES (1, 0, 9, NULL, 'all', 1, 1, 134217736, 0);":
         "left out: the bits 0x8000000 of entry 4 of the root: ",
@@ -294,6 +297,8 @@ def a_database_in_use_is_read_whole_or_refused(folder):
     with_bytes_of(server.database, whole)
     with_bytes_of(server.database + "-wal", log)
     refused(6, "has changes that are not in it", server.database)
+    os.symlink(server.database, os.path.join(folder, "elsewhere"))
+    refused(6, "has changes that are not in it", os.path.join(folder, "elsewhere"))
     os.remove(server.database + "-wal")
     with_bytes_of(server.database + "-journal", b"")
     assert migrated(server.database).returncode == 0

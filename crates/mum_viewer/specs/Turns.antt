@@ -21,8 +21,8 @@ use Rattle.mum_viewer.specs.declared.view.Went.TheVariants.{Waits, Wrote, Finish
 
 -- ---- the open views
 
--- a view that is open, and not written whole; one of the asks is its own, and it gets the text of the state at the list
--- of that ask: some of it went over its link since it came, and the rest is left
+-- a view that is open, and not written whole; it gets the text of the state at the list of one of the asks: some of it went
+-- over its link since it came, and the rest is left
 pub record IsShown {L : Type 0} (written : L → Option (List ℕ)) (pass : PassFacts) (view : ViewFacts L) : Type 0 where
   pub gave : L
   pub edits : List Edit

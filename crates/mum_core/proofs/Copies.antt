@@ -8,7 +8,8 @@ use Rattle.mum_users.specs.Sessions.{session_of}
 use Rattle.mum_state.specs.declared.verdict.Verdict.{Verdict}
 use Rattle.mum_state.specs.After.{led_to}
 use Rattle.mum_state.specs.State.{StateValue}
-use Rattle.mum_route.specs.Route.{Member as Hearer}
+use Rattle.mum_route.specs.Route.{Member}
+use Rattle.mum_route.proofs.Seated.{each_hearer, seated}
 use Rattle.mum_voice.specs.Packet.{packet}
 use Rattle.mum_session.specs.declared.action.Action.{Action}
 use Rattle.mum_session.specs.declared.action.Action.TheVariants.{Ask, Voice, Echo, Keep, Ignore}
@@ -35,7 +36,6 @@ use Rattle.mum_core.specs.steps.Post as post_step
 use Rattle.mum_notify.specs.declared.notice.Notice.{Notice}
 use Rattle.mum_core.specs.steps.Tell as tell_step
 use Rattle.mum_core.proofs.Changed.{changed-by, length-changed}
-use Rattle.mum_core.proofs.Members.{each_member, member_of}
 use Rattle.mum_core.proofs.RunLaws.{accepted_grows, decided_workers, drain_workers, opening_stays, puts_workers, taken_core, told_core, posting_core, posted_workers, collect_workers}
 
 -- ---- lists
@@ -85,12 +85,12 @@ AllLooked P state = (held : Option HeldPacket) → AllByRecursion P (look_step.c
 
 -- those of a look are for users who are found, in their slots
 pub each_looked : (P : Outgoing → Type 0) (state : StateValue)
-    → ((held : HeldPacket) (one : Hearer) (user : User) → session_of state.roster one.0 ≡ Some user → P (look_step.copy_to state held (member_of one user)))
+    → ((held : HeldPacket) (one : Member) (user : User) → session_of state.roster one.0 ≡ Some user → P (look_step.outgoing held (seated state held.speaker one user)))
     → AllLooked P state
 each_looked P state each None = tt
 each_looked P state each (Some held) =
-    all-mapped P (look_step.copy_to state held) (look_step.audience state (Some held))
-    (each_member state held.speaker held.parts.target (λ m. P (look_step.copy_to state held m)) (each held))
+    all-mapped P (look_step.outgoing held) (look_step.audience state (Some held))
+    (each_hearer state held.speaker held.parts.target (λ hearer. P (look_step.outgoing held hearer)) (each held))
 
 abbrev Follows : (Outgoing → Type 0) → WorkerState → WorkerState → Type 0
 Follows P old new = AllByRecursion P old.copies → AllByRecursion P new.copies

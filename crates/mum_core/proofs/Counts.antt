@@ -211,7 +211,7 @@ looked-cons core End run = omega arith
 
 length-copies : (state : StateValue) (held : Option HeldPacket) → length (look_step.copies state held) ≡ length (look_step.audience state held)
 length-copies state None = refl
-length-copies state (Some held) = length-map (look_step.audience state (Some held)) (look_step.copy_to state held)
+length-copies state (Some held) = length-map (look_step.audience state (Some held)) (look_step.outgoing held)
 
 -- what a step adds: at most one to the counts, and to the total what its look finds
 pub record Adds (old new : CoreState) (more : ℕ) : Type 0 where

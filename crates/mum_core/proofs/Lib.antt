@@ -13,7 +13,7 @@ pub mod Lagged
 pub mod Fitted
 pub mod Keeping
 pub mod Looking
-pub mod Members
+pub mod Heard
 pub mod Copies
 pub mod Drains
 pub mod Orders

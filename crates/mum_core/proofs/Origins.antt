@@ -11,7 +11,7 @@ use Rattle.mum_state.specs.State.{StateValue}
 use Rattle.mum_voice.specs.Packet.{packet}
 use Rattle.mum_session.specs.declared.action.Action.{Action}
 use Rattle.mum_session.specs.declared.action.Action.TheVariants.{Ask, Voice, Echo, Keep, Ignore}
-use Rattle.mum_core.specs.declared.route.Member.{Member}
+use Rattle.mum_route.specs.declared.hearer.Hearer.{Hearer}
 use Rattle.mum_core.specs.declared.worker.Outgoing.{Outgoing}
 use Rattle.mum_record.specs.declared.head.Version.{Version}
 use Rattle.mum_record.specs.declared.step.Step.TheVariants as steps
@@ -20,7 +20,6 @@ use Rattle.mum_record.specs.declared.step.Step.TheVariants.{Open, Frame, Publish
 use Rattle.mum_core.specs.Core.{CoreState, start, connection_at, worker_at, state_at}
 use Rattle.mum_core.specs.Laws.{IsCopyOf, IsOfferOf, IsRun, IsSubsequenceBy, gathered, packet_taken, sent}
 use Rattle.mum_core.specs.Lists.{changed_at}
-use Rattle.mum_core.specs.Route.{share_context}
 use Rattle.mum_core.specs.Step.{does, frame_action, frame_version, illegal}
 use Rattle.mum_core.specs.Worker.{WorkerState, HeldPacket, idle}
 use Rattle.mum_core.specs.steps.Edit as edit_step
@@ -32,7 +31,7 @@ use Rattle.mum_core.specs.steps.Tell as tell_step
 use Rattle.mum_core.proofs.Changed.{changed-by, changed_same, changed_other}
 use Rattle.mum_core.proofs.Counts.{AreClean, clean_start, clean_step, frame_hands, held_there}
 use Rattle.mum_core.proofs.Fitted.{IsLawful, lawful_start, lawful_step, state_proper}
-use Rattle.mum_core.proofs.Members.{AreApart, IsApart, members_are_apart}
+use Rattle.mum_core.proofs.Heard.{AreApart, IsApart, hearers_are_apart}
 use Rattle.mum_core.proofs.RunLaws.{decided_workers, drain_workers, none_stands, not_false, puts_workers, taken_core, told_core, posted_workers, collect_workers}
 use Rattle.mum_core.proofs.Subsequences.{skip}
 
@@ -116,37 +115,37 @@ goes_looking n revision x held left holds none most = rw (holds, none) (looks_le
 still : (n : ℕ) (x : WorkerState) → Goes n x x
 still n x = goes_kept n x x refl refl
 
--- ---- an audience has one member at most of each session
+-- ---- an audience has each session once at most
 
 -- where the session is none of these, none of the copies is for it
-none_for : (n : ℕ) (state : StateValue) (held : HeldPacket) (m : Member) (members : List Member) → m.session.0 ≡ n → AllByRecursion (IsApart m) members
-    → waiting n (map (look_step.copy_to state held) members) ≡ []
-none_for n state held m [] own apart = refl
-none_for n state held m (next ∷ members) own apart = by_next (next.session.0 == n) refl (none_for n state held m members own apart.1)
+none_for : (n : ℕ) (held : HeldPacket) (m : Hearer) (hearers : List Hearer) → m.session.0 ≡ n → AllByRecursion (IsApart m) hearers
+    → waiting n (map (look_step.outgoing held) hearers) ≡ []
+none_for n held m [] own apart = refl
+none_for n held m (next ∷ hearers) own apart = by_next (next.session.0 == n) refl (none_for n held m hearers own apart.1)
   where
-    by_next : (b : Bool) → (next.session.0 == n) ≡ b → waiting n (map (look_step.copy_to state held) members) ≡ []
-        → cond b (look_step.copy_to state held next ∷ waiting n (map (look_step.copy_to state held) members)) (waiting n (map (look_step.copy_to state held) members)) ≡ []
+    by_next : (b : Bool) → (next.session.0 == n) ≡ b → waiting n (map (look_step.outgoing held) hearers) ≡ []
+        → cond b (look_step.outgoing held next ∷ waiting n (map (look_step.outgoing held) hearers)) (waiting n (map (look_step.outgoing held) hearers)) ≡ []
     by_next true same none = absurd (apart.0.1 (own ∙ sym (eqb-true next.session.0 n same)))
     by_next false other none = none
 
-one_for : (n : ℕ) (state : StateValue) (held : HeldPacket) (members : List Member) → AreApart members → AtMost held (waiting n (map (look_step.copy_to state held) members))
-one_for n state held [] apart = inl refl
-one_for n state held (m ∷ members) apart = by_first (m.session.0 == n) refl (one_for n state held members apart.1)
+one_for : (n : ℕ) (held : HeldPacket) (hearers : List Hearer) → AreApart hearers → AtMost held (waiting n (map (look_step.outgoing held) hearers))
+one_for n held [] apart = inl refl
+one_for n held (m ∷ hearers) apart = by_first (m.session.0 == n) refl (one_for n held hearers apart.1)
   where
-    by_first : (b : Bool) → (m.session.0 == n) ≡ b → AtMost held (waiting n (map (look_step.copy_to state held) members))
-        → AtMost held (cond b (look_step.copy_to state held m ∷ waiting n (map (look_step.copy_to state held) members)) (waiting n (map (look_step.copy_to state held) members)))
+    by_first : (b : Bool) → (m.session.0 == n) ≡ b → AtMost held (waiting n (map (look_step.outgoing held) hearers))
+        → AtMost held (cond b (look_step.outgoing held m ∷ waiting n (map (look_step.outgoing held) hearers)) (waiting n (map (look_step.outgoing held) hearers)))
     by_first true same most =
         inr (
-          look_step.copy_to state held m,
-          ap (λ (xs : List Outgoing). look_step.copy_to state held m ∷ xs) (none_for n state held m members (eqb-true m.session.0 n same) apart.0),
-          (share_context state held.speaker m.session, refl),
+          look_step.outgoing held m,
+          ap (λ (xs : List Outgoing). look_step.outgoing held m ∷ xs) (none_for n held m hearers (eqb-true m.session.0 n same) apart.0),
+          (m.same, refl),
         )
     by_first false other most = most
 
 one_of : (n : ℕ) (state : StateValue) (holds : Option HeldPacket) (held : HeldPacket) → holds ≡ Some held → IsProper state → AtMost held (waiting n (look_step.copies state holds))
 one_of n state holds held e proper =
     subst (λ (one : Option HeldPacket). AtMost held (waiting n (look_step.copies state one))) (sym e)
-    (one_for n state held (look_step.audience state (Some held)) (members_are_apart state held.speaker held.parts.target proper))
+    (one_for n held (look_step.audience state (Some held)) (hearers_are_apart state held.speaker held.parts.target proper))
 
 -- ---- offers
 

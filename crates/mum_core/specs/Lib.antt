@@ -1,5 +1,4 @@
 pub mod Lists
-pub mod Route
 pub mod Connection
 pub mod Machine
 pub mod Worker

@@ -11,7 +11,7 @@ ghost use Rattle.mum_state.specs.After.{all_fit};
 ghost use Rattle.mum_state.specs.Laws.{IsInSlot};
 ghost use Rattle.mum_state.specs.Proper.{IsProper};
 ghost use Rattle.mum_state.specs.State.{StateValue};
-ghost use Rattle.mum_route.specs.Route.{route};
+ghost use Rattle.mum_route.specs.Hearers.{hearers_at};
 ghost use Rattle.mum_route.specs.declared.routes.TheConstants.{LOOPBACK};
 ghost use Rattle.mum_core.specs.declared.connection.Seat.{Seat};
 ghost use Rattle.mum_core.specs.declared.worker.Outgoing.{Outgoing};
@@ -20,10 +20,9 @@ ghost use Rattle.mum_record.specs.declared.step.Step.{Step};
 ghost use Rattle.mum_record.specs.declared.step.Step.TheVariants.{Collect, Drain, Frame, Look, Offer};
 ghost use Rattle.mum_core.specs.Core.{CoreState, start, state_at, connection_at, is_opened, outbox_at, posts_at, worker_at};
 ghost use Rattle.mum_core.specs.Laws.{IsOfferOf, IsParcelOf, IsRun, IsSubsequence, IsSubsequenceBy, collected, gathered, heard, is_by, looked, noticed, offered, packet_taken, posted, posted_in, ran, removed, sent, told_notice, wired};
-ghost use Rattle.mum_core.specs.Route.{members};
 ghost use Rattle.mum_core.specs.Step.{does, illegal};
 ghost use Rattle.mum_core.specs.Worker.{HeldPacket};
-ghost use Rattle.mum_core.specs.steps.Look.{copy_to};
+ghost use Rattle.mum_core.specs.steps.Look.{outgoing};
 
 use mum_base::SLOTS;
 
@@ -54,27 +53,25 @@ pub fn looks_go_on()
         × (revision ≤ core.published) }
 {}
 
-/// A look leaves one copy for each member of the route at its revision, in their order; the members'
-/// slots rise and no two are one session, so each is there once; none is the speaker, but for loopback,
-/// where nobody else is one; an offer takes the first copy that is left, and no other.
+/// A look leaves one copy for each who hears the packet at its revision, in their order; their slots rise
+/// and no two are one session, so each is there once; none is the speaker, but for loopback, where nobody
+/// else is one; an offer takes the first copy that is left, and no other.
 pub fn copies_are_offered_once()
     ensures route { (core : CoreState) (w revision : ℕ) (held : HeldPacket) →
         illegal core (Look w revision) ≡ None → (worker_at core w).held ≡ Some held →
         let state = state_at core revision in
         (worker_at (does core (Look w revision)) w).copies
-        ≡ map (copy_to state held) (members state held.speaker held.parts.target) }
-    ensures each_is_there { (state : StateValue) (speaker : SessionId) (target : ℕ) →
-        route state speaker target ≡ map (λ m. (m.session, m.context)) (members state speaker target) }
+        ≡ map (outgoing held) (hearers_at state held.speaker held.parts.target) }
     ensures not_the_speaker { (state : StateValue) (speaker : SessionId) (target : ℕ) →
         (target ≡ LOOPBACK → ⊥) →
-        AllByRecursion (λ m. m.session.0 ≡ speaker.0 → ⊥) (members state speaker target) }
+        AllByRecursion (λ hearer. hearer.session.0 ≡ speaker.0 → ⊥) (hearers_at state speaker target) }
     ensures loopback { (state : StateValue) (speaker : SessionId) →
-        AllByRecursion (λ m. m.session.0 ≡ speaker.0) (members state speaker LOOPBACK) }
+        AllByRecursion (λ hearer. hearer.session.0 ≡ speaker.0) (hearers_at state speaker LOOPBACK) }
     ensures each_once { (version : Version) (opening : StateValue) (workers : ℕ) (steps : List Step)
         (revision : ℕ) (speaker : SessionId) (target : ℕ) →
         IsProper opening → IsRun (start version opening workers) steps →
-        AllPairs (λ m other. (m.slot.0 < other.slot.0) × (m.session.0 ≡ other.session.0 → ⊥))
-        (members (state_at (ran (start version opening workers) steps) revision) speaker target) }
+        AllPairs (λ hearer other. (hearer.slot.0 < other.slot.0) × (hearer.session.0 ≡ other.session.0 → ⊥))
+        (hearers_at (state_at (ran (start version opening workers) steps) revision) speaker target) }
     ensures in_order { (core : CoreState) (w : ℕ) → illegal core (Offer w) ≡ None →
         (copy : Outgoing)
         × ((worker_at core w).copies ≡ copy ∷ (worker_at (does core (Offer w)) w).copies) }

@@ -8,7 +8,6 @@ ghost use Rattle.mum_core.specs.Lists.{changed_at};
 ghost use Rattle.mum_core.specs.Worker.{idle, in_hand, least_look};
 
 use crate::outbox::CopyBytes;
-use crate::route::Context;
 use crate::slot::ValidSlot;
 use mum_base::{Octets, OutOfMemory, SessionId};
 use mum_voice::Packet;
@@ -64,7 +63,9 @@ impl Held {
 pub struct Outgoing {
     pub to: SessionId,
     pub slot: ValidSlot,
-    pub context: Context,
+    /// How the packet reaches it, as the voice protocol numbers it: 0 talk, 1 a whisper to a channel, 2 a whisper to
+    /// the session, 3 it listens to a channel.
+    pub context: u8,
     pub bytes: CopyBytes,
 }
 

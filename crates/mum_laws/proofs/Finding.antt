@@ -1,27 +1,19 @@
 -- What a worker offers is what its looks found.
-use Rattle.std.proofs.Common.{◌≡◌, ℕ, zero, suc, ◌<◌, max, Bool, true, false, cond, List, [], ◌∷◌, ◌++◌, length, map, take, drop, Option, Some, None, refl, sym, ap, ◌∙◌, append_assoc}
+use Rattle.std.proofs.Common.{◌≡◌, ℕ, zero, suc, ◌<◌, max, Bool, true, false, cond, List, [], ◌∷◌, ◌++◌, length, take, drop, Option, Some, None, refl, sym, ap, ◌∙◌, append_assoc}
 use Rattle.std.specs.Prelude.{◌==◌, is_none, nat_lt, not, replicate, slice_index_or}
-use Rattle.std.specs.List.{AllByRecursion}
-use Rattle.std.specs.Option.{option_map_or}
 use Rattle.std.proofs.lemmas.Bool.{eqb-false, eqb-true, ltb-true}
 use Rattle.std.proofs.lemmas.List.{append-nil}
-use Rattle.mum_base.specs.declared.number.{Slot.Slot}
-use Rattle.mum_users.specs.declared.user.User.{User}
-use Rattle.mum_users.specs.Sessions.{session_of}
 use Rattle.mum_voice.specs.Packet.{packet}
 use Rattle.mum_state.specs.State.{StateValue}
-use Rattle.mum_route.specs.Route.{Member as Hearer}
 use Rattle.mum_session.specs.declared.action.Action.{Action}
 use Rattle.mum_session.specs.declared.action.Action.TheVariants.{Ask, Voice, Echo, Keep, Ignore}
 use Rattle.mum_record.specs.declared.head.Version.{Version}
 use Rattle.mum_record.specs.declared.step.Step.TheVariants as steps
 use Rattle.mum_record.specs.declared.step.Step.{Step}
 use Rattle.mum_record.specs.declared.step.Step.TheVariants.{Open, Frame, Publish, Tell, Look, Offer, Post, Drain, Collect, Close, End}
-use Rattle.mum_core.specs.declared.route.Member.{Member}
 use Rattle.mum_core.specs.declared.worker.Outgoing.{Outgoing}
 use Rattle.mum_core.specs.Core.{CoreState, connection_at, start, state_at, worker_at}
 use Rattle.mum_core.specs.Laws.{IsRun, gathered, ran}
-use Rattle.mum_core.specs.Route.{members}
 use Rattle.mum_core.specs.Step.{does, frame_action, frame_version, illegal}
 use Rattle.mum_core.specs.Worker.{HeldPacket, WorkerState, idle}
 use Rattle.mum_core.specs.steps.Edit as edit_step
@@ -32,31 +24,8 @@ use Rattle.mum_core.specs.steps.Offer as offer_step
 use Rattle.mum_core.specs.steps.Tell as tell_step
 use Rattle.mum_core.proofs.Changed.{changed-by, changed_other, changed_same}
 use Rattle.mum_core.proofs.Counts.{AreClean, clean_start, clean_step, held_there}
-use Rattle.mum_core.proofs.Members.{each_member, member_of, members_are_the_route}
 use Rattle.mum_core.proofs.RunLaws.{collect_workers, decided_workers, drain_workers, none_stands, not_false, posted_workers, puts_workers, taken_core, told_core}
-use Rattle.mum_laws.specs.Copies.{copies_of, copy_for, found, offered, slot_in}
-
--- ---- the copies of a look
-
-map_where : (f : Member → Outgoing) (g : Hearer → Outgoing) (h : Member → Hearer) (xs : List Member) → AllByRecursion (λ m. f m ≡ g (h m)) xs → map f xs ≡ map g (map h xs)
-map_where f g h [] all = refl
-map_where f g h (x ∷ xs) all = ap (λ (y : Outgoing). y ∷ map f xs) all.0 ∙ ap (λ (ys : List Outgoing). g (h x) ∷ ys) (map_where f g h xs all.1)
-
-abbrev heard_of : Member → Hearer
-heard_of m = (m.session, m.context)
-
-copy_of_member : (state : StateValue) (held : HeldPacket) (one : Hearer) (user : User) → session_of state.roster one.0 ≡ Some user
-    → look_step.copy_to state held (member_of one user) ≡ copy_for state held (heard_of (member_of one user))
-copy_of_member state held one user is =
-    let slot : slot_in state one.0 ≡ user.slot = ap (λ (o : Option User). option_map_or (λ (u : User). u.slot) o (record { 0 = 0 })) is in
-    sym (ap (λ (s : Slot). record (copy_for state held one) { slot = s }) slot)
-
-pub copies_are : (state : StateValue) (held : Option HeldPacket) → look_step.copies state held ≡ copies_of state held
-copies_are state None = refl
-copies_are state (Some held) =
-    map_where (look_step.copy_to state held) (copy_for state held) heard_of (members state held.speaker held.parts.target)
-    (each_member state held.speaker held.parts.target (λ m. look_step.copy_to state held m ≡ copy_for state held (heard_of m)) (copy_of_member state held))
-    ∙ sym (ap (map (copy_for state held)) (members_are_the_route state held.speaker held.parts.target))
+use Rattle.mum_laws.specs.Copies.{found, offered}
 
 -- ---- the copies that a worker has, by step
 
@@ -105,14 +74,14 @@ look_own core w revision within =
     (changed_same core.workers w (λ worker. record worker { seen = revision; held = None; copies = look_step.copies (state_at core revision) (worker_at core w).held }) idle within)
 
 looks_by : (w : ℕ) (core : CoreState) (v revision : ℕ) (b : Bool) → (v == w) ≡ b → v < length core.workers → copies_at core v ≡ []
-    → [] ++ copies_at (does core (Look v revision)) w ≡ copies_at core w ++ cond b (copies_of (state_at core revision) (worker_at core w).held) []
+    → [] ++ copies_at (does core (Look v revision)) w ≡ copies_at core w ++ cond b (look_step.copies (state_at core revision) (worker_at core w).held) []
 looks_by w core v revision false e within none =
     goes_same core (does core (Look v revision)) w (look_other core v w revision (λ same. eqb-false v w e (sym same)))
 looks_by w core v revision true e within none =
     let here : v ≡ w = eqb-true v w e in
     rw (← here)
-    (look_own core v revision within ∙ copies_are (state_at core revision) (worker_at core v).held
-    ∙ sym (ap (λ (xs : List Outgoing). xs ++ copies_of (state_at core revision) (worker_at core v).held) none))
+    (look_own core v revision within
+    ∙ sym (ap (λ (xs : List Outgoing). xs ++ look_step.copies (state_at core revision) (worker_at core v).held) none))
 
 offer_own : (core : CoreState) (w : ℕ) → w < length core.workers → copies_at (does core (Offer w)) w ≡ drop 1 (copies_at core w)
 offer_own core w within =

@@ -23,7 +23,9 @@ use Rattle.mum_state.specs.declared.edit.Edit.{Edit}
 use Rattle.mum_state.specs.After.{led_to}
 use Rattle.mum_state.specs.State.{StateValue}
 use Rattle.mum_state.proofs.Each.{each_find}
-use Rattle.mum_route.specs.Route.{Member as Hearer}
+use Rattle.mum_route.specs.Hearers.{hearers_at}
+use Rattle.mum_route.specs.Route.{Member}
+use Rattle.mum_route.proofs.Seated.{each_hearer, seated}
 use Rattle.mum_route.proofs.Hearers.{found_number}
 use Rattle.mum_session.specs.Action.{action}
 use Rattle.mum_session.specs.declared.action.Action.{Action}
@@ -37,7 +39,6 @@ use Rattle.mum_core.specs.Connection.{fresh}
 use Rattle.mum_core.specs.Core.{CoreState, at_worker, connection_at, current, state_at, up, worker_at}
 use Rattle.mum_core.specs.Laws.{IsRun, ran}
 use Rattle.mum_core.specs.Machine.{machine_of}
-use Rattle.mum_core.specs.Route.{members}
 use Rattle.mum_core.specs.Step.{does, frame_action, frame_version, illegal}
 use Rattle.mum_core.specs.Worker.{HeldPacket, WorkerState, idle, least_look}
 use Rattle.mum_core.specs.steps.Drain.{copy_queues}
@@ -47,7 +48,6 @@ use Rattle.mum_core.specs.steps.Look as look_step
 use Rattle.mum_core.specs.steps.Offer as offer_step
 use Rattle.mum_core.proofs.Changed.{changed_other, changed_same, length-changed}
 use Rattle.mum_core.proofs.Delivered.{delivered}
-use Rattle.mum_core.proofs.Members.{each_member, member_of}
 use Rattle.mum_core.proofs.Places.{conn}
 use Rattle.mum_core.proofs.RunLaws.{puts_workers, taken_core}
 use Rattle.mum_server.specs.Acts.{packet_bytes, voice_frame}
@@ -299,7 +299,7 @@ module _ (n : ℕ) (core : CoreState) (w : ℕ) (held : HeldPacket) (rest : Rest
   abbrev found : List Outgoing
   found = look_step.copies (state_at heard heard.published) (worker_at heard w).held
 
-  found_is : found ≡ map (look_step.copy_to (current core) held) (members (current core) held.speaker held.parts.target)
+  found_is : found ≡ map (look_step.outgoing held) (hearers_at (current core) held.speaker held.parts.target)
   found_is =
       let all : take core.published core.accepted ≡ core.accepted = let same = rest.published in take_all core.published core.accepted (omega (arith, same)) in
       ap (λ (worker : WorkerState). look_step.copies (state_at heard heard.published) worker.held) holds
@@ -316,10 +316,10 @@ module _ (n : ℕ) (core : CoreState) (w : ℕ) (held : HeldPacket) (rest : Rest
       changed_other heard.workers w k (λ (worker : WorkerState). record worker { seen = heard.published; held = None; copies = found }) idle apart
       ∙ changed_other core.workers w k (λ (worker : WorkerState). record worker { held = Some held }) idle apart
 
-  copies_are : (worker_at looked w).copies ≡ map (look_step.copy_to (current core) held) (members (current core) held.speaker held.parts.target)
+  copies_are : (worker_at looked w).copies ≡ map (look_step.outgoing held) (hearers_at (current core) held.speaker held.parts.target)
   copies_are = ap (λ (worker : WorkerState). worker.copies) looked_worker ∙ found_is
 
-  to_seat : (one : Hearer) (user : User) → session_of (current core).roster one.0 ≡ Some user → IsTaken core.connections (look_step.copy_to (current core) held (member_of one user))
+  to_seat : (one : Member) (user : User) → session_of (current core).roster one.0 ≡ Some user → IsTaken core.connections (look_step.outgoing held (seated (current core) held.speaker one user))
   to_seat one user there =
       let kept = each_find (λ user. HasSeat n (seats_of core) user.session user.slot) (has_number one.0) (current core).roster.sessions user rest.seated there in
       let same : user.session ≡ one.0 = found_number (current core).roster.sessions one.0 user there in
@@ -328,8 +328,8 @@ module _ (n : ℕ) (core : CoreState) (w : ℕ) (held : HeldPacket) (rest : Rest
   all_taken : AllByRecursion (IsTaken core.connections) (worker_at looked w).copies
   all_taken =
       subst (λ (copies : List Outgoing). AllByRecursion (IsTaken core.connections) copies) (sym copies_are)
-      (all_mapped (IsTaken core.connections) (look_step.copy_to (current core) held) (members (current core) held.speaker held.parts.target)
-      (each_member (current core) held.speaker held.parts.target (λ m. IsTaken core.connections (look_step.copy_to (current core) held m)) to_seat))
+      (all_mapped (IsTaken core.connections) (look_step.outgoing held) (hearers_at (current core) held.speaker held.parts.target)
+      (each_hearer (current core) held.speaker held.parts.target (λ hearer. IsTaken core.connections (look_step.outgoing held hearer)) to_seat))
 
   within_looked : w < length looked.workers
   within_looked = let many = many_looked in omega (arith, many, within)

@@ -12,3 +12,5 @@ pub mod Inputs
 pub mod Spoken
 pub mod Relations
 pub mod StandardFacts
+pub mod Seated
+pub mod Positioned

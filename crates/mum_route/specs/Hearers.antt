@@ -8,6 +8,7 @@ use Rattle.mum_base.specs.declared.number.TheConstants.{SLOTS}
 use Rattle.mum_users.specs.declared.user.User.{User}
 use Rattle.mum_users.specs.Sessions.{session_of}
 use Rattle.mum_state.specs.State.{StateValue}
+use Rattle.mum_voice.specs.Packet.{Parts, copy}
 use Rattle.mum_route.specs.declared.hearer.Hearer.{Hearer}
 use Rattle.mum_route.specs.Route.{Member, route}
 
@@ -28,6 +29,11 @@ hearers_of state speaker members = filter_map (hearer_of state speaker) members
 -- who hears what a session says to a target, each in its slot
 abbrev pub hearers_at : StateValue → SessionId → ℕ → List Hearer
 hearers_at state speaker target = hearers_of state speaker (route state speaker target)
+
+-- the copy of a packet for one who hears it: the speaker and the context are set, and the position comes along where the
+-- two are in the same context of their plugins
+abbrev pub copy_for : SessionId → Parts → Hearer → List ℕ
+copy_for speaker packet hearer = copy packet speaker.0 hearer.context hearer.same
 
 -- the member of the route that it is
 abbrev pub member_of : Hearer → Member

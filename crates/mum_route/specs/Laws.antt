@@ -1,5 +1,5 @@
 -- What holds of every route, in words of its own.
-use Rattle.std.specs.Prelude.{◌≡◌, ◌≢◌, ℕ, ◌<◌, ◌⊎◌, ◌==◌, false, List, [], ◌∷◌, Some, IsTrue, if◌then◌else◌}
+use Rattle.std.specs.Prelude.{◌≡◌, ◌≢◌, ℕ, ◌+◌, ◌*◌, ◌^◌, ◌<◌, ◌⊎◌, ◌==◌, false, List, [], ◌∷◌, ◌++◌, map, Some, IsTrue, if◌then◌else◌}
 use Rattle.std.specs.List.{All, AllPairs, Contains}
 use Rattle.mum_base.specs.declared.number.ChannelId.{ChannelId}
 use Rattle.mum_base.specs.declared.number.SessionId.{SessionId}
@@ -11,8 +11,12 @@ use Rattle.mum_users.specs.Sessions.{session_of}
 use Rattle.mum_state.specs.Proper.{IsProper}
 use Rattle.mum_state.specs.Routed.{route_inputs}
 use Rattle.mum_state.specs.State.{StateValue}
+use Rattle.mum_voice.specs.Packet.{Parts}
+use Rattle.mum_voice.specs.Varint.{shortest_word}
 use Rattle.mum_route.specs.declared.routes.TheConstants.{LOOPBACK, TALK}
+use Rattle.mum_route.specs.declared.hearer.Hearer.{Hearer}
 use Rattle.mum_route.specs.Cover.{cover, talk}
+use Rattle.mum_route.specs.Hearers.{copy_for, hearers_at, member_of}
 use Rattle.mum_route.specs.Hearing.{can_hear, is_deaf, is_in_group, is_silent, may}
 use Rattle.mum_route.specs.Route.{Member, items_of, route}
 
@@ -131,6 +135,34 @@ NobodyLeftOut =
     → ((code : ℕ) → IsTalkContext state own user code → Contains (route state speaker TALK) (user.session, code))
     × ((target code : ℕ) → target ≢ TALK → target ≢ LOOPBACK
     → IsItemContext state own (items_of state speaker target) user code → Contains (route state speaker target) (user.session, code))
+
+-- ---- what is sent
+
+-- those who hear are the members of the route, in its order
+abbrev pub HearersAreTheRoute : Type 0
+HearersAreTheRoute =
+    (state : StateValue) (speaker : SessionId) (target : ℕ) → map member_of (hearers_at state speaker target) ≡ route state speaker target
+
+-- each who hears is there, and in the slot that is kept for it
+abbrev pub EachInItsSlot : Type 0
+EachInItsSlot =
+    (state : StateValue) (speaker : SessionId) (target : ℕ)
+    → All (λ hearer. (user : User) × (session_of state.roster hearer.session ≡ Some user) × (hearer.slot ≡ user.slot)) (hearers_at state speaker target)
+
+-- what the copies of a packet in one context begin with: all but the position
+abbrev pub before_position : SessionId → Parts → ℕ → List ℕ
+before_position speaker packet context = (packet.kind * 2 ^ 5 + context) ∷ shortest_word speaker.0 ++ packet.sequence ++ packet.audio
+
+-- a copy ends with the position of its packet where the plugins of the two are in one context, and else has none
+abbrev pub HasPositionBy : User → User → SessionId → Parts → Hearer → Type 0
+HasPositionBy own user speaker packet hearer =
+    (own.context ≡ user.context → copy_for speaker packet hearer ≡ before_position speaker packet hearer.context ++ packet.position)
+    × (own.context ≢ user.context → copy_for speaker packet hearer ≡ before_position speaker packet hearer.context)
+
+abbrev pub PositionsByContext : Type 0
+PositionsByContext =
+    (state : StateValue) (speaker : SessionId) (target : ℕ) (packet : Parts) (own : User) → session_of state.roster speaker ≡ Some own
+    → All (λ hearer. (user : User) → session_of state.roster hearer.session ≡ Some user → HasPositionBy own user speaker packet hearer) (hearers_at state speaker target)
 
 -- ---- what it depends on
 

@@ -1,7 +1,7 @@
 //! What holds of every route, as theorems. The functions do nothing: their contracts are what they say.
 
 ghost use Rattle.std.specs.Prelude.{◌≡◌};
-ghost use Rattle.mum_route.specs.Laws.{ContextsByPrecedence, EachOnce, HeardOnlyWhereAllowed, LoopbackToSpeaker, NeverToSpeaker, NobodyDeaf, NobodyLeftOut, RouteIsOfItsInputs, SilentAreUnheard, StandInSlotOrder};
+ghost use Rattle.mum_route.specs.Laws.{ContextsByPrecedence, EachInItsSlot, EachOnce, HearersAreTheRoute, HeardOnlyWhereAllowed, LoopbackToSpeaker, NeverToSpeaker, NobodyDeaf, NobodyLeftOut, PositionsByContext, RouteIsOfItsInputs, SilentAreUnheard, StandInSlotOrder};
 
 use crate::routes::{LOOPBACK, TALK};
 
@@ -48,4 +48,16 @@ pub fn contexts_by_precedence()
 /// Where all that a route reads is the same in two states, the routes are.
 pub fn route_is_of_its_inputs()
     ensures { RouteIsOfItsInputs }
+{}
+
+/// Those who hear are the members of the route, each in the slot that is kept for it.
+pub fn hearers_are_the_route()
+    ensures members { HearersAreTheRoute }
+    ensures slots { EachInItsSlot }
+{}
+
+/// A copy has the position of its packet exactly where the plugins of the speaker and of who hears it are in
+/// the same context.
+pub fn positions_by_context()
+    ensures { PositionsByContext }
 {}

@@ -11,8 +11,9 @@ use Rattle.mum_outbox.specs.declared.rule.TheConstants.{LAST}
 use Rattle.mum_outbox.specs.Facts.{PassFacts, QueueFacts}
 use Rattle.mum_outbox.specs.Rule.{least_number}
 use Rattle.mum_record.specs.declared.journal.Marked.{Marked}
-use Rattle.mum_voice.specs.Packet.{Parts, copy}
+use Rattle.mum_voice.specs.Packet.{Parts}
 use Rattle.mum_route.specs.declared.hearer.Hearer.{Hearer}
+use Rattle.mum_route.specs.Hearers.{copy_for}
 
 -- the passes of the voice boxes, by their slots
 abbrev pub Outs : Type 0
@@ -22,11 +23,10 @@ Outs = List (PassFacts VoiceParcel)
 abbrev pub new_pass : QueueFacts → PassFacts VoiceParcel
 new_pass owner = record { queue = owner.queue; number = least_number owner.low owner.end; offered = []; taken = []; full = 0; empty = 0 }
 
--- the copy of a packet for one who hears it: the speaker and the context are set, and the position comes along where the
--- two are in the same context of their plugins
+-- the parcel with the copy of a packet for one who hears it
 abbrev pub parcel_for : SessionId → Parts → Hearer → VoiceParcel
 parcel_for speaker packet hearer =
-    record { to = hearer.session; bytes = record { items = copy packet speaker.0 hearer.context hearer.same } }
+    record { to = hearer.session; bytes = record { items = copy_for speaker packet hearer } }
 
 -- a copy that was offered: for whom, and what the box answered
 pub record Delivery : Type 0 where

@@ -1,8 +1,8 @@
 //! The copy of a packet that was made last.
 
 ghost use Rattle.std.specs.Prelude.{◌≡◌, ◌≤◌, [], length};
-ghost use Rattle.mum_voice.specs.Packet.{IsPacket, copy, plain_parts};
-ghost use Rattle.mum_route.specs.Hearers.{IsInRange};
+ghost use Rattle.mum_voice.specs.Packet.{IsPacket, plain_parts};
+ghost use Rattle.mum_route.specs.Hearers.{IsInRange, copy_for};
 ghost use Rattle.mum_router.specs.Drafts.{IsDraft};
 
 use arrayvec::ArrayVec;
@@ -37,14 +37,14 @@ impl Draft {
         requires range { IsInRange hearer.now }
         requires draft { IsDraft speaker (plain_parts packet.now) self.old }
         ensures draft { IsDraft speaker (plain_parts packet.now) self.new }
-        ensures bytes { self.new.bytes.items ≡ copy (plain_parts packet.now) speaker.0 hearer.now.context hearer.now.same }
+        ensures bytes { self.new.bytes.items ≡ copy_for speaker (plain_parts packet.now) hearer.now }
     {
         let is_made = !self.bytes.is_empty();
         if is_made && self.context == hearer.context && self.same == hearer.same {
             return;
         }
         self.bytes.clear();
-        packet.copy_into(speaker, hearer.context, hearer.same, &mut self.bytes);
+        hearer.copy_into(speaker, packet, &mut self.bytes);
         self.context = hearer.context;
         self.same = hearer.same;
     }

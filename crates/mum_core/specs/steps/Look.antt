@@ -1,12 +1,11 @@
 -- A worker enters the published state for the packet that it holds.
 use Rattle.std.specs.Prelude.{ℕ, List, [], ◌∷◌, ◌++◌, length, map, Option, Some, None, is_none, nat_lt, codes, decimal}
-use Rattle.mum_voice.specs.Packet.{copy}
 use Rattle.mum_state.specs.State.{StateValue}
-use Rattle.mum_core.specs.declared.route.Member.{Member}
+use Rattle.mum_route.specs.declared.hearer.Hearer.{Hearer}
+use Rattle.mum_route.specs.Hearers.{copy_for, hearers_at}
 use Rattle.mum_core.specs.declared.worker.Outgoing.{Outgoing}
 use Rattle.mum_core.specs.Case.{Case, no_worker}
 use Rattle.mum_core.specs.Core.{CoreState, worker_at, state_at, at_worker, up}
-use Rattle.mum_core.specs.Route.{members, share_context}
 use Rattle.mum_core.specs.Worker.{HeldPacket, least_look}
 
 abbrev pub forbids : CoreState → ℕ → ℕ → List Case
@@ -19,23 +18,22 @@ forbids core w revision =
     ∷ []
 
 -- who hears the packet, if there is one
-abbrev pub audience : StateValue → Option HeldPacket → List Member
+abbrev pub audience : StateValue → Option HeldPacket → List Hearer
 audience state None = []
-audience state (Some held) = members state held.speaker held.parts.target
+audience state (Some held) = hearers_at state held.speaker held.parts.target
 
--- the copy for a member: the speaker and the member's context are set, and the position comes along where the
--- two are in the same context of their plugins
-abbrev pub copy_to : StateValue → HeldPacket → Member → Outgoing
-copy_to state held m = record {
-  to = m.session;
-  slot = m.slot;
-  context = m.context;
-  bytes = copy held.parts held.speaker.0 m.context (share_context state held.speaker m.session);
+-- the copy that is offered to one who hears the packet, for its slot
+abbrev pub outgoing : HeldPacket → Hearer → Outgoing
+outgoing held hearer = record {
+  to = hearer.session;
+  slot = hearer.slot;
+  context = hearer.context;
+  bytes = copy_for held.speaker held.parts hearer;
 }
 
 abbrev pub copies : StateValue → Option HeldPacket → List Outgoing
 copies state None = []
-copies state (Some held) = map (copy_to state held) (audience state (Some held))
+copies state (Some held) = map (outgoing held) (audience state (Some held))
 
 abbrev pub does : CoreState → ℕ → ℕ → CoreState
 does core w revision =
@@ -44,12 +42,12 @@ does core w revision =
     { totals = record core.totals { looks = up core.totals.looks } }
 
 -- a session and how the packet reaches it: SESSION/CONTEXT
-abbrev pub member_word : Member → List ℕ
-member_word m = decimal m.session.0 ++ 47 ∷ decimal m.context
+abbrev pub hearer_word : Hearer → List ℕ
+hearer_word hearer = decimal hearer.session.0 ++ 47 ∷ decimal hearer.context
 
-abbrev pub route_words : ℕ → ℕ → List Member → List (List ℕ)
-route_words w revision members =
-    codes "route" ∷ decimal w ∷ decimal revision ∷ decimal (length members) ∷ map member_word members
+abbrev pub route_words : ℕ → ℕ → List Hearer → List (List ℕ)
+route_words w revision hearers =
+    codes "route" ∷ decimal w ∷ decimal revision ∷ decimal (length hearers) ∷ map hearer_word hearers
 
 abbrev pub lines : CoreState → ℕ → ℕ → List (List (List ℕ))
 lines core w revision = route_words w revision (audience (state_at core revision) (worker_at core w).held) ∷ []

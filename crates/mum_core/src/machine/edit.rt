@@ -26,7 +26,7 @@ use crate::connection::{Connection, Reply, answer_at};
 use crate::reply::{decide_next, reply};
 use mum_base::{Mark, OutOfMemory, SessionId};
 use mum_history::History;
-use mum_notify::{NoticeQueue, notices};
+use mum_notify::{NoticeQueue, accept_edit};
 use mum_record::{Word, push_line};
 use mum_session::mark_of;
 use mum_state::{Edit, State, Verdict};
@@ -96,98 +96,6 @@ fn tell_verdict(
 {
     push_mark(alloc, text, connection, &mark_of(revision, verdict))?;
     reply(alloc, revision, session, verdict)
-}
-
-/// Puts the notices that tell of an edit behind those that are pending, and gives their number.
-fn put_notices(
-    alloc: Global,
-    pending: &mut NoticeQueue,
-    before: &State,
-    edit: &Edit,
-    after: &State,
-) -> Result<usize, OutOfMemory>
-    requires { FitsFrame edit.now }
-    ensures told { OnOk result (pending.new ≡ pending.old ++ edit_notices before.now edit.now after.now) }
-    ensures count { IfOk result (λ count. count ≡ length (edit_notices before.now edit.now after.now)) }
-    ensures err { OnErr result (pending.new ≡ pending.old) }
-{
-    let told = notices(alloc, before, edit, after)?;
-    pending.put_all(told.as_slice())?;
-    Ok(told.as_slice().len())
-}
-
-/// The state to which an edit leads, once the notices that tell of it stand behind those that are
-/// pending, and how many these are.
-fn tell_of_edit(
-    alloc: Global,
-    history: &mut History,
-    pending: &mut NoticeQueue,
-    edit: &Edit,
-) -> Result<(State, usize), OutOfMemory>
-    requires fits { IsTrue (fits (current history.old) edit.now) }
-    requires frame { FitsFrame edit.now }
-    ensures next { IfOk result (λ told. told.0 ≡ applied (current history.old) edit.now) }
-    ensures count { IfOk result (λ told. told.1 ≡ length (noticed (current history.old) (Accepted edit.now))) }
-    ensures same { history.new ≡ history.old }
-    ensures told { OnOk result (pending.new ≡ pending.old ++ noticed (current history.old) (Accepted edit.now)) }
-    ensures err { OnErr result (pending.new ≡ pending.old) }
-{
-    let next = history.next_state(edit)?;
-    match put_notices(alloc, pending, history.current(), edit, &next) {
-        Ok(count) => Ok((next, count)),
-        Err(error) => {
-            drop(next);
-            Err(error)
-        }
-    }
-}
-
-/// Appends an edit that leads to this state; as many of the pending notices tell of it, and go where
-/// memory runs out.
-fn append_edit(
-    history: &mut History,
-    pending: &mut NoticeQueue,
-    edit: Edit,
-    next: State,
-    count: usize,
-) -> Result<(), OutOfMemory>
-    requires fits { IsTrue (fits (current history.old) edit) }
-    requires next { next ≡ applied (current history.old) edit }
-    ensures ok { OnOk result (history.new ≡ with_edit history.old edit) }
-    ensures told { OnOk result (pending.new ≡ pending.old) }
-    ensures err { OnErr result (history.new ≡ history.old) }
-    ensures none_told { OnErr result (pending.new ≡ take (length pending.old - count) pending.old) }
-{
-    match history.append(edit, next) {
-        Ok(()) => Ok(()),
-        Err(error) => {
-            pending.take_back(count);
-            Err(error)
-        }
-    }
-}
-
-/// Appends an edit, and the notices that tell of it to those that are pending.
-fn accept_edit(
-    alloc: Global,
-    history: &mut History,
-    pending: &mut NoticeQueue,
-    edit: Edit,
-) -> Result<(), OutOfMemory>
-    requires fits { IsTrue (fits (current history.old) edit) }
-    requires frame { FitsFrame edit }
-    ensures ok { OnOk result (history.new ≡ with_edit history.old edit) }
-    ensures told { OnOk result (pending.new ≡ pending.old ++ noticed (current history.old) (Accepted edit)) }
-    ensures err { OnErr result (history.new ≡ history.old) }
-    ensures none_told { OnErr result (pending.new ≡ pending.old) }
-{
-    match tell_of_edit(alloc, history, pending, &edit) {
-        Ok((next, count)) => append_edit(history, pending, edit, next, count),
-        Err(error) => {
-            drop(edit);
-            Err(error)
-        }
-    }
 }
 
 /// Appends the edit of a verdict, if it is one, and the notices that tell of it.

@@ -12,40 +12,37 @@ ghost use Rattle.mum_history.specs.View.{IsViewOf};
 ghost use Rattle.mum_cache.specs.Caches.{AreSound};
 ghost use Rattle.mum_core.specs.Caches.{KeepsFor};
 ghost use Rattle.mum_core.specs.Core.{state_at as core_state_at, worker_at};
-ghost use Rattle.mum_core.specs.steps.Look.{audience, copies, forbids, does, lines, member_word, route_words};
+ghost use Rattle.mum_core.specs.steps.Look.{audience, copies, forbids, does, lines, hearer_word, route_words};
 
 use super::{Machine, StepFault, illegal};
-use crate::route::{Member, heard};
+use crate::route::heard;
 use crate::worker::{Held, Outgoing, look_at};
 use mum_base::OutOfMemory;
 use mum_cache::Caches;
 use mum_history::{History, View};
 use mum_record::{Word, push_line, push_word};
+use mum_route::{Audience, Hearer};
 use mum_state::State;
 use mum_tree::Scratch;
 use std::alloc::Global;
 use std::collections::VecDeque;
 
 /// Appends a session and how the packet reaches it, behind a space.
-fn push_member(alloc: Global, text: &mut String, member: &Member) -> Result<(), OutOfMemory>
-    ensures { IfOk result (λ _. string_bytes text.new ≡ string_bytes text.old ++ 32 ∷ member_word member.now) }
+fn push_hearer(alloc: Global, text: &mut String, hearer: &Hearer) -> Result<(), OutOfMemory>
+    ensures { IfOk result (λ _. string_bytes text.new ≡ string_bytes text.old ++ 32 ∷ hearer_word hearer.now) }
 {
     text.push_str(" ")?;
-    push_word(alloc, text, &Word::Number(u64::from(member.session.0)))?;
+    push_word(alloc, text, &Word::Number(u64::from(hearer.session.0)))?;
     text.push_str("/")?;
-    push_word(
-        alloc,
-        text,
-        &Word::Number(u64::from(member.context.number())),
-    )
+    push_word(alloc, text, &Word::Number(u64::from(hearer.context)))
 }
 
 /// Appends these sessions, each behind a space.
-fn push_members(alloc: Global, text: &mut String, members: &[Member]) -> Result<(), OutOfMemory>
-    ensures { IfOk result (λ _. string_bytes text.new ≡ string_bytes text.old ++ flat_map (λ m. 32 ∷ member_word m) members.now) }
+fn push_hearers(alloc: Global, text: &mut String, hearers: &[Hearer]) -> Result<(), OutOfMemory>
+    ensures { IfOk result (λ _. string_bytes text.new ≡ string_bytes text.old ++ flat_map (λ hearer. 32 ∷ hearer_word hearer) hearers.now) }
 {
-    for member in members {
-        push_member(alloc, text, member)?;
+    for hearer in hearers {
+        push_hearer(alloc, text, hearer)?;
     }
     Ok(())
 }
@@ -56,17 +53,17 @@ fn push_route(
     text: &mut String,
     worker: u32,
     revision: u64,
-    members: &[Member],
+    hearers: &[Hearer],
 ) -> Result<(), OutOfMemory>
-    ensures { IfOk result (λ _. string_bytes text.new ≡ string_bytes text.old ++ joined (route_words worker revision members.now ∷ [])) }
+    ensures { IfOk result (λ _. string_bytes text.new ≡ string_bytes text.old ++ joined (route_words worker revision hearers.now ∷ [])) }
 {
     let words = [
         Word::Number(u64::from(worker)),
         Word::Number(revision),
-        Word::Number(members.len() as u64),
+        Word::Number(hearers.len() as u64),
     ];
     push_line(alloc, text, "route", &words)?;
-    push_members(alloc, text, members)
+    push_hearers(alloc, text, hearers)
 }
 
 /// The view of the worker at a place goes to a revision.
@@ -90,41 +87,47 @@ fn go_to_at(
     }
 }
 
-/// Who hears a packet in a state, and the copies for them; nobody where there is none.
+/// The copies of a packet in a state, for those who hear it, who take the place of those in the audience; nobody where there
+/// is none.
 fn heard_in(
     alloc: Global,
     state: &State,
     held: Option<&Held>,
     caches: &mut Caches,
     scratch: &mut Scratch,
-) -> Result<(Vec<Member>, VecDeque<Outgoing>), OutOfMemory>
+    hearers: &mut Audience,
+) -> Result<VecDeque<Outgoing>, OutOfMemory>
     requires { AreSound state.now caches.old }
-    ensures members { IfOk result (λ heard. heard.0.items ≡ audience state.now (option_copied held.entry)) }
-    ensures copies { IfOk result (λ heard. heard.1.items ≡ copies state.now (option_copied held.entry)) }
+    ensures hearers { OnOk result (hearers.new ≡ audience state.now (option_copied held.entry)) }
+    ensures copies { IfOk result (λ left. left.items ≡ copies state.now (option_copied held.entry)) }
     ensures asked { OnOk result (KeepsFor state.now (option_copied held.entry) caches.old.routes caches.new.routes) }
     ensures sound { OnOk result (AreSound state.now caches.new) }
 {
     match held {
-        Some(held) => heard(alloc, state, held, caches, scratch),
-        None => Ok((Vec::new(alloc), VecDeque::new(alloc))),
+        Some(held) => heard(alloc, state, held, caches, scratch, hearers),
+        None => {
+            *hearers = Audience::new();
+            Ok(VecDeque::new(alloc))
+        }
     }
 }
 
 impl Machine {
-    /// Who hears the packet that a worker holds, at a revision, and the copies for them; nobody where it
-    /// holds none. A look at all accepted edits needs no view of its own.
+    /// The copies of the packet that a worker holds, for those who hear it at a revision, who take the place of those in
+    /// the audience; nobody where it holds none. A look at all accepted edits needs no view of its own.
     #[tactic(auto, using(mum_history::proofs::Fronts::at_all))]
     fn heard_at(
         &mut self,
         caches: &mut Caches,
         worker: u32,
         revision: u64,
-    ) -> Result<(Vec<Member>, VecDeque<Outgoing>), OutOfMemory>
+        hearers: &mut Audience,
+    ) -> Result<VecDeque<Outgoing>, OutOfMemory>
         requires there { worker < length self.old.workers }
         requires accepted { revision ≤ length self.old.accepted }
         requires sound { AreSound (core_state_at self.old revision) caches.old }
-        ensures members { IfOk result (λ heard. heard.0.items ≡ audience (core_state_at self.old revision) (worker_at self.old worker).held) }
-        ensures copies { IfOk result (λ heard. heard.1.items ≡ copies (core_state_at self.old revision) (worker_at self.old worker).held) }
+        ensures hearers { OnOk result (hearers.new ≡ audience (core_state_at self.old revision) (worker_at self.old worker).held) }
+        ensures copies { IfOk result (λ left. left.items ≡ copies (core_state_at self.old revision) (worker_at self.old worker).held) }
         ensures asked { OnOk result (KeepsFor (core_state_at self.old revision) (worker_at self.old worker).held caches.old.routes caches.new.routes) }
         ensures sound { OnOk result (AreSound (core_state_at self.old revision) caches.new) }
         ensures same { self.new ≡ self.old }
@@ -138,6 +141,7 @@ impl Machine {
                 held,
                 caches,
                 &mut self.scratch,
+                hearers,
             );
         }
         go_to_at(&mut self.views, place, self.alloc, &self.history, revision)?;
@@ -147,6 +151,7 @@ impl Machine {
             held,
             caches,
             &mut self.scratch,
+            hearers,
         )
     }
 
@@ -189,8 +194,9 @@ impl Machine {
         ensures asked { OnOk result (KeepsFor (core_state_at self.old revision) (worker_at self.old worker).held caches.old.routes caches.new.routes) }
         ensures sound { OnOk result (AreSound (core_state_at self.old revision) caches.new) }
     {
-        let (members, left) = self.heard_at(caches, worker, revision)?;
-        push_route(self.alloc, text, worker, revision, &members)?;
+        let mut hearers = Audience::new();
+        let left = self.heard_at(caches, worker, revision, &mut hearers)?;
+        push_route(self.alloc, text, worker, revision, hearers.as_slice())?;
         look_at(&mut self.workers, worker as usize, revision, left);
         self.totals.looks = self.totals.looks.saturating_add(1);
         Ok(())

@@ -26,7 +26,7 @@ impl Machine {
         let words = [
             Word::Number(u64::from(worker)),
             Word::Number(u64::from(next.to.0)),
-            Word::Number(u64::from(next.context.number())),
+            Word::Number(u64::from(next.context)),
         ];
         if !self.outboxes[slot].has_room() {
             push_line(self.alloc, text, "full", &words)?;

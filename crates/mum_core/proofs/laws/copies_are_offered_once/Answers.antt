@@ -1,16 +1,13 @@
+use Rattle.mum_route.specs.Hearers.{hearers_at}
 use Rattle.mum_core.specs.Core.{start, state_at}
 use Rattle.mum_core.specs.Laws.{ran}
-use Rattle.mum_core.specs.Route.{members}
 use Rattle.mum_core.proofs.Fitted.{lawful_all, lawful_start, state_proper}
-use Rattle.mum_core.proofs.Members.{copies_are_the_route, loopback_is_the_speaker, members_are_apart, members_are_the_route, nobody_hears_itself, pairs_apart}
+use Rattle.mum_core.proofs.Heard.{copies_are_the_route, hearers_are_apart, loopback_is_the_speaker, nobody_hears_itself, pairs_apart}
 use Rattle.mum_core.proofs.RunLaws.{offers_take_the_first}
 use Rattle.mum_core.proofs.laws.copies_are_offered_once.Goals as goal
 
 pub returns-clause-route : goal.returns-clause-route
 returns-clause-route c = copies_are_the_route
-
-pub returns-clause-each_is_there : goal.returns-clause-each_is_there
-returns-clause-each_is_there c = members_are_the_route
 
 pub returns-clause-not_the_speaker : goal.returns-clause-not_the_speaker
 returns-clause-not_the_speaker c = nobody_hears_itself
@@ -25,4 +22,4 @@ pub returns-clause-each_once : goal.returns-clause-each_once
 returns-clause-each_once c = λ version opening workers steps revision speaker target proper is.
     let core = ran (start version opening workers) steps in
     let fine = state_proper core revision (lawful_all (start version opening workers) steps (lawful_start version opening workers proper)) in
-    pairs_apart (members (state_at core revision) speaker target) (members_are_apart (state_at core revision) speaker target fine)
+    pairs_apart (hearers_at (state_at core revision) speaker target) (hearers_are_apart (state_at core revision) speaker target fine)

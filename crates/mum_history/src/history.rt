@@ -6,6 +6,7 @@ ghost use Rattle.mum_state.specs.Applied.{applied};
 ghost use Rattle.mum_state.specs.Fits.{fits};
 ghost use Rattle.mum_history.specs.History.{begun, current, with_edit};
 
+use crate::edit_list::EditList;
 use crate::twin::Twin;
 use mum_base::OutOfMemory;
 use mum_state::{Edit, State};
@@ -104,37 +105,6 @@ impl History {
         self.published = self.revision();
     }
 
-    /// The state to which one edit more leads, beside the current one, for `append`. That no state is
-    /// copied for it, but where memory ran out or a next state was given up before, is not proved.
-    pub fn next_state(&mut self, edit: &Edit) -> Result<State, OutOfMemory>
-        requires { IsTrue (fits (current self.old) edit.now) }
-        ensures next { IfOk result (λ next. next ≡ applied (current self.old) edit.now) }
-        ensures same { self.new ≡ self.old }
-    {
-        self.twin.next(edit)
-    }
-
-    /// Appends an edit that leads to this state.
-    pub fn append(&mut self, edit: Edit, next: State) -> Result<(), OutOfMemory>
-        requires fits { IsTrue (fits (current self.old) edit) }
-        requires next { next ≡ applied (current self.old) edit }
-        ensures ok { OnOk result (self.new ≡ with_edit self.old edit) }
-        ensures err { OnErr result (self.new ≡ self.old) }
-    {
-        match self.accepted.reserve(1) {
-            Ok(()) => {
-                self.twin.go_on(Some(&edit), next);
-                self.accepted.push_reserved(edit);
-                Ok(())
-            }
-            Err(error) => {
-                drop(edit);
-                drop(next);
-                Err(error)
-            }
-        }
-    }
-
     /// Accepts an edit that fits the current state. Where memory runs out all is as it was.
     pub fn accept(&mut self, edit: Edit) -> Result<(), OutOfMemory>
         requires { IsTrue (fits (current self.old) edit) }
@@ -145,6 +115,37 @@ impl History {
             Ok(next) => self.append(edit, next),
             Err(error) => {
                 drop(edit);
+                Err(error)
+            }
+        }
+    }
+}
+
+impl EditList for History {
+    ghost latest = { current };
+
+    ghost appends = { λ old edit new. new ≡ with_edit old edit };
+
+    fn latest(&self) -> &State {
+        self.twin.current()
+    }
+
+    /// That no state is copied for it, but where memory ran out or a next state was given up before, is not
+    /// proved.
+    fn next_state(&mut self, edit: &Edit) -> Result<State, OutOfMemory> {
+        self.twin.next(edit)
+    }
+
+    fn append(&mut self, edit: Edit, next: State) -> Result<(), OutOfMemory> {
+        match self.accepted.reserve(1) {
+            Ok(()) => {
+                self.twin.go_on(Some(&edit), next);
+                self.accepted.push_reserved(edit);
+                Ok(())
+            }
+            Err(error) => {
+                drop(edit);
+                drop(next);
                 Err(error)
             }
         }

@@ -3,6 +3,7 @@
 //! list, by the definitions in `specs/Notices.antt` and `specs/Sync.antt`.
 #![tactic(auto)]
 
+mod accepting;
 mod channels;
 mod children;
 mod fitting;
@@ -19,6 +20,7 @@ mod users;
 mod waiting;
 mod watch;
 
+pub use accepting::accept_edit;
 pub use fitting::fits_frame;
 pub use notice::{Notice, Notices};
 pub use sync::{PROTOCOL, protocol, sync_block};

@@ -1,7 +1,7 @@
 use Rattle.std.proofs.Common.{◌∙◌, ◌∷◌, ◌++◌, [], List, ap}
 use Rattle.mum_state.specs.declared.edit.Edit.{Edit}
 use Rattle.mum_history.proofs.Fronts.{kept_on}
-use Rattle.mum_history.proofs.history.History.append.Goals as goal
+use Rattle.mum_history.proofs.history.HistoryEditList.append.Goals as goal
 
 pub invariant_of-self : goal.invariant_of-self
 invariant_of-self c =

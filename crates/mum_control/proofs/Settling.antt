@@ -9,11 +9,11 @@ use Rattle.mum_state.specs.declared.verdict.Verdict.{Verdict}
 use Rattle.mum_state.specs.declared.verdict.Verdict.TheVariants.{Accepted, Lacks, Refused, Rejected, Answer, Ignored}
 use Rattle.mum_notify.specs.declared.notice.Notice.{Notice}
 use Rattle.mum_published.specs.Calls.{all_published}
-use Rattle.mum_published.specs.Facts.{NoteFacts, PublisherFacts}
+use Rattle.mum_published.specs.Facts.{NoteFacts, PublisherFacts, ReplyFacts}
 use Rattle.mum_session.specs.Reply.{mark, reply_end}
 use Rattle.mum_session.specs.Verdict.{edits_of}
 use Rattle.mum_control.specs.Commanded.{Accepts, accepted, Decides, Denies, IsDropped, Publishes, note_of}
-use Rattle.mum_control.specs.Facts.{ControlFacts, ReplyFacts}
+use Rattle.mum_control.specs.Facts.{ControlFacts}
 use Rattle.mum_control.specs.Posting.{Posts}
 use Rattle.mum_control.specs.declared.posted.Posted.{Posted}
 

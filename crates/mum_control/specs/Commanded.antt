@@ -9,11 +9,11 @@ use Rattle.mum_state.specs.Applied.{applied}
 use Rattle.mum_state.specs.State.{StateValue}
 use Rattle.mum_notify.specs.Notices.{notices}
 use Rattle.mum_published.specs.Calls.{all_published, appended, latest}
-use Rattle.mum_published.specs.Facts.{NoteFacts, PublisherFacts}
+use Rattle.mum_published.specs.Facts.{NoteFacts, PublisherFacts, ReplyFacts}
 use Rattle.mum_session.specs.declared.command.Command.{Command}
 use Rattle.mum_session.specs.Reply.{mark, reply_end, wire}
 use Rattle.mum_session.specs.Verdict.{verdict}
-use Rattle.mum_control.specs.Facts.{ControlFacts, ReplyFacts}
+use Rattle.mum_control.specs.Facts.{ControlFacts}
 use Rattle.mum_control.specs.Kept.{is_there}
 
 -- the state after all accepted edits

@@ -1,12 +1,11 @@
--- What contracts see of the control owner and of what it answers.
-use Rattle.std.specs.Prelude.{ℕ, Bool, List, Option}
+-- What contracts see of the control owner.
+use Rattle.std.specs.Prelude.{List, Option}
 use Rattle.mum_base.specs.declared.number.SessionId.{SessionId}
 use Rattle.mum_base.specs.declared.reply.Mark.{Mark}
-use Rattle.mum_base.specs.declared.reply.ReplyEnd.{ReplyEnd}
 use Rattle.mum_notify.specs.declared.notice.Notice.{Notice}
 use Rattle.mum_outbox.specs.declared.parcel.PostParcel.{PostParcel}
 use Rattle.mum_outbox.specs.Facts.{PassFacts as BoxFacts}
-use Rattle.mum_published.specs.Facts.{NoteFacts, PublisherFacts}
+use Rattle.mum_published.specs.Facts.{PublisherFacts}
 
 -- the control owner: its publisher, its pass of each slot's post box, the notices that it has not posted yet, the
 -- sessions whose box was full, and the outcome of its last command, if that was decided
@@ -16,11 +15,3 @@ pub record ControlFacts : Type 0 where
   pub pending : List Notice
   pub lagged : List SessionId
   pub mark : Option Mark
-
--- a reply as plain data
-pub record ReplyFacts : Type 0 where
-  pub connection : ℕ
-  pub end : ReplyEnd
-  pub note : Option NoteFacts
-  pub wire : List ℕ
-  pub no_memory : Bool

@@ -51,12 +51,11 @@ pub record IsListing (state : StateValue) (sessions : List SessionId) : Type 0 w
 abbrev pub IsInSlot : Notice → Type 0
 IsInSlot notice = notice.slot.0 < SLOTS
 
--- the twin is the state after all appended edits, each pending notice has a box, and there is room to list each session
-pub record IsKept (opening : Opening) (publisher : PublisherFacts) (twin : StateValue) (posts : List (BoxFacts PostParcel))
+-- each pending notice has a box, and there is room to list each session
+pub record IsKept (opening : Opening) (publisher : PublisherFacts) (posts : List (BoxFacts PostParcel))
     (pending : List Notice) (lagged : List SessionId) (room : ℕ) : Type 0 where
   pub same_opening : publisher.opening ≡ opening
-  pub twin_is : twin ≡ latest publisher
   pub box_each : length posts ≡ SLOTS
   pub in_slots : AllByRecursion IsInSlot pending
-  pub listing : IsListing twin lagged
+  pub listing : IsListing (latest publisher) lagged
   pub room_is : SLOTS ≤ room

@@ -6,6 +6,7 @@ ghost use Rattle.std.specs.Vec.{vec_capacity};
 ghost use mathlib.Core.List.{IsPrefix};
 ghost use Rattle.mum_base.specs.declared.number.TheConstants.{SLOTS};
 ghost use Rattle.mum_state.specs.Fits.{fits};
+ghost use Rattle.mum_state.specs.Proper.{IsProper};
 ghost use Rattle.mum_notify.specs.Notices.{FitsFrame};
 ghost use Rattle.mum_rules_tree.specs.Decision.{FitsWhereAccepted};
 ghost use Rattle.mum_session.specs.Reply.{reply_end};
@@ -16,15 +17,15 @@ ghost use Rattle.mum_control.specs.Kept.{IsInSlot, MayIn, is_there, next_slot, s
 ghost use Rattle.mum_control.specs.Posting.{EmptiesPost, IsOpened, IsUnused, Posts, PostsNext};
 ghost use Rattle.mum_state.specs.declared.verdict.Verdict.TheVariants.{Accepted};
 
-use crate::accept::{accept_edit, publish_appended};
+use crate::edits::Edits;
 use crate::lagged::{keep_present, list_lagging};
 use crate::permission::holds;
 use crate::post::{Post, empty_at, offer_at, posts_of};
 use crate::posted::Posted;
 use crate::sessions::{is_there, next_slot, slot_of};
 use mum_base::{ChannelId, Mark, Octets, OutOfMemory, Perm, ReplyEnd, SLOTS, SessionId, Slot};
-use mum_history::Twin;
-use mum_notify::{Notice, NoticeQueue};
+use mum_history::EditList;
+use mum_notify::{Notice, NoticeQueue, accept_edit};
 use mum_outbox::{Offered, PostBox, PostParcel};
 use mum_published::{Naming, Note, Pass, Publisher, Reply};
 use mum_session::{Asked, Command, decide, end_of, mark_of, wire_of};
@@ -38,9 +39,7 @@ use std::sync::Wait;
 /// and publishes what it accepts, and keeps for each session what it is to be sent.
 #[derive(Drop)]
 pub struct Control<'a, N: Naming> {
-    publisher: &'a mut Publisher,
-    // The state after all appended edits.
-    twin: Twin,
+    edits: Edits<'a>,
     // By their slots.
     posts: Vec<Post>,
     pending: NoticeQueue,
@@ -59,15 +58,22 @@ impl<'a, N: Naming> Model for Control<'a, N> {
     ghost Value = { ControlFacts };
 
     ghost view = { λ c. record {
-      publisher = c.publisher.now;
+      publisher = c.edits;
       posts = c.posts.items;
       pending = c.pending;
       lagged = c.lagged.items;
       mark = c.mark;
     } };
 
-    ghost invariant = { λ c. IsKept N.opening c.publisher.now c.twin c.posts.items c.pending c.lagged.items
+    ghost invariant = { λ c. IsKept N.opening c.edits c.posts.items c.pending c.lagged.items
         (vec_capacity c.lagged) };
+}
+
+// That the slots of the sessions are below the limit.
+fn know_proper(state: &State)
+    ensures { IsProper state.now }
+{
+    let _roster = state.roster();
 }
 
 fn no_bytes(alloc: Global) -> Octets
@@ -127,10 +133,9 @@ impl<'a, N: Naming> Control<'a, N> {
                 return Err(error);
             }
         };
-        match Twin::open(alloc, state) {
-            Ok(twin) => Ok(Control {
-                publisher,
-                twin,
+        match Edits::open(alloc, state, publisher) {
+            Ok(edits) => Ok(Control {
+                edits,
                 posts,
                 pending: NoticeQueue::new(alloc),
                 lagged,
@@ -165,7 +170,7 @@ impl<'a, N: Naming> Control<'a, N> {
     pub fn unpublished(&self) -> u64
         ensures { result ≡ length self.now.publisher.pending }
     {
-        self.publisher.pending()
+        self.edits.unpublished()
     }
 
     /// How many notices wait to be posted.
@@ -179,7 +184,7 @@ impl<'a, N: Naming> Control<'a, N> {
     pub fn is_there(&self, session: SessionId) -> bool
         ensures { result ≡ is_there (current self.now) session }
     {
-        is_there(self.twin.current(), session)
+        is_there(self.edits.latest(), session)
     }
 
     /// Whether a session has this permission in a channel. It has none where one of the two is not in the
@@ -187,14 +192,14 @@ impl<'a, N: Naming> Control<'a, N> {
     pub fn holds(&self, session: SessionId, perm: Perm, channel: ChannelId) -> bool
         ensures { IsTrue result ↔ MayIn (current self.now) session perm channel }
     {
-        holds(self.twin.current(), session, perm, channel)
+        holds(self.edits.latest(), session, perm, channel)
     }
 
     /// The slot that the next accepted login gets; `None` where no more sessions may join.
     pub fn next_slot(&self) -> Option<Slot>
         ensures { result ≡ next_slot (current self.now) }
     {
-        next_slot(self.twin.current())
+        next_slot(self.edits.latest())
     }
 
     /// What is decided of a command.
@@ -203,18 +208,12 @@ impl<'a, N: Naming> Control<'a, N> {
         ensures fits { IfOk result (FitsWhereAccepted (current self.now)) }
         ensures frame { IfOk result (λ decided. AllByRecursion FitsFrame (edits_of decided)) }
     {
-        decide(self.alloc, self.twin.current(), session, what)
+        decide(self.alloc, self.edits.latest(), session, what)
     }
 
     /// Memory ran out before the command changed anything.
     fn refuse(&mut self, connection: u32) -> Reply<N>
-        ensures { IsDropped self.old connection (record {
-          connection = result.connection;
-          end = result.end;
-          note = result.note;
-          wire = result.wire;
-          no_memory = result.no_memory;
-        }) self.new }
+        ensures { IsDropped self.old connection result self.new }
     {
         self.mark = None;
         let wire = no_bytes(self.alloc);
@@ -224,20 +223,8 @@ impl<'a, N: Naming> Control<'a, N> {
     /// Answers a command that is denied, answered or ignored.
     fn deny(&mut self, connection: u32, session: Option<SessionId>, denied: Verdict) -> Reply<N>
         requires { edits_of denied ≡ [] }
-        ensures { IsDropped self.old connection (record {
-          connection = result.connection;
-          end = result.end;
-          note = result.note;
-          wire = result.wire;
-          no_memory = result.no_memory;
-        }) self.new
-            ⊎ Denies self.old connection session denied (record {
-              connection = result.connection;
-              end = result.end;
-              note = result.note;
-              wire = result.wire;
-              no_memory = result.no_memory;
-            }) self.new }
+        ensures { IsDropped self.old connection result self.new
+            ⊎ Denies self.old connection session denied result self.new }
     {
         let wire = wire_of(self.alloc, session, &denied);
         let (end, mark) = (end_of(&denied), mark_of(0, &denied));
@@ -258,16 +245,12 @@ impl<'a, N: Naming> Control<'a, N> {
         ensures ok { OnOk result (self.new ≡ accepted self.old edit) }
         ensures err { OnErr result (self.new ≡ self.old) }
     {
-        accept_edit(
-            self.alloc,
-            self.publisher,
-            &mut self.twin,
-            &mut self.pending,
-            edit,
-        )?;
-        keep_present(&mut self.lagged, self.twin.current());
+        know_proper(self.edits.latest());
+        accept_edit(self.alloc, &mut self.edits, &mut self.pending, edit)?;
+        know_proper(self.edits.latest());
+        keep_present(&mut self.lagged, self.edits.latest());
         self.mark = Some(Mark::Accepted {
-            revision: self.publisher.revision(),
+            revision: self.edits.revision(),
         });
         Ok(())
     }
@@ -281,7 +264,7 @@ impl<'a, N: Naming> Control<'a, N> {
         ensures wire { result.wire ≡ [] }
         ensures no_memory { result.no_memory ≡ is_none result.note }
     {
-        let note = publish_appended(rt, self.publisher);
+        let note = self.edits.publish_noted(rt);
         let no_memory = note.is_none();
         let wire = no_bytes(self.alloc);
         Reply::new(connection, end, note, wire, no_memory)
@@ -292,20 +275,8 @@ impl<'a, N: Naming> Control<'a, N> {
         requires fits { IsTrue (fits (current self.old) edit) }
         requires frame { FitsFrame edit }
         requires end { end ≡ reply_end (Accepted edit) }
-        ensures { IsDropped self.old connection (record {
-          connection = result.connection;
-          end = result.end;
-          note = result.note;
-          wire = result.wire;
-          no_memory = result.no_memory;
-        }) self.new
-            ⊎ Accepts self.old connection edit (record {
-              connection = result.connection;
-              end = result.end;
-              note = result.note;
-              wire = result.wire;
-              no_memory = result.no_memory;
-            }) self.new }
+        ensures { IsDropped self.old connection result self.new
+            ⊎ Accepts self.old connection edit result self.new }
     {
         match self.append(edit) {
             Ok(()) => self.answer(rt, connection, end),
@@ -323,20 +294,8 @@ impl<'a, N: Naming> Control<'a, N> {
     ) -> Reply<N>
         requires fits { FitsWhereAccepted (current self.old) decided }
         requires frame { AllByRecursion FitsFrame (edits_of decided) }
-        ensures { IsDropped self.old connection (record {
-          connection = result.connection;
-          end = result.end;
-          note = result.note;
-          wire = result.wire;
-          no_memory = result.no_memory;
-        }) self.new
-            ⊎ Decides self.old connection session decided (record {
-              connection = result.connection;
-              end = result.end;
-              note = result.note;
-              wire = result.wire;
-              no_memory = result.no_memory;
-            }) self.new }
+        ensures { IsDropped self.old connection result self.new
+            ⊎ Decides self.old connection session decided result self.new }
     {
         let end = end_of(&decided);
         match accepted_edit(decided) {
@@ -349,13 +308,7 @@ impl<'a, N: Naming> Control<'a, N> {
     /// that report it, and published; all that memory can refuse, but the publish, comes before. It may
     /// wait for passes that look.
     pub fn command<R: Wait>(&mut self, rt: &R, command: Command) -> Reply<N>
-        ensures { Commanded self.old command (record {
-          connection = result.connection;
-          end = result.end;
-          note = result.note;
-          wire = result.wire;
-          no_memory = result.no_memory;
-        }) self.new }
+        ensures { Commanded self.old command result self.new }
     {
         let Command {
             connection,
@@ -378,7 +331,7 @@ impl<'a, N: Naming> Control<'a, N> {
         ensures err { OnErr result (self.new ≡ self.old) }
         ensures note { IfOk result (λ note. note ≡ note_of self.old.publisher) }
     {
-        self.publisher.publish(rt)
+        self.edits.publish(rt)
     }
 
     /// Returns once what is published begins with all that a pass of the same `open` saw and learnt, which is at
@@ -388,7 +341,7 @@ impl<'a, N: Naming> Control<'a, N> {
         ensures known { IsPrefix pass.now.known self.now.publisher.published }
         ensures seen { IsPrefix pass.now.seen self.now.publisher.published }
     {
-        self.publisher.has_shown(rt, pass);
+        self.edits.has_shown(rt, pass);
     }
 
     /// Takes the first pending notice. It has a box.
@@ -416,7 +369,7 @@ impl<'a, N: Naming> Control<'a, N> {
         match offer_at(rt, &mut self.posts, place, parcel) {
             Offered::Sent => Posted::Posted(to),
             Offered::Full(_) => {
-                list_lagging(&mut self.lagged, self.twin.current(), to);
+                list_lagging(&mut self.lagged, self.edits.latest(), to);
                 Posted::Lagged(to)
             }
         }
@@ -437,7 +390,7 @@ impl<'a, N: Naming> Control<'a, N> {
     pub fn empty_post<R: Wait>(&mut self, rt: &R, session: SessionId)
         ensures { EmptiesPost self.old (slot_of (current self.old) session) self.new }
     {
-        let Some(slot) = slot_of(self.twin.current(), session) else {
+        let Some(slot) = slot_of(self.edits.latest(), session) else {
             return;
         };
         let place = usize::from(slot.0);
@@ -450,8 +403,7 @@ impl<'a, N: Naming> Control<'a, N> {
         ensures opening { self.entry.publisher.opening ≡ N.opening }
     {
         let Control {
-            publisher: _,
-            twin,
+            edits,
             posts,
             pending,
             lagged,
@@ -462,6 +414,6 @@ impl<'a, N: Naming> Control<'a, N> {
         drop(posts);
         drop(pending);
         drop(lagged);
-        twin.into_state()
+        edits.into_state()
     }
 }

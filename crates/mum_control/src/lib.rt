@@ -2,9 +2,9 @@
 //! accepts, and posts to each session what it is to be sent of it.
 #![tactic(auto)]
 
-mod accept;
 mod control;
 pub mod crossing;
+mod edits;
 mod lagged;
 mod permission;
 mod post;

@@ -1,19 +1,17 @@
 use Rattle.std.proofs.Common.{inl, inr, subst}
 use Rattle.mum_control.specs.Commanded.{IsDropped}
-use Rattle.mum_control.specs.Facts.{ControlFacts, ReplyFacts}
+use Rattle.mum_control.specs.Facts.{ControlFacts}
 use Rattle.mum_control.proofs.Settling.{accepts_so}
 use Rattle.mum_control.proofs.control.Control.accept.Goals as goal
 
 pub returns-in-Ok : goal.returns-in-Ok
 returns-in-Ok g c =
-    let r = c.answer.result in
-    let reply : ReplyFacts = record { connection = r.connection; end = r.end; note = r.note; wire = r.wire; no_memory = r.no_memory } in
+    let reply = c.answer.result in
     let said = c.answer.ensures in
     inr (accepts_so c.args.self.now c.append.new.self c.answer.new.self c.args.edit c.args.connection c.args.end reply c.in-Ok.ensures.ok
     said.published said.others said.connection said.end c.requires.end said.wire said.no_memory)
 
 pub returns-in-Err : goal.returns-in-Err
 returns-in-Err g c =
-    let r = c.refuse.result in
-    let reply : ReplyFacts = record { connection = r.connection; end = r.end; note = r.note; wire = r.wire; no_memory = r.no_memory } in
+    let reply = c.refuse.result in
     inl (subst (λ (old : ControlFacts). IsDropped old c.args.connection reply c.refuse.new.self) c.in-Err.ensures.err c.refuse.ensures)

@@ -1,7 +1,7 @@
 use Rattle.std.proofs.Common.{◌∙◌, Option, ap, subst, sym}
 use Rattle.std.specs.Prelude.{is_none}
 use Rattle.std.specs.Vec.{vec_capacity}
-use Rattle.mum_published.specs.Facts.{NoteFacts}
+use Rattle.mum_published.specs.Facts.{NoteFacts, ReplyFacts}
 use Rattle.mum_control.specs.Commanded.{Publishes}
 use Rattle.mum_control.specs.Facts.{ControlFacts}
 use Rattle.mum_control.proofs.Keeping.{kept_publishing, note_named}
@@ -10,22 +10,22 @@ use Rattle.mum_control.proofs.control.Control.answer.Goals as goal
 
 pub new-requires : goal.new-requires
 new-requires g c =
-    note_named g.N.Naming.opening c.self.inside.publisher.now c.publish_appended-note.new.publisher c.publish_appended-note.result c.self.invariant.same_opening c.publish_appended-note.ensures
+    note_named g.N.Naming.opening c.self.inside.edits c.publish_noted-note.new.self c.publish_noted-note.result c.self.invariant.same_opening c.publish_noted-note.ensures
 
 pub invariant_of-self : goal.invariant_of-self
 invariant_of-self g c =
     let inside = c.self.inside in
-    kept_publishing g.N.Naming.opening inside.publisher.now c.publish_appended-note.new.publisher inside.twin inside.posts.items inside.pending inside.lagged.items (vec_capacity inside.lagged)
-    c.publish_appended-note.result c.self.invariant c.publish_appended-note.ensures
+    kept_publishing g.N.Naming.opening inside.edits c.publish_noted-note.new.self inside.posts.items inside.pending inside.lagged.items (vec_capacity inside.lagged)
+    c.publish_noted-note.result c.self.invariant c.publish_noted-note.ensures
 
 pub returns-clause-published : goal.returns-clause-published
 returns-clause-published g c =
-    subst (λ (old : ControlFacts). Publishes old.publisher c.new.result.note c.publish_appended-note.new.publisher) c.self.view_is
-    (subst (λ (note : Option NoteFacts). Publishes c.self.inside.publisher.now note c.publish_appended-note.new.publisher) (sym c.new.ensures.note) c.publish_appended-note.ensures)
+    subst (λ (old : ControlFacts). Publishes old.publisher c.new.result.note c.publish_noted-note.new.self) c.self.view_is
+    (subst (λ (note : Option NoteFacts). Publishes c.self.inside.edits note c.publish_noted-note.new.self) (sym (ap (λ (r : ReplyFacts). r.note) c.new.ensures)) c.publish_noted-note.ensures)
 
 pub returns-clause-others : goal.returns-clause-others
-returns-clause-others g c = ap (λ (old : ControlFacts). record old { publisher = c.publish_appended-note.new.publisher }) c.self.view_is
+returns-clause-others g c = ap (λ (old : ControlFacts). record old { publisher = c.publish_noted-note.new.self }) c.self.view_is
 
 pub returns-clause-no_memory : goal.returns-clause-no_memory
 returns-clause-no_memory g c =
-    c.new.ensures.no_memory ∙ none_so c.publish_appended-note.result c.is_none-no_memory.result c.is_none-no_memory.ensures ∙ ap is_none (sym c.new.ensures.note)
+    ap (λ (r : ReplyFacts). r.no_memory) c.new.ensures ∙ none_so c.publish_noted-note.result c.is_none-no_memory.result c.is_none-no_memory.ensures ∙ ap is_none (sym (ap (λ (r : ReplyFacts). r.note) c.new.ensures))

@@ -2,15 +2,13 @@ use Rattle.std.proofs.Common.{inl, subst}
 use Rattle.std.specs.Prelude.{◌⊎◌}
 use Rattle.mum_state.specs.declared.verdict.Verdict.{Verdict}
 use Rattle.mum_control.specs.Commanded.{Decides, IsDropped}
-use Rattle.mum_control.specs.Facts.{ReplyFacts}
 use Rattle.mum_control.proofs.control.Control.command.Goals as goal
 
 pub returns-in-Ok : goal.returns-in-Ok
 returns-in-Ok g c =
     let old = c.args.self.now in
     let command = c.args.command in
-    let r = c.settle.result in
-    let reply : ReplyFacts = record { connection = r.connection; end = r.end; note = r.note; wire = r.wire; no_memory = r.no_memory } in
+    let reply = c.settle.result in
     subst (λ (v : Verdict). IsDropped old command.connection reply c.settle.new.self ⊎ Decides old command.connection command.session v reply c.settle.new.self)
     c.in-Ok.ensures.verdict c.settle.ensures
 

@@ -1,4 +1,4 @@
-use Rattle.std.proofs.Common.{◌∙◌, Some, ap, inl, inr}
+use Rattle.std.proofs.Common.{◌∙◌, Some, ap, inl, inr, refl}
 use Rattle.mum_base.specs.declared.reply.Mark.{Mark}
 use Rattle.mum_control.specs.Commanded.{next_revision}
 use Rattle.mum_control.specs.Facts.{ControlFacts}
@@ -12,7 +12,7 @@ returns-in-Ok g c =
     inr (
       ap (λ (k : ControlFacts). record k { mark = Some told }) c.self.view_is
           ∙ ap (λ (m : Mark). record old { mark = Some m }) (c.mark_of-mark.ensures ∙ mark_of_denied 0 (next_revision old) c.args.denied c.requires),
-      reply_so _ _ _ _ _ _ _ _ _ _ c.new.ensures.connection (c.new.ensures.end ∙ c.end_of-end.ensures) c.new.ensures.note (c.new.ensures.wire ∙ c.in-Ok.ensures) c.new.ensures.no_memory,
+      c.new.ensures ∙ reply_so _ _ _ _ _ _ _ _ _ _ refl c.end_of-end.ensures refl c.in-Ok.ensures refl,
     )
 
 pub returns-in-Err : goal.returns-in-Err

@@ -1,5 +1,6 @@
-use Rattle.std.proofs.Common.{◌∙◌}
+use Rattle.std.proofs.Common.{◌∙◌, ap}
 use Rattle.std.specs.Vec.{vec_capacity}
+use Rattle.mum_published.specs.Facts.{PublisherFacts}
 use Rattle.mum_control.proofs.Boxes.{as_many}
 use Rattle.mum_control.proofs.Keeping.{kept_opening}
 use Rattle.mum_control.proofs.control.Control.open.Goals as goal
@@ -7,6 +8,6 @@ use Rattle.mum_control.proofs.control.Control.open.Goals as goal
 pub invariant_of-result : goal.invariant_of-result
 invariant_of-result g c =
     let made = c.in-Ok.made in
-    kept_opening g.N.Naming.opening c.args.publisher.now c.in-Ok-open.twin made.1.items c.new.result made.0.items (vec_capacity made.0)
-    c.requires.opening (c.in-Ok-open.ensures ∙ c.requires.state) (as_many made.1.items c.args.posts.items c.in-Ok.ensures.boxes ∙ c.requires.boxes) c.new.ensures
+    kept_opening g.N.Naming.opening c.in-Ok-open.edits made.1.items c.new.result made.0.items (vec_capacity made.0)
+    (ap (λ (p : PublisherFacts). p.opening) c.in-Ok-open.ensures ∙ c.requires.opening) (as_many made.1.items c.args.posts.items c.in-Ok.ensures.boxes ∙ c.requires.boxes) c.new.ensures
     c.in-Ok.ensures.nobody c.in-Ok.ensures.room

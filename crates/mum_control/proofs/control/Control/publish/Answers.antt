@@ -14,8 +14,8 @@ pub invariant_of-self : goal.invariant_of-self
 invariant_of-self g c =
     let inside = c.self.inside in
     let said = c.publish.ensures in
-    kept_publishing g.N.Naming.opening inside.publisher.now c.publish.new.self inside.twin inside.posts.items inside.pending inside.lagged.items (vec_capacity inside.lagged)
-    (result_ok c.publish.result) c.self.invariant (publishes_so c.publish.result inside.publisher.now c.publish.new.self said.ok said.err said.note)
+    kept_publishing g.N.Naming.opening inside.edits c.publish.new.self inside.posts.items inside.pending inside.lagged.items (vec_capacity inside.lagged)
+    (result_ok c.publish.result) c.self.invariant (publishes_so c.publish.result inside.edits c.publish.new.self said.ok said.err said.note)
 
 pub returns-clause-ok : goal.returns-clause-ok
 returns-clause-ok g c =

@@ -6,7 +6,6 @@ use Rattle.mum_notify.specs.Notices.{FitsFrame}
 use Rattle.mum_session.specs.Reply.{reply_end}
 use Rattle.mum_session.specs.Verdict.{edits_of}
 use Rattle.mum_control.specs.Commanded.{current}
-use Rattle.mum_control.specs.Facts.{ReplyFacts}
 use Rattle.mum_control.proofs.Settling.{settled_accepting, settled_denying}
 use Rattle.mum_control.proofs.control.Control.settle.Goals as goal
 
@@ -21,12 +20,10 @@ accept-requires-clause-end g c = c.end_of-end.ensures ∙ ap reply_end c.in-Ok.e
 
 pub returns-in-Ok : goal.returns-in-Ok
 returns-in-Ok g c =
-    let r = c.accept.result in
-    let reply : ReplyFacts = record { connection = r.connection; end = r.end; note = r.note; wire = r.wire; no_memory = r.no_memory } in
+    let reply = c.accept.result in
     settled_accepting c.args.self.now c.args.connection c.args.session c.args.decided c.in-Ok.edit reply c.accept.new.self c.in-Ok.ensures.edit c.accept.ensures
 
 pub returns-in-Err : goal.returns-in-Err
 returns-in-Err g c =
-    let r = c.deny.result in
-    let reply : ReplyFacts = record { connection = r.connection; end = r.end; note = r.note; wire = r.wire; no_memory = r.no_memory } in
+    let reply = c.deny.result in
     settled_denying c.args.self.now c.args.connection c.args.session c.args.decided c.in-Err.denied reply c.deny.new.self c.in-Err.ensures.others.0 c.in-Err.ensures.others.1 c.deny.ensures

@@ -1,22 +1,26 @@
-use Rattle.std.proofs.Common.{subst, sym}
+use Rattle.std.proofs.Common.{◌∙◌, ap, refl, subst, sym}
 use Rattle.std.specs.Prelude.{IfSome, IsTrue}
 use Rattle.mum_state.specs.declared.edit.Edit.{Edit}
+use Rattle.mum_state.specs.Applied.{applied}
 use Rattle.mum_state.specs.Fits.{fits}
 use Rattle.mum_state.specs.State.{StateValue}
-use Rattle.mum_published.specs.Calls.{IsLast, appended}
+use Rattle.mum_published.specs.Calls.{IsLast, appended, latest}
 use Rattle.mum_published.specs.Facts.{PublisherFacts}
+use Rattle.mum_published.proofs.Latest.{kept_up}
 use Rattle.mum_control.specs.Commanded.{with_edit}
 use Rattle.mum_control.proofs.Appending.{leads}
 use Rattle.mum_control.proofs.Copied.{copied}
-use Rattle.mum_control.proofs.accept.append_reported.Goals as goal
+use Rattle.mum_control.proofs.edits.EditsEditList.append.Goals as goal
 
 -- the edit that was appended last is this one
 pub go_on-requires : goal.go_on-requires
 go_on-requires c =
     let edit = c.args.edit in
-    let old = c.args.publisher.now in
-    let fit : IsTrue (fits c.args.twin.now edit) = subst (λ (s : StateValue). IsTrue (fits s edit)) (sym c.requires.twin) c.requires.fits in
+    let old = c.self.inside.publisher.now in
+    let twin = c.self.inside.twin in
+    let fit : IsTrue (fits twin edit) = subst (λ (s : StateValue). IsTrue (fits s edit)) (sym (c.self.invariant ∙ ap latest c.self.view_is)) c.requires.fits in
+    let next = c.requires.next ∙ ap (λ (s : StateValue). applied s edit) (sym (c.self.invariant ∙ ap latest c.self.view_is)) in
     let last : IfSome c.last_appended.result (λ e. IsLast e.now (appended (with_edit old edit))) =
     subst (λ (p : PublisherFacts). IfSome c.last_appended.result (λ e. IsLast e.now (appended p))) c.in-Ok.ensures.ok c.last_appended.ensures in
-    λ found is. leads old c.args.twin.now c.args.next edit found fit c.requires.next
+    λ found is. leads old twin c.args.next edit found fit next
     (copied (λ (e : Edit). IsLast e (appended (with_edit old edit))) c.last_appended.result found last is)

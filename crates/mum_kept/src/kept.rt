@@ -6,11 +6,13 @@ ghost use Rattle.mum_tree.specs.Rows.{Rise};
 ghost use Rattle.mum_tree.specs.State.{partners};
 ghost use Rattle.mum_notify.specs.Channels.{channel_ids};
 ghost use Rattle.mum_kept.specs.Kept.{is_kept_link, kept, kept_channel, kept_channels, kept_links, kept_of, kept_policy, lasts, links_from};
+ghost use Rattle.mum_kept.specs.Policy.{policy_payload};
 
 use crate::rows::{KeptChannel, KeptRows};
-use crate::told::policy_payload;
 use mum_base::{ChannelId, Items, Octets, OutOfMemory};
-use mum_policy::Policies;
+use mum_msg_rule::Message;
+use mum_policy::{ChannelPolicy, Policies};
+use mum_rules_tree::acl_told;
 use mum_state::State;
 use mum_tree::{Channel, Tree};
 use std::alloc::Global;
@@ -35,6 +37,18 @@ fn partners(alloc: Global, tree: &Tree, id: ChannelId) -> Result<Vec<ChannelId>,
         found.push(partner)?;
     }
     Ok(found)
+}
+
+// What answers a query for the policy of the channel.
+fn policy_payload(
+    alloc: Global,
+    id: ChannelId,
+    policy: &ChannelPolicy,
+) -> Result<Octets, OutOfMemory>
+    ensures { IfOk result (λ payload. payload ≡ policy_payload id policy.now) }
+{
+    let told = acl_told(alloc, id, policy)?;
+    told.encode(alloc)
 }
 
 fn kept_policy(alloc: Global, state: &State, id: ChannelId) -> Result<Octets, OutOfMemory>

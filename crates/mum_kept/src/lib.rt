@@ -12,7 +12,6 @@ mod prefix;
 mod rebuilt;
 pub mod rows;
 mod siblings;
-mod told;
 
 pub use good::good_rows;
 pub use kept::kept_rows;

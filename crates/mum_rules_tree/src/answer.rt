@@ -87,7 +87,8 @@ fn lines_told(alloc: Global, entries: &[AclEntry]) -> Result<Items<AclLine>, Out
     Ok(Items::from_vec(told))
 }
 
-fn acl_told(alloc: Global, id: ChannelId, policy: &ChannelPolicy) -> Result<Acl, OutOfMemory>
+/// The ACL message that tells of the policy of channel `id`: its own groups and entries, none inherited.
+pub fn acl_told(alloc: Global, id: ChannelId, policy: &ChannelPolicy) -> Result<Acl, OutOfMemory>
     ensures { IfOk result (λ told. told ≡ acl_told id policy.now) }
 {
     Ok(Acl {

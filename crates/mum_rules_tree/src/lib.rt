@@ -21,6 +21,7 @@ mod reason;
 mod remove;
 mod tokens;
 
+pub use answer::acl_told;
 pub use channel::{are_there, channel_numbered, channel_or_root, is_there_if_named};
 pub use decide::decide_tree;
 pub use denials::denial;
@@ -28,5 +29,6 @@ pub use edit::is_text_given;
 pub use message::TreeMessage;
 pub use met::{MetPlaces, need_once};
 pub use needs::{Lack, may, need};
+pub use policy::policy_asked;
 pub use reason::{COMMAND_LIMIT, takes_no_edits};
 pub use tokens::tokens_for_once;

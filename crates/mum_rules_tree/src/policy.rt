@@ -108,8 +108,9 @@ fn own_entries(alloc: Global, lines: &[AclLine]) -> Result<Items<AclEntry>, OutO
     Ok(Items::from_vec(own))
 }
 
-/// What the channel's policy is to be.
-pub(crate) fn policy_asked(alloc: Global, message: &Acl) -> Result<ChannelPolicy, OutOfMemory>
+/// The policy that an ACL message sets: its groups and entries that are not inherited, with no bits but
+/// those of permissions. Its limits are not tested here.
+pub fn policy_asked(alloc: Global, message: &Acl) -> Result<ChannelPolicy, OutOfMemory>
     ensures { IfOk result (λ policy. policy ≡ policy_asked message.now) }
 {
     Ok(ChannelPolicy {

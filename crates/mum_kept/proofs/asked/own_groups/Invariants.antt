@@ -1,7 +1,0 @@
-use Rattle.std.proofs.Common.{◌≡◌, map, not, take}
-use Rattle.std.specs.List.{filter}
-use Rattle.mum_rules_tree.specs.Policy.{group_asked, is_inherited}
-use Rattle.mum_kept.proofs.asked.own_groups.Given as goal
-
-abbrev pub invariant-loop-group : goal.invariant-loop-group
-invariant-loop-group l = l.own.items ≡ map group_asked (filter (λ group. not (is_inherited group.inherited)) (take l.group-index l.groups))

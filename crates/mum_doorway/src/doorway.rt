@@ -27,7 +27,7 @@ impl<D: Entrance, S: Doorside> Model for Doorway<D, S> {
 
     ghost view = { λ d. record { door = d.door; stopped = d.stopped; failed = d.failed } };
 
-    ghost invariant = { λ d. IsSince S.door (D.counts d.door) (D.opened_at d.door) d.stopped d.failed };
+    ghost invariant = { λ d. IsSince S.door (D.facts d.door).counts (D.facts d.door).opened_at d.stopped d.failed };
 }
 
 // Whether the door ended or failed by this answer.
@@ -57,8 +57,8 @@ fn fails<L>(answer: &Accept<L>) -> bool
 impl<D: Entrance, S: Doorside> Doorway<D, S> {
     /// The door, which has counted what `S` names.
     pub fn open(door: D) -> Doorway<D, S>
-        requires counts { D.counts door ≡ S.door.counts }
-        requires address { D.opened_at door ≡ S.door.opened_at }
+        requires counts { (D.facts door).counts ≡ S.door.counts }
+        requires address { (D.facts door).opened_at ≡ S.door.opened_at }
         ensures { result ≡ new_doorway door }
     {
         Doorway {
@@ -79,8 +79,8 @@ impl<D: Entrance, S: Doorside> Doorway<D, S> {
     /// Asks the door once. It is not asked again once it ended or failed.
     pub fn ask(&mut self) -> Accept<D::Peer>
         requires { self.old.stopped ≡ false }
-        ensures counts { AcceptCounts result (D.counts self.old.door) (D.counts self.new.door) }
-        ensures given { D.given self.new.door ≡ given_after result (D.given self.old.door) }
+        ensures counts { AcceptCounts result (D.facts self.old.door).counts (D.facts self.new.door).counts }
+        ensures given { (D.facts self.new.door).given ≡ given_after result (D.facts self.old.door).given }
         ensures stopped { self.new.stopped ≡ stopped_by result false }
         ensures failed { self.new.failed ≡ failed_by result self.old.failed }
     {
@@ -95,7 +95,7 @@ impl<D: Entrance, S: Doorside> Doorway<D, S> {
     pub fn close(self) -> (D, bool)
         ensures door { result.0 ≡ self.door }
         ensures failed { result.1 ≡ self.failed }
-        ensures since { IsSince S.door (D.counts result.0) (D.opened_at result.0) self.stopped result.1 }
+        ensures since { IsSince S.door (D.facts result.0).counts (D.facts result.0).opened_at self.stopped result.1 }
     {
         let Doorway {
             door,

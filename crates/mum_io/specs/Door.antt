@@ -7,6 +7,13 @@ use Rattle.mum_io.specs.declared.door.DoorOpen.TheVariants.{Opened, Failed}
 use Rattle.mum_io.specs.declared.door.Accept.{Accept}
 use Rattle.mum_io.specs.declared.door.Accept.TheVariants as accepted
 
+-- what is known of a door: what was counted, how many connections it gave, and the address at which it was opened, where
+-- that is known
+pub record DoorFacts : Type 0 where
+  pub counts : Counts
+  pub given : ℕ
+  pub opened_at : Option (List ℕ)
+
 -- an opening counts a fault exactly where it failed, and nothing else
 abbrev pub OpenCounts : DoorOpen → Counts → Counts → Type 0
 OpenCounts Opened old new = new ≡ old

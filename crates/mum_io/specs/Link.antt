@@ -1,11 +1,20 @@
 -- What the calls on a link answer: the count that shows the cause of each answer, and the bytes that went over it.
-use Rattle.std.specs.Prelude.{ℕ, ◌≡◌, ◌≤◌, List, length, take, Option}
+use Rattle.std.specs.Prelude.{ℕ, ◌≡◌, ◌≤◌, Bool, List, length, take, Option}
 use Rattle.mum_io.specs.Counts.{Counts, CountsEnd, CountsFault, CountsStall}
 use Rattle.mum_io.specs.declared.link.PollRead.{PollRead}
 use Rattle.mum_io.specs.declared.link.PollRead.TheVariants.{Got, End, NotYet, Failed}
 use Rattle.mum_io.specs.declared.link.PollWrite.{PollWrite}
 use Rattle.mum_io.specs.declared.link.PollWrite.TheVariants as written
 pub use Rattle.std.specs.Io.KnownBytes.{Appends, Consumes, IsAtEnd, Keeps}
+
+-- what is known of a link: what was counted, the bytes that are left to be read and those that were written, where they are
+-- known (once known, they stay known), the address of its peer as the sixteen bytes of IPv6, and whether it was shut
+pub record LinkFacts : Type 0 where
+  pub counts : Counts
+  pub left : Option (List ℕ)
+  pub written : Option (List ℕ)
+  pub address : List ℕ
+  pub is_shut : Bool
 
 -- a read counts what it answers, and nothing else
 abbrev pub PollReadCounts : PollRead → Counts → Counts → Type 0

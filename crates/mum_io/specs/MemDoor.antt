@@ -1,7 +1,7 @@
 -- A door in memory: what it has, what its calls answer, and what they leave.
 use Rattle.std.specs.Prelude.{ℕ, Bool, List, [], ◌∷◌, Option, Some, None, if◌then◌else◌}
 use Rattle.mum_io.specs.Counts.{Counts, next_count, no_counts}
-use Rattle.mum_io.specs.Door.{given_after}
+use Rattle.mum_io.specs.Door.{DoorFacts, given_after}
 use Rattle.mum_io.specs.MemLink.{LinkState}
 use Rattle.mum_io.specs.declared.door.Accept.{Accept}
 use Rattle.mum_io.specs.declared.door.Accept.TheVariants as accepted
@@ -23,6 +23,10 @@ pub record DoorState : Type 0 where
 
 abbrev pub new_door : List DoorEvent → Bool → DoorState
 new_door events opens = record { events = events; opens = opens; opened_at = None; counts = no_counts; given = 0; starved = 0 }
+
+-- all is known of a door in memory
+abbrev pub door_facts : DoorState → DoorFacts
+door_facts door = record { counts = door.counts; given = door.given; opened_at = door.opened_at }
 
 -- an opening that failed although the door can be opened ran out of memory
 abbrev pub after_open : DoorState → List ℕ → DoorOpen → DoorState

@@ -1,7 +1,8 @@
 -- A link in memory: what it has, what its reads and writes answer, and what they leave.
-use Rattle.std.specs.Prelude.{ℕ, ◌==◌, Bool, false, List, [], ◌∷◌, ◌++◌, length, min, drop, if◌then◌else◌}
+use Rattle.std.specs.Prelude.{ℕ, ◌==◌, Bool, false, List, [], ◌∷◌, ◌++◌, length, min, drop, Some, if◌then◌else◌}
 use Rattle.mum_io.specs.Calls.{CallNumbers, after_call, before_calls, next_fails}
 use Rattle.mum_io.specs.Counts.{Counts, next_count, no_counts}
+use Rattle.mum_io.specs.Link.{LinkFacts}
 use Rattle.mum_io.specs.declared.link.PollRead.{PollRead}
 use Rattle.mum_io.specs.declared.link.PollRead.TheVariants as read
 use Rattle.mum_io.specs.declared.link.PollWrite.{PollWrite}
@@ -39,6 +40,16 @@ bytes_of (Piece bytes ∷ events) = bytes ++ bytes_of events
 bytes_of (NotYet ∷ events) = bytes_of events
 bytes_of (Fail ∷ events) = bytes_of events
 bytes_of (End ∷ events) = []
+
+-- all is known of a link in memory
+abbrev pub link_facts : LinkState → LinkFacts
+link_facts link = record {
+  counts = link.counts;
+  left = Some (bytes_of link.events);
+  written = Some link.written;
+  address = link.address;
+  is_shut = link.is_shut;
+}
 
 -- the rest of a piece, if there is one, and the events behind it
 abbrev pub with_rest : List ℕ → List LinkEvent → List LinkEvent

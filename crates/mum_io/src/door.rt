@@ -1,8 +1,7 @@
 //! Where connections come from.
 
-ghost use Rattle.std.specs.Prelude.{◌≡◌, ℕ, List, Option};
-ghost use Rattle.mum_io.specs.Counts.{Counts};
-ghost use Rattle.mum_io.specs.Door.{AcceptCounts, OpenCounts, OpensAt, given_after};
+ghost use Rattle.std.specs.Prelude.{◌≡◌};
+ghost use Rattle.mum_io.specs.Door.{AcceptCounts, DoorFacts, OpenCounts, OpensAt, given_after};
 
 use crate::link::Link;
 
@@ -31,24 +30,19 @@ pub enum Accept<L> {
 pub trait Door: Drop {
     type Conn: Link + Send;
 
-    /// How many calls failed, how many found no connection yet, and how many found the door at its end.
-    ghost counts: { Self → Counts };
-
-    /// How many connections the door gave.
-    ghost given: { Self → ℕ };
-
-    /// The address at which the door was opened, where it is known.
-    ghost opened_at: { Self → Option (List ℕ) };
+    /// What is known of it: what was counted, how many connections it gave, and the address at which it was opened,
+    /// where that is known.
+    ghost facts: { Self → DoorFacts };
 
     /// Opens the door at this address.
     fn open(&mut self, address: &str) -> DoorOpen
-        ensures counts { OpenCounts result (counts self.old) (counts self.new) }
-        ensures address { OpensAt result (opened_at self.old) (opened_at self.new) address.now }
-        ensures given { given self.new ≡ given self.old };
+        ensures counts { OpenCounts result (facts self.old).counts (facts self.new).counts }
+        ensures address { OpensAt result (facts self.old).opened_at (facts self.new).opened_at address.now }
+        ensures given { (facts self.new).given ≡ (facts self.old).given };
 
     /// The next connection, if one has come.
     fn poll_accept(&mut self) -> Accept<Self::Conn>
-        ensures counts { AcceptCounts result (counts self.old) (counts self.new) }
-        ensures given { given self.new ≡ given_after result (given self.old) }
-        ensures address { opened_at self.new ≡ opened_at self.old };
+        ensures counts { AcceptCounts result (facts self.old).counts (facts self.new).counts }
+        ensures given { (facts self.new).given ≡ given_after result (facts self.old).given }
+        ensures address { (facts self.new).opened_at ≡ (facts self.old).opened_at };
 }

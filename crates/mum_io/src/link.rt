@@ -1,8 +1,7 @@
 //! A stream to a peer that can be read and written without waiting.
 
-ghost use Rattle.std.specs.Prelude.{◌≡◌, ℕ, ◌<◌, Bool, IsTrue, List, Option, length};
-ghost use Rattle.mum_io.specs.Counts.{Counts};
-ghost use Rattle.mum_io.specs.Link.{Keeps, PollReadCounts, PollReadLeaves, PollWriteCounts, PollWriteLeaves};
+ghost use Rattle.std.specs.Prelude.{◌≡◌, ◌<◌, IsTrue, length};
+ghost use Rattle.mum_io.specs.Link.{Keeps, LinkFacts, PollReadCounts, PollReadLeaves, PollWriteCounts, PollWriteLeaves};
 
 /// How a read from a link ended.
 #[derive(Clone, Copy, Debug, PartialEq, Eq)]
@@ -30,48 +29,37 @@ pub enum PollWrite {
 
 /// A stream to a peer. No call waits. Each count is of 64 bits and stays at its last value, `u64::MAX`.
 pub trait Link: Drop {
-    /// How many calls failed, how many found the link not ready, and how many found it at its end.
-    ghost counts: { Self → Counts };
-
-    /// The bytes that are left to be read, where they are known. Once known, they stay known.
-    ghost left: { Self → Option (List ℕ) };
-
-    /// The bytes that were written, where they are known. Once known, they stay known.
-    ghost written: { Self → Option (List ℕ) };
-
-    /// The address of the peer: sixteen bytes, as IPv6 writes it.
-    ghost address: { Self → List ℕ };
-
-    /// Whether the link was shut.
-    ghost is_shut: { Self → Bool };
+    /// What is known of it: what was counted, the bytes that are left to be read and those that were written, where
+    /// they are known, the address of the peer, and whether it was shut.
+    ghost facts: { Self → LinkFacts };
 
     /// Takes the first bytes that are left to the front of the slice.
     fn poll_read(&mut self, buf: &mut [u8]) -> PollRead
         requires { 0 < length buf.old }
-        ensures counts { PollReadCounts result (counts self.old) (counts self.new) }
-        ensures bytes { PollReadLeaves result (left self.old) (left self.new) buf.new }
-        ensures written { Keeps (written self.old) (written self.new) }
-        ensures address { address self.new ≡ address self.old }
-        ensures is_shut { is_shut self.new ≡ is_shut self.old };
+        ensures counts { PollReadCounts result (facts self.old).counts (facts self.new).counts }
+        ensures bytes { PollReadLeaves result (facts self.old).left (facts self.new).left buf.new }
+        ensures written { Keeps (facts self.old).written (facts self.new).written }
+        ensures address { (facts self.new).address ≡ (facts self.old).address }
+        ensures is_shut { (facts self.new).is_shut ≡ (facts self.old).is_shut };
 
     /// Writes a front of the piece behind what was written before.
     fn poll_write(&mut self, piece: &[u8]) -> PollWrite
         requires { 0 < length piece.now }
-        ensures counts { PollWriteCounts result (counts self.old) (counts self.new) }
-        ensures bytes { PollWriteLeaves result (written self.old) (written self.new) piece.now }
-        ensures left { Keeps (left self.old) (left self.new) }
-        ensures address { address self.new ≡ address self.old }
-        ensures is_shut { is_shut self.new ≡ is_shut self.old };
+        ensures counts { PollWriteCounts result (facts self.old).counts (facts self.new).counts }
+        ensures bytes { PollWriteLeaves result (facts self.old).written (facts self.new).written piece.now }
+        ensures left { Keeps (facts self.old).left (facts self.new).left }
+        ensures address { (facts self.new).address ≡ (facts self.old).address }
+        ensures is_shut { (facts self.new).is_shut ≡ (facts self.old).is_shut };
 
     /// Sends what was written and is still kept back, and closes the stream. Nothing is counted.
     fn shut(&mut self)
-        ensures is_shut { IsTrue (is_shut self.new) }
-        ensures counts { counts self.new ≡ counts self.old }
-        ensures left { Keeps (left self.old) (left self.new) }
-        ensures written { Keeps (written self.old) (written self.new) }
-        ensures address { address self.new ≡ address self.old };
+        ensures is_shut { IsTrue (facts self.new).is_shut }
+        ensures counts { (facts self.new).counts ≡ (facts self.old).counts }
+        ensures left { Keeps (facts self.old).left (facts self.new).left }
+        ensures written { Keeps (facts self.old).written (facts self.new).written }
+        ensures address { (facts self.new).address ≡ (facts self.old).address };
 
     /// The address of the peer. One of IPv4 has ten bytes 0, two bytes 255 and its four bytes.
     fn address(&self) -> [u8; 16]
-        ensures { result ≡ address self.now };
+        ensures { result ≡ (facts self.now).address };
 }

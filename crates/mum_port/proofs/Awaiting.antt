@@ -3,6 +3,7 @@ use Rattle.std.proofs.Common.{◌≡◌, ℕ, Bool, true, List, [], ◌∷◌, O
 use Rattle.mum_base.specs.declared.number.SessionId.{SessionId}
 use Rattle.mum_frame.specs.declared.frame.Frame.{Frame}
 use Rattle.mum_io.specs.Counts.{Counts}
+use Rattle.mum_io.specs.Link.{LinkFacts}
 use Rattle.mum_session.specs.Action.{action, after_frame, asks}
 use Rattle.mum_session.specs.Machine.{Machine}
 use Rattle.mum_session.specs.declared.action.Action.{Action}
@@ -34,14 +35,14 @@ no_frame : (frame : Option Frame) → ((f : Frame) → frame ≡ Some f → ⊥)
 no_frame None never = refl
 no_frame (Some frame) never = absurd (never frame refl)
 
-module _ {L V : Type 0} (counts : L → Counts) (left written : L → Option (List ℕ)) (is_shut : L → Bool) (routed : V → ℕ → SessionId → List ℕ → V → Type 0) where
-  waits_still : (old : PortFacts L) (machine : Machine) (did : PortDid) (new : PortFacts L) → Steps counts left written is_shut routed old machine did new → old.machine.awaits ≡ true → did.handled ≡ None
+module _ {L V : Type 0} (facts : L → LinkFacts) (routed : V → ℕ → SessionId → List ℕ → V → Type 0) where
+  waits_still : (old : PortFacts L) (machine : Machine) (did : PortDid) (new : PortFacts L) → Steps facts routed old machine did new → old.machine.awaits ≡ true → did.handled ≡ None
   waits_still old machine did new steps awaits =
       no_frame did.handled (λ f is.
       let free : not old.machine.awaits ≡ true = and-left (not old.machine.awaits) _ (and-right (is_live (port_after_put did.put old).stage) _ (steps.turn.handles.allowed f is)) in
       true≢false (sym free ∙ ap not awaits))
 
-  life_waits : (old : PortFacts L) (events : List Event) (new : PortFacts L) → Lives counts left written is_shut routed old events new → old.machine.awaits ≡ true → AreUnanswered events → frames_handled events ≡ []
+  life_waits : (old : PortFacts L) (events : List Event) (new : PortFacts L) → Lives facts routed old events new → old.machine.awaits ≡ true → AreUnanswered events → frames_handled events ≡ []
   life_waits old [] new same awaits unanswered = refl
   life_waits old (stepped machine did ∷ events) new (mid, steps, lives) awaits unanswered =
       let none = waits_still old machine did mid steps awaits in
@@ -53,8 +54,8 @@ module _ {L V : Type 0} (counts : L → Counts) (left written : L → Option (Li
   life_waits old (lagged cause ∷ events) new (mid, inr lags, lives) awaits unanswered =
       life_waits mid events new lives (ap (λ (p : PortFacts L). p.machine.awaits) lags.2.rest ∙ awaits) unanswered
 
-  pub unanswered_waits : (old mid new : PortFacts L) (machine : Machine) (did : PortDid) (item : DeskItem) (events : List Event) → Steps counts left written is_shut routed old machine did mid
-      → asked_item (action_of machine did.handled) ≡ Some item → Lives counts left written is_shut routed mid events new → AreUnanswered events → frames_handled events ≡ []
+  pub unanswered_waits : (old mid new : PortFacts L) (machine : Machine) (did : PortDid) (item : DeskItem) (events : List Event) → Steps facts routed old machine did mid
+      → asked_item (action_of machine did.handled) ≡ Some item → Lives facts routed mid events new → AreUnanswered events → frames_handled events ≡ []
   unanswered_waits old mid new machine did item events steps asked lives unanswered =
       let awaits : mid.machine.awaits ≡ true =
       ap (λ (m : Machine). m.awaits) (steps.turn.handles.machine ∙ ap (λ (m : Machine). machine_after m did.handled) (sym steps.of_port)) ∙ awaits_behind machine did.handled item asked in

@@ -4,7 +4,7 @@ use Rattle.std.proofs.lemmas.List.{append-nil}
 use Rattle.mum_base.specs.declared.number.Cause.{Cause}
 use Rattle.mum_base.specs.declared.number.SessionId.{SessionId}
 use Rattle.mum_io.specs.Counts.{Counts}
-use Rattle.mum_io.specs.Link.{Consumes, Keeps}
+use Rattle.mum_io.specs.Link.{Consumes, Keeps, LinkFacts}
 use Rattle.mum_outbox.specs.Facts.{PassFacts, QueueFacts}
 use Rattle.mum_outbox.specs.declared.parcel.PostParcel.{PostParcel}
 use Rattle.mum_outbox.specs.declared.parcel.VoiceParcel.{VoiceParcel}
@@ -61,41 +61,41 @@ pub at_close-none : (closed : Option Cause) (bytes : List ℕ) → closed ≡ No
 at_close-none None bytes is = refl
 at_close-none (Some cause) bytes is = absurd (cc is)
 
-module _ {L : Type 0} (counts : L → Counts) (left written : L → Option (List ℕ)) (is_shut : L → Bool) where
-  pub settle-same : (was_closed : Bool) (old : PortFacts L) (closed : Option Cause) (new : PortFacts L) → Settles counts left written is_shut was_closed old closed new → closed ≡ None → new ≡ old
+module _ {L : Type 0} (facts : L → LinkFacts) where
+  pub settle-same : (was_closed : Bool) (old : PortFacts L) (closed : Option Cause) (new : PortFacts L) → Settles facts was_closed old closed new → closed ≡ None → new ≡ old
   settle-same was_closed old closed new (inl stays) none = stays.same
   settle-same was_closed old closed new (inr now) none = absurd (cc (sym none ∙ now.so))
 
-  pub settle-empty : (was_closed : Bool) (old : PortFacts L) (closed : Option Cause) (new : PortFacts L) → Settles counts left written is_shut was_closed old closed new
+  pub settle-empty : (was_closed : Bool) (old : PortFacts L) (closed : Option Cause) (new : PortFacts L) → Settles facts was_closed old closed new
       → (cause : Cause) → closed ≡ Some cause → (new.framer.kept ≡ []) × (new.out ≡ [])
   settle-empty was_closed old closed new (inl stays) cause some = absurd (cc (sym stays.so ∙ some))
   settle-empty was_closed old closed new (inr now) cause some = (ap (λ (p : PortFacts L). p.framer.kept) now.closes.rest, ap (λ (p : PortFacts L). p.out) now.closes.rest)
 
-  pub settle-machine : (was_closed : Bool) (old : PortFacts L) (closed : Option Cause) (new : PortFacts L) → Settles counts left written is_shut was_closed old closed new
+  pub settle-machine : (was_closed : Bool) (old : PortFacts L) (closed : Option Cause) (new : PortFacts L) → Settles facts was_closed old closed new
       → (new.machine ≡ old.machine) × (new.waiting ≡ old.waiting) × (new.passes ≡ old.passes)
   settle-machine was_closed old closed new (inl stays) =
       (ap (λ (p : PortFacts L). p.machine) stays.same, ap (λ (p : PortFacts L). p.waiting) stays.same, ap (λ (p : PortFacts L). p.passes) stays.same)
   settle-machine was_closed old closed new (inr now) =
       (ap (λ (p : PortFacts L). p.machine) now.closes.rest, ap (λ (p : PortFacts L). p.waiting) now.closes.rest, ap (λ (p : PortFacts L). p.passes) now.closes.rest)
 
-  pub settle-first : (was_closed : Bool) (old : PortFacts L) (closed : Option Cause) (new : PortFacts L) → Settles counts left written is_shut was_closed old closed new
+  pub settle-first : (was_closed : Bool) (old : PortFacts L) (closed : Option Cause) (new : PortFacts L) → Settles facts was_closed old closed new
       → new.voice_first ≡ old.voice_first
   settle-first was_closed old closed new (inl stays) = ap (λ (p : PortFacts L). p.voice_first) stays.same
   settle-first was_closed old closed new (inr now) = ap (λ (p : PortFacts L). p.voice_first) now.closes.rest
 
-  pub settle-link : (was_closed : Bool) (old : PortFacts L) (closed : Option Cause) (new : PortFacts L) → Settles counts left written is_shut was_closed old closed new
-      → (counts new.link ≡ counts old.link) × Keeps (left old.link) (left new.link) × Keeps (written old.link) (written new.link)
+  pub settle-link : (was_closed : Bool) (old : PortFacts L) (closed : Option Cause) (new : PortFacts L) → Settles facts was_closed old closed new
+      → ((facts new.link).counts ≡ (facts old.link).counts) × Keeps (facts old.link).left (facts new.link).left × Keeps (facts old.link).written (facts new.link).written
   settle-link was_closed old closed new (inl stays) = (
-    ap (λ (p : PortFacts L). counts p.link) stays.same,
-    Keeps-same _ _ (ap (λ (p : PortFacts L). left p.link) stays.same),
-    Keeps-same _ _ (ap (λ (p : PortFacts L). written p.link) stays.same),
+    ap (λ (p : PortFacts L). (facts p.link).counts) stays.same,
+    Keeps-same _ _ (ap (λ (p : PortFacts L). (facts p.link).left) stays.same),
+    Keeps-same _ _ (ap (λ (p : PortFacts L). (facts p.link).written) stays.same),
   )
   settle-link was_closed old closed new (inr now) = (now.closes.shuts.counts_same, now.closes.shuts.left_same, now.closes.shuts.written_same)
 
-module _ {L V : Type 0} {counts : L → Counts} {left written : L → Option (List ℕ)} {is_shut : L → Bool} {routed : V → ℕ → SessionId → List ℕ → V → Type 0}
+module _ {L V : Type 0} {facts : L → LinkFacts} {routed : V → ℕ → SessionId → List ℕ → V → Type 0}
     {posts voices : List QueueFacts} {old : PortFacts L} {desk : PassFacts DeskItem} {router : V} {step : Step}
     {new : PortFacts L} {desk_after : PassFacts DeskItem} {router_after : V}
-    (c : PortChain counts left written is_shut routed posts voices old desk router step new desk_after router_after) where
+    (c : PortChain facts routed posts voices old desk router step new desk_after router_after) where
   -- ---- the link between the parts
 
   pub link_put : c.after_put.link ≡ old.link
@@ -125,17 +125,17 @@ module _ {L V : Type 0} {counts : L → Counts} {left written : L → Option (Li
       ap (λ (l : List ℕ). (handle_part c).unhandled ++ l) lost_none
       ∙ (append-nil (handle_part c).unhandled
       ∙ ((handle_part c).unhandled_kept on.handles_on
-      ∙ (sym (kept_write) ∙ ap (λ (p : PortFacts L). p.framer.kept) (sym (settle-same counts left written is_shut _ _ _ _ c.settles none)))))
+      ∙ (sym (kept_write) ∙ ap (λ (p : PortFacts L). p.framer.kept) (sym (settle-same facts _ _ _ _ c.settles none)))))
 
-  pub reads_in_turn : ReadsInTurn counts left written is_shut old (did_of c) new
+  pub reads_in_turn : ReadsInTurn facts old (did_of c) new
   reads_in_turn = record {
     bytes = all_read ∙ ap (λ (l : List ℕ). bytes_of (frame c) ++ l)
-        (kept_or_dropped c.closed (remains c) new.framer.kept (remains_kept) (λ cause some. (settle-empty counts left written is_shut _ _ _ _ c.settles cause some).0));
+        (kept_or_dropped c.closed (remains c) new.framer.kept (remains_kept) (λ cause some. (settle-empty facts _ _ _ _ c.settles cause some).0));
     lost_at_close = at_close-none c.closed (remains c);
     allowed = λ some. subst (λ (p : PortFacts L). MayRead p) (port_put c) ((read_part c).allowed some);
     consumed = Consumes-keeps _ _ _ (took c)
-        (subst (λ (l : L). Consumes (left l) (left c.after_read.link) (took c)) (link_put) (read_part c).consumed)
-        (Keeps-trans _ _ _ (subst (λ (l : L). Keeps (left l) (left c.after_write.link)) (link_take) (write_part c).left_same) (settle-link counts left written is_shut _ _ _ _ c.settles).1);
+        (subst (λ (l : L). Consumes (facts l).left (facts c.after_read.link).left (took c)) (link_put) (read_part c).consumed)
+        (Keeps-trans _ _ _ (subst (λ (l : L). Keeps (facts l).left (facts c.after_write.link).left) (link_take) (write_part c).left_same) (settle-link facts _ _ _ _ c.settles).1);
   }
 
   -- ---- what was written
@@ -173,18 +173,18 @@ module _ {L V : Type 0} {counts : L → Counts} {left written : L → Option (Li
   unsent_kept : c.closed ≡ None → unsent c ≡ new.out
   unsent_kept none =
       ap (λ (l : List ℕ). c.after_write.out ++ l) ((handle_part c).dropped_none (goes_on c none).handles_on)
-      ∙ (append-nil c.after_write.out ∙ ap (λ (p : PortFacts L). p.out) (sym (settle-same counts left written is_shut _ _ _ _ c.settles none)))
+      ∙ (append-nil c.after_write.out ∙ ap (λ (p : PortFacts L). p.out) (sym (settle-same facts _ _ _ _ c.settles none)))
 
-  pub writes_in_turn : WritesInTurn counts left written is_shut old (did_of c) new
+  pub writes_in_turn : WritesInTurn facts old (did_of c) new
   writes_in_turn = record {
     bytes = all_sent ∙ ap (λ (l : List ℕ). bytes_written c ++ l)
-        (kept_or_dropped c.closed (unsent c) new.out (unsent_kept) (λ cause some. (settle-empty counts left written is_shut _ _ _ _ c.settles cause some).1));
+        (kept_or_dropped c.closed (unsent c) new.out (unsent_kept) (λ cause some. (settle-empty facts _ _ _ _ c.settles cause some).1));
     unsaid_at_close = at_close-none c.closed (unsent c);
     allowed = λ some. false_unless (is_closed old.stage) (λ closed. some (closed_rests c closed).no_write.1);
     appended = Appends-keeps _ _ _ (bytes_written c)
         (Keeps-then_appends _ _ _ (bytes_written c)
-        (subst (λ (l : L). Keeps (written l) (written c.after_take.link)) (link_put)
-        (subst (λ (l : L). Keeps (written c.after_put.link) (written l)) (sym (link_take)) (read_part c).written_same))
+        (subst (λ (l : L). Keeps (facts l).written (facts c.after_take.link).written) (link_put)
+        (subst (λ (l : L). Keeps (facts c.after_put.link).written (facts l).written) (sym (link_take)) (read_part c).written_same))
         (write_part c).appended)
-        (settle-link counts left written is_shut _ _ _ _ c.settles).2;
+        (settle-link facts _ _ _ _ c.settles).2;
   }

@@ -2,6 +2,7 @@
 use Rattle.std.proofs.Common.{◌≡◌, ℕ, Bool, true, false, ◌&&◌, IsTrue, List, Option, Some, None, refl, sym, ap, ◌∙◌, inl, inr, true≢false, ⊎_elim}
 use Rattle.mum_base.specs.declared.number.Cause.{Cause}
 use Rattle.mum_io.specs.Counts.{Counts}
+use Rattle.mum_io.specs.Link.{LinkFacts}
 use Rattle.mum_outbox.specs.Facts.{PassFacts}
 use Rattle.mum_port.specs.Facts.{PortFacts, stage_after_put}
 use Rattle.mum_port.specs.Stage.{after_word, cause_of, closed_for, is_live, stage_by}
@@ -46,10 +47,10 @@ module _ {L : Type 0} where
       stage_after_put-live old.waiting old.stage (sym (ap (λ (p : PortFacts L). p.stage) item.left) ∙ live)
   Puts-live old desk put new after (inr nothing) live = sym (ap (λ (p : PortFacts L). p.stage) nothing.same) ∙ live
 
-module _ {L : Type 0} (counts : L → Counts) (left written : L → Option (List ℕ)) (is_shut : L → Bool) where
+module _ {L : Type 0} (facts : L → LinkFacts) where
   -- a port that was open before its step and met a cause closes for it
   pub settles-closed : (was_closed : Bool) (old : PortFacts L) (closed : Option Cause) (new : PortFacts L) (cause : Cause)
-      → Settles counts left written is_shut was_closed old closed new → was_closed ≡ false → old.stage ≡ closed_for cause → closed ≡ Some cause
+      → Settles facts was_closed old closed new → was_closed ≡ false → old.stage ≡ closed_for cause → closed ≡ Some cause
   settles-closed was_closed old closed new cause (inl stays) was_open met =
       let found : cause_of (settled old.out old.stage) ≡ Some cause = ap (λ (s : Stage). cause_of (settled old.out s)) met in
       ⊎_elim (λ (shut : was_closed ≡ true). absurd (true≢false (sym shut ∙ was_open)))

@@ -5,6 +5,7 @@ use Rattle.mum_base.specs.declared.number.Cause.TheVariants.{End, LinkFault, Fra
 use Rattle.mum_base.specs.declared.number.SessionId.{SessionId}
 use Rattle.mum_frame.specs.declared.frame.Frame.{Frame}
 use Rattle.mum_io.specs.Counts.{Counts}
+use Rattle.mum_io.specs.Link.{LinkFacts}
 use Rattle.mum_outbox.specs.Facts.{PassFacts, QueueFacts}
 use Rattle.mum_outbox.specs.declared.parcel.PostParcel.{PostParcel}
 use Rattle.mum_outbox.specs.declared.parcel.VoiceParcel.{VoiceParcel}
@@ -63,8 +64,8 @@ at_close (Some cause) bytes = bytes
 not_due_closes : (went : Went) (cause : Cause) → went ≡ NotDue → went ≡ Closes cause → {P : Type 0} → P
 not_due_closes went cause is closing = absurd (cc (sym is ∙ closing))
 
-module _ {L : Type 0} (counts : L → Counts) (left written : L → Option (List ℕ)) (is_shut : L → Bool) where
-  may_of_read : (port later : PortFacts L) (cause : Cause) (bytes : List ℕ) → ReadShows counts left written is_shut port later (Closes cause) bytes → MayRead port
+module _ {L : Type 0} (facts : L → LinkFacts) where
+  may_of_read : (port later : PortFacts L) (cause : Cause) (bytes : List ℕ) → ReadShows facts port later (Closes cause) bytes → MayRead port
   may_of_read port later End bytes shown = shown.0
   may_of_read port later LinkFault bytes shown = shown.0
   may_of_read port later FrameTooLong bytes shown = absurd shown
@@ -73,7 +74,7 @@ module _ {L : Type 0} (counts : L → Counts) (left written : L → Option (List
   may_of_read port later Lagged bytes shown = absurd shown
   may_of_read port later Memory bytes shown = shown.0
 
-  may_of_write : (port later : PortFacts L) (cause : Cause) (bytes : List ℕ) → WriteShows counts left written is_shut port later (Closes cause) bytes → IsTrue (may_write port)
+  may_of_write : (port later : PortFacts L) (cause : Cause) (bytes : List ℕ) → WriteShows facts port later (Closes cause) bytes → IsTrue (may_write port)
   may_of_write port later End bytes shown = absurd shown
   may_of_write port later LinkFault bytes shown = shown.0
   may_of_write port later FrameTooLong bytes shown = absurd shown
@@ -82,18 +83,18 @@ module _ {L : Type 0} (counts : L → Counts) (left written : L → Option (List
   may_of_write port later Lagged bytes shown = absurd shown
   may_of_write port later Memory bytes shown = absurd shown
 
-module _ {L V : Type 0} {counts : L → Counts} {left written : L → Option (List ℕ)} {is_shut : L → Bool} {routed : V → ℕ → SessionId → List ℕ → V → Type 0}
+module _ {L V : Type 0} {facts : L → LinkFacts} {routed : V → ℕ → SessionId → List ℕ → V → Type 0}
     {posts voices : List QueueFacts} {old : PortFacts L} {desk : PassFacts DeskItem} {router : V} {step : Step}
     {new : PortFacts L} {desk_after : PassFacts DeskItem} {router_after : V}
-    (c : PortChain counts left written is_shut routed posts voices old desk router step new desk_after router_after) where
+    (c : PortChain facts routed posts voices old desk router step new desk_after router_after) where
   abbrev pub item : Option DeskItem
   item = put_of old desk c.put c.after_put desk_after c.puts
 
   abbrev pub took : List ℕ
-  took = took_of counts left written is_shut c.after_put c.read c.after_read c.reads
+  took = took_of facts c.after_put c.read c.after_read c.reads
 
   abbrev pub lost : List ℕ
-  lost = lost_of counts left written is_shut c.after_put c.read c.after_read c.reads
+  lost = lost_of facts c.after_put c.read c.after_read c.reads
 
   abbrev pub frame : Option Frame
   frame = handled_of routed c.after_read router c.handled c.after_handle router_after c.handles
@@ -105,10 +106,10 @@ module _ {L V : Type 0} {counts : L → Counts} {left written : L → Option (Li
   voice = voice_taken posts voices c.after_handle c.posted c.heard c.after_take c.takes
 
   abbrev pub bytes_written : List ℕ
-  bytes_written = wrote_of counts left written is_shut c.after_take c.wrote c.after_write c.writes
+  bytes_written = wrote_of facts c.after_take c.wrote c.after_write c.writes
 
-  abbrev pub read_part : ReadLeaves counts left written is_shut c.after_put c.read c.after_read (took) (lost)
-  read_part = read-leaves counts left written is_shut c.after_put c.read c.after_read c.reads
+  abbrev pub read_part : ReadLeaves facts c.after_put c.read c.after_read (took) (lost)
+  read_part = read-leaves facts c.after_put c.read c.after_read c.reads
 
   abbrev pub handle_part : HandleLeaves routed c.after_read router c.handled c.after_handle router_after (frame)
   handle_part = handle-leaves routed c.after_read router c.handled c.after_handle router_after c.handles
@@ -116,8 +117,8 @@ module _ {L V : Type 0} {counts : L → Counts} {left written : L → Option (Li
   abbrev pub take_part : ParcelsLeave posts voices c.after_handle c.posted c.heard c.after_take (post) (voice)
   take_part = parcels-leave posts voices c.after_handle c.posted c.heard c.after_take c.takes
 
-  abbrev pub write_part : WriteLeaves counts left written is_shut c.after_take c.wrote c.after_write (bytes_written)
-  write_part = write-leaves counts left written is_shut c.after_take c.wrote c.after_write c.writes
+  abbrev pub write_part : WriteLeaves facts c.after_take c.wrote c.after_write (bytes_written)
+  write_part = write-leaves facts c.after_take c.wrote c.after_write c.writes
 
   -- the bytes that were taken and not handled, and those that were to be written and were not
   abbrev pub remains : List ℕ
@@ -178,7 +179,7 @@ module _ {L V : Type 0} {counts : L → Counts} {left written : L → Option (Li
   rests closed =
       let taken = takes-rest posts voices c.after_handle c.posted c.heard c.after_take c.takes closed in
       let closed_take : is_closed c.after_take.stage ≡ true = ap (λ (p : PortFacts L). is_closed p.stage) taken.2 ∙ closed in
-      let wrote = write-rests counts left written is_shut c.after_take c.wrote c.after_write c.writes closed_take in record {
+      let wrote = write-rests facts c.after_take c.wrote c.after_write c.writes closed_take in record {
         no_post = taken.0;
         no_voice = taken.1;
         no_write = (wrote.0, wrote.1);
@@ -187,13 +188,13 @@ module _ {L V : Type 0} {counts : L → Counts} {left written : L → Option (Li
 
   -- it closes for the cause that it met
   met : (cause : Cause) → c.after_write.stage ≡ closed_for cause → is_closed old.stage ≡ false → c.closed ≡ Some cause
-  met cause is was_open = settles-closed counts left written is_shut (is_closed old.stage) c.after_write c.closed new cause c.settles was_open is
+  met cause is was_open = settles-closed facts (is_closed old.stage) c.after_write c.closed new cause c.settles was_open is
 
   was_open_live : c.after_put.stage ≡ Live → is_closed old.stage ≡ false
   was_open_live live = live-open old.stage (Puts-live old desk c.put c.after_put desk_after c.puts live)
 
   pub record ReadCloses (cause : Cause) : Type 0 where
-    pub shown : ReadShows counts left written is_shut c.after_put c.after_read (Closes cause) (took)
+    pub shown : ReadShows facts c.after_put c.after_read (Closes cause) (took)
     pub not_due : c.handled ≡ NotDue
     pub no_frame : frame ≡ None
     pub resting : Rests
@@ -204,9 +205,9 @@ module _ {L V : Type 0} {counts : L → Counts} {left written : L → Option (Li
 
   pub read_closes : (cause : Cause) → c.read ≡ Closes cause → ReadCloses cause
   read_closes cause is =
-      let shows = subst (λ (w : Went). ReadShows counts left written is_shut c.after_put c.after_read w (took)) is
-      (read-shows counts left written is_shut c.after_put c.read c.after_read c.reads) in
-      let may = may_of_read counts left written is_shut c.after_put c.after_read cause (took) shows in
+      let shows = subst (λ (w : Went). ReadShows facts c.after_put c.after_read w (took)) is
+      (read-shows facts c.after_put c.read c.after_read c.reads) in
+      let may = may_of_read facts c.after_put c.after_read cause (took) shows in
       let live = may-live c.after_put may.ready in
       let stage_read : c.after_read.stage ≡ closed_for cause = (read_part).stage ∙ (ap (λ (w : Went). stage_by w c.after_put.stage) is ∙ ap (λ (s : Stage). stage_by (Closes cause) s) live) in
       let handled = handle-rests routed c.after_read router c.handled c.after_handle router_after c.handles (ap is_closed stage_read) in
@@ -275,7 +276,7 @@ module _ {L V : Type 0} {counts : L → Counts} {left written : L → Option (Li
   pub closed_rests : is_closed old.stage ≡ true → Rests
   closed_rests closed =
       let closed_put : is_closed c.after_put.stage ≡ true = put-closed ∙ closed in
-      let reads = read-rests counts left written is_shut c.after_put c.read c.after_read c.reads closed_put in
+      let reads = read-rests facts c.after_put c.read c.after_read c.reads closed_put in
       let closed_read : is_closed c.after_read.stage ≡ true = ap (λ (p : PortFacts L). is_closed p.stage) reads.1 ∙ closed_put in
       let handles = handle-rests routed c.after_read router c.handled c.after_handle router_after c.handles closed_read in
       rests (ap (λ (p : PortFacts L). is_closed p.stage) handles.2 ∙ closed_read)
@@ -294,15 +295,15 @@ module _ {L V : Type 0} {counts : L → Counts} {left written : L → Option (Li
       (take_part).looked
 
   pub record WriteCloses (cause : Cause) : Type 0 where
-    pub shown : WriteShows counts left written is_shut c.after_take c.after_write (Closes cause) (bytes_written)
+    pub shown : WriteShows facts c.after_take c.after_write (Closes cause) (bytes_written)
     pub stage : c.after_write.stage ≡ closed_for cause
     pub was_open : is_closed old.stage ≡ false
     pub closed : c.closed ≡ Some cause
 
   pub write_closes : (cause : Cause) → closes c.read ≡ None → closes c.handled ≡ None → c.wrote ≡ Closes cause → WriteCloses cause
   write_closes cause reads_on handles_on is =
-      let shows = subst (λ (w : Went). WriteShows counts left written is_shut c.after_take c.after_write w (bytes_written)) is (write_part).shows in
-      let opened = may_write-open c.after_take (may_of_write counts left written is_shut c.after_take c.after_write cause (bytes_written) shows) in
+      let shows = subst (λ (w : Went). WriteShows facts c.after_take c.after_write w (bytes_written)) is (write_part).shows in
+      let opened = may_write-open c.after_take (may_of_write facts c.after_take c.after_write cause (bytes_written) shows) in
       let stage : c.after_write.stage ≡ closed_for cause =
       (write_part).stage ∙ (ap (λ (w : Went). stage_by w c.after_take.stage) is ∙ stage_by-closes cause c.after_take.stage opened) in
       let was_open : is_closed old.stage ≡ false = sym (as_open reads_on handles_on) ∙ opened in record {

@@ -9,7 +9,7 @@ use Rattle.mum_frame.specs.declared.frame.Frame.{Frame}
 use Rattle.mum_frame.specs.Frame.{HasFrame, HasNoFrame, TooLong}
 use Rattle.mum_frame.proofs.Headers.{HasNoFrame-above_limit}
 use Rattle.mum_io.specs.Counts.{Counts, NoneFalls, Rose}
-use Rattle.mum_io.specs.Link.{IsAtEnd}
+use Rattle.mum_io.specs.Link.{IsAtEnd, LinkFacts}
 use Rattle.mum_io.proofs.CountLemmas.{NoneFalls-same, NoneFalls-trans, Rose-earlier, Rose-later}
 use Rattle.mum_outbox.specs.Facts.{PassFacts, QueueFacts}
 use Rattle.mum_port.specs.Did.{bytes_of, port_after_put, stage_kept}
@@ -47,35 +47,35 @@ pub may_same : {L : Type 0} (port later : PortFacts L) → later.stage ≡ port.
     → may_handle later ≡ may_handle port
 may_same port later stage machine waiting out = rw (stage, machine, waiting, out) refl
 
-module _ {L V : Type 0} {counts : L → Counts} {left written : L → Option (List ℕ)} {is_shut : L → Bool} {routed : V → ℕ → SessionId → List ℕ → V → Type 0}
+module _ {L V : Type 0} {facts : L → LinkFacts} {routed : V → ℕ → SessionId → List ℕ → V → Type 0}
     {posts voices : List QueueFacts} {old : PortFacts L} {desk : PassFacts DeskItem} {router : V} {step : Step}
     {new : PortFacts L} {desk_after : PassFacts DeskItem} {router_after : V}
-    (c : PortChain counts left written is_shut routed posts voices old desk router step new desk_after router_after) where
+    (c : PortChain facts routed posts voices old desk router step new desk_after router_after) where
   -- ---- counts
 
-  pub falls_read : NoneFalls (counts old.link) (counts c.after_read.link)
-  falls_read = subst (λ (l : L). NoneFalls (counts l) (counts c.after_read.link)) (link_put c) (read_part c).none_falls
+  pub falls_read : NoneFalls (facts old.link).counts (facts c.after_read.link).counts
+  falls_read = subst (λ (l : L). NoneFalls (facts l).counts (facts c.after_read.link).counts) (link_put c) (read_part c).none_falls
 
-  falls_settle : NoneFalls (counts c.after_write.link) (counts new.link)
-  falls_settle = NoneFalls-same _ _ (settle-link counts left written is_shut _ _ _ _ c.settles).0
+  falls_settle : NoneFalls (facts c.after_write.link).counts (facts new.link).counts
+  falls_settle = NoneFalls-same _ _ (settle-link facts _ _ _ _ c.settles).0
 
-  falls_write : NoneFalls (counts c.after_read.link) (counts c.after_write.link)
-  falls_write = subst (λ (l : L). NoneFalls (counts l) (counts c.after_write.link)) (link_take c) (write_part c).none_falls
+  falls_write : NoneFalls (facts c.after_read.link).counts (facts c.after_write.link).counts
+  falls_write = subst (λ (l : L). NoneFalls (facts l).counts (facts c.after_write.link).counts) (link_take c) (write_part c).none_falls
 
-  pub falls_end : NoneFalls (counts c.after_read.link) (counts new.link)
+  pub falls_end : NoneFalls (facts c.after_read.link).counts (facts new.link).counts
   falls_end = NoneFalls-trans _ _ _ falls_write falls_settle
 
-  pub falls_all : NoneFalls (counts old.link) (counts new.link)
+  pub falls_all : NoneFalls (facts old.link).counts (facts new.link).counts
   falls_all = NoneFalls-trans _ _ _ falls_read falls_end
 
   -- a count that rose in the read, or in the write, has risen in the step
-  pub rose_read : (of : Counts → ℕ) → ((a b : Counts) → NoneFalls a b → of a ≤ of b) → Rose (of (counts c.after_put.link)) (of (counts c.after_read.link)) → Rose (of (counts old.link)) (of (counts new.link))
+  pub rose_read : (of : Counts → ℕ) → ((a b : Counts) → NoneFalls a b → of a ≤ of b) → Rose (of (facts c.after_put.link).counts) (of (facts c.after_read.link).counts) → Rose (of (facts old.link).counts) (of (facts new.link).counts)
   rose_read of rises rose =
-      Rose-later _ _ _ (subst (λ (l : L). Rose (of (counts l)) (of (counts c.after_read.link))) (link_put c) rose) (rises _ _ falls_end)
+      Rose-later _ _ _ (subst (λ (l : L). Rose (of (facts l).counts) (of (facts c.after_read.link).counts)) (link_put c) rose) (rises _ _ falls_end)
 
-  pub rose_write : (of : Counts → ℕ) → ((a b : Counts) → NoneFalls a b → of a ≤ of b) → Rose (of (counts c.after_take.link)) (of (counts c.after_write.link)) → Rose (of (counts old.link)) (of (counts new.link))
+  pub rose_write : (of : Counts → ℕ) → ((a b : Counts) → NoneFalls a b → of a ≤ of b) → Rose (of (facts c.after_take.link).counts) (of (facts c.after_write.link).counts) → Rose (of (facts old.link).counts) (of (facts new.link).counts)
   rose_write of rises rose =
-      Rose-later _ _ _ (Rose-earlier _ _ _ (rises _ _ falls_read) (subst (λ (l : L). Rose (of (counts l)) (of (counts c.after_write.link))) (link_take c) rose)) (rises _ _ falls_settle)
+      Rose-later _ _ _ (Rose-earlier _ _ _ (rises _ _ falls_read) (subst (λ (l : L). Rose (of (facts l).counts) (of (facts c.after_write.link).counts)) (link_take c) rose)) (rises _ _ falls_settle)
 
   -- ---- what a close drops
 
@@ -98,7 +98,7 @@ module _ {L V : Type 0} {counts : L → Counts} {left written : L → Option (Li
 
   -- ---- each cause
 
-  shown_by_read : (cause : Cause) → ReadCloses c cause → ShowsCause counts left written is_shut old (did_of c) new cause
+  shown_by_read : (cause : Cause) → ReadCloses c cause → ShowsCause facts old (did_of c) new cause
   shown_by_read End reads =
       let same : old.framer.kept ≡ at_close c.closed (remains c) = remains_old reads.no_frame reads.shown.1 ∙ sym (dropped_bytes End reads.closed) in
       let none : HasNoFrame old.framer.kept = subst (λ (p : PortFacts L). HasNoFrame p.framer.kept) (port_put c) reads.shown.0.no_frame in (
@@ -106,7 +106,7 @@ module _ {L V : Type 0} {counts : L → Counts} {left written : L → Option (Li
         reads.no_frame,
         reads.shown.1,
         subst HasNoFrame same none,
-        subst (λ (l : L). IsAtEnd (left l)) (link_put c) reads.shown.3,
+        subst (λ (l : L). IsAtEnd (facts l).left) (link_put c) reads.shown.3,
       )
   shown_by_read LinkFault reads = rose_read (λ (k : Counts). k.faults) (λ a b falls. falls.faults) reads.shown.1
   shown_by_read FrameTooLong reads = absurd reads.shown
@@ -132,7 +132,7 @@ module _ {L V : Type 0} {counts : L → Counts} {left written : L → Option (Li
       ∙ (ap (λ (l : List ℕ). c.after_read.framer.kept ++ l) ((read_part c).lost_none reads_on) ∙ append-nil c.after_read.framer.kept)))) in
       inr (may_before reads_on handles.may, subst HasFrame (sym same) handles.shown)
 
-  shown_by_handle : (cause : Cause) → closes c.read ≡ None → HandleCloses c cause → ShowsCause counts left written is_shut old (did_of c) new cause
+  shown_by_handle : (cause : Cause) → closes c.read ≡ None → HandleCloses c cause → ShowsCause facts old (did_of c) new cause
   shown_by_handle End reads_on handles = absurd handles.shown
   shown_by_handle LinkFault reads_on handles = absurd handles.shown
   shown_by_handle FrameTooLong reads_on handles =
@@ -144,7 +144,7 @@ module _ {L V : Type 0} {counts : L → Counts} {left written : L → Option (Li
   shown_by_handle Lagged reads_on handles = absurd handles.shown
   shown_by_handle Memory reads_on handles = used_memory (took c) refl reads_on handles
 
-  shown_by_write : (cause : Cause) → WriteCloses c cause → ShowsCause counts left written is_shut old (did_of c) new cause
+  shown_by_write : (cause : Cause) → WriteCloses c cause → ShowsCause facts old (did_of c) new cause
   shown_by_write End writes = absurd writes.shown
   shown_by_write LinkFault writes = rose_write (λ (k : Counts). k.faults) (λ a b falls. falls.faults) writes.shown.1
   shown_by_write FrameTooLong writes = absurd writes.shown
@@ -154,7 +154,7 @@ module _ {L V : Type 0} {counts : L → Counts} {left written : L → Option (Li
   shown_by_write Memory writes = absurd writes.shown
 
   shown_by_parting : (parting : Parting) → stage_kept old (did_of c) ≡ Ending parting → at_close c.closed (unsent c) ≡ []
-      → ShowsCause counts left written is_shut old (did_of c) new (parting_cause parting)
+      → ShowsCause facts old (did_of c) new (parting_cause parting)
   shown_by_parting partings.Rejected stage none = (stage, none)
   shown_by_parting partings.Kicked stage none = (stage, none)
 
@@ -165,11 +165,11 @@ module _ {L V : Type 0} {counts : L → Counts} {left written : L → Option (Li
 
   -- it met nothing, so it was to end, and wrote all
   shown_at_end : (cause : Cause) (stage : Stage) → c.closed ≡ Some cause → is_closed old.stage ≡ false → GoesOn c → c.after_write.stage ≡ stage
-      → cause_of (settled c.after_write.out c.after_write.stage) ≡ Some cause → ShowsCause counts left written is_shut old (did_of c) new cause
+      → cause_of (settled c.after_write.out c.after_write.stage) ≡ Some cause → ShowsCause facts old (did_of c) new cause
   shown_at_end cause Live closed was_open on is by = absurd (cc (sym by ∙ ap (λ (s : Stage). cause_of (settled c.after_write.out s)) is))
   shown_at_end cause (Ending parting) closed was_open on is by =
       let so = ended_so c.after_write.out parting cause (sym (ap (λ (s : Stage). cause_of (settled c.after_write.out s)) is) ∙ by) in
-      subst (λ (x : Cause). ShowsCause counts left written is_shut old (did_of c) new x) (sym so.0)
+      subst (λ (x : Cause). ShowsCause facts old (did_of c) new x) (sym so.0)
       (shown_by_parting parting (sym (stage_end c on.reads_on on.handles_on on.writes_on) ∙ is) (unsent_none cause closed on.handles_on so.1))
   shown_at_end cause (Closed before farewell) closed was_open on is by =
       let shut : is_closed c.after_write.stage ≡ true = ap is_closed is in
@@ -181,15 +181,15 @@ module _ {L V : Type 0} {counts : L → Counts} {left written : L → Option (Li
   same_cause cause other one two = cc (sym one ∙ two)
 
   shown : (cause : Cause) → c.closed ≡ Some cause → is_closed old.stage ≡ false → cause_of (settled c.after_write.out c.after_write.stage) ≡ Some cause
-      → ShowsCause counts left written is_shut old (did_of c) new cause
+      → ShowsCause facts old (did_of c) new cause
   shown cause closed was_open by = by_way (way c)
     where
-      by_way : Way c → ShowsCause counts left written is_shut old (did_of c) new cause
-      by_way (inl (other, reads)) = subst (λ (x : Cause). ShowsCause counts left written is_shut old (did_of c) new x) (same_cause other cause reads.closed closed) (shown_by_read other reads)
+      by_way : Way c → ShowsCause facts old (did_of c) new cause
+      by_way (inl (other, reads)) = subst (λ (x : Cause). ShowsCause facts old (did_of c) new x) (same_cause other cause reads.closed closed) (shown_by_read other reads)
       by_way (inr (inl (other, reads_on, handles))) =
-          subst (λ (x : Cause). ShowsCause counts left written is_shut old (did_of c) new x) (same_cause other cause handles.closed closed) (shown_by_handle other reads_on handles)
+          subst (λ (x : Cause). ShowsCause facts old (did_of c) new x) (same_cause other cause handles.closed closed) (shown_by_handle other reads_on handles)
       by_way (inr (inr (inl (other, reads_on, handles_on, writes)))) =
-          subst (λ (x : Cause). ShowsCause counts left written is_shut old (did_of c) new x) (same_cause other cause writes.closed closed) (shown_by_write other writes)
+          subst (λ (x : Cause). ShowsCause facts old (did_of c) new x) (same_cause other cause writes.closed closed) (shown_by_write other writes)
       by_way (inr (inr (inr on))) = shown_at_end cause c.after_write.stage closed was_open on refl by
 
   -- ---- the end of the step
@@ -206,20 +206,20 @@ module _ {L V : Type 0} {counts : L → Counts} {left written : L → Option (Li
       subst (λ (p : PortFacts L). 0 < length p.out) (sym same)
       (ending_keeps c.after_write.out parting (sym (ap (λ (s : Stage). cause_of (settled c.after_write.out s)) stage) ∙ none))
 
-  shut_before : is_shut c.after_write.link ≡ is_shut old.link
+  shut_before : (facts c.after_write.link).is_shut ≡ (facts old.link).is_shut
   shut_before =
-      (write_part c).shut_same ∙ (ap is_shut (link_take c) ∙ ((read_part c).shut_same ∙ ap is_shut (link_put c)))
+      (write_part c).shut_same ∙ (ap (λ (l : L). (facts l).is_shut) (link_take c) ∙ ((read_part c).shut_same ∙ ap (λ (l : L). (facts l).is_shut) (link_put c)))
 
-  pub settled_in_turn : Settles counts left written is_shut (is_closed old.stage) c.after_write c.closed new → Settled counts left written is_shut old (did_of c) new c.closed
+  pub settled_in_turn : Settles facts (is_closed old.stage) c.after_write c.closed new → Settled facts old (did_of c) new c.closed
   settled_in_turn (inl stays) =
       let on = goes_on c stays.so in
-      subst (λ (x : Option Cause). Settled counts left written is_shut old (did_of c) new x) (sym stays.so) (record {
+      subst (λ (x : Option Cause). Settled facts old (did_of c) new x) (sym stays.so) (record {
         stage = ap (λ (p : PortFacts L). p.stage) stays.same ∙ stage_end c on.reads_on on.handles_on on.writes_on;
-        shut_same = ap (λ (p : PortFacts L). is_shut p.link) stays.same ∙ shut_before;
+        shut_same = ap (λ (p : PortFacts L). (facts p.link).is_shut) stays.same ∙ shut_before;
         unwritten = λ parting ending. ending_stays parting on stays.same stays.why ending;
       })
   settled_in_turn (inr now) =
-      subst (λ (x : Option Cause). Settled counts left written is_shut old (did_of c) new x) (sym now.so) (record {
+      subst (λ (x : Option Cause). Settled facts old (did_of c) new x) (sym now.so) (record {
         was_open = now.was_open;
         shown = shown now.cause now.so now.was_open now.by;
         stage = ap (λ (p : PortFacts L). p.stage) now.closes.rest;

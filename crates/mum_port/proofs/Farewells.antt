@@ -7,6 +7,7 @@ use Rattle.mum_base.specs.declared.reply.ReplyEnd.{ReplyEnd}
 use Rattle.mum_base.specs.declared.reply.ReplyEnd.TheVariants as ends
 use Rattle.mum_frame.specs.declared.frame.Frame.{Frame}
 use Rattle.mum_io.specs.Counts.{Counts}
+use Rattle.mum_io.specs.Link.{LinkFacts}
 use Rattle.mum_session.specs.Machine.{Machine, session_of}
 use Rattle.mum_session.specs.declared.action.Action.{Action}
 use Rattle.mum_session.specs.declared.action.Action.TheVariants.{Ask, Voice, Echo, Keep, Ignore}
@@ -139,18 +140,18 @@ module _ {L : Type 0} where
   stays_so : (old new : PortFacts L) (put asked : List DeskItem) → DeskSo old put asked → new ≡ old → DeskSo new put asked
   stays_so old new put asked so same = subst (λ (p : PortFacts L). DeskSo p put asked) (sym same) so
 
-module _ {L V : Type 0} (counts : L → Counts) (left written : L → Option (List ℕ)) (is_shut : L → Bool) (routed : V → ℕ → SessionId → List ℕ → V → Type 0) where
+module _ {L V : Type 0} (facts : L → LinkFacts) (routed : V → ℕ → SessionId → List ℕ → V → Type 0) where
   -- an open port comes to no word of its farewell in a step
-  open_step : (old : PortFacts L) (did : PortDid) (new : PortFacts L) (closed : Option Cause) → Settled counts left written is_shut old did new closed → is_closed old.stage ≡ false → has_left new.stage ≡ false
+  open_step : (old : PortFacts L) (did : PortDid) (new : PortFacts L) (closed : Option Cause) → Settled facts old did new closed → is_closed old.stage ≡ false → has_left new.stage ≡ false
   open_step old did new None stays opened =
       open-stays new.stage (ap is_closed stays.stage ∙ after_post-open (is_last (session_of old.machine.stage) did.post) _ (stage_once_put-closed did.put old.waiting old.stage ∙ opened))
   open_step old did new (Some cause) closes opened = ap has_left closes.stage
 
   -- the words that were said, by the stage once the put was made
-  words_step : (old : PortFacts L) (machine : Machine) (did : PortDid) (new : PortFacts L) (closed : Bool) → is_closed old.stage ≡ closed → Steps counts left written is_shut routed old machine did new
+  words_step : (old : PortFacts L) (machine : Machine) (did : PortDid) (new : PortFacts L) (closed : Bool) → is_closed old.stage ≡ closed → Steps facts routed old machine did new
       → (words_said new.machine new.stage ≡ words_said old.machine (stage_once_put did.put old.waiting old.stage)) × (has_left new.stage ≡ true → new.waiting ≡ waiting_after_put did.put old.waiting × (new.stage ≡ stage_once_put did.put old.waiting old.stage))
   words_step old machine did new true closed steps =
-      let rests = quiet counts left written is_shut routed old machine did new steps closed in (
+      let rests = quiet facts routed old machine did new steps closed in (
         ap (λ (s : Stage). words_said new.machine s) rests.stage ∙ ap (λ (m : Machine). words_said m (stage_once_put did.put old.waiting old.stage)) rests.machine,
         λ said. (steps.turn.puts.waiting ∙ ap (λ (f : Option Frame). waiting_after (action_of old.machine f) (waiting_after_put did.put old.waiting)) rests.no_frame, rests.stage),
       )
@@ -165,7 +166,7 @@ module _ {L V : Type 0} (counts : L → Counts) (left written : L → Option (Li
   rests_put (Some item) waiting stage rests said = refl
   rests_put None waiting stage rests said = rests said
 
-  step_so : (old : PortFacts L) (machine : Machine) (did : PortDid) (new : PortFacts L) (put asked : List DeskItem) → DeskSo old put asked → Steps counts left written is_shut routed old machine did new
+  step_so : (old : PortFacts L) (machine : Machine) (did : PortDid) (new : PortFacts L) (put asked : List DeskItem) → DeskSo old put asked → Steps facts routed old machine did new
       → DeskSo new (put ++ and_item did.put []) (asked ++ and_item (asked_item (action_of machine did.handled)) [])
   step_so old machine did new put asked so steps =
       let placed = put_so did.put old.waiting old.machine old.stage put asked so.commands steps.turn.puts.due so.put_is so.asked_is so.rests in
@@ -181,7 +182,7 @@ module _ {L V : Type 0} (counts : L → Counts) (left written : L → Option (Li
         rests = λ said. (words.1 said).0 ∙ rests_put did.put old.waiting old.stage so.rests (sym (ap has_left (words.1 said).1) ∙ said);
       }
 
-  pub life_so : (old : PortFacts L) (events : List Event) (new : PortFacts L) (put asked : List DeskItem) → DeskSo old put asked → Lives counts left written is_shut routed old events new
+  pub life_so : (old : PortFacts L) (events : List Event) (new : PortFacts L) (put asked : List DeskItem) → DeskSo old put asked → Lives facts routed old events new
       → DeskSo new (put ++ items_put events) (asked ++ items_asked events)
   life_so old [] new put asked so same =
       subst (λ (l : List DeskItem). DeskSo new l (asked ++ [])) (sym (append-nil put)) (subst (λ (l : List DeskItem). DeskSo new put l) (sym (append-nil asked)) (stays_so old new put asked so same))
@@ -199,7 +200,7 @@ module _ {L V : Type 0} (counts : L → Counts) (left written : L → Option (Li
   life_so old (lagged cause ∷ events) new put asked so (mid, inr lags, lives) =
       life_so mid events new put asked (moves old mid put asked so (open-stays old.stage lags.0) (ap (λ (p : PortFacts L). has_left p.stage) lags.2.rest) (ap (λ (p : PortFacts L). p.waiting) lags.2.rest)) lives
 
-  pub put_once : (connection worker : ℕ) (link : L) (events : List Event) (port : PortFacts L) → Lives counts left written is_shut routed (new_port connection worker link) events port
+  pub put_once : (connection worker : ℕ) (link : L) (events : List Event) (port : PortFacts L) → Lives facts routed (new_port connection worker link) events port
       → (commands : List DeskItem) × (items_put events ≡ commands ++ words_said port.machine port.stage) × (items_asked events ≡ commands ++ and_item port.waiting [])
   put_once connection worker link events port lives =
       let so = life_so (new_port connection worker link) events port [] [] (record { commands = []; put_is = refl; asked_is = refl; rests = λ said. absurd (true≢false (sym said)) }) lives in

@@ -9,6 +9,7 @@ use Rattle.mum_frame.specs.declared.frame.Frame.{Frame}
 use Rattle.mum_frame.specs.Frame.{HasNoFrame, IsFrame, TooLong}
 use Rattle.mum_frame.proofs.Headers.{HasNoFrame-above_limit}
 use Rattle.mum_io.specs.Counts.{Counts, Rose}
+use Rattle.mum_io.specs.Link.{LinkFacts}
 use Rattle.mum_outbox.specs.Facts.{PassFacts, QueueFacts}
 use Rattle.mum_outbox.specs.declared.parcel.PostParcel.{PostParcel}
 use Rattle.mum_outbox.specs.declared.parcel.VoiceParcel.{VoiceParcel}
@@ -60,28 +61,28 @@ worked-closes (Closes cause) idle = absurd (true≢false idle)
 
 -- ---- what an idle part shows
 
-module _ {L : Type 0} (counts : L → Counts) (left written : L → Option (List ℕ)) (is_shut : L → Bool) where
-  read_idle : (old new : PortFacts L) (went : Went) (took : List ℕ) → has_worked went ≡ false → ReadShows counts left written is_shut old new went took
-      → (took ≡ []) × (MayRead old → Rose (counts old.link).stalls (counts new.link).stalls)
+module _ {L : Type 0} (facts : L → LinkFacts) where
+  read_idle : (old new : PortFacts L) (went : Went) (took : List ℕ) → has_worked went ≡ false → ReadShows facts old new went took
+      → (took ≡ []) × (MayRead old → Rose (facts old.link).counts.stalls (facts new.link).counts.stalls)
   read_idle old new NotDue bytes idle shows = (shows.0, λ may. absurd (shows.2 may))
   read_idle old new Stalled bytes idle shows = (shows.0, λ may. shows.1)
   read_idle old new Worked bytes idle shows = absurd (true≢false idle)
   read_idle old new (Closes cause) bytes idle shows = absurd (true≢false idle)
 
-  write_idle : (old new : PortFacts L) (went : Went) (wrote : List ℕ) → has_worked went ≡ false → WriteShows counts left written is_shut old new went wrote
-      → (wrote ≡ []) × (IsTrue (may_write old) → Rose (counts old.link).stalls (counts new.link).stalls)
+  write_idle : (old new : PortFacts L) (went : Went) (wrote : List ℕ) → has_worked went ≡ false → WriteShows facts old new went wrote
+      → (wrote ≡ []) × (IsTrue (may_write old) → Rose (facts old.link).counts.stalls (facts new.link).counts.stalls)
   write_idle old new NotDue bytes idle shows = (shows.0, λ may. absurd (shows.2 may))
   write_idle old new Stalled bytes idle shows = (shows.0, λ may. shows.1)
   write_idle old new Worked bytes idle shows = absurd (true≢false idle)
   write_idle old new (Closes cause) bytes idle shows = absurd (true≢false idle)
 
-  read_worked : (old new : PortFacts L) (went : Went) (took : List ℕ) → ReadShows counts left written is_shut old new went took → closes went ≡ None → took ≡ [] → has_worked went ≡ false
+  read_worked : (old new : PortFacts L) (went : Went) (took : List ℕ) → ReadShows facts old new went took → closes went ≡ None → took ≡ [] → has_worked went ≡ false
   read_worked old new NotDue bytes shows on none = refl
   read_worked old new Stalled bytes shows on none = refl
   read_worked old new Worked bytes shows on none = absurd (shows none)
   read_worked old new (Closes cause) bytes shows on none = absurd (cc on)
 
-  write_worked : (old new : PortFacts L) (went : Went) (wrote : List ℕ) → WriteShows counts left written is_shut old new went wrote → closes went ≡ None → wrote ≡ [] → has_worked went ≡ false
+  write_worked : (old new : PortFacts L) (went : Went) (wrote : List ℕ) → WriteShows facts old new went wrote → closes went ≡ None → wrote ≡ [] → has_worked went ≡ false
   write_worked old new NotDue bytes shows on none = refl
   write_worked old new Stalled bytes shows on none = refl
   write_worked old new Worked bytes shows on none = absurd (shows none)
@@ -132,10 +133,10 @@ may_write_same : {L : Type 0} (later port : PortFacts L) → later.stage ≡ por
 may_write_same later port stage out = rw (stage, out) refl
 
 -- where a length above the limit is kept nothing is read, and the port closes for it
-unread : {L : Type 0} (counts : L → Counts) (left written : L → Option (List ℕ)) (is_shut : L → Bool) (old : PortFacts L) (went : Went) (new : PortFacts L)
-    → Reads counts left written is_shut old went new → TooLong old.framer.kept → (went ≡ NotDue) × (new ≡ old)
-unread counts left written is_shut old went new (inl never) above = (never.so, never.same)
-unread counts left written is_shut old went new (inr once) above = absurd (once.allowed.not_too_long above)
+unread : {L : Type 0} (facts : L → LinkFacts) (old : PortFacts L) (went : Went) (new : PortFacts L)
+    → Reads facts old went new → TooLong old.framer.kept → (went ≡ NotDue) × (new ≡ old)
+unread facts old went new (inl never) above = (never.so, never.same)
+unread facts old went new (inr once) above = absurd (once.allowed.not_too_long above)
 
 refuses_shown : {V : Type 0} (routed : V → ℕ → SessionId → List ℕ → V → Type 0) (kept unhandled : List ℕ) (frame : Option Frame) (went : Went) → TooLong kept
     → ((f : Frame) → frame ≡ Some f → IsFrame f) → kept ≡ bytes_of frame ++ unhandled → HandleShows routed kept frame went → went ≡ Closes FrameTooLong
@@ -157,10 +158,10 @@ refuses : {L V : Type 0} (routed : V → ℕ → SessionId → List ℕ → V �
 refuses routed old frame went new unhandled may above whole bytes (inl never) = absurd (never.3 may)
 refuses routed old frame went new unhandled may above whole bytes (inr due) = refuses_shown routed old.framer.kept unhandled frame went above whole bytes due.1
 
-module _ {L V : Type 0} {counts : L → Counts} {left written : L → Option (List ℕ)} {is_shut : L → Bool} {routed : V → ℕ → SessionId → List ℕ → V → Type 0}
+module _ {L V : Type 0} {facts : L → LinkFacts} {routed : V → ℕ → SessionId → List ℕ → V → Type 0}
     {posts voices : List QueueFacts} {old : PortFacts L} {desk : PassFacts DeskItem} {router : V} {step : Step}
     {new : PortFacts L} {desk_after : PassFacts DeskItem} {router_after : V}
-    (c : PortChain counts left written is_shut routed posts voices old desk router step new desk_after router_after) where
+    (c : PortChain facts routed posts voices old desk router step new desk_after router_after) where
   pub record AllIdle : Type 0 where
     pub put_idle : c.put ≡ false
     pub read_idle : has_worked c.read ≡ false
@@ -194,14 +195,14 @@ module _ {L V : Type 0} {counts : L → Counts} {left written : L → Option (Li
   put_same : item c ≡ None → c.after_put ≡ old
   put_same none = port_put c ∙ ap (λ (i : Option DeskItem). port_after_put i old) none
 
-  read_so : (idle : AllIdle) → (took c ≡ []) × (MayRead c.after_put → Rose (counts c.after_put.link).stalls (counts c.after_read.link).stalls)
-  read_so idle = read_idle counts left written is_shut c.after_put c.after_read c.read (took c) idle.read_idle (read-shows counts left written is_shut c.after_put c.read c.after_read c.reads)
+  read_so : (idle : AllIdle) → (took c ≡ []) × (MayRead c.after_put → Rose (facts c.after_put.link).counts.stalls (facts c.after_read.link).counts.stalls)
+  read_so idle = read_idle facts c.after_put c.after_read c.read (took c) idle.read_idle (read-shows facts c.after_put c.read c.after_read c.reads)
 
   handle_so : (idle : AllIdle) → (frame c ≡ None) × (IsTrue (may_handle c.after_read) → HasNoFrame c.after_read.framer.kept × ¬ TooLong c.after_read.framer.kept)
   handle_so idle = handle_idle routed c.after_read (frame c) c.handled c.after_handle idle.handled_idle (handle_part c).shows
 
-  write_so : (idle : AllIdle) → (bytes_written c ≡ []) × (IsTrue (may_write c.after_take) → Rose (counts c.after_take.link).stalls (counts c.after_write.link).stalls)
-  write_so idle = write_idle counts left written is_shut c.after_take c.after_write c.wrote (bytes_written c) idle.wrote_idle (write_part c).shows
+  write_so : (idle : AllIdle) → (bytes_written c ≡ []) × (IsTrue (may_write c.after_take) → Rose (facts c.after_take.link).counts.stalls (facts c.after_write.link).counts.stalls)
+  write_so idle = write_idle facts c.after_take c.after_write c.wrote (bytes_written c) idle.wrote_idle (write_part c).shows
 
   none_post : AllIdle → post c ≡ None
   none_post idle = (take_part c).post_idle idle.posted_idle
@@ -268,10 +269,10 @@ module _ {L V : Type 0} {counts : L → Counts} {left written : L → Option (Li
       subst (λ (s : Option Passes). FindBoxesEmpty posts voices s c.after_take.passes) (passes_handle c)
       ((take_part c).empty session (taking_same c.after_handle old (stage_idle idle) (out_idle idle) (session_handle c) ∙ looks) (none_post idle) (none_voice idle))
 
-  pub is_idle : step.worked ≡ false → IsIdle counts left written is_shut posts voices old desk (did_of c) new desk_after
+  pub is_idle : step.worked ≡ false → IsIdle facts posts voices old desk (did_of c) new desk_after
   is_idle worked =
       let idle = all_idle worked in
-      let same = settle-same counts left written is_shut _ _ _ _ c.settles idle.open_still in
+      let same = settle-same facts _ _ _ _ c.settles idle.open_still in
       let put = put_same (none_put idle) in
       let waiting_end : c.after_write.waiting ≡ old.waiting =
       (write_part c).waiting ∙ ((take_part c).waiting ∙ ((handle_part c).waiting
@@ -305,9 +306,9 @@ module _ {L V : Type 0} {counts : L → Counts} {left written : L → Option (Li
   still-idle none =
       let on = goes_on c (ap (λ (d : PortDid). d.closed) none) in
       let put = took_none c.put (λ is. put-some old desk c.put c.after_put desk_after c.puts is (ap (λ (d : PortDid). d.put) none)) in
-      let read = read_worked counts left written is_shut c.after_put c.after_read c.read (took c) (read-shows counts left written is_shut c.after_put c.read c.after_read c.reads) on.reads_on (ap (λ (d : PortDid). d.took) none) in
+      let read = read_worked facts c.after_put c.after_read c.read (took c) (read-shows facts c.after_put c.read c.after_read c.reads) on.reads_on (ap (λ (d : PortDid). d.took) none) in
       let handled = handle_worked routed c.after_read (frame c) c.handled c.after_handle (handle_part c).shows on.handles_on (ap (λ (d : PortDid). d.handled) none) in
-      let wrote = write_worked counts left written is_shut c.after_take c.after_write c.wrote (bytes_written c) (write_part c).shows on.writes_on (ap (λ (d : PortDid). d.wrote) none) in
+      let wrote = write_worked facts c.after_take c.after_write c.wrote (bytes_written c) (write_part c).shows on.writes_on (ap (λ (d : PortDid). d.wrote) none) in
       let posted = took_none (has_taken c.posted) (λ is. (take_part c).post_worked is (ap (λ (d : PortDid). d.post) none)) in
       let heard = took_none (has_taken c.heard) (λ is. (take_part c).voice_worked is (ap (λ (d : PortDid). d.voice) none)) in
       let closed = ap (λ (d : PortDid). d.closed) none in
@@ -325,7 +326,7 @@ module _ {L V : Type 0} {counts : L → Counts} {left written : L → Option (Li
       let waits = none_of old.waiting (and-left (is_none old.waiting) _ (and-right (not old.machine.awaits) _ (and-right (is_live old.stage) _ may))) in
       let due : due_item old ≡ None = rw (waits, live) refl in
       let put : c.after_put ≡ old = put_same (none_item (item c) refl due) in
-      let reads : (c.read ≡ NotDue) × (c.after_read ≡ c.after_put) = unread counts left written is_shut c.after_put c.read c.after_read c.reads (subst (λ (p : PortFacts L). TooLong p.framer.kept) (sym put) above) in
+      let reads : (c.read ≡ NotDue) × (c.after_read ≡ c.after_put) = unread facts c.after_put c.read c.after_read c.reads (subst (λ (p : PortFacts L). TooLong p.framer.kept) (sym put) above) in
       let read_same : c.after_read ≡ old = reads.1 ∙ put in
       let kept : TooLong c.after_read.framer.kept = subst (λ (p : PortFacts L). TooLong p.framer.kept) (sym read_same) above in
       let may_read_now : IsTrue (may_handle c.after_read) = subst (λ (p : PortFacts L). IsTrue (may_handle p)) (sym read_same) may in

@@ -8,6 +8,7 @@ use Rattle.mum_base.specs.declared.number.SessionId.{SessionId}
 use Rattle.mum_frame.specs.declared.frame.Frame.{Frame}
 use Rattle.mum_frame.specs.Frame.{IsFrame, frame_spelling}
 use Rattle.mum_io.specs.Counts.{Counts}
+use Rattle.mum_io.specs.Link.{LinkFacts}
 use Rattle.mum_outbox.specs.declared.parcel.PostParcel.{PostParcel}
 use Rattle.mum_session.specs.Machine.{Machine, session_of}
 use Rattle.mum_port.specs.Did.{PortDid, bytes_of, is_last, machine_after, port_after_put, queued, stage_once_put}
@@ -46,7 +47,7 @@ then_balance old one mid left rest more kept first next =
     ∙ (ap (λ (l : List ℕ). l ++ more) first
     ∙ (append_assoc left mid more ∙ (ap (λ (l : List ℕ). left ++ l) next ∙ sym (append_assoc left rest kept))))
 
-module _ {L V : Type 0} (counts : L → Counts) (left written : L → Option (List ℕ)) (is_shut : L → Bool) (routed : V → ℕ → SessionId → List ℕ → V → Type 0) where
+module _ {L V : Type 0} (facts : L → LinkFacts) (routed : V → ℕ → SessionId → List ℕ → V → Type 0) where
   -- ---- a port that is closed
 
   -- a step of a closed port handles, takes and writes nothing
@@ -63,12 +64,12 @@ module _ {L V : Type 0} (counts : L → Counts) (left written : L → Option (Li
       let live = may-live (port_after_put did.put old) may in
       absurd (true≢false (sym (stage_once_put-closed did.put old.waiting old.stage ∙ closed) ∙ live-open _ live))
 
-  no_close_of : (old : PortFacts L) (did : PortDid) (new : PortFacts L) (closed : Option Cause) → is_closed old.stage ≡ true → Settled counts left written is_shut old did new closed
-      → (closed ≡ None) × StaysInTurn counts left written is_shut old did new
+  no_close_of : (old : PortFacts L) (did : PortDid) (new : PortFacts L) (closed : Option Cause) → is_closed old.stage ≡ true → Settled facts old did new closed
+      → (closed ≡ None) × StaysInTurn facts old did new
   no_close_of old did new None was stays = (refl, stays)
   no_close_of old did new (Some cause) was closes = absurd (true≢false (sym was ∙ closes.was_open))
 
-  pub quiet : (old : PortFacts L) (machine : Machine) (did : PortDid) (new : PortFacts L) → Steps counts left written is_shut routed old machine did new → is_closed old.stage ≡ true → Quiet old did new
+  pub quiet : (old : PortFacts L) (machine : Machine) (did : PortDid) (new : PortFacts L) → Steps facts routed old machine did new → is_closed old.stage ≡ true → Quiet old did new
   quiet old machine did new steps closed =
       let no_frame : did.handled ≡ None = none_there did.handled (λ f is. closed_may-not old did closed (steps.turn.handles.allowed f is)) in
       let no_bytes : did.took ≡ [] = empty_there did.took (λ some. closed_may-not old did closed (steps.turn.reads.allowed some).ready) in
@@ -87,7 +88,7 @@ module _ {L V : Type 0} (counts : L → Counts) (left written : L → Option (Li
   quiet-closed old did new quiet closed = ap is_closed quiet.stage ∙ (stage_once_put-closed did.put old.waiting old.stage ∙ closed)
 
   -- whatever happens, it takes, handles and writes nothing, and stays closed
-  pub closed_life : (old : PortFacts L) (events : List Event) (new : PortFacts L) → Lives counts left written is_shut routed old events new → is_closed old.stage ≡ true
+  pub closed_life : (old : PortFacts L) (events : List Event) (new : PortFacts L) → Lives facts routed old events new → is_closed old.stage ≡ true
       → (bytes_taken events ≡ []) × (frames_handled events ≡ []) × (bytes_written events ≡ []) × (is_closed new.stage ≡ true)
   closed_life old [] new same closed = (refl, refl, refl, ap (λ (p : PortFacts L). is_closed p.stage) same ∙ closed)
   closed_life old (stepped machine did ∷ events) new (mid, steps, lives) closed =
@@ -124,8 +125,8 @@ module _ {L V : Type 0} (counts : L → Counts) (left written : L → Option (Li
   }
 
   step_handled : (old mid new : PortFacts L) (machine : Machine) (did : PortDid) (events : List Event) (closed : Option Cause) → did.closed ≡ closed
-      → Steps counts left written is_shut routed old machine did mid → Settled counts left written is_shut old did mid closed
-      → Handled mid events new → Lives counts left written is_shut routed mid events new → Handled old (stepped machine did ∷ events) new
+      → Steps facts routed old machine did mid → Settled facts old did mid closed
+      → Handled mid events new → Lives facts routed mid events new → Handled old (stepped machine did ∷ events) new
   step_handled old mid new machine did events None is steps settled next lives = record {
     rest = next.rest;
     bytes = then_balance old.framer.kept did.took mid.framer.kept (bytes_of did.handled) (spelled (frames_handled events)) (bytes_taken events) next.rest
@@ -155,7 +156,7 @@ module _ {L V : Type 0} (counts : L → Counts) (left written : L → Option (Li
     kept = next.kept;
   }
 
-  pub life_handled : (old : PortFacts L) (events : List Event) (new : PortFacts L) → Lives counts left written is_shut routed old events new → Handled old events new
+  pub life_handled : (old : PortFacts L) (events : List Event) (new : PortFacts L) → Lives facts routed old events new → Handled old events new
   life_handled old [] new same = record {
     rest = old.framer.kept;
     bytes = append-nil old.framer.kept;
@@ -193,8 +194,8 @@ module _ {L V : Type 0} (counts : L → Counts) (left written : L → Option (Li
   }
 
   step_wrote : (old mid new : PortFacts L) (machine : Machine) (did : PortDid) (events : List Event) (closed : Option Cause) → did.closed ≡ closed
-      → Steps counts left written is_shut routed old machine did mid → Settled counts left written is_shut old did mid closed
-      → Wrote mid events new → Lives counts left written is_shut routed mid events new → Wrote old (stepped machine did ∷ events) new
+      → Steps facts routed old machine did mid → Settled facts old did mid closed
+      → Wrote mid events new → Lives facts routed mid events new → Wrote old (stepped machine did ∷ events) new
   step_wrote old mid new machine did events None is steps settled next lives = record {
     rest = next.rest;
     bytes = then_balance old.out (queued machine did) mid.out did.wrote (bytes_written events) (bytes_queued events) next.rest
@@ -212,7 +213,7 @@ module _ {L V : Type 0} (counts : L → Counts) (left written : L → Option (Li
         kept = λ opened. absurd (true≢false (sym others.3 ∙ opened));
       }
 
-  pub life_wrote : (old : PortFacts L) (events : List Event) (new : PortFacts L) → Lives counts left written is_shut routed old events new → Wrote old events new
+  pub life_wrote : (old : PortFacts L) (events : List Event) (new : PortFacts L) → Lives facts routed old events new → Wrote old events new
   life_wrote old [] new same = record {
     rest = old.out;
     bytes = append-nil old.out;

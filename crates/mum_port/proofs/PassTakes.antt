@@ -2,6 +2,7 @@
 use Rattle.std.proofs.Common.{◌≡◌, ℕ, ◌+◌, Bool, List, [], ◌++◌, Option, Some, None, refl, sym, ap, subst, ◌∙◌, inl, inr, ⊎_elim}
 use Rattle.mum_base.specs.declared.number.SessionId.{SessionId}
 use Rattle.mum_io.specs.Counts.{Counts}
+use Rattle.mum_io.specs.Link.{LinkFacts}
 use Rattle.mum_outbox.specs.Facts.{PassFacts, QueueFacts}
 use Rattle.mum_session.specs.Machine.{session_of}
 use Rattle.mum_port.specs.Did.{PortDid, stray_posts, stray_voices}
@@ -43,10 +44,10 @@ live_goes_on (Closes cause) Live live = absurd (cc live)
 live_goes_on (Closes cause) (Ending parting) live = absurd (cc live)
 live_goes_on (Closes cause) (Closed before farewell) live = absurd (cc live)
 
-module _ {L V : Type 0} {counts : L → Counts} {left written : L → Option (List ℕ)} {is_shut : L → Bool} {routed : V → ℕ → SessionId → List ℕ → V → Type 0}
+module _ {L V : Type 0} {facts : L → LinkFacts} {routed : V → ℕ → SessionId → List ℕ → V → Type 0}
     {posts voices : List QueueFacts} {old : PortFacts L} {desk : PassFacts DeskItem} {router : V} {step : Step}
     {new : PortFacts L} {desk_after : PassFacts DeskItem} {router_after : V}
-    (c : PortChain counts left written is_shut routed posts voices old desk router step new desk_after router_after) where
+    (c : PortChain facts routed posts voices old desk router step new desk_after router_after) where
   looks_old : (session : SessionId) → c.after_handle.stage ≡ Live → c.after_handle.out ≡ [] → session_of c.after_handle.machine.stage ≡ Some session → taking_session old ≡ Some session
   looks_old session live none there =
       let handled : stage_by c.handled c.after_read.stage ≡ Live = sym (handle_part c).stage ∙ live in
@@ -62,10 +63,10 @@ module _ {L V : Type 0} {counts : L → Counts} {left written : L → Option (Li
       looks_old session is.0 is.1 is.2
 
   passes_end : new.passes ≡ c.after_take.passes
-  passes_end = (settle-machine counts left written is_shut _ _ _ _ c.settles).2 ∙ (write_part c).passes
+  passes_end = (settle-machine facts _ _ _ _ c.settles).2 ∙ (write_part c).passes
 
   first_end : new.voice_first ≡ c.after_take.voice_first
-  first_end = settle-first counts left written is_shut _ _ _ _ c.settles ∙ (write_part c).first
+  first_end = settle-first facts _ _ _ _ c.settles ∙ (write_part c).first
 
   pub looks_where_it_may : LooksWhereItMay old (did_of c) new
   looks_where_it_may = ⊎_elim

@@ -3,6 +3,7 @@ use Rattle.std.proofs.Common.{◌≡◌, ℕ, Bool, true, false, List, Option, S
 use Rattle.mum_base.specs.declared.number.Cause.{Cause}
 use Rattle.mum_base.specs.declared.number.SessionId.{SessionId}
 use Rattle.mum_io.specs.Counts.{Counts}
+use Rattle.mum_io.specs.Link.{LinkFacts}
 use Rattle.mum_outbox.specs.Calls.{Takes}
 use Rattle.mum_outbox.specs.Facts.{PassFacts, QueueFacts}
 use Rattle.mum_port.specs.Facts.{PortFacts, due_item}
@@ -137,15 +138,15 @@ module _ {L : Type 0} where
   TakesParcels-voiced posts voices boxes old posted heard new (inr first) known =
       behind-voiced posts boxes (has_taken heard) first.mid posted new first.collects (DrainsVoice-voiced voices boxes old heard first.mid first.drains known)
 
-module _ {L : Type 0} (counts : L → Counts) (left written : L → Option (List ℕ)) (is_shut : L → Bool) where
-  pub Reads-passes : (old : PortFacts L) (went : Went) (new : PortFacts L) → Reads counts left written is_shut old went new → new.passes ≡ old.passes
+module _ {L : Type 0} (facts : L → LinkFacts) where
+  pub Reads-passes : (old : PortFacts L) (went : Went) (new : PortFacts L) → Reads facts old went new → new.passes ≡ old.passes
   Reads-passes old went new (inl never) = ap (λ (p : PortFacts L). p.passes) never.same
   Reads-passes old went new (inr once) = ap (λ (p : PortFacts L). p.passes) once.rest
 
-  pub Writes-passes : (old : PortFacts L) (went : Went) (new : PortFacts L) → Writes counts left written is_shut old went new → new.passes ≡ old.passes
+  pub Writes-passes : (old : PortFacts L) (went : Went) (new : PortFacts L) → Writes facts old went new → new.passes ≡ old.passes
   Writes-passes old went new (inl never) = ap (λ (p : PortFacts L). p.passes) never.same
   Writes-passes old went new (inr once) = ap (λ (p : PortFacts L). p.passes) once.rest
 
-  pub Settles-passes : (was_closed : Bool) (old : PortFacts L) (closed : Option Cause) (new : PortFacts L) → Settles counts left written is_shut was_closed old closed new → new.passes ≡ old.passes
+  pub Settles-passes : (was_closed : Bool) (old : PortFacts L) (closed : Option Cause) (new : PortFacts L) → Settles facts was_closed old closed new → new.passes ≡ old.passes
   Settles-passes was_closed old closed new (inl stays) = ap (λ (p : PortFacts L). p.passes) stays.same
   Settles-passes was_closed old closed new (inr now) = ap (λ (p : PortFacts L). p.passes) now.closes.rest

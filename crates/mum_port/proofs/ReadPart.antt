@@ -3,7 +3,7 @@ use Rattle.std.proofs.Common.{◌≡◌, ◌≢◌, ℕ, ◌<◌, Bool, true, fa
 use Rattle.mum_base.specs.declared.number.Cause.{Cause}
 use Rattle.mum_base.specs.declared.number.Cause.TheVariants.{End, LinkFault, FrameTooLong, Rejected, Kicked, Lagged, Memory}
 use Rattle.mum_io.specs.Counts.{Counts, NoneFalls, Rose}
-use Rattle.mum_io.specs.Link.{Consumes, IsAtEnd, Keeps}
+use Rattle.mum_io.specs.Link.{Consumes, IsAtEnd, Keeps, LinkFacts}
 use Rattle.mum_io.proofs.CountLemmas.{NoneFalls-refl}
 use Rattle.mum_outbox.specs.Facts.{PassFacts}
 use Rattle.mum_port.specs.Did.{desk_after_put, port_after_put}
@@ -82,12 +82,12 @@ some_took : (took : List ℕ) → 0 < length took → took ≢ []
 some_took [] some is = absurd (omega (arith, some))
 some_took (x ∷ took) some is = absurd (cc is)
 
-module _ {L : Type 0} (counts : L → Counts) (left written : L → Option (List ℕ)) (is_shut : L → Bool) where
-  abbrev pub took_of : (old : PortFacts L) (went : Went) (new : PortFacts L) → Reads counts left written is_shut old went new → List ℕ
+module _ {L : Type 0} (facts : L → LinkFacts) where
+  abbrev pub took_of : (old : PortFacts L) (went : Went) (new : PortFacts L) → Reads facts old went new → List ℕ
   took_of old went new (inl never) = []
   took_of old went new (inr once) = once.read.took
 
-  abbrev pub lost_of : (old : PortFacts L) (went : Went) (new : PortFacts L) → Reads counts left written is_shut old went new → List ℕ
+  abbrev pub lost_of : (old : PortFacts L) (went : Went) (new : PortFacts L) → Reads facts old went new → List ℕ
   lost_of old went new (inl never) = []
   lost_of old went new (inr once) = once.read.lost
 
@@ -95,10 +95,10 @@ module _ {L : Type 0} (counts : L → Counts) (left written : L → Option (List
   pub record ReadLeaves (old : PortFacts L) (went : Went) (new : PortFacts L) (took lost : List ℕ) : Type 0 where
     pub bytes : old.framer.kept ++ took ≡ new.framer.kept ++ lost
     pub lost_none : closes went ≡ None → lost ≡ []
-    pub consumed : Consumes (left old.link) (left new.link) took
-    pub written_same : Keeps (written old.link) (written new.link)
-    pub none_falls : NoneFalls (counts old.link) (counts new.link)
-    pub shut_same : is_shut new.link ≡ is_shut old.link
+    pub consumed : Consumes (facts old.link).left (facts new.link).left took
+    pub written_same : Keeps (facts old.link).written (facts new.link).written
+    pub none_falls : NoneFalls (facts old.link).counts (facts new.link).counts
+    pub shut_same : (facts new.link).is_shut ≡ (facts old.link).is_shut
     pub machine : new.machine ≡ old.machine
     pub waiting : new.waiting ≡ old.waiting
     pub out : new.out ≡ old.out
@@ -107,15 +107,15 @@ module _ {L : Type 0} (counts : L → Counts) (left written : L → Option (List
     pub stage : new.stage ≡ stage_by went old.stage
     pub allowed : took ≢ [] → MayRead old
 
-  pub read-leaves : (old : PortFacts L) (went : Went) (new : PortFacts L) (reads : Reads counts left written is_shut old went new)
+  pub read-leaves : (old : PortFacts L) (went : Went) (new : PortFacts L) (reads : Reads facts old went new)
       → ReadLeaves old went new (took_of old went new reads) (lost_of old went new reads)
   read-leaves old went new (inl never) = record {
     bytes = ap (λ (p : PortFacts L). p.framer.kept ++ []) (sym never.same);
     lost_none = λ open_still. refl;
-    consumed = Keeps-consumes _ _ (Keeps-same _ _ (ap (λ (p : PortFacts L). left p.link) never.same));
-    written_same = Keeps-same _ _ (ap (λ (p : PortFacts L). written p.link) never.same);
-    none_falls = subst (λ (p : PortFacts L). NoneFalls (counts old.link) (counts p.link)) (sym never.same) (NoneFalls-refl (counts old.link));
-    shut_same = ap (λ (p : PortFacts L). is_shut p.link) never.same;
+    consumed = Keeps-consumes _ _ (Keeps-same _ _ (ap (λ (p : PortFacts L). (facts p.link).left) never.same));
+    written_same = Keeps-same _ _ (ap (λ (p : PortFacts L). (facts p.link).written) never.same);
+    none_falls = subst (λ (p : PortFacts L). NoneFalls (facts old.link).counts (facts p.link).counts) (sym never.same) (NoneFalls-refl (facts old.link).counts);
+    shut_same = ap (λ (p : PortFacts L). (facts p.link).is_shut) never.same;
     machine = ap (λ (p : PortFacts L). p.machine) never.same;
     waiting = ap (λ (p : PortFacts L). p.waiting) never.same;
     out = ap (λ (p : PortFacts L). p.out) never.same;
@@ -143,17 +143,17 @@ module _ {L : Type 0} (counts : L → Counts) (left written : L → Option (List
   -- a read that took nothing, or after which the port goes on, and what shows each cause
   abbrev pub ReadShows : PortFacts L → PortFacts L → Went → List ℕ → Type 0
   ReadShows old new NotDue took = (took ≡ []) × (new ≡ old) × (MayRead old → ⊥)
-  ReadShows old new Stalled took = (took ≡ []) × Rose (counts old.link).stalls (counts new.link).stalls
+  ReadShows old new Stalled took = (took ≡ []) × Rose (facts old.link).counts.stalls (facts new.link).counts.stalls
   ReadShows old new Worked took = took ≢ []
-  ReadShows old new (Closes End) took = MayRead old × (took ≡ []) × Rose (counts old.link).ends (counts new.link).ends × IsAtEnd (left old.link)
-  ReadShows old new (Closes LinkFault) took = MayRead old × Rose (counts old.link).faults (counts new.link).faults
+  ReadShows old new (Closes End) took = MayRead old × (took ≡ []) × Rose (facts old.link).counts.ends (facts new.link).counts.ends × IsAtEnd (facts old.link).left
+  ReadShows old new (Closes LinkFault) took = MayRead old × Rose (facts old.link).counts.faults (facts new.link).counts.faults
   ReadShows old new (Closes FrameTooLong) took = ⊥
   ReadShows old new (Closes Rejected) took = ⊥
   ReadShows old new (Closes Kicked) took = ⊥
   ReadShows old new (Closes Lagged) took = ⊥
   ReadShows old new (Closes Memory) took = MayRead old × (took ≢ [])
 
-  shown_once : (old : PortFacts L) (went : Went) (new : PortFacts L) (took lost : List ℕ) → MayRead old → ReadEnded went took lost (counts old.link) (counts new.link) (left old.link)
+  shown_once : (old : PortFacts L) (went : Went) (new : PortFacts L) (took lost : List ℕ) → MayRead old → ReadEnded went took lost (facts old.link).counts (facts new.link).counts (facts old.link).left
       → ReadShows old new went took
   shown_once old NotDue new took lost allowed ended = absurd ended
   shown_once old Stalled new took lost allowed ended = (ended.0, ended.2)
@@ -166,7 +166,7 @@ module _ {L : Type 0} (counts : L → Counts) (left written : L → Option (List
   shown_once old (Closes Lagged) new took lost allowed ended = absurd ended
   shown_once old (Closes Memory) new took lost allowed ended = (allowed, some_took took ended)
 
-  pub read-shows : (old : PortFacts L) (went : Went) (new : PortFacts L) (reads : Reads counts left written is_shut old went new)
+  pub read-shows : (old : PortFacts L) (went : Went) (new : PortFacts L) (reads : Reads facts old went new)
       → ReadShows old new went (took_of old went new reads)
   read-shows old went new (inl never) = subst (λ (w : Went). ReadShows old new w []) (sym never.so) (refl, never.same, never.forbidden)
   read-shows old went new (inr once) = shown_once old went new _ _ once.allowed once.read.ended

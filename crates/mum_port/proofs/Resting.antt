@@ -2,6 +2,7 @@
 use Rattle.std.proofs.Common.{◌≡◌, ℕ, Bool, true, false, IsTrue, List, [], Option, Some, None, refl, sym, ap, ◌∙◌, inl, inr, true≢false, not, length, ◌==◌}
 use Rattle.mum_base.specs.declared.number.SessionId.{SessionId}
 use Rattle.mum_io.specs.Counts.{Counts}
+use Rattle.mum_io.specs.Link.{LinkFacts}
 use Rattle.mum_outbox.specs.Facts.{QueueFacts}
 use Rattle.mum_port.specs.Facts.{PortFacts, may_handle, may_write, stage_after_put}
 use Rattle.mum_port.specs.Stage.{is_closed, is_live}
@@ -69,14 +70,14 @@ module _ {L : Type 0} where
       opened false is = refl
       opened true is = absurd (true≢false (sym is))
 
-module _ {L : Type 0} (counts : L → Counts) (left written : L → Option (List ℕ)) (is_shut : L → Bool) where
-  pub read-rests : (old : PortFacts L) (went : Went) (new : PortFacts L) (reads : Reads counts left written is_shut old went new)
+module _ {L : Type 0} (facts : L → LinkFacts) where
+  pub read-rests : (old : PortFacts L) (went : Went) (new : PortFacts L) (reads : Reads facts old went new)
       → is_closed old.stage ≡ true → (went ≡ NotDue) × (new ≡ old)
   read-rests old went new (inl never) closed = (never.so, never.same)
   read-rests old went new (inr once) closed = absurd (true≢false (sym closed ∙ live-open old.stage (may-live old once.allowed.ready)))
 
-  pub write-rests : (old : PortFacts L) (went : Went) (new : PortFacts L) (writes : Writes counts left written is_shut old went new)
-      → is_closed old.stage ≡ true → (went ≡ NotDue) × (wrote_of counts left written is_shut old went new writes ≡ []) × (new ≡ old)
+  pub write-rests : (old : PortFacts L) (went : Went) (new : PortFacts L) (writes : Writes facts old went new)
+      → is_closed old.stage ≡ true → (went ≡ NotDue) × (wrote_of facts old went new writes ≡ []) × (new ≡ old)
   write-rests old went new (inl never) closed = (never.so, refl, never.same)
   write-rests old went new (inr once) closed = absurd (true≢false (sym closed ∙ may_write-open old once.allowed))
 

@@ -4,6 +4,7 @@ use Rattle.std.proofs.lemmas.Bool.{leb-true}
 use Rattle.mum_base.specs.declared.number.SessionId.{SessionId}
 use Rattle.mum_frame.specs.declared.frame.Frame.{Frame}
 use Rattle.mum_io.specs.Counts.{Counts}
+use Rattle.mum_io.specs.Link.{LinkFacts}
 use Rattle.mum_outbox.specs.Facts.{PassFacts, QueueFacts}
 use Rattle.mum_outbox.specs.declared.parcel.PostParcel.{PostParcel}
 use Rattle.mum_outbox.specs.declared.parcel.VoiceParcel.{VoiceParcel}
@@ -54,18 +55,18 @@ module _ {L : Type 0} where
   more_or_little old new did None is handles (inr looks) =
       inr (subst (λ (l : List ℕ). length l ≤ UNWRITTEN_LIMIT) (sym (taking-is old looks.0 looks.1).1) (omega arith))
 
-module _ {L : Type 0} (counts : L → Counts) (left written : L → Option (List ℕ)) (is_shut : L → Bool) where
-  keeps_within : (old new : PortFacts L) (did : PortDid) → HandlesInTurn old did new → LooksWhereItMay old did new → WritesInTurn counts left written is_shut old did new → KeepsWithin old did new
+module _ {L : Type 0} (facts : L → LinkFacts) where
+  keeps_within : (old new : PortFacts L) (did : PortDid) → HandlesInTurn old did new → LooksWhereItMay old did new → WritesInTurn facts old did new → KeepsWithin old did new
   keeps_within old new did handles looks writes frame_limit few within =
       bounded UNWRITTEN_LIMIT frame_limit (length old.out) (length (queued old.machine did)) (length did.wrote) (length new.out) (length did.unsaid)
       (lengths old.out (queued old.machine did) did.wrote new.out did.unsaid writes.bytes) few (more_or_little old new did did.handled refl handles looks) within
 
 -- ---- the sentences
 
-module _ {L V : Type 0} {counts : L → Counts} {left written : L → Option (List ℕ)} {is_shut : L → Bool} {routed : V → ℕ → SessionId → List ℕ → V → Type 0}
+module _ {L V : Type 0} {facts : L → LinkFacts} {routed : V → ℕ → SessionId → List ℕ → V → Type 0}
     {posts voices : List QueueFacts} {old : PortFacts L} {desk : PassFacts DeskItem} {router : V} {step : Step}
     {new : PortFacts L} {desk_after : PassFacts DeskItem} {router_after : V}
-    (c : PortChain counts left written is_shut routed posts voices old desk router step new desk_after router_after) where
+    (c : PortChain facts routed posts voices old desk router step new desk_after router_after) where
   -- where a frame was handled the read met no cause
   reads_on : (f : Frame) → frame c ≡ Some f → closes c.read ≡ None
   reads_on f is = by_way (way c)
@@ -80,7 +81,7 @@ module _ {L V : Type 0} {counts : L → Counts} {left written : L → Option (Li
   handles_in_turn = record {
     whole = (handle_part c).whole;
     allowed = λ f is. may_before c (reads_on f is) ((handle_part c).allowed f is);
-    machine = (settle-machine counts left written is_shut _ _ _ _ c.settles).0 ∙ machine_write c;
+    machine = (settle-machine facts _ _ _ _ c.settles).0 ∙ machine_write c;
   }
 
   pub routes_in_turn : RoutesPacket routed old.machine.connection (session_of old.machine.stage) (action_of old.machine (frame c)) router router_after
@@ -92,13 +93,13 @@ module _ {L V : Type 0} {counts : L → Counts} {left written : L → Option (Li
   puts_in_turn = record {
     due = put-due old desk c.put c.after_put desk_after c.puts;
     pass = put-pass old desk c.put c.after_put desk_after c.puts;
-    waiting = (settle-machine counts left written is_shut _ _ _ _ c.settles).1 ∙ ((write_part c).waiting ∙ ((take_part c).waiting ∙ ((handle_part c).waiting
+    waiting = (settle-machine facts _ _ _ _ c.settles).1 ∙ ((write_part c).waiting ∙ ((take_part c).waiting ∙ ((handle_part c).waiting
         ∙ (ap (λ (m : Machine). waiting_after (action_of m (frame c)) c.after_read.waiting) (machine_read c)
         ∙ ap (λ (w : Option DeskItem). waiting_after (action_of old.machine (frame c)) w)
         ((read_part c).waiting ∙ ap (λ (p : PortFacts L). p.waiting) (port_put c))))));
   }
 
-  pub ends_in_turn : EndsInTurn counts left written is_shut old (did_of c) step new
+  pub ends_in_turn : EndsInTurn facts old (did_of c) step new
   ends_in_turn = record {
     reported = ap (λ (s : Step). s.closed) c.came_to;
     settled = settled_in_turn c c.settles;
@@ -106,7 +107,7 @@ module _ {L V : Type 0} {counts : L → Counts} {left written : L → Option (Li
     none_falls = falls_all c;
   }
 
-  pub turned : PortTurn counts left written is_shut routed posts voices old desk router (did_of c) step new desk_after router_after
+  pub turned : PortTurn facts routed posts voices old desk router (did_of c) step new desk_after router_after
   turned = record {
     reads = reads_in_turn c;
     handles = handles_in_turn;
@@ -115,12 +116,12 @@ module _ {L V : Type 0} {counts : L → Counts} {left written : L → Option (Li
     takes = takes_in_turn c;
     by_turns = takes_by_turns c;
     writes = writes_in_turn c;
-    within = keeps_within counts left written is_shut old new (did_of c) handles_in_turn (looks_where_it_may c) (writes_in_turn c);
+    within = keeps_within facts old new (did_of c) handles_in_turn (looks_where_it_may c) (writes_in_turn c);
     ends = ends_in_turn;
     idle = is_idle c;
     worked = did_something c;
   }
 
   -- a step did something of which the sentences hold
-  pub did_turn : (did : PortDid) × PortTurn counts left written is_shut routed posts voices old desk router did step new desk_after router_after
+  pub did_turn : (did : PortDid) × PortTurn facts routed posts voices old desk router did step new desk_after router_after
   did_turn = (did_of c, turned)

@@ -2,7 +2,7 @@
 use Rattle.std.proofs.Common.{◌≡◌, ◌≢◌, ℕ, ◌<◌, Bool, IsTrue, List, [], ◌∷◌, ◌++◌, length, Option, refl, sym, ap, subst, ◌∙◌, inl, inr, arith}
 use Rattle.mum_base.specs.declared.number.Cause.TheVariants.{End, LinkFault, FrameTooLong, Rejected, Kicked, Lagged, Memory}
 use Rattle.mum_io.specs.Counts.{Counts, NoneFalls, Rose}
-use Rattle.mum_io.specs.Link.{Appends, Keeps}
+use Rattle.mum_io.specs.Link.{Appends, Keeps, LinkFacts}
 use Rattle.mum_io.proofs.CountLemmas.{NoneFalls-refl}
 use Rattle.mum_port.specs.Facts.{PortFacts, may_write}
 use Rattle.mum_port.specs.Linking.{WriteEnded}
@@ -17,25 +17,25 @@ some_wrote : (wrote : List ℕ) → 0 < length wrote → wrote ≢ []
 some_wrote [] some is = absurd (omega (arith, some))
 some_wrote (x ∷ wrote) some is = absurd (cc is)
 
-module _ {L : Type 0} (counts : L → Counts) (left written : L → Option (List ℕ)) (is_shut : L → Bool) where
-  abbrev pub wrote_of : (old : PortFacts L) (went : Went) (new : PortFacts L) → Writes counts left written is_shut old went new → List ℕ
+module _ {L : Type 0} (facts : L → LinkFacts) where
+  abbrev pub wrote_of : (old : PortFacts L) (went : Went) (new : PortFacts L) → Writes facts old went new → List ℕ
   wrote_of old went new (inl never) = []
   wrote_of old went new (inr once) = once.wrote.wrote
 
   -- what shows why it ended as it did
   abbrev pub WriteShows : PortFacts L → PortFacts L → Went → List ℕ → Type 0
   WriteShows old new NotDue wrote = (wrote ≡ []) × (new ≡ old) × (IsTrue (may_write old) → ⊥)
-  WriteShows old new Stalled wrote = (wrote ≡ []) × Rose (counts old.link).stalls (counts new.link).stalls
+  WriteShows old new Stalled wrote = (wrote ≡ []) × Rose (facts old.link).counts.stalls (facts new.link).counts.stalls
   WriteShows old new Worked wrote = wrote ≢ []
   WriteShows old new (Closes End) wrote = ⊥
-  WriteShows old new (Closes LinkFault) wrote = IsTrue (may_write old) × Rose (counts old.link).faults (counts new.link).faults
+  WriteShows old new (Closes LinkFault) wrote = IsTrue (may_write old) × Rose (facts old.link).counts.faults (facts new.link).counts.faults
   WriteShows old new (Closes FrameTooLong) wrote = ⊥
   WriteShows old new (Closes Rejected) wrote = ⊥
   WriteShows old new (Closes Kicked) wrote = ⊥
   WriteShows old new (Closes Lagged) wrote = ⊥
   WriteShows old new (Closes Memory) wrote = ⊥
 
-  shown_once : (old : PortFacts L) (went : Went) (new : PortFacts L) (wrote : List ℕ) → IsTrue (may_write old) → WriteEnded went wrote (counts old.link) (counts new.link)
+  shown_once : (old : PortFacts L) (went : Went) (new : PortFacts L) (wrote : List ℕ) → IsTrue (may_write old) → WriteEnded went wrote (facts old.link).counts (facts new.link).counts
       → WriteShows old new went wrote
   shown_once old NotDue new wrote allowed ended = absurd ended
   shown_once old Stalled new wrote allowed ended = ended
@@ -50,10 +50,10 @@ module _ {L : Type 0} (counts : L → Counts) (left written : L → Option (List
 
   pub record WriteLeaves (old : PortFacts L) (went : Went) (new : PortFacts L) (wrote : List ℕ) : Type 0 where
     pub bytes : old.out ≡ wrote ++ new.out
-    pub appended : Appends (written old.link) (written new.link) wrote
-    pub left_same : Keeps (left old.link) (left new.link)
-    pub none_falls : NoneFalls (counts old.link) (counts new.link)
-    pub shut_same : is_shut new.link ≡ is_shut old.link
+    pub appended : Appends (facts old.link).written (facts new.link).written wrote
+    pub left_same : Keeps (facts old.link).left (facts new.link).left
+    pub none_falls : NoneFalls (facts old.link).counts (facts new.link).counts
+    pub shut_same : (facts new.link).is_shut ≡ (facts old.link).is_shut
     pub shows : WriteShows old new went wrote
     pub machine : new.machine ≡ old.machine
     pub framer : new.framer ≡ old.framer
@@ -62,14 +62,14 @@ module _ {L : Type 0} (counts : L → Counts) (left written : L → Option (List
     pub first : new.voice_first ≡ old.voice_first
     pub stage : new.stage ≡ stage_by went old.stage
 
-  pub write-leaves : (old : PortFacts L) (went : Went) (new : PortFacts L) (writes : Writes counts left written is_shut old went new)
+  pub write-leaves : (old : PortFacts L) (went : Went) (new : PortFacts L) (writes : Writes facts old went new)
       → WriteLeaves old went new (wrote_of old went new writes)
   write-leaves old went new (inl never) = record {
     bytes = ap (λ (p : PortFacts L). p.out) (sym never.same);
-    appended = Keeps-appends _ _ (Keeps-same _ _ (ap (λ (p : PortFacts L). written p.link) never.same));
-    left_same = Keeps-same _ _ (ap (λ (p : PortFacts L). left p.link) never.same);
-    none_falls = subst (λ (p : PortFacts L). NoneFalls (counts old.link) (counts p.link)) (sym never.same) (NoneFalls-refl (counts old.link));
-    shut_same = ap (λ (p : PortFacts L). is_shut p.link) never.same;
+    appended = Keeps-appends _ _ (Keeps-same _ _ (ap (λ (p : PortFacts L). (facts p.link).written) never.same));
+    left_same = Keeps-same _ _ (ap (λ (p : PortFacts L). (facts p.link).left) never.same);
+    none_falls = subst (λ (p : PortFacts L). NoneFalls (facts old.link).counts (facts p.link).counts) (sym never.same) (NoneFalls-refl (facts old.link).counts);
+    shut_same = ap (λ (p : PortFacts L). (facts p.link).is_shut) never.same;
     shows = subst (λ (w : Went). WriteShows old new w []) (sym never.so) (refl, never.same, never.forbidden);
     machine = ap (λ (p : PortFacts L). p.machine) never.same;
     framer = ap (λ (p : PortFacts L). p.framer) never.same;

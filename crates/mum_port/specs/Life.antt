@@ -5,6 +5,7 @@ use Rattle.mum_base.specs.declared.number.SessionId.{SessionId}
 use Rattle.mum_base.specs.declared.reply.ReplyEnd.{ReplyEnd}
 use Rattle.mum_frame.specs.declared.frame.Frame.{Frame}
 use Rattle.mum_io.specs.Counts.{Counts}
+use Rattle.mum_io.specs.Link.{LinkFacts}
 use Rattle.mum_outbox.specs.Facts.{PassFacts, QueueFacts}
 use Rattle.mum_session.specs.Machine.{Machine}
 use Rattle.mum_session.specs.declared.action.Action.{Action}
@@ -28,7 +29,7 @@ pub data Event : Type 0 where
   replied : List ℕ → Option Cause → Event
   lagged : Option Cause → Event
 
-module _ {L V : Type 0} (counts : L → Counts) (left written : L → Option (List ℕ)) (is_shut : L → Bool) (routed : V → ℕ → SessionId → List ℕ → V → Type 0) where
+module _ {L V : Type 0} (facts : L → LinkFacts) (routed : V → ℕ → SessionId → List ℕ → V → Type 0) where
   pub record Steps (old : PortFacts L) (machine : Machine) (did : PortDid) (new : PortFacts L) : Type 0 where
     pub of_port : machine ≡ old.machine
     pub posts : List QueueFacts
@@ -38,12 +39,12 @@ module _ {L V : Type 0} (counts : L → Counts) (left written : L → Option (Li
     pub router : V
     pub router_after : V
     pub step : Step
-    pub turn : PortTurn counts left written is_shut routed posts voices old desk router did step new desk_after router_after
+    pub turn : PortTurn facts routed posts voices old desk router did step new desk_after router_after
 
   abbrev pub Happens : PortFacts L → Event → PortFacts L → Type 0
   Happens old (stepped machine did) new = Steps old machine did new
-  Happens old (replied wire closed) new = (end : ReplyEnd) × (passes : Option Passes) × Answers counts left written is_shut end wire passes old closed new
-  Happens old (lagged closed) new = Lags counts left written is_shut old closed new
+  Happens old (replied wire closed) new = (end : ReplyEnd) × (passes : Option Passes) × Answers facts end wire passes old closed new
+  Happens old (lagged closed) new = Lags facts old closed new
 
   -- the events, one after another, lead from this port to that
   abbrev pub Lives : PortFacts L → List Event → PortFacts L → Type 0

@@ -2,7 +2,7 @@
 use Rattle.std.specs.Prelude.{◌≡◌, ℕ, ◌<◌, Bool, IsTrue, List, [], ◌++◌, length, Option}
 use Rattle.mum_base.specs.declared.number.Cause.TheVariants.{End, LinkFault, FrameTooLong, Rejected, Kicked, Lagged, Memory}
 use Rattle.mum_io.specs.Counts.{Counts, NoneFalls, Rose}
-use Rattle.mum_io.specs.Link.{Appends, Consumes, IsAtEnd, Keeps}
+use Rattle.mum_io.specs.Link.{Appends, Consumes, IsAtEnd, Keeps, LinkFacts}
 use Rattle.mum_port.specs.declared.stage.Went.{Went}
 use Rattle.mum_port.specs.declared.stage.Went.TheVariants.{NotDue, Stalled, Worked, Closes}
 
@@ -32,31 +32,31 @@ WriteEnded (Closes Kicked) wrote old new = ⊥
 WriteEnded (Closes Lagged) wrote old new = ⊥
 WriteEnded (Closes Memory) wrote old new = ⊥
 
-module _ {L : Type 0} (counts : L → Counts) (left written : L → Option (List ℕ)) (is_shut : L → Bool) where
+module _ {L : Type 0} (facts : L → LinkFacts) where
   -- a read: the bytes that it took stand after those that were kept, but for what was lost for memory
   pub record ReadsLink (old : L) (kept : List ℕ) (went : Went) (new : L) (kept_after : List ℕ) : Type 0 where
     pub took : List ℕ
     pub lost : List ℕ
     pub kept_are : kept ++ took ≡ kept_after ++ lost
-    pub consumed : Consumes (left old) (left new) took
-    pub written_same : Keeps (written old) (written new)
-    pub none_falls : NoneFalls (counts old) (counts new)
-    pub shut_same : is_shut new ≡ is_shut old
-    pub ended : ReadEnded went took lost (counts old) (counts new) (left old)
+    pub consumed : Consumes (facts old).left (facts new).left took
+    pub written_same : Keeps (facts old).written (facts new).written
+    pub none_falls : NoneFalls (facts old).counts (facts new).counts
+    pub shut_same : (facts new).is_shut ≡ (facts old).is_shut
+    pub ended : ReadEnded went took lost (facts old).counts (facts new).counts (facts old).left
 
   -- a write: the first bytes of those that were to be written were, and the others are to be
   pub record WritesLink (old : L) (out : List ℕ) (went : Went) (new : L) (out_after : List ℕ) : Type 0 where
     pub wrote : List ℕ
     pub bytes : out ≡ wrote ++ out_after
-    pub appended : Appends (written old) (written new) wrote
-    pub left_same : Keeps (left old) (left new)
-    pub none_falls : NoneFalls (counts old) (counts new)
-    pub shut_same : is_shut new ≡ is_shut old
-    pub ended : WriteEnded went wrote (counts old) (counts new)
+    pub appended : Appends (facts old).written (facts new).written wrote
+    pub left_same : Keeps (facts old).left (facts new).left
+    pub none_falls : NoneFalls (facts old).counts (facts new).counts
+    pub shut_same : (facts new).is_shut ≡ (facts old).is_shut
+    pub ended : WriteEnded went wrote (facts old).counts (facts new).counts
 
   -- the link is shut, and nothing else of it changes
   pub record ShutsLink (old new : L) : Type 0 where
-    pub shut : IsTrue (is_shut new)
-    pub counts_same : counts new ≡ counts old
-    pub left_same : Keeps (left old) (left new)
-    pub written_same : Keeps (written old) (written new)
+    pub shut : IsTrue (facts new).is_shut
+    pub counts_same : (facts new).counts ≡ (facts old).counts
+    pub left_same : Keeps (facts old).left (facts new).left
+    pub written_same : Keeps (facts old).written (facts new).written

@@ -5,6 +5,7 @@ use Rattle.mum_base.specs.declared.number.Cause.TheVariants as causes
 use Rattle.mum_base.specs.declared.reply.ReplyEnd.{ReplyEnd}
 use Rattle.mum_base.specs.declared.reply.ReplyEnd.TheVariants.{Joined, Decided, Rejected}
 use Rattle.mum_io.specs.Counts.{Counts}
+use Rattle.mum_io.specs.Link.{LinkFacts}
 use Rattle.mum_session.specs.Machine.{answered}
 use Rattle.mum_port.specs.Facts.{PortFacts}
 use Rattle.mum_port.specs.Stage.{is_closed, stage_after_reply}
@@ -21,7 +22,7 @@ passes_after Rejected given passes = passes
 abbrev pub with_reply : {L : Type 0} → ReplyEnd → PortFacts L → PortFacts L
 with_reply end port = record port { machine = answered end port.machine }
 
-module _ {L : Type 0} (counts : L → Counts) (left written : L → Option (List ℕ)) (is_shut : L → Bool) where
+module _ {L : Type 0} (facts : L → LinkFacts) where
   -- a port that is closed already stays as it is
   pub record StaysClosed (old : PortFacts L) (closed : Option Cause) (new : PortFacts L) : Type 0 where
     pub was_closed : is_closed old.stage ≡ true
@@ -42,7 +43,7 @@ module _ {L : Type 0} (counts : L → Counts) (left written : L → Option (List
   pub record ClosesAtReply (end : ReplyEnd) (old : PortFacts L) (closed : Option Cause) (new : PortFacts L) : Type 0 where
     pub was_open : is_closed old.stage ≡ false
     pub so : closed ≡ Some causes.Memory
-    pub closes : ClosesFor counts left written is_shut causes.Memory (with_reply end old) new
+    pub closes : ClosesFor facts causes.Memory (with_reply end old) new
 
   abbrev pub Answers : ReplyEnd → List ℕ → Option Passes → PortFacts L → Option Cause → PortFacts L → Type 0
   Answers end wire passes old closed new =
@@ -52,4 +53,4 @@ module _ {L : Type 0} (counts : L → Counts) (left written : L → Option (List
   abbrev pub Lags : PortFacts L → Option Cause → PortFacts L → Type 0
   Lags old closed new =
       StaysClosed old closed new
-      ⊎ ((is_closed old.stage ≡ false) × (closed ≡ Some causes.Lagged) × ClosesFor counts left written is_shut causes.Lagged old new)
+      ⊎ ((is_closed old.stage ≡ false) × (closed ≡ Some causes.Lagged) × ClosesFor facts causes.Lagged old new)

@@ -4,6 +4,7 @@ use Rattle.std.specs.List.{list_any}
 use Rattle.mum_base.specs.declared.number.Cause.{Cause}
 use Rattle.mum_base.specs.declared.number.SessionId.{SessionId}
 use Rattle.mum_io.specs.Counts.{Counts}
+use Rattle.mum_io.specs.Link.{LinkFacts}
 use Rattle.mum_outbox.specs.Facts.{PassFacts, QueueFacts}
 use Rattle.mum_port.specs.Facts.{MayRead, PortFacts, due_item, empty_framer, may_handle, may_write, stage_after_put, taking_session}
 use Rattle.mum_port.specs.Handling.{HandlesKept}
@@ -115,11 +116,11 @@ module _ {L : Type 0} where
   Handles routed old router went new router_after =
       (IsNotDue (IsTrue (may_handle old)) old went new × (router_after ≡ router)) ⊎ HandlesOne routed old router went new router_after
 
-module _ {L : Type 0} (counts : L → Counts) (left written : L → Option (List ℕ)) (is_shut : L → Bool) where
+module _ {L : Type 0} (facts : L → LinkFacts) where
   -- a read was made
   pub record ReadsOnce (old : PortFacts L) (went : Went) (new : PortFacts L) : Type 0 where
     pub allowed : MayRead old
-    pub read : ReadsLink counts left written is_shut old.link old.framer.kept went new.link new.framer.kept
+    pub read : ReadsLink facts old.link old.framer.kept went new.link new.framer.kept
     pub rest : new ≡ record old { link = new.link; framer = new.framer; stage = stage_by went old.stage }
 
   abbrev pub Reads : PortFacts L → Went → PortFacts L → Type 0
@@ -128,7 +129,7 @@ module _ {L : Type 0} (counts : L → Counts) (left written : L → Option (List
   -- a write was made
   pub record WritesOnce (old : PortFacts L) (went : Went) (new : PortFacts L) : Type 0 where
     pub allowed : IsTrue (may_write old)
-    pub wrote : WritesLink counts left written is_shut old.link old.out went new.link new.out
+    pub wrote : WritesLink facts old.link old.out went new.link new.out
     pub rest : new ≡ record old { link = new.link; out = new.out; stage = stage_by went old.stage }
 
   abbrev pub Writes : PortFacts L → Went → PortFacts L → Type 0
@@ -136,7 +137,7 @@ module _ {L : Type 0} (counts : L → Counts) (left written : L → Option (List
 
   -- the port closes: its link is shut, and the memory of what it keeps is given back
   pub record ClosesFor (cause : Cause) (old new : PortFacts L) : Type 0 where
-    pub shuts : ShutsLink counts left written is_shut old.link new.link
+    pub shuts : ShutsLink facts old.link new.link
     pub rest : new ≡ record old { link = new.link; framer = empty_framer; out = []; stage = closed_for cause }
 
   -- the port closed in this step
@@ -164,7 +165,7 @@ step_of put went posted heard closed = record {
   closed = closed;
 }
 
-module _ {L V : Type 0} (counts : L → Counts) (left written : L → Option (List ℕ)) (is_shut : L → Bool) (routed : V → ℕ → SessionId → List ℕ → V → Type 0) where
+module _ {L V : Type 0} (facts : L → LinkFacts) (routed : V → ℕ → SessionId → List ℕ → V → Type 0) where
   -- a step as the chain of its parts, with the port between them
   pub record PortChain (posts voices : List QueueFacts) (old : PortFacts L) (desk : PassFacts DeskItem) (router : V) (step : Step)
       (new : PortFacts L) (desk_after : PassFacts DeskItem) (router_after : V) : Type 0 where
@@ -181,9 +182,9 @@ module _ {L V : Type 0} (counts : L → Counts) (left written : L → Option (Li
     pub after_take : PortFacts L
     pub after_write : PortFacts L
     pub puts : Puts old desk put after_put desk_after
-    pub reads : Reads counts left written is_shut after_put read after_read
+    pub reads : Reads facts after_put read after_read
     pub handles : Handles routed after_read router handled after_handle router_after
     pub takes : TakesParcels posts voices after_handle posted heard after_take
-    pub writes : Writes counts left written is_shut after_take wrote after_write
-    pub settles : Settles counts left written is_shut (is_closed old.stage) after_write closed new
+    pub writes : Writes facts after_take wrote after_write
+    pub settles : Settles facts (is_closed old.stage) after_write closed new
     pub came_to : step ≡ step_of put (read ∷ handled ∷ wrote ∷ []) posted heard closed

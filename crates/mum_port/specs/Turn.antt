@@ -6,7 +6,7 @@ use Rattle.mum_base.specs.declared.number.SessionId.{SessionId}
 use Rattle.mum_frame.specs.declared.frame.Frame.{Frame}
 use Rattle.mum_frame.specs.Frame.{HasFrame, HasNoFrame, IsFrame, TooLong}
 use Rattle.mum_io.specs.Counts.{Counts, NoneFalls, Rose}
-use Rattle.mum_io.specs.Link.{Appends, Consumes, IsAtEnd}
+use Rattle.mum_io.specs.Link.{Appends, Consumes, IsAtEnd, LinkFacts}
 use Rattle.mum_outbox.specs.Calls.{Takes}
 use Rattle.mum_outbox.specs.Facts.{PassFacts, QueueFacts}
 use Rattle.mum_outbox.specs.declared.parcel.PostParcel.{PostParcel}
@@ -140,27 +140,27 @@ FindBoxesEmpty posts voices (Some passes) (Some after) =
 
 -- ---- the link, and the close
 
-module _ {L : Type 0} (counts : L → Counts) (left written : L → Option (List ℕ)) (is_shut : L → Bool) where
+module _ {L : Type 0} (facts : L → LinkFacts) where
   -- no byte is lost or made: those that were kept, and then those that it took, are those of the frame that it handled, and then
   -- those that it keeps
   pub record ReadsInTurn (old : PortFacts L) (did : PortDid) (new : PortFacts L) : Type 0 where
     pub bytes : old.framer.kept ++ did.took ≡ bytes_of did.handled ++ (new.framer.kept ++ did.lost)
     pub lost_at_close : did.closed ≡ None → did.lost ≡ []
     pub allowed : did.took ≢ [] → MayRead (port_after_put did.put old)
-    pub consumed : Consumes (left old.link) (left new.link) did.took
+    pub consumed : Consumes (facts old.link).left (facts new.link).left did.took
 
   -- what was to be written, and then what it took to be written, is what it wrote, and then what it keeps
   pub record WritesInTurn (old : PortFacts L) (did : PortDid) (new : PortFacts L) : Type 0 where
     pub bytes : old.out ++ queued old.machine did ≡ did.wrote ++ (new.out ++ did.unsaid)
     pub unsaid_at_close : did.closed ≡ None → did.unsaid ≡ []
     pub allowed : did.wrote ≢ [] → is_closed old.stage ≡ false
-    pub appended : Appends (written old.link) (written new.link) did.wrote
+    pub appended : Appends (facts old.link).written (facts new.link).written did.wrote
 
   -- what shows the cause for which a port closed
   abbrev pub ShowsCause : PortFacts L → PortDid → PortFacts L → Cause → Type 0
   ShowsCause old did new End =
-      Rose (counts old.link).ends (counts new.link).ends × (did.handled ≡ None) × (did.took ≡ []) × HasNoFrame did.lost × IsAtEnd (left old.link)
-  ShowsCause old did new LinkFault = Rose (counts old.link).faults (counts new.link).faults
+      Rose (facts old.link).counts.ends (facts new.link).counts.ends × (did.handled ≡ None) × (did.took ≡ []) × HasNoFrame did.lost × IsAtEnd (facts old.link).left
+  ShowsCause old did new LinkFault = Rose (facts old.link).counts.faults (facts new.link).counts.faults
   ShowsCause old did new FrameTooLong = (did.handled ≡ None) × TooLong did.lost × HasNoFrame did.lost
   ShowsCause old did new Rejected = (stage_kept old did ≡ Ending partings.Rejected) × (did.unsaid ≡ [])
   ShowsCause old did new Kicked = (stage_kept old did ≡ Ending partings.Kicked) × (did.unsaid ≡ [])
@@ -172,14 +172,14 @@ module _ {L : Type 0} (counts : L → Counts) (left written : L → Option (List
     pub was_open : is_closed old.stage ≡ false
     pub shown : ShowsCause old did new cause
     pub stage : new.stage ≡ closed_for cause
-    pub shut : IsTrue (is_shut new.link)
+    pub shut : IsTrue (facts new.link).is_shut
     pub framer_empty : new.framer ≡ empty_framer
     pub nothing_unwritten : new.out ≡ []
 
   -- it did not close
   pub record StaysInTurn (old : PortFacts L) (did : PortDid) (new : PortFacts L) : Type 0 where
     pub stage : new.stage ≡ stage_kept old did
-    pub shut_same : is_shut new.link ≡ is_shut old.link
+    pub shut_same : (facts new.link).is_shut ≡ (facts old.link).is_shut
     -- one that ends has bytes to write
     pub unwritten : (parting : Parting) → new.stage ≡ Ending parting → 0 < length new.out
 
@@ -191,7 +191,7 @@ module _ {L : Type 0} (counts : L → Counts) (left written : L → Option (List
     pub reported : step.closed ≡ did.closed
     pub settled : Settled old did new did.closed
     pub too_long : IsTrue (may_handle old) → TooLong old.framer.kept → did.closed ≡ Some FrameTooLong
-    pub none_falls : NoneFalls (counts old.link) (counts new.link)
+    pub none_falls : NoneFalls (facts old.link).counts (facts new.link).counts
 
   -- ---- a step that did nothing
 
@@ -200,8 +200,8 @@ module _ {L : Type 0} (counts : L → Counts) (left written : L → Option (List
     pub nothing : did ≡ did_nothing
     pub full : after ≡ desk_after_put None (due_item old) desk
     pub no_frame : IsTrue (may_handle old) → HasNoFrame old.framer.kept × ¬ TooLong old.framer.kept
-    pub read_stalled : MayRead old → Rose (counts old.link).stalls (counts new.link).stalls
-    pub write_stalled : IsTrue (may_write old) → Rose (counts old.link).stalls (counts new.link).stalls
+    pub read_stalled : MayRead old → Rose (facts old.link).counts.stalls (facts new.link).counts.stalls
+    pub write_stalled : IsTrue (may_write old) → Rose (facts old.link).counts.stalls (facts new.link).counts.stalls
     pub boxes_empty : (session : SessionId) → taking_session old ≡ Some session → FindBoxesEmpty posts voices old.passes new.passes
     pub kept : new.framer.kept ≡ old.framer.kept
     pub rest : new ≡ record old { link = new.link; framer = new.framer; passes = new.passes }

@@ -20,7 +20,7 @@ use std::alloc::Global;
 /// Reads once, and keeps what came.
 pub(crate) fn read<L: Link>(link: &mut L, framer: &mut Framer, buf: &mut [u8]) -> Went
     requires { 0 < length buf.old }
-    ensures { ReadsLink L.counts L.left L.written L.is_shut link.old framer.old.kept result
+    ensures { ReadsLink L.facts link.old framer.old.kept result
         link.new framer.new.kept }
 {
     match link.poll_read(buf) {

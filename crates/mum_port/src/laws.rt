@@ -31,18 +31,18 @@ pub fn frames_are_handled_in_order<L: Link, V: VoiceRouter>()
     // No byte is lost or made: what was taken is the frames that were handled, and what is kept while the
     // port is open.
     ensures conserved { (connection worker : ℕ) (link : L) (events : List Event) (port : PortFacts L) →
-        Lives L.counts L.left L.written L.is_shut V.routed (new_port connection worker link) events port →
+        Lives L.facts V.routed (new_port connection worker link) events port →
         (rest : List ℕ) × (bytes_taken events ≡ flat_map frame_spelling (frames_handled events) ++ rest)
         × All IsFrame (frames_handled events) × (is_closed port.stage ≡ false → rest ≡ port.framer.kept) }
     ensures front { (connection worker : ℕ) (link : L) (events : List Event) (port : PortFacts L)
         (frames : List Frame) (rest : List ℕ) →
-        Lives L.counts L.left L.written L.is_shut V.routed (new_port connection worker link) events port →
+        Lives L.facts V.routed (new_port connection worker link) events port →
         Splits (bytes_taken events) frames rest → IsFront (frames_handled events) frames }
     // A port that closes at the end of its link has handled all of them.
     ensures at_end { (connection worker : ℕ) (link : L) (events : List Event) (port last : PortFacts L)
         (machine : Machine) (did : PortDid) →
-        Lives L.counts L.left L.written L.is_shut V.routed (new_port connection worker link) events port →
-        Steps L.counts L.left L.written L.is_shut V.routed port machine did last →
+        Lives L.facts V.routed (new_port connection worker link) events port →
+        Steps L.facts V.routed port machine did last →
         did.closed ≡ Some End → Splits (bytes_taken events) (frames_handled events) port.framer.kept }
 {}
 
@@ -50,7 +50,7 @@ pub fn frames_are_handled_in_order<L: Link, V: VoiceRouter>()
 /// written is a front of it, and what is kept is the rest while the port is open.
 pub fn bytes_are_written_in_order<L: Link, V: VoiceRouter>()
     ensures { (connection worker : ℕ) (link : L) (events : List Event) (port : PortFacts L) →
-        Lives L.counts L.left L.written L.is_shut V.routed (new_port connection worker link) events port →
+        Lives L.facts V.routed (new_port connection worker link) events port →
         (rest : List ℕ) × (bytes_queued events ≡ bytes_written events ++ rest)
         × (is_closed port.stage ≡ false → rest ≡ port.out) }
 {}
@@ -59,7 +59,7 @@ pub fn bytes_are_written_in_order<L: Link, V: VoiceRouter>()
 /// and nothing else.
 pub fn the_desk_gets_each_item_once<L: Link, V: VoiceRouter>()
     ensures { (connection worker : ℕ) (link : L) (events : List Event) (port : PortFacts L) →
-        Lives L.counts L.left L.written L.is_shut V.routed (new_port connection worker link) events port →
+        Lives L.facts V.routed (new_port connection worker link) events port →
         (commands : List DeskItem) × (items_put events ≡ commands ++ words_said port.machine port.stage)
         × (items_asked events ≡ commands ++ and_item port.waiting []) }
 {}
@@ -67,8 +67,8 @@ pub fn the_desk_gets_each_item_once<L: Link, V: VoiceRouter>()
 /// Behind a frame that asks for a command no frame is handled before a reply comes.
 pub fn a_command_is_answered_before_the_next_frame<L: Link, V: VoiceRouter>()
     ensures { (old mid port : PortFacts L) (machine : Machine) (did : PortDid) (item : DeskItem)
-        (events : List Event) → Steps L.counts L.left L.written L.is_shut V.routed old machine did mid →
+        (events : List Event) → Steps L.facts V.routed old machine did mid →
         asked_item (action_of machine did.handled) ≡ Some item →
-        Lives L.counts L.left L.written L.is_shut V.routed mid events port →
+        Lives L.facts V.routed mid events port →
         AreUnanswered events → frames_handled events ≡ [] }
 {}

@@ -162,7 +162,7 @@ pub(crate) fn drain<R: Wait>(
 /// Writes once.
 pub(crate) fn write<L: Link>(link: &mut L, out: &mut Outgoing) -> Went
     requires { 0 < length out.old }
-    ensures { WritesLink L.counts L.left L.written L.is_shut link.old out.old result link.new out.new }
+    ensures { WritesLink L.facts link.old out.old result link.new out.new }
 {
     match out.write_to(link) {
         PollWrite::Took(_) => Went::Worked,

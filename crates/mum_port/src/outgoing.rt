@@ -52,11 +52,11 @@ fn advance(front: &mut Front, wires: &mut VecDeque<Octets>)
 // Writes as much of the frame at the front as the link takes.
 fn write_front<L: Link>(front: &mut Front, link: &mut L) -> PollWrite
     requires { 0 < length front.old }
-    ensures counts { PollWriteCounts result (L.counts link.old) (L.counts link.new) }
-    ensures left { Keeps (L.left link.old) (L.left link.new) }
-    ensures address { L.address link.new ≡ L.address link.old }
-    ensures is_shut { L.is_shut link.new ≡ L.is_shut link.old }
-    ensures wrote { WritesFirst (L.written link.old) (L.written link.new) result front.old front.new }
+    ensures counts { PollWriteCounts result (L.facts link.old).counts (L.facts link.new).counts }
+    ensures left { Keeps (L.facts link.old).left (L.facts link.new).left }
+    ensures address { (L.facts link.new).address ≡ (L.facts link.old).address }
+    ensures is_shut { (L.facts link.new).is_shut ≡ (L.facts link.old).is_shut }
+    ensures wrote { WritesFirst (L.facts link.old).written (L.facts link.new).written result front.old front.new }
 {
     let wrote = link.poll_write(front.as_slice());
     if let PollWrite::Took(count) = wrote {
@@ -132,11 +132,11 @@ impl Outgoing {
     /// Writes the first bytes to the link, as many as it takes in one call.
     pub fn write_to<L: Link>(&mut self, link: &mut L) -> PollWrite
         requires { 0 < length self.old }
-        ensures counts { PollWriteCounts result (L.counts link.old) (L.counts link.new) }
-        ensures left { Keeps (L.left link.old) (L.left link.new) }
-        ensures address { L.address link.new ≡ L.address link.old }
-        ensures is_shut { L.is_shut link.new ≡ L.is_shut link.old }
-        ensures wrote { WritesFirst (L.written link.old) (L.written link.new) result self.old self.new }
+        ensures counts { PollWriteCounts result (L.facts link.old).counts (L.facts link.new).counts }
+        ensures left { Keeps (L.facts link.old).left (L.facts link.new).left }
+        ensures address { (L.facts link.new).address ≡ (L.facts link.old).address }
+        ensures is_shut { (L.facts link.new).is_shut ≡ (L.facts link.old).is_shut }
+        ensures wrote { WritesFirst (L.facts link.old).written (L.facts link.new).written result self.old self.new }
     {
         advance(&mut self.front, &mut self.wires);
         let before = self.front.as_slice().len();

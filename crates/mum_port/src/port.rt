@@ -172,7 +172,7 @@ impl<L: Link> Port<L> {
     // Reads, where it may.
     fn read(&mut self, buf: &mut [u8]) -> Went
         requires { 0 < length buf.old }
-        ensures { Reads L.counts L.left L.written L.is_shut self.old result self.new }
+        ensures { Reads L.facts self.old result self.new }
     {
         if !self.may_read() {
             return Went::NotDue;
@@ -283,7 +283,7 @@ impl<L: Link> Port<L> {
 
     // Writes, where it may.
     fn write(&mut self) -> Went
-        ensures { Writes L.counts L.left L.written L.is_shut self.old result self.new }
+        ensures { Writes L.facts self.old result self.new }
     {
         if self.stage.is_closed() || self.out.is_empty() {
             return Went::NotDue;
@@ -295,7 +295,7 @@ impl<L: Link> Port<L> {
 
     // Closes for a cause: shuts its link, and gives the memory of what it keeps back.
     fn close(&mut self, alloc: Global, cause: Cause)
-        ensures { ClosesFor L.counts L.left L.written L.is_shut cause self.old self.new }
+        ensures { ClosesFor L.facts cause self.old self.new }
     {
         self.stage = closed(cause);
         self.link.shut();
@@ -305,7 +305,7 @@ impl<L: Link> Port<L> {
 
     // Closes a port that ends and has written all, or that met a cause in this step.
     fn settle(&mut self, alloc: Global, was_closed: bool) -> Option<Cause>
-        ensures { Settles L.counts L.left L.written L.is_shut was_closed self.old result self.new }
+        ensures { Settles L.facts was_closed self.old result self.new }
     {
         if was_closed {
             return None;
@@ -329,7 +329,7 @@ impl<L: Link> Port<L> {
         wire: Octets,
         passes: Option<Passes>,
     ) -> Option<Cause>
-        ensures { Answers L.counts L.left L.written L.is_shut end wire passes self.old result self.new }
+        ensures { Answers L.facts end wire passes self.old result self.new }
     {
         if self.stage.is_closed() {
             drop(wire);
@@ -350,7 +350,7 @@ impl<L: Link> Port<L> {
     /// A box of its session was full, or a login waits for its slot: it closes, unless it is closed already,
     /// and drops what it did not write. Answers for what it closes, if it does.
     pub fn lag(&mut self, alloc: Global) -> Option<Cause>
-        ensures { Lags L.counts L.left L.written L.is_shut self.old result self.new }
+        ensures { Lags L.facts self.old result self.new }
     {
         if self.stage.is_closed() {
             return None;
@@ -378,10 +378,10 @@ impl<L: Link> Port<L> {
         requires posts { IsPosted posts.now self.old.passes }
         requires voices { IsVoiced voices.now self.old.passes }
         requires buffer { 0 < length buf.old }
-        ensures chain { PortChain L.counts L.left L.written L.is_shut V.routed posts.now voices.now
+        ensures chain { PortChain L.facts V.routed posts.now voices.now
             self.old pass.old (V.without_room router.old) result self.new pass.new
             (V.without_room router.new) }
-        ensures turn { (did : PortDid) × PortTurn L.counts L.left L.written L.is_shut V.routed posts.now voices.now
+        ensures turn { (did : PortDid) × PortTurn L.facts V.routed posts.now voices.now
             self.old pass.old (V.without_room router.old) did result self.new pass.new
             (V.without_room router.new) }
         ensures desk { pass.new.queue ≡ desk.now.queue }

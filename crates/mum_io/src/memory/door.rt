@@ -128,15 +128,11 @@ impl MemDoor {
 }
 
 impl Door for MemDoor {
-    ghost use Rattle.mum_io.specs.MemDoor.{accept_answer, after_accept, after_open};
+    ghost use Rattle.mum_io.specs.MemDoor.{accept_answer, after_accept, after_open, door_facts};
 
     type Conn = MemLink;
 
-    ghost counts = { λ d. d.counts };
-
-    ghost given = { λ d. d.given };
-
-    ghost opened_at = { λ d. d.opened_at };
+    ghost facts = { door_facts };
 
     fn open(&mut self, address: &str) -> DoorOpen
         ensures counts { OpenCounts result self.old.counts self.new.counts }

@@ -4,7 +4,7 @@ ghost use Rattle.std.specs.Prelude.{◌≡◌, ◌≢◌, ℕ, ◌<◌, ◌++◌
 ghost use Rattle.std.specs.Option.{ForSome};
 ghost use Rattle.mum_io.specs.Calls.{next_fails};
 ghost use Rattle.mum_io.specs.Link.{Keeps, PollReadCounts, PollReadLeaves, PollWriteCounts, PollWriteLeaves};
-ghost use Rattle.mum_io.specs.MemLink.{after_event, after_poll_read, after_poll_write, bytes_of, due, read_answer, with_rest};
+ghost use Rattle.mum_io.specs.MemLink.{after_event, after_poll_read, after_poll_write, bytes_of, due, link_facts, read_answer, with_rest};
 
 use super::unread::Unread;
 use crate::calls::Calls;
@@ -190,15 +190,7 @@ fn read_events(piece: &mut Unread, events: &mut VecDeque<LinkEvent>, buf: &mut [
 }
 
 impl Link for MemLink {
-    ghost counts = { λ l. l.counts };
-
-    ghost left = { λ l. Some (bytes_of l.events) };
-
-    ghost written = { λ l. Some l.written };
-
-    ghost address = { λ l. l.address };
-
-    ghost is_shut = { λ l. l.is_shut };
+    ghost facts = { link_facts };
 
     fn poll_read(&mut self, buf: &mut [u8]) -> PollRead
         requires { 0 < length buf.old }

@@ -3,4 +3,4 @@ use Rattle.mum_port.proofs.laws.a_command_is_answered_before_the_next_frame.Goal
 
 pub returns : goal.returns
 returns g c old mid port machine did item events steps asked lives unanswered =
-    unanswered_waits g.L.Link.counts g.L.Link.left g.L.Link.written g.L.Link.is_shut g.V.VoiceRouter.routed old mid port machine did item events steps asked lives unanswered
+    unanswered_waits g.L.Link.facts g.V.VoiceRouter.routed old mid port machine did item events steps asked lives unanswered

@@ -8,14 +8,14 @@ use Rattle.mum_port.proofs.port.Port.step.Goals as goal
 pub take-posted-requires-clause-posts : goal.take-posted-requires-clause-posts
 take-posted-requires-clause-posts g c =
     let at_put = Puts-passes _ _ _ _ _ c.put-put.ensures in
-    let at_read = Reads-passes _ _ _ _ _ _ _ c.read-read.ensures in
+    let at_read = Reads-passes _ _ _ _ c.read-read.ensures in
     let at_handle = Handles-passes _ _ _ _ _ _ c.handle-handled.ensures in
     subst (IsPosted c.args.posts.now) (sym (at_handle ∙ at_read ∙ at_put)) c.requires.posts
 
 pub take-posted-requires-clause-voices : goal.take-posted-requires-clause-voices
 take-posted-requires-clause-voices g c =
     let at_put = Puts-passes _ _ _ _ _ c.put-put.ensures in
-    let at_read = Reads-passes _ _ _ _ _ _ _ c.read-read.ensures in
+    let at_read = Reads-passes _ _ _ _ c.read-read.ensures in
     let at_handle = Handles-passes _ _ _ _ _ _ c.handle-handled.ensures in
     subst (IsVoiced c.args.voices.now) (sym (at_handle ∙ at_read ∙ at_put)) c.requires.voices
 
@@ -39,7 +39,7 @@ returns-clause-chain g c = record {
   takes = c.take-posted.ensures;
   writes = c.write-wrote.ensures;
   settles =
-      subst (λ (b : Bool). Settles g.L.Link.counts g.L.Link.left g.L.Link.written g.L.Link.is_shut b c.write-wrote.new.self c.settle-closed.result c.settle-closed.new.self)
+      subst (λ (b : Bool). Settles g.L.Link.facts b c.write-wrote.new.self c.settle-closed.result c.settle-closed.new.self)
       c.is_closed-was_closed.ensures c.settle-closed.ensures;
   came_to = c.of.ensures;
 }
@@ -53,10 +53,10 @@ returns-clause-desk g c = Puts-queue _ _ _ _ _ c.put-put.ensures ∙ c.requires.
 pub returns-clause-posts : goal.returns-clause-posts
 returns-clause-posts g c =
     let at_put = Puts-passes _ _ _ _ _ c.put-put.ensures in
-    let at_read = Reads-passes _ _ _ _ _ _ _ c.read-read.ensures in
+    let at_read = Reads-passes _ _ _ _ c.read-read.ensures in
     let at_handle = Handles-passes _ _ _ _ _ _ c.handle-handled.ensures in
-    let at_write = Writes-passes _ _ _ _ _ _ _ c.write-wrote.ensures in
-    let at_end = Settles-passes _ _ _ _ _ _ _ _ c.settle-closed.ensures in
+    let at_write = Writes-passes _ _ _ _ c.write-wrote.ensures in
+    let at_end = Settles-passes _ _ _ _ _ c.settle-closed.ensures in
     subst (IsPosted c.args.posts.now) (sym (at_end ∙ at_write))
     (TakesParcels-posted _ _ _ _ _ _ _ c.take-posted.ensures
     (subst (IsPosted c.args.posts.now) (sym (at_handle ∙ at_read ∙ at_put)) c.requires.posts))
@@ -64,10 +64,10 @@ returns-clause-posts g c =
 pub returns-clause-voices : goal.returns-clause-voices
 returns-clause-voices g c =
     let at_put = Puts-passes _ _ _ _ _ c.put-put.ensures in
-    let at_read = Reads-passes _ _ _ _ _ _ _ c.read-read.ensures in
+    let at_read = Reads-passes _ _ _ _ c.read-read.ensures in
     let at_handle = Handles-passes _ _ _ _ _ _ c.handle-handled.ensures in
-    let at_write = Writes-passes _ _ _ _ _ _ _ c.write-wrote.ensures in
-    let at_end = Settles-passes _ _ _ _ _ _ _ _ c.settle-closed.ensures in
+    let at_write = Writes-passes _ _ _ _ c.write-wrote.ensures in
+    let at_end = Settles-passes _ _ _ _ _ c.settle-closed.ensures in
     subst (IsVoiced c.args.voices.now) (sym (at_end ∙ at_write))
     (TakesParcels-voiced _ _ _ _ _ _ _ c.take-posted.ensures
     (subst (IsVoiced c.args.voices.now) (sym (at_handle ∙ at_read ∙ at_put)) c.requires.voices))

@@ -1,13 +1,12 @@
-use Rattle.std.proofs.Common.{refl, sym, ap, ◌∙◌, ◌<◌, length, All, IsTrue, map, subst, arith}
+use Rattle.std.proofs.Common.{◌<◌, length, All, IsTrue, arith}
 use Rattle.std.proofs.lemmas.List.{length-set}
-use Rattle.mum_crew.proofs.KeepLemmas.{KeepsEach-set, all_set, below_set}
+use Rattle.mum_crew.proofs.KeepLemmas.{all_set, below_set}
 use Rattle.mum_crew.proofs.TurnLemmas.{lane_set, lanes_same}
 use Rattle.mum_crew.proofs.lane.make_up_all.Goals as goal
 
 pub loop-k-init : goal.loop-k-init
 loop-k-init g c = record {
-  openings = λ k d within. refl;
-  turned = lanes_same g.R.Role.turned (λ t. t.role) (λ lane. lane.tasks.items) c.args.lanes.now;
+  came = lanes_same g.R.Role.opening g.R.Role.turned (λ t. t.role) (λ lane. lane.tasks.items) c.args.lanes.now;
   ran = c.requires;
   ended = λ t d below. absurd (omega (below, arith));
 }
@@ -17,10 +16,8 @@ pub loop-k-preserved : goal.loop-k-preserved
 loop-k-preserved g c =
     let within : c.loop-k.k < length c.loop-k.lanes = omega (c.loop-k-test.true, c.loop-k.auto.lanes, arith) in
     record {
-      openings = KeepsEach-set (λ lane. map (λ t. g.R.Role.opening t.role) lane.tasks.items) c.args.lanes.now c.loop-k.lanes c.loop-k.k c.make_up.new.lane c.index-lanes-k.result within
-          c.make_up.ensures.openings c.loop-k.invariant.openings;
-      turned = lane_set g.R.Role.turned (λ t. t.role) (λ lane. lane.tasks.items) c.args.lanes.now c.loop-k.lanes c.loop-k.k c.make_up.new.lane c.index-lanes-k.result c.loop-k.auto.lanes within
-          c.make_up.ensures.turned c.loop-k.invariant.turned;
+      came = lane_set g.R.Role.opening g.R.Role.turned (λ t. t.role) (λ lane. lane.tasks.items) c.args.lanes.now c.loop-k.lanes c.loop-k.k c.make_up.new.lane c.index-lanes-k.result c.loop-k.auto.lanes within
+          c.make_up.ensures.came c.loop-k.invariant.came;
       ran = λ k d below. all_set (λ lane. IsTrue lane.ran → All (λ t. IsTrue (g.R.Role.has_ended t.role)) lane.tasks.items) c.loop-k.lanes c.loop-k.k c.make_up.new.lane within
           (λ _. c.make_up.ensures.ended) c.loop-k.invariant.ran k d (omega (below, length-set c.loop-k.lanes c.loop-k.k c.make_up.new.lane, arith));
       ended = below_set (λ lane. All (λ t. IsTrue (g.R.Role.has_ended t.role)) lane.tasks.items) c.loop-k.lanes c.loop-k.k c.make_up.new.lane within c.make_up.ensures.ended c.loop-k.invariant.ended;

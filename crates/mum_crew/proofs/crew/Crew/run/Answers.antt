@@ -1,0 +1,25 @@
+use Rattle.std.proofs.Common.{◌≡◌}
+use Rattle.std.specs.List.{AllZip}
+use Rattle.mum_crew.specs.Turns.{Came}
+use Rattle.mum_crew.specs.declared.crew.CrewEnd.{CrewEnd}
+use Rattle.mum_crew.proofs.TurnLemmas.{came_openings, came_turned}
+use Rattle.mum_crew.proofs.crew.Crew.run.Given.{Over}
+use Rattle.mum_crew.proofs.crew.Crew.run.Goals.{After-count, in-Threads, in-Turns}
+use Rattle.mum_crew.proofs.crew.Crew.run.Goals as goal
+
+-- in threads or in this one, the roles came to those that are back
+came : (g : Over) (c : After-count g) → c.match-plan.run.end ≡ CrewEnd.Ran
+    → AllZip (Came g.R.Role.opening g.R.Role.turned) c.args.roles.items c.match-plan.run.roles.items
+came g c =
+    elim c.match-plan.branch [
+      | in-Threads w ↦ rw w.run-is w.run_threads-run.ensures.came
+      | in-Turns w ↦ rw w.run-is w.run_turns-run.ensures.came
+    ]
+
+pub returns-clause-openings : goal.returns-clause-openings
+returns-clause-openings g c = λ ran.
+    came_openings g.R.Role.opening g.R.Role.turned c.args.roles.items c.match-plan.run.roles.items (came g (goal.at.returns-clause-openings g c).After-count ran)
+
+pub returns-clause-turned : goal.returns-clause-turned
+returns-clause-turned g c = λ ran.
+    came_turned g.R.Role.opening g.R.Role.turned c.args.roles.items c.match-plan.run.roles.items (came g (goal.at.returns-clause-turned g c).After-count ran)

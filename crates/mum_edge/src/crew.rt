@@ -6,7 +6,7 @@ use crate::life::Life;
 use crate::station::{PollSleeper, WAKER};
 use mio::{Events, Poll, Registry, Token, Waker};
 use mum_crew::{Crew, CrewEnd, Plan, RunTally};
-use mum_link::{Board, Hub, LinkStation, THREAD_LIMIT};
+use mum_link::{Board, Hub, LaterRoles, LinkStation, Shares, Stations, THREAD_LIMIT};
 use std::alloc::{AllocError, Global};
 use std::io::Eprint;
 use std::net::Net;
@@ -21,26 +21,26 @@ const EVENTS: usize = 256;
 /// The station of one thread.
 pub type SocketStation<X> = LinkStation<PollSleeper<X>>;
 
-/// Threads with a station each: the first for the owner and the roles behind the workers, the others for the workers.
+/// Threads with a station each: the first for the owner, the next for the workers, the last for the roles behind these,
+/// where there are any.
 #[derive(Drop)]
 pub struct ThreadCrew<X> {
     rt: X,
     hub: Arc<Hub>,
-    stations: Vec<SocketStation<X>>,
-    spare: Vec<SocketStation<X>>,
-    later_roles: usize,
+    stations: Stations<SocketStation<X>>,
+    pub later: LaterRoles,
     tally: RunTally,
     life: Life<X>,
 }
 
-/// How many threads a crew has on this machine: the owner's, and one for each two processors.
+/// How many threads the owner and the workers have on this machine: the owner's, and one for each two processors.
 pub fn thread_count<X: Threads>(rt: &X) -> usize {
     let processors = thread::available_parallelism(rt).map_or(1, |count| count.get());
-    (processors / 2).clamp(1, THREAD_LIMIT - 1) + 1
+    (processors / 2).clamp(1, THREAD_LIMIT - 2) + 1
 }
 
 impl<X: Net + Clock + Copy> ThreadCrew<X> {
-    /// A crew of this many threads, for as many roles behind the workers.
+    /// A crew of this many threads for the owner and the workers, and one for so many roles behind these, if there are any.
     pub(crate) fn new(
         rt: X,
         alloc: Global,
@@ -49,12 +49,14 @@ impl<X: Net + Clock + Copy> ThreadCrew<X> {
         later_roles: usize,
         life: Life<X>,
     ) -> io::Result<ThreadCrew<X>> {
+        let later = LaterRoles::new(later_roles);
+        let threads = threads.saturating_add(later.threads()).min(THREAD_LIMIT);
+        let stations = stations(rt, alloc, &hub, threads, life)?;
         Ok(ThreadCrew {
             rt,
-            stations: stations(rt, alloc, &hub, threads.min(THREAD_LIMIT), life)?,
-            spare: Vec::new(alloc),
+            stations: Stations::new(alloc, stations, later),
             hub,
-            later_roles,
+            later,
             tally: RunTally::new(),
             life,
         })
@@ -62,8 +64,9 @@ impl<X: Net + Clock + Copy> ThreadCrew<X> {
 
     /// The boards of its threads.
     pub(crate) fn boards(&self, alloc: Global) -> Result<Vec<Arc<Board>>, AllocError> {
-        let mut boards = Vec::with_capacity(alloc, self.stations.len())?;
-        for station in self.stations.iter() {
+        let stations = self.stations.as_slice();
+        let mut boards = Vec::with_capacity(alloc, stations.len())?;
+        for station in stations.iter() {
             boards.push(station.board.clone()?)?;
         }
         Ok(boards)
@@ -71,8 +74,9 @@ impl<X: Net + Clock + Copy> ThreadCrew<X> {
 
     /// Where sockets are registered at the polls of its threads.
     pub(crate) fn registries(&self, alloc: Global) -> io::Result<Arc<Vec<Registry>>> {
-        let mut registries = Vec::with_capacity(alloc, self.stations.len())?;
-        for station in self.stations.iter() {
+        let stations = self.stations.as_slice();
+        let mut registries = Vec::with_capacity(alloc, stations.len())?;
+        for station in stations.iter() {
             registries.push(station.sleeper.poll.registry().try_clone()?)?;
         }
         Ok(Arc::new(alloc, registries)?)
@@ -119,23 +123,6 @@ fn stations<X: Net + Clock + Copy>(
     Ok(stations)
 }
 
-// Moves the last stations from one list to the other, until this many are left. Those for which there is no memory
-// are dropped.
-fn move_last<X: Drop>(
-    from: &mut Vec<SocketStation<X>>,
-    to: &mut Vec<SocketStation<X>>,
-    left: usize,
-) {
-    for _ in 0..THREAD_LIMIT {
-        if from.len() <= left {
-            break;
-        }
-        if let Some(station) = from.pop() {
-            let _no_memory = to.push(station);
-        }
-    }
-}
-
 impl<X: Net + Wait + Threads + Clock + Eprint + Copy + Sync + Send> Crew for ThreadCrew<X> {
     type Runtime = X;
 
@@ -148,13 +135,12 @@ impl<X: Net + Wait + Threads + Clock + Eprint + Copy + Sync + Send> Crew for Thr
     }
 
     fn plan(&mut self, alloc: Global, roles: usize) -> Plan<SocketStation<X>> {
-        let workers = roles.saturating_sub(self.later_roles).saturating_sub(1);
-        let threads = workers.saturating_add(1);
-        move_last(&mut self.stations, &mut self.spare, threads);
-        self.hub.set_crew(workers, self.stations.len());
+        let threads = self.stations.as_slice().len();
+        let Shares { workers, spread } = self.hub.share(roles, threads, self.later);
         Plan::Threads {
-            stations: std::mem::replace(&mut self.stations, Vec::new(alloc)),
+            stations: self.stations.lend(alloc, spread),
             workers,
+            spread,
         }
     }
 
@@ -167,8 +153,7 @@ impl<X: Net + Wait + Threads + Clock + Eprint + Copy + Sync + Send> Crew for Thr
                 if times > 0 {
                     self.life.overslept(times);
                 }
-                drop(std::mem::replace(&mut self.stations, stations));
-                move_last(&mut self.spare, &mut self.stations, 0);
+                self.stations.take_back(stations);
             }
             Plan::Turns(turns) => drop(turns),
         }

@@ -7,7 +7,7 @@ use crate::stream::Stream;
 use mio::net::{TcpListener, UnixListener};
 use mio::{Interest, Registry, Token};
 use mum_address::{Address, Place, ipv6_of, socket_path};
-use mum_link::{DOOR_THREAD, LINK_LIMIT, Listener};
+use mum_link::{DOOR_THREAD, Listener, SLOT_LIMIT};
 use std::fs::Files;
 use std::io::{Eprint, ErrorKind};
 use std::net::{Ipv6Addr, Net, SocketAddr};
@@ -15,11 +15,8 @@ use std::os::fd::AsRawFd;
 use std::sync::Arc;
 use std::{fs, io};
 
-/// The token of the listener, behind those of the slots.
-pub const DOOR: usize = LINK_LIMIT;
-
-/// The token of the socket at which somebody connects who wants the server to stop.
-pub const STOP: usize = DOOR + 1;
+/// The token of the socket at which somebody connects who wants the server to stop, behind those of the slots.
+pub const STOP: usize = SLOT_LIMIT;
 
 /// The most connections that wait for an accept.
 const BACKLOG: i32 = 1024;
@@ -101,25 +98,25 @@ impl<X: Net + Files + Eprint> SocketListener<X> {
         }
     }
 
-    fn registry(&self) -> io::Result<&Registry> {
+    fn registry(&self, thread: usize) -> io::Result<&Registry> {
         if let Some(code) = self.fault {
             return Err(io::Error::from_raw_os_error(code));
         }
-        match self.registries.get(DOOR_THREAD) {
+        match self.registries.get(thread) {
             Some(registry) => Ok(registry),
             None => Err(io::Error::from(ErrorKind::NotFound)),
         }
     }
 
-    fn bind(&self, place: Place<'_>) -> io::Result<Bound> {
-        let registry = self.registry()?;
+    fn bind(&self, place: Place<'_>, thread: usize, slot: usize) -> io::Result<Bound> {
+        let registry = self.registry(thread)?;
         let mut bound = Bound::at(&self.rt, place)?;
-        bound.register(registry, DOOR)?;
+        bound.register(registry, slot)?;
         Ok(bound)
     }
 
     fn bind_for_stops(&self, path: &str) -> io::Result<UnixListener> {
-        let registry = self.registry()?;
+        let registry = self.registry(DOOR_THREAD)?;
         let mut listener = socket_file::bind(&self.rt, path)?;
         registry.register(&mut listener, Token(STOP), Interest::READABLE)?;
         Ok(listener)
@@ -168,14 +165,14 @@ impl<X: Net + Files + Eprint + Copy> Listener for SocketListener<X> {
     type Socket = Peer<X>;
 
     // If it cannot, a line on standard error says why.
-    fn listen(&mut self, text: &str) -> Option<bool> {
+    fn listen(&mut self, text: &str, thread: usize, slot: usize) -> Option<bool> {
         let Some(address) = Address::from_text(text) else {
             self.life.is_no_address(text);
             return None;
         };
         let stop = self.listen_for_stops()?;
         self.stop = stop;
-        let bound = self.listening(text, self.bind(address.place))?;
+        let bound = self.listening(text, self.bind(address.place, thread, slot))?;
         self.bound = Some(bound);
         let port = self.local_address().map(|address| address.port());
         self.life.listens(text, port);

@@ -7,7 +7,7 @@ use crate::listener::SocketListener;
 use crate::peer::Peer;
 use mio::Registry;
 use mum_address::reports_under;
-use mum_link::{Entrance, Hub, SocketDoor};
+use mum_link::{Doorstep, Entrance, Hub, SocketDoor};
 use mum_pace::Pace;
 use std::alloc::{AllocError, Global};
 use std::env::VarError;
@@ -24,19 +24,21 @@ use std::{env, io};
 /// connection with a PROXY header.
 pub type MachineDoor<X> = SocketDoor<SocketListener<X>, Peer<X>>;
 
-/// A crew, a door and a clock that belong together. The caller takes them apart and hands them on:
+/// A crew, two doors and a clock that belong together. The caller takes them apart and hands them on:
 ///
 /// ```text
-/// let Machine { crew, door, clock } = Machine::open(rt, alloc, LATER_ROLES)?;
+/// let Machine { crew, door, view, clock } = Machine::open(rt, alloc, LATER_ROLES)?;
 /// ```
 ///
-/// The crew comes first, since the door registers its links at the polls on which the threads of the crew sleep.
+/// The crew comes first, since the doors register their links at the polls on which the threads of the crew sleep.
 /// The door is to be asked by the first role of that crew, and a connection's link by the worker to whom it belongs:
-/// connection n belongs to worker (n - 1) modulo their number.
+/// connection n belongs to worker (n - 1) modulo their number. The view door, and the links of its connections, are to be
+/// asked by a role behind the workers.
 #[derive(Drop)]
 pub struct Machine<X> {
     pub crew: ThreadCrew<X>,
     pub door: MachineDoor<X>,
+    pub view: MachineDoor<X>,
     pub clock: SystemClock<X>,
 }
 
@@ -93,15 +95,20 @@ impl<X: AllocGlobal + Net + Files + Env + Eprint + Threads + Clock + Copy> Machi
             Ok((crew, polls)) => (crew, polls, None),
             Err(error) if error.kind() == ErrorKind::OutOfMemory => return Err(error),
             Err(error) => {
-                let (crew, polls) = crew_of(rt, alloc, &hub, 0, later_roles, life)?;
+                let (crew, polls) = crew_of(rt, alloc, &hub, 0, 0, life)?;
                 (crew, polls, error.raw_os_error())
             }
         };
-        let listener = SocketListener::new(rt, polls, fault, life, setting.stop_at);
-        let entrance = Entrance::new(alloc, hub, crew.boards(alloc)?, setting.pace, listener);
+        let step = Doorstep::of_users(setting.pace);
+        let listener = SocketListener::new(rt, polls.clone()?, fault, life, setting.stop_at);
+        let door = Entrance::new(alloc, hub.clone()?, crew.boards(alloc)?, step, listener);
+        let step = Doorstep::of_views(polls.len().saturating_sub(1));
+        let listener = SocketListener::new(rt, polls, fault, life.silent(), None);
+        let view = Entrance::new(alloc, hub, crew.boards(alloc)?, step, listener);
         Ok(Machine {
             crew,
-            door: SocketDoor::new(entrance),
+            door: SocketDoor::new(door),
+            view: SocketDoor::new(view),
             clock: SystemClock::new(rt),
         })
     }

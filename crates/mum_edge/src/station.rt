@@ -1,7 +1,7 @@
 //! What a thread sleeps on.
 
 use crate::life::Life;
-use crate::listener::{DOOR, STOP};
+use crate::listener::STOP;
 use mio::event::Event;
 use mio::{Events, Poll, Waker};
 use mum_link::{HUNG_UP, Hub, READABLE, Ready, Sleeper, WRITABLE};
@@ -9,7 +9,7 @@ use std::io::Eprint;
 use std::sync::Arc;
 use std::time::{Clock, Duration, Instant};
 
-/// The token of the waker, behind those of the door and of the socket for a stop.
+/// The token of the waker, behind that of the socket for a stop.
 pub const WAKER: usize = STOP + 1;
 
 /// A poll of its own, and the wakers of all threads.
@@ -46,7 +46,6 @@ impl<X: Clock + Eprint + Drop> PollSleeper<X> {
             match event.token().0 {
                 WAKER => continue,
                 STOP => is_stop = true,
-                DOOR => hub.set_door_ready(true),
                 slot => hub.set(slot, flags_of(event)),
             }
             sockets = sockets.saturating_add(1);

@@ -8,8 +8,10 @@ use std::sync::Arc;
 use std::sync::atomic::{AtomicBool, AtomicU64, Ordering};
 use std::thread;
 
-/// As many roles as threads: the owner's, and two of workers.
-const ROLES: u64 = 3;
+/// As many roles as threads: the owner's, two of workers, and one behind these.
+const ROLES: u64 = 4;
+
+const LATER_ROLES: usize = 1;
 
 /// How often a role asks whether all others have come, before the test fails.
 const TRIES: u32 = 1_000_000;
@@ -92,10 +94,11 @@ fn a_crew_runs_its_roles_together(rt: HostRuntime) {
     let Machine { mut crew, .. } = Machine::quiet(
         rt,
         alloc,
-        ROLES as usize,
-        0,
+        ROLES as usize - LATER_ROLES,
+        LATER_ROLES,
         Pace::Unlimited,
-    ).expect(&rt, "a machine");
+    )
+    .expect(&rt, "a machine");
     let end = crew.run(alloc, roles).end;
     assert_eq!(rt; end, CrewEnd::Ran);
     assert!(rt; !meeting.was_in_vain.load(Ordering::SeqCst));

@@ -9,7 +9,7 @@ use crate::listener::Listener;
 use crate::socket::Socket;
 use mum_io::{Accept, Door, DoorOpen, Tally};
 
-/// Where connections come from. It ends where the server stops, and fails only where it was not opened.
+/// Where connections come from. It ends where the server stops, or with the owner, and fails only where it was not opened.
 #[derive(Drop)]
 pub struct SocketDoor<L, S> {
     tally: Tally,
@@ -41,11 +41,7 @@ impl<L, S> SocketDoor<L, S> {
 impl<S: Socket + Send, L: Listener<Socket = S>> Door for SocketDoor<L, S> {
     type Conn = SocketLink<S>;
 
-    ghost counts = { λ d. d.tally };
-
-    ghost given = { λ d. d.given };
-
-    ghost opened_at = { λ _. None };
+    ghost facts = { λ d. record { counts = d.tally; given = d.given; opened_at = None } };
 
     fn open(&mut self, address: &str) -> DoorOpen {
         if self.entrance.open(address) {
@@ -61,7 +57,7 @@ impl<S: Socket + Send, L: Listener<Socket = S>> Door for SocketDoor<L, S> {
             self.tally.count_fault();
             return Accept::Failed;
         }
-        if self.entrance.is_stopping() {
+        if self.entrance.is_over() {
             self.tally.count_end();
             return Accept::End;
         }

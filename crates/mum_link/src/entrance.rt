@@ -1,15 +1,18 @@
 //! How connections come in: from a listener, behind the header of a relay where there is one, to the thread of the worker
 //! that gets them.
 
-ghost use Rattle.std.specs.Prelude.{◌≡◌, [], false, true, not, IfOk, IfSome, is_some, slice_get, unwrap_or};
+ghost use Rattle.std.specs.Prelude.{◌≡◌, ℕ, [], None, Some, false, true, not, IfOk, MatchOption, IfSome, is_some, slice_get, unwrap_or};
 ghost use Rattle.std.specs.Io.KnownBytes.{Keeps};
 ghost use Rattle.std.specs.Option.{ForSome, option_map};
 ghost use Rattle.std.specs.Result.{ForOk};
 ghost use Rattle.std.specs.Net.Addr.{ipv6_octets};
 ghost use Rattle.mum_address.specs.Header.{IsHeader};
+ghost use Rattle.mum_pace.specs.Arrivals.{no_arrivals, state_of};
+ghost use Rattle.mum_link.specs.Comings.{CountsOne, HaveRoom, LetsIn};
 ghost use Rattle.mum_link.specs.Headers.{HoldsAnswer, IsOf, TakesOut, refused_after};
 
 use crate::board::Board;
+use crate::doorstep::Doorstep;
 use crate::hub::{Hub, READABLE};
 use crate::kept::Kept;
 use crate::link::SocketLink;
@@ -18,16 +21,13 @@ use crate::seat::Seat;
 use crate::socket::Socket;
 use crate::waiting::Waiting;
 use mum_address::Header;
-use mum_pace::{Meter, Pace, Reservation};
+use mum_pace::{Arrivals, Meter, Rate, Reservation};
 use std::alloc::Global;
 use std::io;
 use std::io::ErrorKind;
 use std::mem::replace;
 use std::net::Ipv6Addr;
 use std::sync::Arc;
-
-/// The thread of the door, the first of the crew.
-pub const DOOR_THREAD: usize = 0;
 
 /// How many connections may wait for their headers.
 const WAITING_LIMIT: usize = 64;
@@ -55,13 +55,14 @@ struct Stuck {
     since: u64,
 }
 
-/// A listener, those who wait behind it, and the boards of the crew's threads. The first thread asks it.
+/// A listener, those who wait behind it, and the boards of the crew's threads.
 #[derive(Drop)]
 pub struct Entrance<L, S> {
     alloc: Global,
     hub: Arc<Hub>,
     boards: Vec<Arc<Board>>,
-    pace: Pace,
+    step: Doorstep,
+    arrivals: Option<Arrivals>,
     listener: L,
     has_headers: bool,
     waiting: Vec<Waiting<S>>,
@@ -70,15 +71,29 @@ pub struct Entrance<L, S> {
     refused: u64,
 }
 
+// Where none came yet at a door with this rate.
+fn arrivals_of(rate: Option<Rate>) -> Option<Arrivals>
+    ensures { MatchOption result (rate ≡ None) (λ arrivals.
+        (rate ≡ Some arrivals.rate) × (state_of arrivals ≡ no_arrivals)) }
+{
+    match rate {
+        Some(rate) => Some(Arrivals::new(rate)),
+        None => None,
+    }
+}
+
 impl<L, S> Entrance<L, S> {
     /// Behind this listener, which is still to be opened.
     pub fn new(
         alloc: Global,
         hub: Arc<Hub>,
         boards: Vec<Arc<Board>>,
-        pace: Pace,
+        step: Doorstep,
         listener: L,
     ) -> Entrance<L, S>
+        ensures step { result.step ≡ step }
+        ensures rate { MatchOption result.arrivals (step.rate ≡ None) (λ arrivals.
+            (step.rate ≡ Some arrivals.rate) × (state_of arrivals ≡ no_arrivals)) }
         ensures headers { result.has_headers ≡ false }
         ensures waiting { result.waiting.items ≡ [] }
         ensures refused { result.refused ≡ 0 }
@@ -87,7 +102,8 @@ impl<L, S> Entrance<L, S> {
             alloc,
             hub,
             boards,
-            pace,
+            step,
+            arrivals: arrivals_of(step.rate),
             listener,
             has_headers: false,
             waiting: Vec::new(alloc),
@@ -101,9 +117,9 @@ impl<L, S> Entrance<L, S> {
         &self.listener
     }
 
-    /// Whether nobody is let in any more, since the server stops.
-    pub fn is_stopping(&self) -> bool {
-        self.hub.is_stopping()
+    /// Whether nobody is let in any more: the server stops, or the owner has ended and the door ends with it.
+    pub fn is_over(&self) -> bool {
+        self.hub.is_stopping() || (self.step.ends_with_owner && self.hub.has_owner_ended())
     }
 
     // An accept failed. Whether that is to be reported: of failures in a row only the first is.
@@ -111,6 +127,7 @@ impl<L, S> Entrance<L, S> {
         ensures first { result ≡ not self.old.is_failing }
         ensures failing { self.new.is_failing ≡ true }
         ensures has_headers { self.new.has_headers ≡ self.old.has_headers }
+        ensures arrivals { self.new.arrivals ≡ self.old.arrivals }
     {
         !replace(&mut self.is_failing, true)
     }
@@ -119,9 +136,12 @@ impl<L, S> Entrance<L, S> {
 impl<S: Socket, L: Listener<Socket = S>> Entrance<L, S> {
     /// Listens at this address. Whether it does.
     pub fn open(&mut self, address: &str) -> bool
-        ensures { result ≡ false → self.new.has_headers ≡ self.old.has_headers }
+        ensures headers { result ≡ false → self.new.has_headers ≡ self.old.has_headers }
+        ensures arrivals { self.new.arrivals ≡ self.old.arrivals }
     {
-        let answer = self.listener.listen(address);
+        let answer = self
+            .listener
+            .listen(address, self.step.thread, self.step.slot);
         self.begin(answer)
     }
 
@@ -129,27 +149,71 @@ impl<S: Socket, L: Listener<Socket = S>> Entrance<L, S> {
     fn begin(&mut self, answer: Option<bool>) -> bool
         ensures listens { result ≡ is_some answer }
         ensures has_headers { self.new.has_headers ≡ unwrap_or answer self.old.has_headers }
+        ensures arrivals { self.new.arrivals ≡ self.old.arrivals }
     {
         let Some(has_headers) = answer else {
             return false;
         };
         self.has_headers = has_headers;
-        self.hub.set_door_ready(true);
+        self.set_ready();
         true
     }
 
     /// The next connection, which gets this number.
     pub fn next(&mut self, connection: u64) -> Option<SocketLink<S>>
         ensures has_headers { self.new.has_headers ≡ self.old.has_headers }
+        ensures rate { (now : ℕ) × LetsIn (is_some result) now self.old.arrivals self.new.arrivals }
     {
         self.try_again();
+        let now = self.now();
+        if !self.have_arrivals_room(now) {
+            self.watch_time();
+            return None;
+        }
         let link = self.next_of_all(connection);
+        if link.is_some() {
+            self.count_arrival();
+        }
         self.watch_time();
         link
     }
 
+    // Whether the rate of the door has room for a connection at this time in milliseconds.
+    fn have_arrivals_room(&mut self, milliseconds: u64) -> bool
+        ensures room { HaveRoom result milliseconds self.old.arrivals self.new.arrivals }
+        ensures has_headers { self.new.has_headers ≡ self.old.has_headers }
+    {
+        match &mut self.arrivals {
+            Some(arrivals) => arrivals.have_room(milliseconds),
+            None => true,
+        }
+    }
+
+    fn count_arrival(&mut self)
+        ensures has_headers { self.new.has_headers ≡ self.old.has_headers }
+        ensures counted { CountsOne self.old.arrivals self.new.arrivals }
+    {
+        if let Some(arrivals) = &mut self.arrivals {
+            arrivals.count();
+        }
+    }
+
+    // Whether the listener may have a connection.
+    fn is_ready(&self) -> bool {
+        self.hub.has(self.step.slot, READABLE)
+    }
+
+    fn set_ready(&self) {
+        self.hub.set(self.step.slot, READABLE);
+    }
+
+    fn clear_ready(&self) {
+        self.hub.clear(self.step.slot, READABLE);
+    }
+
     fn next_of_all(&mut self, connection: u64) -> Option<SocketLink<S>>
         ensures has_headers { self.new.has_headers ≡ self.old.has_headers }
+        ensures arrivals { self.new.arrivals ≡ self.old.arrivals }
     {
         for _ in 0..ARRIVALS {
             if let Some(link) = self.next_waiting(connection) {
@@ -172,7 +236,7 @@ impl<S: Socket, L: Listener<Socket = S>> Entrance<L, S> {
 
     // The time in milliseconds.
     fn now(&self) -> u64 {
-        match self.boards.get(DOOR_THREAD) {
+        match self.boards.get(self.step.thread) {
             Some(board) => board.milliseconds(),
             None => 0,
         }
@@ -181,21 +245,22 @@ impl<S: Socket, L: Listener<Socket = S>> Entrance<L, S> {
     // The listener reports no second time what it could not be asked for.
     fn try_again(&mut self)
         ensures has_headers { self.new.has_headers ≡ self.old.has_headers }
+        ensures arrivals { self.new.arrivals ≡ self.old.arrivals }
     {
         if let Some(stuck) = self.stuck {
             let is_over = self.now() >= stuck.since.saturating_add(PAUSE);
             if is_over || self.hub.links_shut() != stuck.links_shut {
                 self.stuck = None;
-                self.hub.set_door_ready(true);
+                self.set_ready();
             }
         }
     }
 
     // Who waits for a header, and a listener that is to be asked again, need the door asked before long. So does one that
-    // still is ready, since too many attempts came to nothing: it reports no second time what it has.
+    // still is ready, since too many attempts came to nothing or too many came at once: it reports no second time what it has.
     fn watch_time(&self) {
-        if self.stuck.is_some() || !self.waiting.is_empty() || self.hub.is_door_ready() {
-            if let Some(board) = self.boards.get(DOOR_THREAD) {
+        if self.stuck.is_some() || !self.waiting.is_empty() || self.is_ready() {
+            if let Some(board) = self.boards.get(self.step.thread) {
                 board.slow_down();
             }
         }
@@ -204,8 +269,9 @@ impl<S: Socket, L: Listener<Socket = S>> Entrance<L, S> {
     fn pause(&mut self)
         ensures failing { self.new.is_failing ≡ self.old.is_failing }
         ensures has_headers { self.new.has_headers ≡ self.old.has_headers }
+        ensures arrivals { self.new.arrivals ≡ self.old.arrivals }
     {
-        self.hub.set_door_ready(false);
+        self.clear_ready();
         self.stuck = Some(Stuck {
             links_shut: self.hub.links_shut(),
             since: self.now(),
@@ -215,11 +281,12 @@ impl<S: Socket, L: Listener<Socket = S>> Entrance<L, S> {
     // The next connection of the listener, in a slot of its own.
     fn arrive(&mut self) -> Option<Arrival<S>>
         ensures has_headers { self.new.has_headers ≡ self.old.has_headers }
+        ensures arrivals { self.new.arrivals ≡ self.old.arrivals }
     {
-        if !self.hub.is_door_ready() {
+        if !self.is_ready() {
             return None;
         }
-        let Some(slot) = self.hub.take_slot() else {
+        let Some(slot) = self.hub.take_slot(self.step.first, self.step.end) else {
             self.pause();
             return None;
         };
@@ -238,6 +305,7 @@ impl<S: Socket, L: Listener<Socket = S>> Entrance<L, S> {
 
     fn accept(&mut self) -> Option<(S, Ipv6Addr)>
         ensures has_headers { self.new.has_headers ≡ self.old.has_headers }
+        ensures arrivals { self.new.arrivals ≡ self.old.arrivals }
     {
         for _ in 0..ATTEMPTS {
             match self.listener.accept() {
@@ -247,7 +315,7 @@ impl<S: Socket, L: Listener<Socket = S>> Entrance<L, S> {
                 }
                 Err(error) => match error.kind() {
                     ErrorKind::WouldBlock => {
-                        self.hub.set_door_ready(false);
+                        self.clear_ready();
                         return None;
                     }
                     ErrorKind::Interrupted | ErrorKind::ConnectionAborted => {}
@@ -265,6 +333,7 @@ impl<S: Socket, L: Listener<Socket = S>> Entrance<L, S> {
     fn fail(&mut self, error: &io::Error)
         ensures failing { self.new.is_failing ≡ true }
         ensures has_headers { self.new.has_headers ≡ self.old.has_headers }
+        ensures arrivals { self.new.arrivals ≡ self.old.arrivals }
     {
         if self.note_failure() {
             self.listener.cannot_accept(error);
@@ -275,6 +344,7 @@ impl<S: Socket, L: Listener<Socket = S>> Entrance<L, S> {
     // Keeps a connection until its header has come.
     fn await_header(&mut self, arrival: Arrival<S>)
         ensures has_headers { self.new.has_headers ≡ self.old.has_headers }
+        ensures arrivals { self.new.arrivals ≡ self.old.arrivals }
     {
         let slot = arrival.slot;
         if self.watch_waiting(arrival).is_err() {
@@ -284,13 +354,14 @@ impl<S: Socket, L: Listener<Socket = S>> Entrance<L, S> {
 
     fn watch_waiting(&mut self, arrival: Arrival<S>) -> io::Result<()>
         ensures has_headers { self.new.has_headers ≡ self.old.has_headers }
+        ensures arrivals { self.new.arrivals ≡ self.old.arrivals }
     {
         let Arrival {
             mut socket,
             slot,
             address,
         } = arrival;
-        self.listener.watch(&mut socket, DOOR_THREAD, slot)?;
+        self.listener.watch(&mut socket, self.step.thread, slot)?;
         let waiting = Waiting::new(socket, slot, address, self.now());
         self.waiting.push(waiting)?;
         Ok(())
@@ -299,6 +370,7 @@ impl<S: Socket, L: Listener<Socket = S>> Entrance<L, S> {
     // The first connection whose header is whole. Those without one are closed.
     fn next_waiting(&mut self, connection: u64) -> Option<SocketLink<S>>
         ensures has_headers { self.new.has_headers ≡ self.old.has_headers }
+        ensures arrivals { self.new.arrivals ≡ self.old.arrivals }
     {
         let mut place = 0usize;
         for _ in 0..WAITING_LIMIT {
@@ -319,6 +391,7 @@ impl<S: Socket, L: Listener<Socket = S>> Entrance<L, S> {
     fn read_waiting(&mut self, place: usize) -> Option<Header>
         ensures answer { ForSome result (λ answer. HoldsAnswer answer (slice_get self.new.waiting.items place)) }
         ensures has_headers { self.new.has_headers ≡ self.old.has_headers }
+        ensures arrivals { self.new.arrivals ≡ self.old.arrivals }
     {
         let now = self.now();
         match self.waiting.get_mut(place) {
@@ -341,6 +414,7 @@ impl<S: Socket, L: Listener<Socket = S>> Entrance<L, S> {
             (λ waiting. link.address ≡ unwrap_or client waiting.address)) }
         ensures taken { TakesOut place self.old.waiting.items self.new.waiting.items (slice_get self.old.waiting.items place) }
         ensures has_headers { self.new.has_headers ≡ self.old.has_headers }
+        ensures arrivals { self.new.arrivals ≡ self.old.arrivals }
     {
         let Waiting {
             socket,
@@ -361,6 +435,7 @@ impl<S: Socket, L: Listener<Socket = S>> Entrance<L, S> {
         ensures taken { TakesOut place self.old.waiting.items self.new.waiting.items (slice_get self.old.waiting.items place) }
         ensures refused { self.new.refused ≡ refused_after (slice_get self.old.waiting.items place) self.old.refused }
         ensures has_headers { self.new.has_headers ≡ self.old.has_headers }
+        ensures arrivals { self.new.arrivals ≡ self.old.arrivals }
     {
         if let Some(waiting) = self.take_waiting(place) {
             self.hub.free_slot(waiting.slot);
@@ -374,6 +449,7 @@ impl<S: Socket, L: Listener<Socket = S>> Entrance<L, S> {
         ensures taken { TakesOut place self.old.waiting.items self.new.waiting.items result }
         ensures refused { self.new.refused ≡ self.old.refused }
         ensures has_headers { self.new.has_headers ≡ self.old.has_headers }
+        ensures arrivals { self.new.arrivals ≡ self.old.arrivals }
     {
         if self.waiting.len() <= place {
             return None;
@@ -387,6 +463,7 @@ impl<S: Socket, L: Listener<Socket = S>> Entrance<L, S> {
         ensures address { IfSome result (λ link. link.address ≡ arrival.address) }
         ensures left { ForSome result (λ link. Keeps (S.left arrival.socket) (S.left link.wire.line.socket)) }
         ensures has_headers { self.new.has_headers ≡ self.old.has_headers }
+        ensures arrivals { self.new.arrivals ≡ self.old.arrivals }
     {
         let client = Some(arrival.address);
         self.admit(arrival, connection, client)
@@ -404,6 +481,7 @@ impl<S: Socket, L: Listener<Socket = S>> Entrance<L, S> {
         ensures left { ForSome result (λ link. Keeps (S.left arrival.socket) (S.left link.wire.line.socket)) }
         ensures waiting { self.new.waiting ≡ self.old.waiting }
         ensures has_headers { self.new.has_headers ≡ self.old.has_headers }
+        ensures arrivals { self.new.arrivals ≡ self.old.arrivals }
     {
         let slot = arrival.slot;
         match self.link(arrival, connection, client) {
@@ -425,13 +503,14 @@ impl<S: Socket, L: Listener<Socket = S>> Entrance<L, S> {
         ensures left { ForOk result (λ link. Keeps (S.left arrival.socket) (S.left link.wire.line.socket)) }
         ensures waiting { self.new.waiting ≡ self.old.waiting }
         ensures has_headers { self.new.has_headers ≡ self.old.has_headers }
+        ensures arrivals { self.new.arrivals ≡ self.old.arrivals }
     {
         let Arrival {
             mut socket,
             slot,
             address,
         } = arrival;
-        let thread = self.hub.thread_of(connection);
+        let thread = self.thread_of(connection);
         let Some(board) = self.boards.get(thread) else {
             return Err(io::Error::from(ErrorKind::NotFound));
         };
@@ -449,8 +528,29 @@ impl<S: Socket, L: Listener<Socket = S>> Entrance<L, S> {
         self.listener
             .begin(&mut socket, connection, opened, client)?;
         seat.take();
-        let meter = Meter::new(self.pace, opened);
+        let meter = Meter::new(self.step.pace, opened);
         let address = client.unwrap_or(address);
-        Ok(SocketLink::new(socket, seat, address, meter, reservation, kept))
+        let delivery = self.step.delivery;
+        Ok(SocketLink::new(
+            socket,
+            seat,
+            address,
+            meter,
+            reservation,
+            kept,
+            delivery,
+            opened,
+        ))
+    }
+
+    // The thread of the link of this number.
+    fn thread_of(&self, connection: u64) -> usize
+        ensures { self.now.step.is_shared ≡ false → result ≡ self.now.step.thread }
+    {
+        if self.step.is_shared {
+            self.hub.thread_of(connection)
+        } else {
+            self.step.thread
+        }
     }
 }

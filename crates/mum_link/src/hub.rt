@@ -1,12 +1,22 @@
 //! What the links, the door and the stations share: which slots are ready, who sleeps, who worked.
 
+ghost use Rattle.std.specs.Prelude.{◌≡◌, ◌-◌, ◌<◌, ◌≤◌, IfSome};
+ghost use Rattle.mum_link.specs.Sharing.{IsEnough};
+
+use crate::shares::{LaterRoles, Shares};
 use mum_pace::LongFrames;
 use std::alloc::{AllocError, Global};
 use std::sync::Arc;
 use std::sync::atomic::{AtomicBool, AtomicU32, AtomicU64, Ordering};
 
-/// The most links, those among them that wait for their header.
+/// The most links of users, those among them that wait for their header.
 pub const LINK_LIMIT: usize = 1024;
+
+/// The most links at the door for views: those of open views, and those that wait for their header.
+pub const VIEW_LIMIT: usize = 16 + 64;
+
+/// How many slots there are: one for each link, and one for the listener of each door.
+pub const SLOT_LIMIT: usize = LINK_LIMIT + VIEW_LIMIT + 2;
 
 /// The most threads, each of which has a bit of a word.
 pub const THREAD_LIMIT: usize = 64;
@@ -34,10 +44,13 @@ pub struct Hub {
     links_opened: AtomicU64,
     links_shut: AtomicU64,
     late_rounds: AtomicU64,
-    is_door_ready: AtomicBool,
     is_stopping: AtomicBool,
+    has_owner_ended: AtomicBool,
     workers: AtomicU64,
+    spread: AtomicU64,
     threads: AtomicU64,
+    later: AtomicU64,
+    later_hear_owner: AtomicBool,
 }
 
 fn bit(thread: usize) -> u64 {
@@ -47,8 +60,8 @@ fn bit(thread: usize) -> u64 {
 impl Hub {
     /// A hub whose slots are all free.
     pub fn new(alloc: Global) -> Result<Hub, AllocError> {
-        let mut slots = Vec::with_capacity(alloc, LINK_LIMIT)?;
-        for _ in 0..LINK_LIMIT {
+        let mut slots = Vec::with_capacity(alloc, SLOT_LIMIT)?;
+        for _ in 0..SLOT_LIMIT {
             slots.push(AtomicU32::new(0))?;
         }
         Ok(Hub {
@@ -59,24 +72,41 @@ impl Hub {
             links_opened: AtomicU64::new(0),
             links_shut: AtomicU64::new(0),
             late_rounds: AtomicU64::new(0),
-            is_door_ready: AtomicBool::new(false),
             is_stopping: AtomicBool::new(false),
+            has_owner_ended: AtomicBool::new(false),
             workers: AtomicU64::new(1),
+            spread: AtomicU64::new(1),
             threads: AtomicU64::new(1),
+            later: AtomicU64::new(0),
+            later_hear_owner: AtomicBool::new(false),
         })
     }
 
-    /// Takes the first free slot, with the flags of a link that may be ready. None: there are as many links as may be.
-    pub fn take_slot(&self) -> Option<usize> {
+    /// Takes the first free slot from this one on, and before that one, with the flags of a link that may be ready. None:
+    /// there are as many links as may be.
+    pub fn take_slot(&self, first: usize, end: usize) -> Option<usize>
+        ensures { IfSome result (λ slot. (first ≤ slot) × (slot < end)) }
+    {
+        for slot in first..end {
+            if self.take(slot) {
+                return Some(slot);
+            }
+        }
+        None
+    }
+
+    // Takes this slot. Whether it was free.
+    fn take(&self, slot: usize) -> bool {
+        let Some(slot) = self.slots.get(slot) else {
+            return false;
+        };
         let fresh = READABLE | WRITABLE | TAKEN;
-        self.slots.iter().position(|slot| {
-            // a late event of the link before may have left a flag
-            let flags = slot.load(Ordering::SeqCst);
-            flags & TAKEN == 0
-                && slot
-                    .compare_exchange(flags, fresh, Ordering::SeqCst, Ordering::SeqCst)
-                    .is_ok()
-        })
+        // a late event of the link before may have left a flag
+        let flags = slot.load(Ordering::SeqCst);
+        flags & TAKEN == 0
+            && slot
+                .compare_exchange(flags, fresh, Ordering::SeqCst, Ordering::SeqCst)
+                .is_ok()
     }
 
     pub fn free_slot(&self, slot: usize) {
@@ -111,13 +141,35 @@ impl Hub {
         }
     }
 
-    /// The threads that are to be woken by this one, which it alone then wakes.
+    /// The threads that are to be woken by this one, which it alone then wakes. The roles behind the workers have no news for
+    /// others; and of the news of others they may ask to hear of the owner's.
     pub fn take_sleepers(&self, thread: usize, with_owner: bool) -> Sleepers {
-        let spared = if with_owner {
-            bit(thread)
-        } else {
-            bit(thread) | bit(0)
-        };
+        if self.is_later(thread) {
+            return Sleepers { bits: 0 };
+        }
+        let later = self.later.load(Ordering::SeqCst);
+        let hears = thread == 0 && self.later_hear_owner.load(Ordering::SeqCst);
+        let mut spared = bit(thread);
+        if !with_owner {
+            spared |= bit(0);
+        }
+        if !hears {
+            spared |= later;
+        }
+        self.take_all_but(spared)
+    }
+
+    /// Whether the thread is that of the roles behind the workers.
+    pub fn is_later(&self, thread: usize) -> bool {
+        self.later.load(Ordering::SeqCst) == bit(thread)
+    }
+
+    /// All others that sleep, as this one has ended.
+    pub fn take_all_sleepers(&self, thread: usize) -> Sleepers {
+        self.take_all_but(bit(thread))
+    }
+
+    fn take_all_but(&self, spared: u64) -> Sleepers {
         if self.sleepers.load(Ordering::SeqCst) & !spared == 0 {
             return Sleepers { bits: 0 };
         }
@@ -162,15 +214,6 @@ impl Hub {
         self.late_rounds.load(Ordering::SeqCst)
     }
 
-    pub fn set_door_ready(&self, is_ready: bool) {
-        self.is_door_ready.store(is_ready, Ordering::SeqCst);
-    }
-
-    /// Whether the listener may have a connection.
-    pub fn is_door_ready(&self) -> bool {
-        self.is_door_ready.load(Ordering::SeqCst)
-    }
-
     /// The server is to stop: its door ends, and its links end.
     pub fn stop(&self) {
         self.is_stopping.store(true, Ordering::SeqCst);
@@ -180,10 +223,30 @@ impl Hub {
         self.is_stopping.load(Ordering::SeqCst)
     }
 
-    /// How many workers and threads there are.
-    pub fn set_crew(&self, workers: usize, threads: usize) {
-        self.workers.store(workers as u64, Ordering::SeqCst);
+    /// The owner has ended.
+    pub fn note_owner_ended(&self) {
+        self.has_owner_ended.store(true, Ordering::SeqCst);
+    }
+
+    pub fn has_owner_ended(&self) -> bool {
+        self.has_owner_ended.load(Ordering::SeqCst)
+    }
+
+    /// So many threads are to share so many roles. The last is that of the roles behind the workers, where there are any.
+    pub fn share(&self, roles: usize, threads: usize, later: LaterRoles) -> Shares
+        ensures { (result.workers ≡ roles - later.count - 1) × IsEnough threads later.count result.workers result.spread roles }
+    {
+        let shares = Shares::of(roles, threads, later);
+        let last = threads.saturating_sub(1);
+        let later_bit = if later.count > 0 { bit(last) } else { 0 };
+        self.workers.store(shares.workers as u64, Ordering::SeqCst);
+        self.spread
+            .store(u64::from(shares.spread), Ordering::SeqCst);
         self.threads.store(threads as u64, Ordering::SeqCst);
+        self.later.store(later_bit, Ordering::SeqCst);
+        self.later_hear_owner
+            .store(later.hear_owner, Ordering::SeqCst);
+        shares
     }
 
     /// How many threads there are.
@@ -195,10 +258,10 @@ impl Hub {
     pub fn thread_of(&self, connection: u64) -> usize {
         let workers = self.workers.load(Ordering::SeqCst).max(1);
         let worker = connection.saturating_sub(1) % workers;
-        let threads = self.threads.load(Ordering::SeqCst);
+        let spread = u16::try_from(self.spread.load(Ordering::SeqCst)).unwrap_or(u16::MAX);
         // before the workers' roles is the owner's
         let role = worker.saturating_add(1);
-        mum_crew::thread_of(role as usize, threads as usize, workers as usize)
+        mum_crew::thread_of(role as usize, spread, workers as usize)
     }
 }
 

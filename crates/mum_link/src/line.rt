@@ -1,11 +1,13 @@
 //! A socket that is asked only where it may be ready.
 
-ghost use Rattle.std.specs.Prelude.{◌≡◌, ◌<◌, ◌⊎◌, length};
+ghost use Rattle.std.specs.Prelude.{◌≡◌, ◌<◌, ◌⊎◌, if◌then◌else◌, length};
 ghost use Rattle.std.specs.Io.KnownBytes.{Keeps};
 ghost use Rattle.mum_io.specs.Link.{PollReadLeaves, PollWriteLeaves};
 ghost use Rattle.mum_io.specs.declared.link.PollRead.TheVariants as read;
 ghost use Rattle.mum_io.specs.declared.link.PollWrite.TheVariants as write;
+ghost use Rattle.mum_link.specs.Timely.{AnswersInTime, has_run_out};
 
+use crate::patience::Patience;
 use crate::seat::Seat;
 use crate::socket::Socket;
 use mum_io::{PollRead, PollWrite};
@@ -17,6 +19,7 @@ pub(crate) struct Line<S> {
     pub(crate) socket: S,
     pub(crate) seat: Seat,
     pub(crate) is_broken: bool,
+    pub(crate) patience: Patience,
     awaits_room: bool,
     pub(crate) bytes_read: u64,
     pub(crate) bytes_written: u64,
@@ -24,13 +27,15 @@ pub(crate) struct Line<S> {
 
 impl<S: Socket> Line<S> {
     /// A line over which nothing went yet.
-    pub(crate) fn new(socket: S, seat: Seat) -> Line<S>
-        ensures { result.socket ≡ socket }
+    pub(crate) fn new(socket: S, seat: Seat, patience: Patience) -> Line<S>
+        ensures socket { result.socket ≡ socket }
+        ensures patience { result.patience ≡ patience }
     {
         Line {
             socket,
             seat,
             is_broken: false,
+            patience,
             awaits_room: false,
             bytes_read: 0,
             bytes_written: 0,
@@ -78,10 +83,41 @@ impl<S: Socket> Line<S> {
         }
     }
 
-    /// Writes a front of the piece, where there may be room.
-    pub(crate) fn write(&mut self, piece: &[u8]) -> PollWrite
+    /// Writes a front of the piece, where there may be room, at this time in milliseconds. A peer that has taken nothing for
+    /// too long has the line fail.
+    pub(crate) fn write(&mut self, piece: &[u8], milliseconds: u64) -> PollWrite
         ensures written { PollWriteLeaves result (S.written self.old.socket) (S.written self.new.socket) piece.now }
         ensures left { Keeps (S.left self.old.socket) (S.left self.new.socket) }
+        ensures waits { AnswersInTime result self.old.patience self.new.patience milliseconds }
+    {
+        let answer = self.write_front(piece);
+        match answer {
+            PollWrite::Took(_) => {
+                self.patience.renew(milliseconds);
+                answer
+            }
+            PollWrite::NotYet => self.wait(milliseconds),
+            PollWrite::Failed => answer,
+        }
+    }
+
+    // There is no room yet. It is waited for as long as the patience lasts.
+    fn wait(&mut self, milliseconds: u64) -> PollWrite
+        ensures answer { result ≡ (if has_run_out self.old.patience.limit self.old.patience.since milliseconds then write.Failed else write.NotYet) }
+        ensures socket { self.new.socket ≡ self.old.socket }
+        ensures patience { self.new.patience ≡ self.old.patience }
+    {
+        if self.patience.is_over(milliseconds) {
+            self.fail()
+        } else {
+            PollWrite::NotYet
+        }
+    }
+
+    fn write_front(&mut self, piece: &[u8]) -> PollWrite
+        ensures written { PollWriteLeaves result (S.written self.old.socket) (S.written self.new.socket) piece.now }
+        ensures left { Keeps (S.left self.old.socket) (S.left self.new.socket) }
+        ensures patience { self.new.patience ≡ self.old.patience }
     {
         if self.is_broken {
             return PollWrite::Failed;
@@ -102,6 +138,7 @@ impl<S: Socket> Line<S> {
     fn fail(&mut self) -> PollWrite
         ensures answer { result ≡ write.Failed }
         ensures socket { self.new.socket ≡ self.old.socket }
+        ensures patience { self.new.patience ≡ self.old.patience }
     {
         self.is_broken = true;
         PollWrite::Failed
@@ -112,6 +149,7 @@ impl<S: Socket> Line<S> {
         ensures answer { (result ≡ write.NotYet) ⊎ (result ≡ write.Failed) }
         ensures left { Keeps (S.left self.old.socket) (S.left self.new.socket) }
         ensures written { Keeps (S.written self.old.socket) (S.written self.new.socket) }
+        ensures patience { self.new.patience ≡ self.old.patience }
     {
         match kind {
             ErrorKind::WouldBlock => self.await_room(),
@@ -125,6 +163,7 @@ impl<S: Socket> Line<S> {
         ensures answer { (result ≡ write.NotYet) ⊎ (result ≡ write.Failed) }
         ensures left { Keeps (S.left self.old.socket) (S.left self.new.socket) }
         ensures written { Keeps (S.written self.old.socket) (S.written self.new.socket) }
+        ensures patience { self.new.patience ≡ self.old.patience }
     {
         self.seat.clear_writable();
         if self.awaits_room || self.socket.await_room() {

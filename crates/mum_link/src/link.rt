@@ -1,11 +1,12 @@
 //! A link over a socket.
 
-ghost use Rattle.std.specs.Prelude.{◌≡◌, false};
+ghost use Rattle.std.specs.Prelude.{◌≡◌, [], false};
 ghost use Rattle.std.specs.Net.Addr.{ipv6_octets};
 ghost use Rattle.mum_io.specs.Counts.{no_counts};
 ghost use Rattle.mum_io.specs.Link.{PollReadCounts, PollWriteCounts};
 ghost use Rattle.mum_link.specs.Wires.{taken};
 
+use crate::doorstep::Delivery;
 use crate::kept::Kept;
 use crate::seat::Seat;
 use crate::socket::Socket;
@@ -48,40 +49,45 @@ fn count_write(tally: &mut Tally, answer: PollWrite)
 }
 
 impl<S: Socket> SocketLink<S> {
-    /// An open link to the peer at this address, over which nothing went yet.
-    pub fn new(
+    /// An open link to the peer at this address, which came at this time in milliseconds. Nothing went over it yet.
+    pub(crate) fn new(
         socket: S,
         seat: Seat,
         address: Ipv6Addr,
         meter: Meter,
         reservation: Reservation,
         kept: Kept,
+        delivery: Delivery,
+        milliseconds: u64,
     ) -> SocketLink<S>
+        requires { kept ≡ [] }
         ensures address { result.address ≡ address }
         ensures open { result.is_shut ≡ false }
         ensures counts { result.tally ≡ no_counts }
         ensures socket { result.wire.line.socket ≡ socket }
         ensures kept { result.wire.kept ≡ kept }
+        ensures batches { result.wire.in_batches ≡ delivery.in_batches }
+        ensures patience { result.wire.line.patience ≡ record { limit = delivery.patience; since = milliseconds } }
     {
         SocketLink {
             tally: Tally::new(),
             address,
             is_shut: false,
-            wire: Wire::new(socket, seat, meter, reservation, kept),
+            wire: Wire::new(
+                socket,
+                seat,
+                meter,
+                reservation,
+                kept,
+                delivery,
+                milliseconds,
+            ),
         }
     }
 }
 
 impl<S: Socket> Link for SocketLink<S> {
-    ghost counts = { λ l. l.tally };
-
-    ghost left = { λ l. S.left l.wire.line.socket };
-
-    ghost written = { λ l. taken (S.written l.wire.line.socket) l.wire.kept };
-
-    ghost address = { λ l. ipv6_octets l.address };
-
-    ghost is_shut = { λ l. l.is_shut };
+    ghost facts = { λ l. record { counts = l.tally; left = S.left l.wire.line.socket; written = taken (S.written l.wire.line.socket) l.wire.kept; address = ipv6_octets l.address; is_shut = l.is_shut } };
 
     fn poll_read(&mut self, buf: &mut [u8]) -> PollRead {
         let answer = self.wire.read(buf);

@@ -10,8 +10,9 @@ use std::net::Ipv6Addr;
 pub trait Listener: Drop {
     type Socket: Socket;
 
-    /// Listens at this address. Whether each connection begins with the header of a relay. None: it cannot listen there.
-    fn listen(&mut self, address: &str) -> Option<bool>;
+    /// Listens at this address, and has what has come reported on this thread for this slot. Whether each connection begins
+    /// with the header of a relay. None: it cannot listen there.
+    fn listen(&mut self, address: &str, thread: usize, slot: usize) -> Option<bool>;
 
     /// The next connection, with the address of its peer. An error of the kind `WouldBlock`: none has come yet.
     fn accept(&mut self) -> io::Result<(Self::Socket, Ipv6Addr)>;

@@ -3,7 +3,7 @@
 ghost use Rattle.std.specs.Prelude.{◌≡◌, true, false, if◌then◌else◌};
 
 use crate::board::Board;
-use crate::hub::Hub;
+use crate::hub::{Hub, Sleepers};
 use crate::sleeper::{Ready, Sleeper};
 use mum_crew::{Look, Station};
 use std::sync::Arc;
@@ -57,6 +57,17 @@ impl<P> LinkStation<P> {
 }
 
 impl<P: Sleeper> LinkStation<P> {
+    fn wake(&self, sleepers: Sleepers) {
+        if sleepers.is_empty() {
+            return;
+        }
+        for thread in 0..self.hub.threads() {
+            if sleepers.has(thread) {
+                self.sleeper.wake(thread);
+            }
+        }
+    }
+
     // The server is to stop: every thread has to look at its links.
     fn stop(&self) {
         self.hub.stop();
@@ -89,19 +100,19 @@ impl<P: Sleeper + Send> Station for LinkStation<P> {
     }
 
     fn wake_others(&mut self, owner_too: bool) {
-        let sleepers = self.hub.take_sleepers(self.thread, owner_too);
-        if sleepers.is_empty() {
-            return;
-        }
-        for thread in 0..self.hub.threads() {
-            if sleepers.has(thread) {
-                self.sleeper.wake(thread);
-            }
-        }
+        self.wake(self.hub.take_sleepers(self.thread, owner_too));
+    }
+
+    fn wake_all(&mut self) {
+        self.wake(self.hub.take_all_sleepers(self.thread));
     }
 
     fn note_owner(&mut self) {
         self.hub.note_owner();
+    }
+
+    fn note_ended(&mut self) {
+        self.hub.note_owner_ended();
     }
 
     fn did_owner_work(&mut self) -> bool {
@@ -138,8 +149,9 @@ impl<P: Sleeper + Send> Station for LinkStation<P> {
         if sockets > 1 {
             self.board.hold();
         }
-        // a link that had to wait may be read now
-        if is_slowed || was_woken || sockets > 0 {
+        // a link that had to wait may be read now, and the patience of one that views are written to may be over
+        let is_time = is_slowed || self.hub.is_later(self.thread);
+        if is_time || was_woken || sockets > 0 {
             Look::Something
         } else {
             Look::Nothing

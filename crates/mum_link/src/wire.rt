@@ -1,14 +1,16 @@
 //! How a link reads and writes: it reads as its pace and the allowance for long frames allow, and keeps what is written in
 //! batches where more is coming.
 
-ghost use Rattle.std.specs.Prelude.{◌≡◌, ◌<◌, ◌⊎◌, [], length};
+ghost use Rattle.std.specs.Prelude.{◌≡◌, ◌<◌, ◌⊎◌, [], false, length};
 ghost use Rattle.std.specs.Io.KnownBytes.{Keeps};
 ghost use Rattle.mum_io.specs.Link.{PollReadLeaves, PollWriteLeaves};
 ghost use Rattle.mum_io.specs.declared.link.PollRead.TheVariants as read;
 ghost use Rattle.mum_link.specs.Wires.{taken};
 
+use crate::doorstep::Delivery;
 use crate::kept::{KEPT_LIMIT, Kept};
 use crate::line::Line;
+use crate::patience::Patience;
 use crate::seat::Seat;
 use crate::socket::Socket;
 use mum_io::{PollRead, PollWrite};
@@ -21,27 +23,36 @@ pub(crate) struct Wire<S> {
     meter: Meter,
     hang_up: HangUp,
     reservation: Reservation,
+    pub(crate) in_batches: bool,
     pub(crate) kept: Kept,
     was_refused: bool,
+    ghost through: { in_batches ≡ false → kept ≡ [] },
 }
 
 impl<S: Socket> Wire<S> {
-    /// A wire over which nothing went yet.
+    /// A wire over which nothing went yet, to a peer that came at this time in milliseconds.
     pub(crate) fn new(
         socket: S,
         seat: Seat,
         meter: Meter,
         reservation: Reservation,
         kept: Kept,
+        delivery: Delivery,
+        milliseconds: u64,
     ) -> Wire<S>
+        requires { kept ≡ [] }
         ensures socket { result.line.socket ≡ socket }
         ensures kept { result.kept ≡ kept }
+        ensures batches { result.in_batches ≡ delivery.in_batches }
+        ensures patience { result.line.patience ≡ record { limit = delivery.patience; since = milliseconds } }
     {
+        let patience = Patience::new(delivery.patience, milliseconds);
         Wire {
-            line: Line::new(socket, seat),
+            line: Line::new(socket, seat, patience),
             meter,
             hang_up: HangUp::new(),
             reservation,
+            in_batches: delivery.in_batches,
             kept,
             was_refused: false,
         }
@@ -57,7 +68,8 @@ impl<S: Socket> Wire<S> {
     {
         self.line.seat.board.ask();
         if self.keeps_an_earlier_batch() {
-            self.send_kept();
+            let milliseconds = self.line.seat.board.milliseconds();
+            self.send_kept(milliseconds);
         }
         let read = self.read_in_pace(buf);
         if matches!(read, PollRead::End | PollRead::Failed) {
@@ -130,10 +142,11 @@ impl<S: Socket> Wire<S> {
             (taken (S.written self.new.line.socket) self.new.kept) piece.now }
         ensures left { Keeps (S.left self.old.line.socket) (S.left self.new.line.socket) }
     {
+        let milliseconds = self.line.seat.board.milliseconds();
         if self.keeps_an_earlier_batch() || self.kept.room() < piece.len() {
-            self.send_kept();
+            self.send_kept(milliseconds);
         }
-        let written = self.send_or_keep(piece);
+        let written = self.send_or_keep(piece, milliseconds);
         if self.is_news(written) {
             self.line.seat.board.note_news();
         }
@@ -155,7 +168,7 @@ impl<S: Socket> Wire<S> {
         }
     }
 
-    fn send_or_keep(&mut self, piece: &[u8]) -> PollWrite
+    fn send_or_keep(&mut self, piece: &[u8], milliseconds: u64) -> PollWrite
         requires { 0 < length piece.now }
         ensures taken { PollWriteLeaves result (taken (S.written self.old.line.socket) self.old.kept)
             (taken (S.written self.new.line.socket) self.new.kept) piece.now }
@@ -164,9 +177,11 @@ impl<S: Socket> Wire<S> {
         if self.is_over() {
             return PollWrite::Failed;
         }
-        let is_sent_now = KEPT_LIMIT < piece.len() || !self.line.seat.board.is_holding();
+        let is_sent_now = !self.in_batches
+            || KEPT_LIMIT < piece.len()
+            || !self.line.seat.board.is_holding();
         if is_sent_now && self.kept.is_empty() {
-            return self.line.write(piece);
+            return self.line.write(piece, milliseconds);
         }
         match self.kept.put(piece, self.line.seat.board.batch()) {
             0 => PollWrite::NotYet,
@@ -184,7 +199,7 @@ impl<S: Socket> Wire<S> {
     }
 
     // Sends what is kept, as far as the socket takes it.
-    fn send_kept(&mut self)
+    fn send_kept(&mut self, milliseconds: u64)
         ensures taken { Keeps (taken (S.written self.old.line.socket) self.old.kept)
             (taken (S.written self.new.line.socket) self.new.kept) }
         ensures left { Keeps (S.left self.old.line.socket) (S.left self.new.line.socket) }
@@ -193,7 +208,7 @@ impl<S: Socket> Wire<S> {
             if self.kept.is_empty() {
                 break;
             }
-            let PollWrite::Took(count) = self.line.write(self.kept.as_slice()) else {
+            let PollWrite::Took(count) = self.line.write(self.kept.as_slice(), milliseconds) else {
                 break;
             };
             self.kept.pass(count);
@@ -206,8 +221,8 @@ impl<S: Socket> Wire<S> {
             (taken (S.written self.new.line.socket) self.new.kept) }
         ensures left { Keeps (S.left self.old.line.socket) (S.left self.new.line.socket) }
     {
-        self.send_kept();
         let milliseconds = self.line.seat.board.milliseconds();
+        self.send_kept(milliseconds);
         let (received, sent) = (self.line.bytes_read, self.line.bytes_written);
         self.line.socket.leave(milliseconds, received, sent);
         self.line.is_broken = true;

@@ -17,7 +17,7 @@ use Rattle.mum_pace.proofs.Runs.{cost_in-append, pieces-none}
 -- ---- pace is kept
 
 -- what finds room is no more than may be used at once
-at_most : (at_once used frames : ℕ) → used ≤ at_once * 1000 → frames ≤ (at_once * 1000 - used) / 1000 → used + frames * 1000 ≤ at_once * 1000
+pub at_most : (at_once used frames : ℕ) → used ≤ at_once * 1000 → frames ≤ (at_once * 1000 - used) / 1000 → used + frames * 1000 ≤ at_once * 1000
 at_most at_once used frames le few = omega arith
 
 -- the frames of a read are within the room that its time leaves
@@ -124,7 +124,7 @@ times : (start here last each : ℕ) → here ≤ last → (here - start) * each
 times start here last each le = times_joined (here - start) (last - max start here) (last - start) each (omega arith)
 
 -- what is used up at the end is no less than what all reads take, without what time gave back
-one_more : (used each at_once start here last few more : ℕ) → here ≤ last → at_once < 2 ^ 32
+pub one_more : (used each at_once start here last few more : ℕ) → here ≤ last → at_once < 2 ^ 32
     → used - (here - start) * each + few * 1000 ≤ at_once * 1000
     → used_with (used - (here - start) * each) few + more * 1000 ≤ at_once * 1000 + (last - max start here) * each
     → used + (few + more) * 1000 ≤ at_once * 1000 + (last - start) * each

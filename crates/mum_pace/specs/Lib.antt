@@ -1,3 +1,4 @@
+pub mod Arrivals
 pub mod Pieces
 pub mod Places
 pub mod Fronts

@@ -1,6 +1,7 @@
 //! What the contracts of a meter come to. These functions do nothing: each contract is a theorem.
 
-ghost use Rattle.std.specs.Prelude.{◌≡◌, ◌+◌, ◌-◌, ◌^◌, ◌<◌, ◌≤◌, ◌↔◌, ◌++◌, ◌∷◌, ℕ, List, length, false, if◌then◌else◌};
+ghost use Rattle.std.specs.Prelude.{◌≡◌, ◌+◌, ◌-◌, ◌*◌, ◌^◌, ◌<◌, ◌≤◌, ◌↔◌, ◌++◌, ◌∷◌, ℕ, List, length, false, if◌then◌else◌};
+ghost use Rattle.mum_pace.specs.Arrivals.{ArrivalsState, ComeIn, last_of};
 ghost use Rattle.mum_pace.specs.Laws.{AreWithin, IsNotZero, KeepAllowances, KeepsPace, Read, all_bytes, asked_and_read, last_time};
 ghost use Rattle.mum_pace.specs.Meters.{MeterState, allowance_of, at_time, new_meter, room};
 ghost use Rattle.mum_pace.specs.Pieces.{begins_piece, bytes_within, pieces_in};
@@ -67,6 +68,14 @@ pub fn room_is_read()
     ensures payload { (meter : MeterState) (messages voice : Rate) →
         meter.pace ≡ Limited messages voice → is_message meter.place.kind ≡ false →
         meter.place.left ≤ allowance_of meter }
+{}
+
+/// At a door with a rate no more connections come in than it allows at once, and in the time from the first asking to the
+/// last: where one came in at each of these times.
+pub fn arrivals_are_within_the_rate()
+    ensures { (rate : Rate) (state : ArrivalsState) (times : List ℕ) → rate.at_once < 2 ^ 32 →
+        state.used ≤ rate.at_once * FRAME → ComeIn rate state times →
+        AreWithin rate (last_of state.milliseconds times - state.milliseconds) (length times) }
 {}
 
 /// In the long run a client sends no more than its rates allow: what it sends from one read to another is at most what

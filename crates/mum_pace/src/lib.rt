@@ -3,6 +3,7 @@
 //! too many bytes of them.
 #![tactic(auto)]
 
+mod arrivals;
 mod frames;
 mod hang_up;
 pub mod laws;
@@ -12,6 +13,7 @@ mod pace;
 mod pieces;
 mod used;
 
+pub use arrivals::Arrivals;
 pub use hang_up::{HangUp, LEFT_BEHIND_LIMIT};
 pub use long::{LONG_FRAMES_LIMIT, LongFrames, Reservation, SHORT_LIMIT};
 pub use meter::{Counted, Meter};

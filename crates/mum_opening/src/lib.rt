@@ -2,7 +2,7 @@
 //! that its head names, and after the edits that its document describes.
 #![tactic(auto)]
 
-ghost use Rattle.std.specs.Prelude.{◌≡◌, ◌++◌, IfOk, IsTrue, None};
+ghost use Rattle.std.specs.Prelude.{◌≡◌, ◌≤◌, ◌++◌, IfOk, IsTrue, None};
 ghost use Rattle.mum_config.specs.Limits.{FitAfterLimits};
 ghost use Rattle.mum_state.specs.declared.edit.Edit.TheVariants.{SetLimits};
 ghost use Rattle.mum_state.specs.After.{after, all_fit};
@@ -10,14 +10,32 @@ ghost use Rattle.mum_state.specs.Fits.{fits};
 ghost use Rattle.mum_state.specs.State.{empty_state};
 ghost use Rattle.mum_opening.specs.Opening.{document_fault, limits_edits, opening};
 ghost use Rattle.mum_opening.specs.Opening as spec;
-ghost use Rattle.mum_opening.specs.Reading.{ReadsDocument};
+ghost use Rattle.mum_opening.specs.Reading.{ReadsDescribed, ReadsDocument};
 
 use mum_base::{Items, OutOfMemory};
+use mum_config::config::DEFAULT_WORKERS;
 use mum_config::{BadConfig, Config, read_config};
 use mum_history::{state_after, state_from};
 use mum_record::Limits;
 use mum_state::{Edit, State};
 use std::alloc::{AllocError, Global};
+
+/// What a document describes, or its first fault. One of no bytes describes an empty server, with as many workers as
+/// where a document names none.
+pub fn read_document(alloc: Global, document: &[u8]) -> Result<Config, BadConfig>
+    ensures reads { ReadsDescribed document.now result }
+    ensures fit { IfOk result (λ config. IsTrue (all_fit empty_state config.edits)) }
+    ensures limited { IfOk result (λ config. FitAfterLimits config.edits) }
+    ensures workers { IfOk result (λ config. (1 ≤ config.workers) × (config.workers ≤ 8)) }
+{
+    if document.is_empty() {
+        return Ok(Config {
+            workers: DEFAULT_WORKERS as u8,
+            edits: Items::new(alloc),
+        });
+    }
+    read_config(alloc, document)
+}
 
 /// The edits that a document describes, none where it has no bytes; or its first fault. How many workers
 /// the document names is not looked at.
@@ -26,10 +44,7 @@ pub fn document_edits(alloc: Global, document: &[u8]) -> Result<Items<Edit>, Bad
     ensures fit { IfOk result (λ edits. IsTrue (all_fit empty_state edits)) }
     ensures limited { IfOk result FitAfterLimits }
 {
-    if document.is_empty() {
-        return Ok(Items::new(alloc));
-    }
-    match read_config(alloc, document) {
+    match read_document(alloc, document) {
         Ok(Config { edits, .. }) => Ok(edits),
         Err(error) => Err(error),
     }

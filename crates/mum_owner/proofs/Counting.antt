@@ -11,11 +11,11 @@ use Rattle.mum_state.specs.declared.edit.Edit.{Edit}
 use Rattle.mum_state.specs.declared.verdict.Verdict.{Verdict}
 use Rattle.mum_state.specs.declared.verdict.Verdict.TheVariants.{Accepted, Lacks, Refused, Rejected, Answer, Ignored}
 use Rattle.mum_published.specs.Calls.{all_published, appended}
-use Rattle.mum_published.specs.Facts.{NoteFacts, PublisherFacts}
+use Rattle.mum_published.specs.Facts.{NoteFacts, PublisherFacts, ReplyFacts}
 use Rattle.mum_session.specs.Verdict.{verdict}
 use Rattle.mum_session.specs.declared.command.Command.{Command}
 use Rattle.mum_control.specs.Commanded.{Commanded, Decides, Publishes, current, with_edit}
-use Rattle.mum_control.specs.Facts.{ControlFacts, ReplyFacts}
+use Rattle.mum_control.specs.Facts.{ControlFacts}
 use Rattle.mum_base.specs.declared.reply.Mark.{Mark}
 use Rattle.mum_base.specs.declared.reply.ReplyEnd.{ReplyEnd}
 use Rattle.mum_owner.specs.Counted.{HasCounted, HasGiven}

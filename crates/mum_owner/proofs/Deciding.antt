@@ -4,13 +4,13 @@ use Rattle.mum_base.specs.declared.number.SessionId.{SessionId}
 use Rattle.mum_base.specs.declared.number.Slot.{Slot}
 use Rattle.mum_base.specs.declared.reply.Mark.{Mark}
 use Rattle.mum_control.specs.Commanded.{Commanded, Decides, Publishes, current, next_revision, with_edit}
-use Rattle.mum_control.specs.Facts.{ControlFacts, ReplyFacts}
+use Rattle.mum_control.specs.Facts.{ControlFacts}
 use Rattle.mum_control.specs.Kept.{slot_of}
 use Rattle.mum_control.specs.Posting.{EmptiesPost, PostsNext}
 use Rattle.mum_control.specs.declared.posted.Posted.{Posted}
 use Rattle.mum_notify.specs.declared.notice.Notice.{Notice}
 use Rattle.mum_published.specs.Calls.{all_published, appended, state_of}
-use Rattle.mum_published.specs.Facts.{NoteFacts, Opening, PublisherFacts}
+use Rattle.mum_published.specs.Facts.{NoteFacts, Opening, PublisherFacts, ReplyFacts}
 use Rattle.mum_record.specs.declared.journal.ControlEntry.{ControlEntry}
 use Rattle.mum_session.specs.Reply.{mark}
 use Rattle.mum_session.specs.Verdict.{edits_of, verdict}

@@ -12,36 +12,36 @@ use Rattle.mum_owner.specs.Facts.{DeskFacts, OwnerFacts}
 use Rattle.mum_owner.specs.Serving.{ReceivesItem, TakesItem, blocker, may_go, with_pass}
 use Rattle.mum_owner.specs.Turned.{PostsNotice, PostsOne, PostsWhere, has_posted, lagged_by}
 
-module _ {D : Type 0} where
-  pub taken_item : (old before : OwnerFacts D) (desk : DeskFacts) (item : Option DeskItem) (worked : Bool) (new : OwnerFacts D) → before ≡ old
+module _ {D L : Type 0} where
+  pub taken_item : (old before : OwnerFacts D L) (desk : DeskFacts) (item : Option DeskItem) (worked : Bool) (new : OwnerFacts D L) → before ≡ old
       → Takes DESK_CAPACITY before.desk.pass item desk.pass → desk.leave ≡ before.desk.leave → ReceivesItem (record before { desk = desk }) item worked new
       → TakesItem old worked new
   taken_item old before desk item worked new is takes leave received =
       let kept : record before { desk = desk } ≡ with_pass desk.pass old =
       ap (λ (l : Option ℕ). record before { desk = record { pass = desk.pass; leave = l } }) leave
-      ∙ ap (λ (o : OwnerFacts D). with_pass desk.pass o) is in
+      ∙ ap (λ (o : OwnerFacts D L). with_pass desk.pass o) is in
       record {
         item = item;
         pass = desk.pass;
-        taken = subst (λ (o : OwnerFacts D). Takes DESK_CAPACITY o.desk.pass item desk.pass) is takes;
-        received = subst (λ (o : OwnerFacts D). ReceivesItem o item worked new) kept received;
+        taken = subst (λ (o : OwnerFacts D L). Takes DESK_CAPACITY o.desk.pass item desk.pass) is takes;
+        received = subst (λ (o : OwnerFacts D L). ReceivesItem o item worked new) kept received;
       }
 
   -- where no login waits, none may go
-  pub none_may_go : (owner : OwnerFacts D) → owner.logins ≡ [] → IsTrue (may_go owner) → ⊥
+  pub none_may_go : (owner : OwnerFacts D L) → owner.logins ≡ [] → IsTrue (may_go owner) → ⊥
   none_may_go owner empty may =
       let never : false ≡ true = subst (λ (l : List Command). cond (length l == 0) false (is_none (blocker owner)) ≡ true) empty may in
       cc
 
-  pub posted_one : (old before : OwnerFacts D) (answer : Posted) (after : ControlFacts) (worked : Bool) (new : OwnerFacts D) → before ≡ old
+  pub posted_one : (old before : OwnerFacts D L) (answer : Posted) (after : ControlFacts) (worked : Bool) (new : OwnerFacts D L) → before ≡ old
       → is_some before.kept.lag ≡ false → PostsNext before.control before.control.pending answer after → worked ≡ has_posted answer
       → new ≡ lagged_by answer (record before { control = after }) → PostsNotice old worked new
   posted_one old before answer after worked new is none posts so others =
       let here : PostsOne old worked new = record {
         answer = answer;
         after = after;
-        posts = subst (λ (o : OwnerFacts D). PostsNext o.control o.control.pending answer after) is posts;
+        posts = subst (λ (o : OwnerFacts D L). PostsNext o.control o.control.pending answer after) is posts;
         so = so;
-        others = others ∙ ap (λ (o : OwnerFacts D). lagged_by answer (record o { control = after })) is;
+        others = others ∙ ap (λ (o : OwnerFacts D L). lagged_by answer (record o { control = after })) is;
       } in
-      subst (λ (b : Bool). PostsWhere b old worked new) (sym none ∙ ap (λ (o : OwnerFacts D). is_some o.kept.lag) is) here
+      subst (λ (b : Bool). PostsWhere b old worked new) (sym none ∙ ap (λ (o : OwnerFacts D L). is_some o.kept.lag) is) here

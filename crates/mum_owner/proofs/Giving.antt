@@ -11,6 +11,7 @@ use Rattle.mum_control.specs.Facts.{ControlFacts}
 use Rattle.mum_crew.specs.Turns.{TurnsTo}
 use Rattle.mum_crew.specs.declared.role.Turn.{Turn}
 use Rattle.mum_io.specs.Counts.{Counts}
+use Rattle.mum_io.specs.Door.{DoorFacts}
 use Rattle.mum_outbox.specs.Calls.{Takes}
 use Rattle.mum_outbox.specs.Facts.{PassFacts}
 use Rattle.mum_outbox.specs.declared.parcel.TheConstants.{DESK_CAPACITY}
@@ -166,26 +167,26 @@ went_logins login rest taken done is served =
     ∙ ap (λ (b : Bool). (filter is_login done ++ cond b (login ∷ []) []) ++ rest) (sym is)
     ∙ ap (λ (l : List Command). l ++ rest) (sym (filter-append is_login done (login ∷ [])))
 
-module _ {D : Type 0} where
-  given_desk : (old : OwnerFacts D) (command : Command) (new : OwnerFacts D) → IsGiven old command new → (new.desk ≡ old.desk) × (new.logins ≡ old.logins)
-  given_desk old command new (inl gives) = (ap (λ (o : OwnerFacts D). o.desk) gives.others, ap (λ (o : OwnerFacts D). o.logins) gives.others)
-  given_desk old command new (inr drops) = (ap (λ (o : OwnerFacts D). o.desk) drops.others, ap (λ (o : OwnerFacts D). o.logins) drops.others)
+module _ {D L : Type 0} where
+  given_desk : (old : OwnerFacts D L) (command : Command) (new : OwnerFacts D L) → IsGiven old command new → (new.desk ≡ old.desk) × (new.logins ≡ old.logins)
+  given_desk old command new (inl gives) = (ap (λ (o : OwnerFacts D L). o.desk) gives.others, ap (λ (o : OwnerFacts D L). o.logins) gives.others)
+  given_desk old command new (inr drops) = (ap (λ (o : OwnerFacts D L). o.desk) drops.others, ap (λ (o : OwnerFacts D L). o.logins) drops.others)
 
-  leave_desk : (old : OwnerFacts D) (connection : ℕ) (decided : Bool) (new : OwnerFacts D) → LeaveIsGiven old connection decided new
+  leave_desk : (old : OwnerFacts D L) (connection : ℕ) (decided : Bool) (new : OwnerFacts D L) → LeaveIsGiven old connection decided new
       → (new.desk ≡ record old.desk { leave = leave_after decided connection }) × (new.logins ≡ old.logins)
-  leave_desk old connection decided new (inl gives) = (ap (λ (o : OwnerFacts D). o.desk) gives.others, ap (λ (o : OwnerFacts D). o.logins) gives.others)
+  leave_desk old connection decided new (inl gives) = (ap (λ (o : OwnerFacts D L). o.desk) gives.others, ap (λ (o : OwnerFacts D L). o.logins) gives.others)
   leave_desk old connection decided new (inr drops) = (
-    ap (λ (o : OwnerFacts D). o.desk) drops.others ∙ ap (λ (b : Bool). record old.desk { leave = leave_after b connection }) (sym drops.so),
-    ap (λ (o : OwnerFacts D). o.logins) drops.others,
+    ap (λ (o : OwnerFacts D L). o.desk) drops.others ∙ ap (λ (b : Bool). record old.desk { leave = leave_after b connection }) (sym drops.so),
+    ap (λ (o : OwnerFacts D L). o.logins) drops.others,
   )
 
-  pass_by : (leave waits : Bool) (old : OwnerFacts D) (command : Command) (new : OwnerFacts D) → ReceivesBy leave waits old command new → items_taken new.desk ≡ items_taken old.desk
+  pass_by : (leave waits : Bool) (old : OwnerFacts D L) (command : Command) (new : OwnerFacts D L) → ReceivesBy leave waits old command new → items_taken new.desk ≡ items_taken old.desk
   pass_by true waits old command new received = ap (λ (d : DeskFacts). items_taken d) (leave_desk old command.connection received.0 new received.1).0
-  pass_by false true old command new received = ap (λ (o : OwnerFacts D). items_taken o.desk) received
+  pass_by false true old command new received = ap (λ (o : OwnerFacts D L). items_taken o.desk) received
   pass_by false false old command new received = ap (λ (d : DeskFacts). items_taken d) (given_desk old command new received).0
 
   -- what came of a command that was taken
-  received_served : (leave waits : Bool) (old : OwnerFacts D) (command : Command) (new : OwnerFacts D) (received : ReceivesBy leave waits old command new)
+  received_served : (leave waits : Bool) (old : OwnerFacts D L) (command : Command) (new : OwnerFacts D L) (received : ReceivesBy leave waits old command new)
       (taken given done : List Command) (decided : List ℕ) → is_leave command.what ≡ leave → (waits ≡ true → is_login command ≡ true)
       → (waits ≡ false → is_login command ≡ true → old.logins ≡ []) → old.desk.leave ≡ None → IsServed old.desk.leave old.logins taken given done decided
       → IsServed new.desk.leave new.logins (taken ++ command ∷ []) (given ++ (settled_by leave waits old command new received).commands)
@@ -211,7 +212,7 @@ module _ {D : Type 0} where
       })
   received_served false true old command new received taken given done decided leaves login empty none served =
       served_as old.desk.leave new.desk.leave (old.logins ++ command ∷ []) new.logins (taken ++ command ∷ []) (given ++ []) (done ++ []) (decided ++ [])
-      (ap (λ (o : OwnerFacts D). o.desk.leave) received) (ap (λ (o : OwnerFacts D). o.logins) received) (record {
+      (ap (λ (o : OwnerFacts D L). o.desk.leave) received) (ap (λ (o : OwnerFacts D L). o.logins) received) (record {
         logins =
             filter-append is_login taken (command ∷ [])
             ∙ ap (λ (b : Bool). filter is_login taken ++ cond b (command ∷ []) []) (login refl)
@@ -243,15 +244,15 @@ module _ {D : Type 0} where
         are_logins = served.are_logins;
       })
 
-  rests_served : (old new : OwnerFacts D) (taken given done : List Command) (decided : List ℕ) → new ≡ old → IsServed old.desk.leave old.logins taken given done decided
+  rests_served : (old new : OwnerFacts D L) (taken given done : List Command) (decided : List ℕ) → new ≡ old → IsServed old.desk.leave old.logins taken given done decided
       → IsServed new.desk.leave new.logins (taken ++ []) (given ++ []) (done ++ []) (decided ++ [])
   rests_served old new taken given done decided same served =
       served_as old.desk.leave new.desk.leave old.logins new.logins (taken ++ []) (given ++ []) (done ++ []) (decided ++ [])
-      (ap (λ (o : OwnerFacts D). o.desk.leave) same) (ap (λ (o : OwnerFacts D). o.logins) same)
+      (ap (λ (o : OwnerFacts D L). o.desk.leave) same) (ap (λ (o : OwnerFacts D L). o.logins) same)
       (served_more old.desk.leave old.logins taken given done decided served)
 
   -- a command that was taken, where this is what is received for it
-  owned_served : (own : Option Command) (old new : OwnerFacts D) (received : ReceivesOwned old own new) (taken given done : List Command) (decided : List ℕ)
+  owned_served : (own : Option Command) (old new : OwnerFacts D L) (received : ReceivesOwned old own new) (taken given done : List Command) (decided : List ℕ)
       → old.desk.leave ≡ None → IsServed old.desk.leave old.logins taken given done decided
       → IsServed new.desk.leave new.logins (taken ++ cons_option own []) (given ++ (settled_owned own old new received).commands)
       (done ++ ((settled_owned own old new received).commands ++ (settled_owned own old new received).dropped)) (decided ++ (settled_owned own old new received).leaves)
@@ -261,18 +262,18 @@ module _ {D : Type 0} where
       (both_so (is_login command) (must_wait old))
       (λ free login. none_waits (length old.logins == 0) _ old.logins refl (second_so (is_login command) (must_wait old) free login)) none served
 
-  item_served : (old : OwnerFacts D) (item : Option DeskItem) (worked : Bool) (new : OwnerFacts D) (received : ReceivesItem old item worked new)
+  item_served : (old : OwnerFacts D L) (item : Option DeskItem) (worked : Bool) (new : OwnerFacts D L) (received : ReceivesItem old item worked new)
       (taken given done : List Command) (decided : List ℕ) → old.desk.leave ≡ None → IsServed old.desk.leave old.logins taken given done decided
       → IsServedBy new.desk.leave new.logins taken given done decided old.guests.rows (settled_of old item worked new received)
   item_served old None worked new received taken given done decided none served = rests_served old new taken given done decided received.1 served
   item_served old (Some (items.Closed connection)) worked new received taken given done decided none served =
       served_as old.desk.leave new.desk.leave old.logins new.logins (taken ++ []) (given ++ []) (done ++ []) (decided ++ [])
-      (ap (λ (o : OwnerFacts D). o.desk.leave) received.1) (ap (λ (o : OwnerFacts D). o.logins) received.1)
+      (ap (λ (o : OwnerFacts D L). o.desk.leave) received.1) (ap (λ (o : OwnerFacts D L). o.logins) received.1)
       (served_more old.desk.leave old.logins taken given done decided served)
   item_served old (Some (items.Command command)) worked new received taken given done decided none served =
       owned_served (owned old.guests.rows command) old new received.1 taken given done decided none served
 
-  taking_served : (b : Bool) (old : OwnerFacts D) (worked : Bool) (new : OwnerFacts D) (takes : TakesWhere b old worked new) (taken given done : List Command) (decided : List ℕ)
+  taking_served : (b : Bool) (old : OwnerFacts D L) (worked : Bool) (new : OwnerFacts D L) (takes : TakesWhere b old worked new) (taken given done : List Command) (decided : List ℕ)
       → old.desk.leave ≡ None → IsServed old.desk.leave old.logins taken given done decided
       → IsServedBy new.desk.leave new.logins taken given done decided old.guests.rows (settled_taking b old worked new takes)
   taking_served true old worked new takes taken given done decided none served =
@@ -280,12 +281,12 @@ module _ {D : Type 0} where
   taking_served false old worked new rests taken given done decided none served = rests_served old new taken given done decided rests.1 served
 
   -- a login that waited goes: it was given, where this is what was given for it, or dropped
-  login_served : (own : Option Command) (old : OwnerFacts D) (login : Command) (rest : List Command) (new : OwnerFacts D) → GivesOwned (record old { logins = rest }) own new
+  login_served : (own : Option Command) (old : OwnerFacts D L) (login : Command) (rest : List Command) (new : OwnerFacts D L) → GivesOwned (record old { logins = rest }) own new
       → (taken given done : List Command) (decided : List ℕ) → IsServed old.desk.leave (login ∷ rest) taken given done decided
       → IsServedBy new.desk.leave new.logins taken given done decided old.guests.rows (one_login own login)
   login_served None old login rest new same taken given done decided served =
       served_as old.desk.leave new.desk.leave rest new.logins (taken ++ []) (given ++ []) (done ++ login ∷ []) (decided ++ [])
-      (ap (λ (o : OwnerFacts D). o.desk.leave) same) (ap (λ (o : OwnerFacts D). o.logins) same) (record {
+      (ap (λ (o : OwnerFacts D L). o.desk.leave) same) (ap (λ (o : OwnerFacts D L). o.logins) same) (record {
         logins = went_logins login rest taken done served.are_logins.0 served.logins;
         others = ap (λ (l : List Command). filter is_other l) (append-nil taken) ∙ served.others ∙ ap (λ (l : List Command). filter is_other l) (sym (append-nil given));
         leaves =
@@ -308,27 +309,27 @@ module _ {D : Type 0} where
         are_logins = served.are_logins.1;
       })
 
-  waiting_served : (old : OwnerFacts D) (worked : Bool) (new : OwnerFacts D) (gives : GivesWaiting old worked new) (taken given done : List Command) (decided : List ℕ)
+  waiting_served : (old : OwnerFacts D L) (worked : Bool) (new : OwnerFacts D L) (gives : GivesWaiting old worked new) (taken given done : List Command) (decided : List ℕ)
       → IsServed old.desk.leave old.logins taken given done decided
       → IsServedBy new.desk.leave new.logins taken given done decided old.guests.rows (one_login (owned old.guests.rows gives.login) gives.login)
   waiting_served old worked new gives taken given done decided served =
       login_served (owned old.guests.rows gives.login) old gives.login gives.rest new gives.given taken given done decided
       (subst (λ (l : List Command). IsServed old.desk.leave l taken given done decided) gives.first served)
 
-  going_served : (b : Bool) (old : OwnerFacts D) (worked : Bool) (new : OwnerFacts D) (goes : GoesWhere b old worked new) (taken given done : List Command) (decided : List ℕ)
+  going_served : (b : Bool) (old : OwnerFacts D L) (worked : Bool) (new : OwnerFacts D L) (goes : GoesWhere b old worked new) (taken given done : List Command) (decided : List ℕ)
       → old.desk.leave ≡ None → IsServed old.desk.leave old.logins taken given done decided
       → IsServedBy new.desk.leave new.logins taken given done decided old.guests.rows (settled_going b old worked new goes)
   going_served true old worked new gives taken given done decided none served = waiting_served old worked new gives taken given done decided served
   going_served false old worked new takes taken given done decided none served =
       taking_served (nat_lt (length old.logins) CONNECTION_LIMIT) old worked new takes taken given done decided none served
 
-  pending_served : (b : Bool) (old : OwnerFacts D) (worked : Bool) (new : OwnerFacts D) (pends : PendsWhere b old worked new) (taken given done : List Command) (decided : List ℕ)
+  pending_served : (b : Bool) (old : OwnerFacts D L) (worked : Bool) (new : OwnerFacts D L) (pends : PendsWhere b old worked new) (taken given done : List Command) (decided : List ℕ)
       → old.desk.leave ≡ None → IsServed old.desk.leave old.logins taken given done decided
       → IsServedBy new.desk.leave new.logins taken given done decided old.guests.rows (settled_pending b old worked new pends)
   pending_served true old worked new rests taken given done decided none served = rests_served old new taken given done decided rests.1 served
   pending_served false old worked new goes taken given done decided none served = going_served (may_go old) old worked new goes taken given done decided none served
 
-  leave_served : (old : OwnerFacts D) (connection : ℕ) (worked : Bool) (new : OwnerFacts D) → LeaveIsGiven old connection worked new → (taken given done : List Command) (decided : List ℕ)
+  leave_served : (old : OwnerFacts D L) (connection : ℕ) (worked : Bool) (new : OwnerFacts D L) → LeaveIsGiven old connection worked new → (taken given done : List Command) (decided : List ℕ)
       → old.desk.leave ≡ Some connection → IsServed old.desk.leave old.logins taken given done decided
       → IsServed new.desk.leave new.logins (taken ++ []) (given ++ []) (done ++ []) (decided ++ listed (leave_where worked connection))
   leave_served old connection worked new leave taken given done decided keeps served =
@@ -345,38 +346,38 @@ module _ {D : Type 0} where
         are_logins = served.are_logins;
       })
 
-  leaving_served : (leave : Option ℕ) (old : OwnerFacts D) (worked : Bool) (new : OwnerFacts D) (leaves : LeavesWhere leave old worked new) (taken given done : List Command) (decided : List ℕ)
+  leaving_served : (leave : Option ℕ) (old : OwnerFacts D L) (worked : Bool) (new : OwnerFacts D L) (leaves : LeavesWhere leave old worked new) (taken given done : List Command) (decided : List ℕ)
       → old.desk.leave ≡ leave → IsServed old.desk.leave old.logins taken given done decided
       → IsServedBy new.desk.leave new.logins taken given done decided old.guests.rows (settled_leaving leave old worked new leaves)
   leaving_served (Some connection) old worked new leave taken given done decided keeps served = leave_served old connection worked new leave taken given done decided keeps served
   leaving_served None old worked new pends taken given done decided none served =
       pending_served (nat_lt PENDING_LIMIT (length old.control.pending)) old worked new pends taken given done decided none served
 
-  where_served : (b : Bool) (old : OwnerFacts D) (worked : Bool) (new : OwnerFacts D) (serves : ServesWhere b old worked new) (taken given done : List Command) (decided : List ℕ)
+  where_served : (b : Bool) (old : OwnerFacts D L) (worked : Bool) (new : OwnerFacts D L) (serves : ServesWhere b old worked new) (taken given done : List Command) (decided : List ℕ)
       → IsServed old.desk.leave old.logins taken given done decided
       → IsServedBy new.desk.leave new.logins taken given done decided old.guests.rows (settled_where b old worked new serves)
   where_served true old worked new rests taken given done decided served = rests_served old new taken given done decided rests.1 served
   where_served false old worked new leaves taken given done decided served = leaving_served old.desk.leave old worked new leaves taken given done decided refl served
 
-  desk_served : (old : OwnerFacts D) (worked : Bool) (new : OwnerFacts D) (serves : ServesDesk old worked new) (taken given done : List Command) (decided : List ℕ)
+  desk_served : (old : OwnerFacts D L) (worked : Bool) (new : OwnerFacts D L) (serves : ServesDesk old worked new) (taken given done : List Command) (decided : List ℕ)
       → IsServed old.desk.leave old.logins taken given done decided
       → IsServedBy new.desk.leave new.logins taken given done decided old.guests.rows (settled old worked new serves)
   desk_served old worked new serves taken given done decided served = where_served (is_some old.kept.reply) old worked new serves taken given done decided served
 
   -- ---- what was taken of the desk
 
-  pass_stays : (own : Option Command) (old new : OwnerFacts D) → ReceivesOwned old own new → items_taken new.desk ≡ items_taken old.desk
-  pass_stays None old new same = ap (λ (o : OwnerFacts D). items_taken o.desk) same
+  pass_stays : (own : Option Command) (old new : OwnerFacts D L) → ReceivesOwned old own new → items_taken new.desk ≡ items_taken old.desk
+  pass_stays None old new same = ap (λ (o : OwnerFacts D L). items_taken o.desk) same
   pass_stays (Some command) old new received = pass_by (is_leave command.what) (is_login command && must_wait old) old command new received
 
-  taken_more : (old : OwnerFacts D) (pass : PassFacts DeskItem) (item : Option DeskItem) (worked : Bool) (new : OwnerFacts D) (received : ReceivesItem (with_pass pass old) item worked new)
+  taken_more : (old : OwnerFacts D L) (pass : PassFacts DeskItem) (item : Option DeskItem) (worked : Bool) (new : OwnerFacts D L) (received : ReceivesItem (with_pass pass old) item worked new)
       → Takes DESK_CAPACITY old.desk.pass item pass
       → filter_map command_in (items_taken new.desk) ≡ filter_map command_in (items_taken old.desk) ++ (settled_of (with_pass pass old) item worked new received).taken
   taken_more old pass None worked new received takes =
-      ap (λ (o : OwnerFacts D). filter_map command_in (items_taken o.desk)) received.1 ∙ ap (λ (l : List DeskItem). filter_map command_in l) (items_same old.desk pass takes)
+      ap (λ (o : OwnerFacts D L). filter_map command_in (items_taken o.desk)) received.1 ∙ ap (λ (l : List DeskItem). filter_map command_in l) (items_same old.desk pass takes)
       ∙ sym (append-nil (filter_map command_in (items_taken old.desk)))
   taken_more old pass (Some (items.Closed connection)) worked new received takes =
-      ap (λ (o : OwnerFacts D). filter_map command_in (items_taken o.desk)) received.1
+      ap (λ (o : OwnerFacts D L). filter_map command_in (items_taken o.desk)) received.1
       ∙ ap (λ (l : List DeskItem). filter_map command_in l) (items_more old.desk (items.Closed connection) pass takes)
       ∙ found_more command_in (items_taken old.desk) (items.Closed connection)
   taken_more old pass (Some (items.Command command)) worked new received takes =
@@ -385,91 +386,91 @@ module _ {D : Type 0} where
       ∙ found_more command_in (items_taken old.desk) (items.Command command)
 
   -- nothing more was taken
-  none_taken : (old new : OwnerFacts D) → items_taken new.desk ≡ items_taken old.desk → filter_map command_in (items_taken new.desk) ≡ filter_map command_in (items_taken old.desk) ++ []
+  none_taken : (old new : OwnerFacts D L) → items_taken new.desk ≡ items_taken old.desk → filter_map command_in (items_taken new.desk) ≡ filter_map command_in (items_taken old.desk) ++ []
   none_taken old new same = ap (λ (l : List DeskItem). filter_map command_in l) same ∙ sym (append-nil (filter_map command_in (items_taken old.desk)))
 
-  login_taken : (own : Option Command) (old : OwnerFacts D) (login : Command) (rest : List Command) (new : OwnerFacts D) → GivesOwned (record old { logins = rest }) own new
+  login_taken : (own : Option Command) (old : OwnerFacts D L) (login : Command) (rest : List Command) (new : OwnerFacts D L) → GivesOwned (record old { logins = rest }) own new
       → filter_map command_in (items_taken new.desk) ≡ filter_map command_in (items_taken old.desk) ++ (one_login own login).taken
-  login_taken None old login rest new same = none_taken old new (ap (λ (o : OwnerFacts D). items_taken o.desk) same)
+  login_taken None old login rest new same = none_taken old new (ap (λ (o : OwnerFacts D L). items_taken o.desk) same)
   login_taken (Some command) old login rest new given =
       none_taken old new (ap (λ (d : DeskFacts). items_taken d) (given_desk (record old { logins = rest }) command new given).0)
 
-  taking_taken : (b : Bool) (old : OwnerFacts D) (worked : Bool) (new : OwnerFacts D) (takes : TakesWhere b old worked new)
+  taking_taken : (b : Bool) (old : OwnerFacts D L) (worked : Bool) (new : OwnerFacts D L) (takes : TakesWhere b old worked new)
       → filter_map command_in (items_taken new.desk) ≡ filter_map command_in (items_taken old.desk) ++ (settled_taking b old worked new takes).taken
   taking_taken true old worked new takes = taken_more old takes.pass takes.item worked new takes.received takes.taken
-  taking_taken false old worked new rests = none_taken old new (ap (λ (o : OwnerFacts D). items_taken o.desk) rests.1)
+  taking_taken false old worked new rests = none_taken old new (ap (λ (o : OwnerFacts D L). items_taken o.desk) rests.1)
 
-  going_taken : (b : Bool) (old : OwnerFacts D) (worked : Bool) (new : OwnerFacts D) (goes : GoesWhere b old worked new)
+  going_taken : (b : Bool) (old : OwnerFacts D L) (worked : Bool) (new : OwnerFacts D L) (goes : GoesWhere b old worked new)
       → filter_map command_in (items_taken new.desk) ≡ filter_map command_in (items_taken old.desk) ++ (settled_going b old worked new goes).taken
   going_taken true old worked new gives = login_taken (owned old.guests.rows gives.login) old gives.login gives.rest new gives.given
   going_taken false old worked new takes = taking_taken (nat_lt (length old.logins) CONNECTION_LIMIT) old worked new takes
 
-  pending_taken : (b : Bool) (old : OwnerFacts D) (worked : Bool) (new : OwnerFacts D) (pends : PendsWhere b old worked new)
+  pending_taken : (b : Bool) (old : OwnerFacts D L) (worked : Bool) (new : OwnerFacts D L) (pends : PendsWhere b old worked new)
       → filter_map command_in (items_taken new.desk) ≡ filter_map command_in (items_taken old.desk) ++ (settled_pending b old worked new pends).taken
-  pending_taken true old worked new rests = none_taken old new (ap (λ (o : OwnerFacts D). items_taken o.desk) rests.1)
+  pending_taken true old worked new rests = none_taken old new (ap (λ (o : OwnerFacts D L). items_taken o.desk) rests.1)
   pending_taken false old worked new goes = going_taken (may_go old) old worked new goes
 
-  leaving_taken : (leave : Option ℕ) (old : OwnerFacts D) (worked : Bool) (new : OwnerFacts D) (leaves : LeavesWhere leave old worked new)
+  leaving_taken : (leave : Option ℕ) (old : OwnerFacts D L) (worked : Bool) (new : OwnerFacts D L) (leaves : LeavesWhere leave old worked new)
       → filter_map command_in (items_taken new.desk) ≡ filter_map command_in (items_taken old.desk) ++ (settled_leaving leave old worked new leaves).taken
   leaving_taken (Some connection) old worked new leave =
       none_taken old new (ap (λ (d : DeskFacts). items_taken d) (leave_desk old connection worked new leave).0)
   leaving_taken None old worked new pends = pending_taken (nat_lt PENDING_LIMIT (length old.control.pending)) old worked new pends
 
-  where_taken : (b : Bool) (old : OwnerFacts D) (worked : Bool) (new : OwnerFacts D) (serves : ServesWhere b old worked new)
+  where_taken : (b : Bool) (old : OwnerFacts D L) (worked : Bool) (new : OwnerFacts D L) (serves : ServesWhere b old worked new)
       → filter_map command_in (items_taken new.desk) ≡ filter_map command_in (items_taken old.desk) ++ (settled_where b old worked new serves).taken
-  where_taken true old worked new rests = none_taken old new (ap (λ (o : OwnerFacts D). items_taken o.desk) rests.1)
+  where_taken true old worked new rests = none_taken old new (ap (λ (o : OwnerFacts D L). items_taken o.desk) rests.1)
   where_taken false old worked new leaves = leaving_taken old.desk.leave old worked new leaves
 
-  desk_taken : (old : OwnerFacts D) (worked : Bool) (new : OwnerFacts D) (serves : ServesDesk old worked new)
+  desk_taken : (old : OwnerFacts D L) (worked : Bool) (new : OwnerFacts D L) (serves : ServesDesk old worked new)
       → filter_map command_in (items_taken new.desk) ≡ filter_map command_in (items_taken old.desk) ++ (settled old worked new serves).taken
   desk_taken old worked new serves = where_taken (is_some old.kept.reply) old worked new serves
 
-  ended_desk : (b : Bool) (owner : OwnerFacts D) → ((cond b (record owner { is_ending = true }) owner).desk ≡ owner.desk) × ((cond b (record owner { is_ending = true }) owner).logins ≡ owner.logins)
+  ended_desk : (b : Bool) (owner : OwnerFacts D L) → ((cond b (record owner { is_ending = true }) owner).desk ≡ owner.desk) × ((cond b (record owner { is_ending = true }) owner).logins ≡ owner.logins)
   ended_desk true owner = (refl, refl)
   ended_desk false owner = (refl, refl)
 
-module _ {D : Type 0} (L : Type 0) (counts : D → Counts) (given : D → ℕ) where
-  asked_desk : (b : Bool) (old : OwnerFacts D) (worked : Bool) (new : OwnerFacts D) → AsksWhere L counts given b old worked new → (new.desk ≡ old.desk) × (new.logins ≡ old.logins)
-  asked_desk true old worked new rests = (ap (λ (o : OwnerFacts D). o.desk) rests.1, ap (λ (o : OwnerFacts D). o.logins) rests.1)
-  asked_desk false old worked new asks = (ap (λ (o : OwnerFacts D). o.desk) asks.others, ap (λ (o : OwnerFacts D). o.logins) asks.others)
+module _ {D L : Type 0} (door_facts : D → DoorFacts) where
+  asked_desk : (b : Bool) (old : OwnerFacts D L) (worked : Bool) (new : OwnerFacts D L) → AsksWhere door_facts b old worked new → (new.desk ≡ old.desk) × (new.logins ≡ old.logins)
+  asked_desk true old worked new rests = (ap (λ (o : OwnerFacts D L). o.desk) rests.1, ap (λ (o : OwnerFacts D L). o.logins) rests.1)
+  asked_desk false old worked new asks = (ap (λ (o : OwnerFacts D L). o.desk) asks.others, ap (λ (o : OwnerFacts D L). o.logins) asks.others)
 
   -- what is served of the desk in a turn is all that a turn does with it
-  turned_desk : (old : OwnerFacts D) (turn : Turn) (new : OwnerFacts D) (t : OwnerTurned L counts given old turn new) → (new.desk ≡ t.after_desk.desk) × (new.logins ≡ t.after_desk.logins)
+  turned_desk : (old : OwnerFacts D L) (turn : Turn) (new : OwnerFacts D L) (t : OwnerTurned door_facts old turn new) → (new.desk ≡ t.after_desk.desk) × (new.logins ≡ t.after_desk.logins)
   turned_desk old turn new t =
       let press : LagStays t.after_desk t.after_press = press_stays t.after_desk t.pressed t.after_press t.presses in
       let publish : PublishStays t.after_press t.after_publish = publish_stays t.after_press t.published t.after_publish t.publishes in
       let post : LagStays t.after_publish t.after_post = post_stays t.after_publish t.posted t.after_post t.posts in
       let ask = asked_desk (is_not_to_ask t.after_post) t.after_post t.came t.after_door t.asks in
       let end = ended_desk (is_over t.after_door && is_none t.after_door.kept.coming) t.after_door in (
-        ap (λ (o : OwnerFacts D). o.desk) t.ends ∙ end.0 ∙ ask.0 ∙ post.desk ∙ publish.desk ∙ press.desk,
-        ap (λ (o : OwnerFacts D). o.logins) t.ends ∙ end.1 ∙ ask.1 ∙ post.logins ∙ publish.logins ∙ press.logins,
+        ap (λ (o : OwnerFacts D L). o.desk) t.ends ∙ end.0 ∙ ask.0 ∙ post.desk ∙ publish.desk ∙ press.desk,
+        ap (λ (o : OwnerFacts D L). o.logins) t.ends ∙ end.1 ∙ ask.1 ∙ post.logins ∙ publish.logins ∙ press.logins,
       )
 
-  turned_served : (old : OwnerFacts D) (turn : Turn) (new : OwnerFacts D) (t : OwnerTurned L counts given old turn new) (taken commands done : List Command) (decided : List ℕ)
+  turned_served : (old : OwnerFacts D L) (turn : Turn) (new : OwnerFacts D L) (t : OwnerTurned door_facts old turn new) (taken commands done : List Command) (decided : List ℕ)
       → IsServed old.desk.leave old.logins taken commands done decided
       → IsServedBy new.desk.leave new.logins taken commands done decided t.after_offers.guests.rows (settled t.after_offers t.served t.after_desk t.serves)
   turned_served old turn new t taken commands done decided served =
       let what = settled t.after_offers t.served t.after_desk t.serves in
       let after = turned_desk old turn new t in
       let offered = served_as old.desk.leave t.after_offers.desk.leave old.logins t.after_offers.logins taken commands done decided
-      (ap (λ (o : OwnerFacts D). o.desk.leave) t.offers.others) (ap (λ (o : OwnerFacts D). o.logins) t.offers.others) served in
+      (ap (λ (o : OwnerFacts D L). o.desk.leave) t.offers.others) (ap (λ (o : OwnerFacts D L). o.logins) t.offers.others) served in
       served_as t.after_desk.desk.leave new.desk.leave t.after_desk.logins new.logins (taken ++ filter_map (owned t.after_offers.guests.rows) what.taken)
       (commands ++ what.commands) (done ++ (what.commands ++ what.dropped)) (decided ++ what.leaves) (ap (λ (d : DeskFacts). d.leave) after.0) after.1
       (desk_served t.after_offers t.served t.after_desk t.serves taken commands done decided offered)
 
-  all_served : (old : OwnerFacts D) (turns : List Turn) (new : OwnerFacts D) (all : TurnsTo (OwnerTurned L counts given) old turns new) (taken commands done : List Command) (decided : List ℕ)
+  all_served : (old : OwnerFacts D L) (turns : List Turn) (new : OwnerFacts D L) (all : TurnsTo (OwnerTurned door_facts) old turns new) (taken commands done : List Command) (decided : List ℕ)
       → IsServed old.desk.leave old.logins taken commands done decided
-      → IsServed new.desk.leave new.logins (taken ++ commands_owned L counts given old turns new all) (commands ++ commands_given L counts given old turns new all)
-      (done ++ commands_settled L counts given old turns new all) (decided ++ leaves_decided L counts given old turns new all)
+      → IsServed new.desk.leave new.logins (taken ++ commands_owned door_facts old turns new all) (commands ++ commands_given door_facts old turns new all)
+      (done ++ commands_settled door_facts old turns new all) (decided ++ leaves_decided door_facts old turns new all)
   all_served old [] new all taken commands done decided served = rests_served old new taken commands done decided all served
   all_served old (turn ∷ turns) new all taken commands done decided served =
       let t = all.1 in
       let what = settled t.after_offers t.served t.after_desk t.serves in
       let own = filter_map (owned t.after_offers.guests.rows) what.taken in
-      let owns = commands_owned L counts given all.0 turns new all.2 in
-      let behind = commands_given L counts given all.0 turns new all.2 in
-      let past = commands_settled L counts given all.0 turns new all.2 in
-      let left = leaves_decided L counts given all.0 turns new all.2 in
+      let owns = commands_owned door_facts all.0 turns new all.2 in
+      let behind = commands_given door_facts all.0 turns new all.2 in
+      let past = commands_settled door_facts all.0 turns new all.2 in
+      let left = leaves_decided door_facts all.0 turns new all.2 in
       subst (λ (l : List Command). IsServed new.desk.leave new.logins l (commands ++ (what.commands ++ behind)) (done ++ (what.commands ++ what.dropped ++ past)) (decided ++ (what.leaves ++ left)))
       (append_assoc taken own owns)
       (subst (λ (l : List Command). IsServed new.desk.leave new.logins ((taken ++ own) ++ owns) l (done ++ (what.commands ++ what.dropped ++ past)) (decided ++ (what.leaves ++ left)))
@@ -481,28 +482,28 @@ module _ {D : Type 0} (L : Type 0) (counts : D → Counts) (given : D → ℕ) w
       (all_served all.0 turns new all.2 (taken ++ own) (commands ++ what.commands) (done ++ (what.commands ++ what.dropped)) (decided ++ what.leaves)
       (turned_served old turn all.0 t taken commands done decided served)))))
 
-  all_taken : (old : OwnerFacts D) (turns : List Turn) (new : OwnerFacts D) (all : TurnsTo (OwnerTurned L counts given) old turns new)
-      → filter_map command_in (items_taken new.desk) ≡ filter_map command_in (items_taken old.desk) ++ commands_taken L counts given old turns new all
-  all_taken old [] new all = none_taken old new (ap (λ (o : OwnerFacts D). items_taken o.desk) all)
+  all_taken : (old : OwnerFacts D L) (turns : List Turn) (new : OwnerFacts D L) (all : TurnsTo (OwnerTurned door_facts) old turns new)
+      → filter_map command_in (items_taken new.desk) ≡ filter_map command_in (items_taken old.desk) ++ commands_taken door_facts old turns new all
+  all_taken old [] new all = none_taken old new (ap (λ (o : OwnerFacts D L). items_taken o.desk) all)
   all_taken old (turn ∷ turns) new all =
       let t = all.1 in
       let what = settled t.after_offers t.served t.after_desk t.serves in
-      let past = commands_taken L counts given all.0 turns new all.2 in
+      let past = commands_taken door_facts all.0 turns new all.2 in
       let one : filter_map command_in (items_taken all.0.desk) ≡ filter_map command_in (items_taken old.desk) ++ what.taken =
       ap (λ (d : DeskFacts). filter_map command_in (items_taken d)) (turned_desk old turn all.0 t).0
       ∙ desk_taken t.after_offers t.served t.after_desk t.serves
-      ∙ ap (λ (o : OwnerFacts D). filter_map command_in (items_taken o.desk) ++ what.taken) t.offers.others in
+      ∙ ap (λ (o : OwnerFacts D L). filter_map command_in (items_taken o.desk) ++ what.taken) t.offers.others in
       all_taken all.0 turns new all.2 ∙ ap (λ (l : List Command). l ++ past) one
       ∙ append_assoc (filter_map command_in (items_taken old.desk)) what.taken past
 
   -- from the opening on
-  pub given_once : (control : ControlFacts) (door : D) (connections : ℕ) (journal : Bool) (queues : List TableId) (opened owner : OwnerFacts D) (turns : List Turn)
-      → IsOpened control door connections journal queues opened → (all : TurnsTo (OwnerTurned L counts given) opened turns owner)
-      → IsServed owner.desk.leave owner.logins (commands_owned L counts given opened turns owner all) (commands_given L counts given opened turns owner all)
-      (commands_settled L counts given opened turns owner all) (leaves_decided L counts given opened turns owner all)
+  pub given_once : (control : ControlFacts) (door : D) (connections : ℕ) (journal : Bool) (queues : List TableId) (opened owner : OwnerFacts D L) (turns : List Turn)
+      → IsOpened control door connections journal queues opened → (all : TurnsTo (OwnerTurned door_facts) opened turns owner)
+      → IsServed owner.desk.leave owner.logins (commands_owned door_facts opened turns owner all) (commands_given door_facts opened turns owner all)
+      (commands_settled door_facts opened turns owner all) (leaves_decided door_facts opened turns owner all)
   given_once control door connections journal queues opened owner turns new all =
-      let leave : opened.desk.leave ≡ None = ap (λ (o : OwnerFacts D). o.desk.leave) new in
-      let logins : opened.logins ≡ [] = ap (λ (o : OwnerFacts D). o.logins) new in
+      let leave : opened.desk.leave ≡ None = ap (λ (o : OwnerFacts D L). o.desk.leave) new in
+      let logins : opened.logins ≡ [] = ap (λ (o : OwnerFacts D L). o.logins) new in
       all_served opened turns owner all [] [] [] [] (record {
         logins = sym logins;
         others = refl;
@@ -510,8 +511,8 @@ module _ {D : Type 0} (L : Type 0) (counts : D → Counts) (given : D → ℕ) w
         are_logins = subst AreLogins (sym logins) tt;
       })
 
-  pub taken_once : (opened owner : OwnerFacts D) (turns : List Turn) → opened.desk.pass.taken ≡ [] → (all : TurnsTo (OwnerTurned L counts given) opened turns owner)
-      → filter_map command_in (items_taken owner.desk) ≡ commands_taken L counts given opened turns owner all
+  pub taken_once : (opened owner : OwnerFacts D L) (turns : List Turn) → opened.desk.pass.taken ≡ [] → (all : TurnsTo (OwnerTurned door_facts) opened turns owner)
+      → filter_map command_in (items_taken owner.desk) ≡ commands_taken door_facts opened turns owner all
   taken_once opened owner turns none all =
       all_taken opened turns owner all
-      ∙ ap (λ l. filter_map command_in (map (λ tagged. tagged.item) l) ++ commands_taken L counts given opened turns owner all) none
+      ∙ ap (λ l. filter_map command_in (map (λ tagged. tagged.item) l) ++ commands_taken door_facts opened turns owner all) none

@@ -11,6 +11,7 @@ use Rattle.mum_crew.specs.declared.role.Turn.{Turn}
 use Rattle.mum_io.specs.Counts.{Counts}
 use Rattle.mum_io.specs.declared.door.Accept.{Accept}
 use Rattle.mum_io.specs.declared.door.Accept.TheVariants as accepted
+use Rattle.mum_io.specs.Door.{DoorFacts}
 use Rattle.mum_owner.specs.Facts.{GuestsFacts, OwnerFacts}
 use Rattle.mum_owner.specs.Laws.{lags_made, listed, made}
 use Rattle.mum_owner.specs.Opened.{IsOpened}
@@ -80,27 +81,27 @@ none_other connection = search rules
 none_two : AllPairs AreTwo []
 none_two = search rules
 
-module _ {D : Type 0} where
+module _ {D L : Type 0} where
   -- ---- one part
 
-  lag_rows : (old new : OwnerFacts D) → LagStays old new → RowsStay old.guests.rows new.guests.rows
+  lag_rows : (old new : OwnerFacts D L) → LagStays old new → RowsStay old.guests.rows new.guests.rows
   lag_rows old new stays = by stays.lags
     where
       by : MakesLag old new ⊎ MakesNone old new → RowsStay old.guests.rows new.guests.rows
       by (inl m) = subst (λ (rows : List Guest). RowsStay old.guests.rows rows) (sym m.rows) (rows_noted m.item.connection old.guests.rows)
       by (inr m) = rows_equal old.guests.rows new.guests.rows m.rows
 
-  lag_on : (old new : OwnerFacts D) → LagStays old new → GoesOn old.guests new.guests
+  lag_on : (old new : OwnerFacts D L) → LagStays old new → GoesOn old.guests new.guests
   lag_on old new stays = by_rows old.guests new.guests (lag_rows old new stays) stays.given
 
-  made_one : (old new : OwnerFacts D) (m : MakesLag old new) → made old.kept.lag new.kept.lag ≡ m.item ∷ []
+  made_one : (old new : OwnerFacts D L) (m : MakesLag old new) → made old.kept.lag new.kept.lag ≡ m.item ∷ []
   made_one old new m = ap (λ (l : Option Lag). made l new.kept.lag) m.none ∙ ap (λ (l : Option Lag). listed l) m.some
 
-  made_none : (old new : OwnerFacts D) (m : MakesNone old new) → made old.kept.lag new.kept.lag ≡ []
+  made_none : (old new : OwnerFacts D L) (m : MakesNone old new) → made old.kept.lag new.kept.lag ≡ []
   made_none old new m = ap (λ (l : Option Lag). made old.kept.lag l) m.lag ∙ made_same old.kept.lag
 
   -- none is made for a connection for which one was made
-  others_made : (connection : ℕ) (old new : OwnerFacts D) → HasLagged connection old.guests → MakesLag old new ⊎ MakesNone old new
+  others_made : (connection : ℕ) (old new : OwnerFacts D L) → HasLagged connection old.guests → MakesLag old new ⊎ MakesNone old new
       → All (IsOther connection) (made old.kept.lag new.kept.lag)
   others_made connection old new has (inl m) =
       let other : IsOther connection m.item = λ same. never_both connection old.guests.rows has.all (subst (λ (n : ℕ). HasUnlagged n old.guests.rows) (sym same) m.unlagged) in
@@ -108,14 +109,14 @@ module _ {D : Type 0} where
   others_made connection old new has (inr m) = subst (All (IsOther connection)) (sym (made_none old new m)) (none_other connection)
 
   -- for the connection of one that is made, one was made from then on
-  has_lagged : (old new : OwnerFacts D) (m : MakesLag old new) → new.guests.given ≡ old.guests.given → WereGiven old.guests → HasLagged m.item.connection new.guests
+  has_lagged : (old new : OwnerFacts D L) (m : MakesLag old new) → new.guests.given ≡ old.guests.given → WereGiven old.guests → HasLagged m.item.connection new.guests
   has_lagged old new m same were = record {
     all = subst (AllLagged m.item.connection) (sym m.rows) (all_noted m.item.connection old.guests.rows);
     was_given = subst (λ (n : ℕ). m.item.connection ≤ n) (sym same) (unlagged_within m.item.connection old.guests.given old.guests.rows were m.unlagged);
   }
 
   -- one that is made is of another connection than those behind it
-  apart : (old new : OwnerFacts D) (rest : List Lag) → new.guests.given ≡ old.guests.given → WereGiven old.guests
+  apart : (old new : OwnerFacts D L) (rest : List Lag) → new.guests.given ≡ old.guests.given → WereGiven old.guests
       → ((connection : ℕ) → HasLagged connection new.guests → All (IsOther connection) rest) → AllPairs AreTwo rest → MakesLag old new ⊎ MakesNone old new
       → AllPairs AreTwo (made old.kept.lag new.kept.lag ++ rest)
   apart old new rest same were later pairs (inl m) =
@@ -123,17 +124,17 @@ module _ {D : Type 0} where
       (AllPairs-cons AreTwo m.item rest (later m.item.connection (has_lagged old new m same were)) pairs)
   apart old new rest same were later pairs (inr m) = subst (λ (l : List Lag). AllPairs AreTwo (l ++ rest)) (sym (made_none old new m)) pairs
 
-  ended_by : (b : Bool) (owner : OwnerFacts D) → (cond b (record owner { is_ending = true }) owner).guests ≡ owner.guests
+  ended_by : (b : Bool) (owner : OwnerFacts D L) → (cond b (record owner { is_ending = true }) owner).guests ≡ owner.guests
   ended_by true owner = refl
   ended_by false owner = refl
 
-module _ {D : Type 0} (L : Type 0) (counts : D → Counts) (given : D → ℕ) where
-  asks_on : (b : Bool) (old : OwnerFacts D) (worked : Bool) (new : OwnerFacts D) → AsksWhere L counts given b old worked new → GoesOn old.guests new.guests
-  asks_on true old worked new rests = by_same old.guests new.guests (ap (λ (o : OwnerFacts D). o.guests) rests.1)
+module _ {D L : Type 0} (door_facts : D → DoorFacts) where
+  asks_on : (b : Bool) (old : OwnerFacts D L) (worked : Bool) (new : OwnerFacts D L) → AsksWhere door_facts b old worked new → GoesOn old.guests new.guests
+  asks_on true old worked new rests = by_same old.guests new.guests (ap (λ (o : OwnerFacts D L). o.guests) rests.1)
   asks_on false old worked new asks =
-      subst (λ (g : GuestsFacts). GoesOn old.guests g) (sym (ap (λ (o : OwnerFacts D). o.guests) asks.others)) (by_answer asks.answer old.guests)
+      subst (λ (g : GuestsFacts). GoesOn old.guests g) (sym (ap (λ (o : OwnerFacts D L). o.guests) asks.others)) (by_answer asks.answer old.guests)
 
-  module _ (old : OwnerFacts D) (turn : Turn) (new : OwnerFacts D) (t : OwnerTurned L counts given old turn new) where
+  module _ (old : OwnerFacts D L) (turn : Turn) (new : OwnerFacts D L) (t : OwnerTurned door_facts old turn new) where
     press : LagStays t.after_desk t.after_press
     press = press_stays t.after_desk t.pressed t.after_press t.presses
 
@@ -144,7 +145,7 @@ module _ {D : Type 0} (L : Type 0) (counts : D → Counts) (given : D → ℕ) w
     to_press =
         let stays : DeskStays t.after_offers t.after_desk = desk_stays t.after_offers t.served t.after_desk t.serves in
         then_on old.guests t.after_offers.guests t.after_desk.guests
-        (by_same old.guests t.after_offers.guests (ap (λ (o : OwnerFacts D). o.guests) t.offers.others))
+        (by_same old.guests t.after_offers.guests (ap (λ (o : OwnerFacts D L). o.guests) t.offers.others))
         (by_rows t.after_offers.guests t.after_desk.guests stays.rows stays.given)
 
     to_post : GoesOn t.after_press.guests t.after_publish.guests
@@ -156,11 +157,11 @@ module _ {D : Type 0} (L : Type 0) (counts : D → Counts) (given : D → ℕ) w
     to_end =
         then_on t.after_post.guests t.after_door.guests new.guests (asks_on (is_not_to_ask t.after_post) t.after_post t.came t.after_door t.asks)
         (by_same t.after_door.guests new.guests
-        (ap (λ (o : OwnerFacts D). o.guests) t.ends ∙ ended_by (is_over t.after_door && is_none t.after_door.kept.coming) t.after_door))
+        (ap (λ (o : OwnerFacts D L). o.guests) t.ends ∙ ended_by (is_over t.after_door && is_none t.after_door.kept.coming) t.after_door))
 
   -- none is made any more for a connection for which one was made
-  never_again : (connection : ℕ) (old : OwnerFacts D) (turns : List Turn) (new : OwnerFacts D) (all : TurnsTo (OwnerTurned L counts given) old turns new)
-      → HasLagged connection old.guests → All (IsOther connection) (lags_made L counts given old turns new all)
+  never_again : (connection : ℕ) (old : OwnerFacts D L) (turns : List Turn) (new : OwnerFacts D L) (all : TurnsTo (OwnerTurned door_facts) old turns new)
+      → HasLagged connection old.guests → All (IsOther connection) (lags_made door_facts old turns new all)
   never_again connection old [] new all has = none_other connection
   never_again connection old (turn ∷ turns) new all has =
       let t = all.1 in
@@ -168,20 +169,20 @@ module _ {D : Type 0} (L : Type 0) (counts : D → Counts) (given : D → ℕ) w
       let at_post = (to_post old turn all.0 t).lagged connection ((lag_on t.after_desk t.after_press (press old turn all.0 t)).lagged connection at_press) in
       let at_end = (to_end old turn all.0 t).lagged connection ((lag_on t.after_publish t.after_post (post old turn all.0 t)).lagged connection at_post) in
       All-append (IsOther connection) (made t.after_desk.kept.lag t.after_press.kept.lag)
-      (made t.after_publish.kept.lag t.after_post.kept.lag ++ lags_made L counts given all.0 turns new all.2)
+      (made t.after_publish.kept.lag t.after_post.kept.lag ++ lags_made door_facts all.0 turns new all.2)
       (others_made connection t.after_desk t.after_press at_press (press old turn all.0 t).lags)
-      (All-append (IsOther connection) (made t.after_publish.kept.lag t.after_post.kept.lag) (lags_made L counts given all.0 turns new all.2)
+      (All-append (IsOther connection) (made t.after_publish.kept.lag t.after_post.kept.lag) (lags_made door_facts all.0 turns new all.2)
       (others_made connection t.after_publish t.after_post at_post (post old turn all.0 t).lags)
       (never_again connection all.0 turns new all.2 at_end))
 
-  once_each : (old : OwnerFacts D) (turns : List Turn) (new : OwnerFacts D) (all : TurnsTo (OwnerTurned L counts given) old turns new) → WereGiven old.guests
-      → AllPairs AreTwo (lags_made L counts given old turns new all)
+  once_each : (old : OwnerFacts D L) (turns : List Turn) (new : OwnerFacts D L) (all : TurnsTo (OwnerTurned door_facts) old turns new) → WereGiven old.guests
+      → AllPairs AreTwo (lags_made door_facts old turns new all)
   once_each old [] new all were = none_two
   once_each old (turn ∷ turns) new all were =
       let t = all.1 in
       let pressed = press old turn all.0 t in
       let posted = post old turn all.0 t in
-      let behind = lags_made L counts given all.0 turns new all.2 in
+      let behind = lags_made door_facts all.0 turns new all.2 in
       let at_press = (to_press old turn all.0 t).given were in
       let at_post = (to_post old turn all.0 t).given ((lag_on t.after_desk t.after_press pressed).given at_press) in
       let at_end = (to_end old turn all.0 t).given ((lag_on t.after_publish t.after_post posted).given at_post) in
@@ -198,8 +199,8 @@ module _ {D : Type 0} (L : Type 0) (counts : D → Counts) (given : D → ℕ) w
       apart t.after_desk t.after_press (made t.after_publish.kept.lag t.after_post.kept.lag ++ behind) pressed.given at_press from_press from_post pressed.lags
 
   -- from the opening on
-  pub lags_once : (control : ControlFacts) (door : D) (connections : ℕ) (journal : Bool) (queues : List TableId) (opened owner : OwnerFacts D) (turns : List Turn)
-      → IsOpened control door connections journal queues opened → (all : TurnsTo (OwnerTurned L counts given) opened turns owner)
-      → AllPairs (λ one other. one.connection ≢ other.connection) (lags_made L counts given opened turns owner all)
+  pub lags_once : (control : ControlFacts) (door : D) (connections : ℕ) (journal : Bool) (queues : List TableId) (opened owner : OwnerFacts D L) (turns : List Turn)
+      → IsOpened control door connections journal queues opened → (all : TurnsTo (OwnerTurned door_facts) opened turns owner)
+      → AllPairs (λ one other. one.connection ≢ other.connection) (lags_made door_facts opened turns owner all)
   lags_once control door connections journal queues opened owner turns new all =
-      once_each opened turns owner all (subst (λ (g : GuestsFacts). WereGiven g) (sym (ap (λ (o : OwnerFacts D). o.guests) new)) tt)
+      once_each opened turns owner all (subst (λ (g : GuestsFacts). WereGiven g) (sym (ap (λ (o : OwnerFacts D L). o.guests) new)) tt)

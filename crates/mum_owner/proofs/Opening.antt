@@ -6,6 +6,7 @@ use Rattle.mum_crew.specs.declared.role.Turn.TheVariants.{Done}
 use Rattle.mum_io.specs.Counts.{Counts}
 use Rattle.mum_io.specs.declared.door.Accept.{Accept}
 use Rattle.mum_io.specs.declared.door.Accept.TheVariants as accepted
+use Rattle.mum_io.specs.Door.{DoorFacts}
 use Rattle.mum_owner.specs.Facts.{GuestsFacts, OwnerFacts}
 use Rattle.mum_owner.specs.Turned.{AsksWhere, Offered, OwnerTurned, guests_by, has_ended, is_over, turn_of}
 use Rattle.mum_owner.proofs.Steps.{DeskStays, LagStays, PublishStays, desk_stays, post_stays, press_stays, publish_stays}
@@ -25,52 +26,52 @@ guests_limit accepted.NotYet guests = refl
 guests_limit accepted.End guests = refl
 guests_limit accepted.Failed guests = refl
 
-module _ {D : Type 0} where
+module _ {D L : Type 0} where
   -- the connections that are given in all, and whether a journal is kept, are as before
-  pub record SameOpening (old new : OwnerFacts D) : Type 0 where
+  pub record SameOpening (old new : OwnerFacts D L) : Type 0 where
     pub limit : new.guests.limit ≡ old.guests.limit
     pub asked : new.scribe.is_asked ≡ old.scribe.is_asked
 
-  same : (old : OwnerFacts D) → SameOpening old old
+  same : (old : OwnerFacts D L) → SameOpening old old
   same old = record { limit = refl; asked = refl }
 
-  by_equal : (old new : OwnerFacts D) → new ≡ old → SameOpening old new
-  by_equal old new is = record { limit = ap (λ (o : OwnerFacts D). o.guests.limit) is; asked = ap (λ (o : OwnerFacts D). o.scribe.is_asked) is }
+  by_equal : (old new : OwnerFacts D L) → new ≡ old → SameOpening old new
+  by_equal old new is = record { limit = ap (λ (o : OwnerFacts D L). o.guests.limit) is; asked = ap (λ (o : OwnerFacts D L). o.scribe.is_asked) is }
 
-  after : (old mid new : OwnerFacts D) → SameOpening old mid → SameOpening mid new → SameOpening old new
+  after : (old mid new : OwnerFacts D L) → SameOpening old mid → SameOpening mid new → SameOpening old new
   after old mid new one other = record { limit = other.limit ∙ one.limit; asked = other.asked ∙ one.asked }
 
   -- ---- the parts
 
-  offered_so : (old : OwnerFacts D) (worked : Bool) (new : OwnerFacts D) → Offered old worked new → SameOpening old new
+  offered_so : (old : OwnerFacts D L) (worked : Bool) (new : OwnerFacts D L) → Offered old worked new → SameOpening old new
   offered_so old worked new offers = record {
-    limit = ap (λ (o : OwnerFacts D). o.guests.limit) offers.others;
-    asked = ap (λ (o : OwnerFacts D). o.scribe.is_asked) offers.others;
+    limit = ap (λ (o : OwnerFacts D L). o.guests.limit) offers.others;
+    asked = ap (λ (o : OwnerFacts D L). o.scribe.is_asked) offers.others;
   }
 
-  served_so : (old new : OwnerFacts D) → DeskStays old new → SameOpening old new
+  served_so : (old new : OwnerFacts D L) → DeskStays old new → SameOpening old new
   served_so old new stays = record { limit = stays.limit; asked = stays.asked }
 
-  lagged_so : (old new : OwnerFacts D) → LagStays old new → SameOpening old new
+  lagged_so : (old new : OwnerFacts D L) → LagStays old new → SameOpening old new
   lagged_so old new stays = record { limit = stays.limit; asked = stays.asked }
 
-  published_so : (old new : OwnerFacts D) → PublishStays old new → SameOpening old new
+  published_so : (old new : OwnerFacts D L) → PublishStays old new → SameOpening old new
   published_so old new stays = record { limit = ap (λ (g : GuestsFacts). g.limit) stays.guests; asked = stays.asked }
 
-  ended_by : (b : Bool) (owner : OwnerFacts D) → SameOpening owner (cond b (record owner { is_ending = true }) owner)
+  ended_by : (b : Bool) (owner : OwnerFacts D L) → SameOpening owner (cond b (record owner { is_ending = true }) owner)
   ended_by true owner = record { limit = refl; asked = refl }
   ended_by false owner = same owner
 
-module _ {D : Type 0} (L : Type 0) (counts : D → Counts) (given : D → ℕ) where
-  asks_so : (b : Bool) (old : OwnerFacts D) (worked : Bool) (new : OwnerFacts D) → AsksWhere L counts given b old worked new → SameOpening old new
+module _ {D L : Type 0} (door_facts : D → DoorFacts) where
+  asks_so : (b : Bool) (old : OwnerFacts D L) (worked : Bool) (new : OwnerFacts D L) → AsksWhere door_facts b old worked new → SameOpening old new
   asks_so true old worked new rests = by_equal old new rests.1
   asks_so false old worked new asks = record {
-    limit = ap (λ (o : OwnerFacts D). o.guests.limit) asks.others ∙ guests_limit asks.answer old.guests;
-    asked = ap (λ (o : OwnerFacts D). o.scribe.is_asked) asks.others;
+    limit = ap (λ (o : OwnerFacts D L). o.guests.limit) asks.others ∙ guests_limit asks.answer old.guests;
+    asked = ap (λ (o : OwnerFacts D L). o.scribe.is_asked) asks.others;
   }
 
   -- over a whole turn
-  pub opening_stays : (old : OwnerFacts D) (turn : Turn) (new : OwnerFacts D) → OwnerTurned L counts given old turn new → SameOpening old new
+  pub opening_stays : (old : OwnerFacts D L) (turn : Turn) (new : OwnerFacts D L) → OwnerTurned door_facts old turn new → SameOpening old new
   opening_stays old turn new t =
       let one = offered_so old t.offered t.after_offers t.offers in
       let two = served_so t.after_offers t.after_desk (desk_stays t.after_offers t.served t.after_desk t.serves) in
@@ -82,9 +83,9 @@ module _ {D : Type 0} (L : Type 0) (counts : D → Counts) (given : D → ℕ) w
       let all = after old t.after_post t.after_door (after old t.after_publish t.after_post (after old t.after_press t.after_publish
       (after old t.after_desk t.after_press (after old t.after_offers t.after_desk one two) three) four) five) six in
       record {
-        limit = ap (λ (o : OwnerFacts D). o.guests.limit) t.ends ∙ seven.limit ∙ all.limit;
-        asked = ap (λ (o : OwnerFacts D). o.scribe.is_asked) t.ends ∙ seven.asked ∙ all.asked;
+        limit = ap (λ (o : OwnerFacts D L). o.guests.limit) t.ends ∙ seven.limit ∙ all.limit;
+        asked = ap (λ (o : OwnerFacts D L). o.scribe.is_asked) t.ends ∙ seven.asked ∙ all.asked;
       }
 
-  pub done_where_ended : (old : OwnerFacts D) (turn : Turn) (new : OwnerFacts D) → OwnerTurned L counts given old turn new → (turn ≡ Done) ↔ IsTrue (has_ended new)
+  pub done_where_ended : (old : OwnerFacts D L) (turn : Turn) (new : OwnerFacts D L) → OwnerTurned door_facts old turn new → (turn ≡ Done) ↔ IsTrue (has_ended new)
   done_where_ended old turn new t = subst (λ (u : Turn). (u ≡ Done) ↔ IsTrue (has_ended new)) (sym t.came_to) (done_so (has_ended new) _)

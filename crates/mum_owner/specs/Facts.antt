@@ -1,13 +1,15 @@
 -- What contracts see of the parts of an owner, as plain data.
 use Rattle.std.specs.Prelude.{ℕ, Bool, List, Option}
-use Rattle.mum_control.specs.Facts.{ControlFacts, ReplyFacts}
+use Rattle.mum_control.specs.Facts.{ControlFacts}
 use Rattle.mum_doorway.specs.Asking.{DoorwayFacts}
 use Rattle.mum_outbox.specs.Facts.{PassFacts}
 use Rattle.mum_port.specs.declared.item.DeskItem.{DeskItem}
+use Rattle.mum_published.specs.Facts.{ReplyFacts}
 use Rattle.mum_record.specs.declared.journal.ControlEntry.{ControlEntry}
 use Rattle.mum_session.specs.declared.command.Command.{Command}
 use Rattle.mum_owner.specs.Bell.{SideFacts}
 use Rattle.mum_owner.specs.declared.guests.Guest.{Guest}
+use Rattle.mum_owner.specs.declared.kept.Coming.{Coming}
 use Rattle.mum_owner.specs.declared.kept.Lag.{Lag}
 use Rattle.mum_owner.specs.declared.entry.Draft.{Draft}
 
@@ -18,11 +20,11 @@ pub record GuestsFacts : Type 0 where
   pub closed : ℕ
   pub limit : ℕ
 
--- what waits for a bell: a reply, a lag item, and a connection by its number
-pub record KeptFacts : Type 0 where
+-- what waits for a bell: a reply, a lag item, and a connection, with the link that the door gave
+pub record KeptFacts (L : Type 0) : Type 0 where
   pub reply : Option ReplyFacts
   pub lag : Option Lag
-  pub coming : Option ℕ
+  pub coming : Option (Coming L)
 
 -- what was taken from the desk, and the connection whose leave is to be tried again
 pub record DeskFacts : Type 0 where
@@ -38,12 +40,12 @@ pub record ScribeFacts : Type 0 where
   pub accepted : ℕ
   pub no_memory : Bool
 
-pub record OwnerFacts (D : Type 0) : Type 0 where
+pub record OwnerFacts (D L : Type 0) : Type 0 where
   pub control : ControlFacts
   pub doorway : DoorwayFacts D
   pub guests : GuestsFacts
-  pub bells : List SideFacts
-  pub kept : KeptFacts
+  pub bells : List (SideFacts L)
+  pub kept : KeptFacts L
   pub desk : DeskFacts
   -- those that wait for their slot, in the order in which they came
   pub logins : List Command

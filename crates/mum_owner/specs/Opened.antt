@@ -16,7 +16,7 @@ opening_of state door connections journal =
 
 -- the owner is new: it has the control owner and the door, keeps nothing, and its bells are these queues, in order, into
 -- which it has put nothing
-abbrev pub IsOpened : {D : Type 0} → ControlFacts → D → ℕ → Bool → List TableId → OwnerFacts D → Type 0
+abbrev pub IsOpened : {D L : Type 0} → ControlFacts → D → ℕ → Bool → List TableId → OwnerFacts D L → Type 0
 IsOpened control door connections journal queues owner =
     owner ≡ record {
       control = control;

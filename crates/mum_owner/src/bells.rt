@@ -1,9 +1,9 @@
 //! The bells of the workers.
 
 ghost use Rattle.std.specs.Prelude.{◌≡◌, ◌<◌, ◌||◌, [], length, map, IfOk, MatchOption};
-ghost use Rattle.std.specs.Option.{option_map};
-ghost use Rattle.mum_owner.specs.Bell.{handed_in, new_side, plain, plain_reply, queues, reply_in};
-ghost use Rattle.mum_owner.specs.Bell.Put.{Answer, Handed, Lagging};
+ghost use Rattle.mum_published.specs.Bell.{rung};
+ghost use Rattle.mum_published.specs.Bell.Rung.{Answer, Comes, Lagging};
+ghost use Rattle.mum_owner.specs.Bell.{coming_in, new_side, queues, reply_in};
 ghost use Rattle.mum_owner.specs.Ringing.{OffersOne, Tells, TellsEach, TellsWhere, are_told, at_worker, with_full, with_put, worker_of};
 
 use crate::kept::{Coming, Lag};
@@ -27,7 +27,7 @@ impl<L: Drop, N: Naming> Model for Side<L, N> {
     ghost use Rattle.std.specs.Prelude.{◌≡◌};
     ghost use Rattle.mum_owner.specs.Bell.{SideFacts, side_facts};
 
-    ghost Value = { SideFacts };
+    ghost Value = { SideFacts L };
 
     ghost view = { λ s. side_facts s.pass s.is_told };
 
@@ -51,7 +51,7 @@ fn reply_of<L: Drop, N: Naming>(item: BellItem<L, N>) -> Option<Reply<N>>
 
 // The connection in an item, if it is one.
 fn coming_of<L: Drop, N: Naming>(item: BellItem<L, N>) -> Option<Coming<L>>
-    ensures { option_map (λ coming. coming.connection) result ≡ handed_in item }
+    ensures { result ≡ coming_in item }
 {
     match item {
         BellItem::Reply(_) => None,
@@ -82,7 +82,7 @@ impl<L: Drop, N: Naming> Side<L, N> {
 
     // Offers an item. It comes back where the bell is full.
     fn offer<R: Wait>(&mut self, rt: &R, item: BellItem<L, N>) -> Option<BellItem<L, N>>
-        ensures { MatchOption result (self.new ≡ with_put (plain item) self.old)
+        ensures { MatchOption result (self.new ≡ with_put (rung item) self.old)
             (λ back. (back ≡ item) × (self.new ≡ with_full self.old)) }
     {
         match self.queue.offer_as(rt, &mut self.pass, item) {
@@ -118,7 +118,7 @@ impl<L: Drop, N: Naming> Model for Bells<L, N> {
     ghost use Rattle.std.specs.Prelude.{ℕ, ◌<◌, List, length};
     ghost use Rattle.mum_owner.specs.Bell.{SideFacts};
 
-    ghost Value = { List SideFacts };
+    ghost Value = { List (SideFacts L) };
 
     ghost view = { λ b. b.sides.items };
 
@@ -178,7 +178,7 @@ impl<L: Drop, N: Naming> Bells<L, N> {
         connection: u32,
         item: BellItem<L, N>,
     ) -> Option<BellItem<L, N>>
-        ensures { MatchOption result (self.new ≡ at_worker connection (with_put (plain item)) self.old)
+        ensures { MatchOption result (self.new ≡ at_worker connection (with_put (rung item)) self.old)
             (λ back. (back ≡ item) × (self.new ≡ at_worker connection with_full self.old)) }
     {
         let sides = self.sides.as_slice();
@@ -226,8 +226,8 @@ pub(crate) fn offer_reply<L: Drop, N: Naming, R: Wait>(
     bells: &mut Bells<L, N>,
     kept: &mut Option<Reply<N>>,
 ) -> bool
-    ensures { OffersOne (λ reply. reply.connection) Answer bells.old (option_map plain_reply kept.old) result
-        bells.new (option_map plain_reply kept.new) }
+    ensures { OffersOne (λ reply. reply.connection) Answer bells.old kept.old result
+        bells.new kept.new }
 {
     let Some(reply) = kept.take() else {
         return false;
@@ -268,9 +268,8 @@ pub(crate) fn offer_coming<L: Drop, N: Naming, R: Wait>(
     bells: &mut Bells<L, N>,
     kept: &mut Option<Coming<L>>,
 ) -> bool
-    ensures { OffersOne (λ connection. connection) Handed bells.old
-        (option_map (λ coming. coming.connection) kept.old) result
-        bells.new (option_map (λ coming. coming.connection) kept.new) }
+    ensures { OffersOne (λ coming. coming.connection) (λ coming. Comes coming.connection coming.link)
+        bells.old kept.old result bells.new kept.new }
 {
     let Some(Coming { connection, link }) = kept.take() else {
         return false;

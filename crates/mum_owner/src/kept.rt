@@ -1,7 +1,6 @@
 //! What waits for the bell of a worker.
 
 ghost use Rattle.std.specs.Prelude.{◌≡◌, ◌||◌, None, Some, is_some};
-ghost use Rattle.mum_owner.specs.Bell.{plain_reply};
 ghost use Rattle.mum_owner.specs.Offering.{OffersKept};
 
 use crate::bells::{Bells, offer_coming, offer_lag, offer_reply};
@@ -33,17 +32,11 @@ pub(crate) struct Kept<L: Drop, N: Naming> {
 }
 
 impl<L: Drop, N: Naming> Model for Kept<L, N> {
-    ghost use Rattle.std.specs.Option.{option_map};
-    ghost use Rattle.mum_owner.specs.Bell.{plain_reply};
     ghost use Rattle.mum_owner.specs.Facts.{KeptFacts};
 
-    ghost Value = { KeptFacts };
+    ghost Value = { KeptFacts L };
 
-    ghost view = { λ k. record {
-      reply = option_map plain_reply k.reply;
-      lag = k.lag;
-      coming = option_map (λ coming. coming.connection) k.coming;
-    } };
+    ghost view = { λ k. record { reply = k.reply; lag = k.lag; coming = k.coming } };
 }
 
 impl<L: Drop, N: Naming> Kept<L, N> {
@@ -80,7 +73,7 @@ impl<L: Drop, N: Naming> Kept<L, N> {
 
     /// Keeps a reply.
     pub(crate) fn keep_reply(&mut self, reply: Reply<N>)
-        ensures { self.new ≡ record self.old { reply = Some (plain_reply reply) } }
+        ensures { self.new ≡ record self.old { reply = Some reply } }
     {
         self.reply = Some(reply);
     }
@@ -94,7 +87,7 @@ impl<L: Drop, N: Naming> Kept<L, N> {
 
     /// Keeps a connection.
     pub(crate) fn keep_coming(&mut self, connection: u32, link: L)
-        ensures { self.new ≡ record self.old { coming = Some connection } }
+        ensures { self.new ≡ record self.old { coming = Some (record { connection = connection; link = link }) } }
     {
         self.coming = Some(Coming { connection, link });
     }

@@ -9,7 +9,7 @@ ghost use Rattle.mum_crew.specs.Turns.{TurnsTo};
 ghost use Rattle.mum_crew.specs.declared.role.Turn.{Turn};
 ghost use Rattle.mum_doorway.specs.Doors.{given_after_all};
 ghost use Rattle.mum_owner.specs.Facts.{OwnerFacts};
-ghost use Rattle.mum_owner.specs.Laws.{answered, command_in, commands_given, commands_owned, commands_settled, commands_taken, connections_settled, handed, is_of_worker, is_other, items_taken, lags_made, leave_in, leaves_decided, listed, numbers, puts_at, replies_made};
+ghost use Rattle.mum_owner.specs.Laws.{answered, command_in, connections_given, commands_given, commands_owned, commands_settled, commands_taken, connections_settled, handed, is_of_worker, is_other, items_taken, lags_made, leave_in, leaves_decided, listed, numbers, puts_at, replies_made};
 ghost use Rattle.mum_owner.specs.Written.{IsWrittenAs, is_login, version_with};
 ghost use Rattle.mum_session.specs.Action.{action};
 ghost use Rattle.mum_session.specs.Machine.{Machine};
@@ -26,45 +26,54 @@ pub fn limits()
     ensures pending { PENDING_LIMIT ≡ 16384 }
 {}
 
-/// Each connection that the door gave is kept until the bell of its worker took it, once: what the bell of a
-/// worker took, and then what is kept for it, are those of its connections that were given, in order.
+/// Each connection that the door gave is kept until the bell of its worker took it, once and as the door gave it:
+/// what the bell of a worker took, and then what is kept for it, are those of its connections that were given, in
+/// order.
 pub fn connections_are_handed_over_once<D: Entrance>()
     ensures handed { (control : ControlFacts) (door : D) (connections place : ℕ) (journal : Bool) (queues : List TableId)
-        (opened owner : OwnerFacts D) (turns : List Turn) → 0 < length queues →
+        (opened owner : OwnerFacts D D.Peer) (turns : List Turn) → 0 < length queues →
         IsOpened control door connections journal queues opened →
-        TurnsTo (OwnerTurned D.Peer D.counts D.given) opened turns owner →
+        (all : TurnsTo (OwnerTurned D.facts) opened turns owner) →
         filter_map handed (puts_at place owner.bells)
-        ++ filter (is_of_worker place (length queues)) (listed owner.kept.coming)
-        ≡ filter (is_of_worker place (length queues)) (numbers owner.guests.given) }
+        ++ filter (λ coming. is_of_worker place (length queues) coming.connection) (listed owner.kept.coming)
+        ≡ filter (λ coming. is_of_worker place (length queues) coming.connection)
+        (connections_given D.facts opened turns owner all) }
+    // They are numbered from 1 in the order in which the door gave them.
+    ensures numbered { (control : ControlFacts) (door : D) (connections : ℕ) (journal : Bool) (queues : List TableId)
+        (opened owner : OwnerFacts D D.Peer) (turns : List Turn) →
+        IsOpened control door connections journal queues opened →
+        (all : TurnsTo (OwnerTurned D.facts) opened turns owner) →
+        map (λ coming. coming.connection) (connections_given D.facts opened turns owner all)
+        ≡ numbers owner.guests.given }
     // As many are counted as the door gave.
     ensures given { (control : ControlFacts) (door : D) (connections : ℕ) (journal : Bool) (queues : List TableId)
-        (opened owner : OwnerFacts D) (turns : List Turn) →
+        (opened owner : OwnerFacts D D.Peer) (turns : List Turn) →
         IsOpened control door connections journal queues opened →
-        TurnsTo (OwnerTurned D.Peer D.counts D.given) opened turns owner →
-        D.given owner.doorway.door ≡ given_after_all (D.given door) owner.guests.given }
+        TurnsTo (OwnerTurned D.facts) opened turns owner →
+        (D.facts owner.doorway.door).given ≡ given_after_all (D.facts door).given owner.guests.given }
 {}
 
 /// Each reply is kept until the bell of the worker of its connection took it, once: what the bell of a worker
 /// took, and then what is kept for it, are the replies to its connections, in the order in which they were made.
 pub fn replies_are_handed_over_once<D: Entrance>()
     ensures { (control : ControlFacts) (door : D) (connections place : ℕ) (journal : Bool) (queues : List TableId)
-        (opened owner : OwnerFacts D) (turns : List Turn) → 0 < length queues →
+        (opened owner : OwnerFacts D D.Peer) (turns : List Turn) → 0 < length queues →
         IsOpened control door connections journal queues opened →
-        (all : TurnsTo (OwnerTurned D.Peer D.counts D.given) opened turns owner) →
+        (all : TurnsTo (OwnerTurned D.facts) opened turns owner) →
         filter_map answered (puts_at place owner.bells)
         ++ filter (λ reply. is_of_worker place (length queues) reply.connection) (listed owner.kept.reply)
         ≡ filter (λ reply. is_of_worker place (length queues) reply.connection)
-        (replies_made D.Peer D.counts D.given opened turns owner all) }
+        (replies_made D.facts opened turns owner all) }
 {}
 
 /// At most one lag item is made for a connection.
 pub fn a_connection_lags_once<D: Entrance>()
     ensures { (control : ControlFacts) (door : D) (connections : ℕ) (journal : Bool) (queues : List TableId)
-        (opened owner : OwnerFacts D) (turns : List Turn) →
+        (opened owner : OwnerFacts D D.Peer) (turns : List Turn) →
         IsOpened control door connections journal queues opened →
-        (all : TurnsTo (OwnerTurned D.Peer D.counts D.given) opened turns owner) →
+        (all : TurnsTo (OwnerTurned D.facts) opened turns owner) →
         AllPairs (λ one other. one.connection ≢ other.connection)
-        (lags_made D.Peer D.counts D.given opened turns owner all) }
+        (lags_made D.facts opened turns owner all) }
 {}
 
 /// Each command that is taken from the desk while its connection is open is given to the control owner once, or
@@ -74,40 +83,40 @@ pub fn a_connection_lags_once<D: Entrance>()
 pub fn commands_are_given_once<D: Entrance>()
     // The commands that the turns took are all that lay on the desk, in order.
     ensures taken { (control : ControlFacts) (door : D) (connections : ℕ) (journal : Bool) (queues : List TableId)
-        (opened owner : OwnerFacts D) (turns : List Turn) →
+        (opened owner : OwnerFacts D D.Peer) (turns : List Turn) →
         IsOpened control door connections journal queues opened → opened.desk.pass.taken ≡ [] →
-        (all : TurnsTo (OwnerTurned D.Peer D.counts D.given) opened turns owner) →
+        (all : TurnsTo (OwnerTurned D.facts) opened turns owner) →
         filter_map command_in (items_taken owner.desk)
-        ≡ commands_taken D.Peer D.counts D.given opened turns owner all }
+        ≡ commands_taken D.facts opened turns owner all }
     // A login may wait for its slot, behind those that came before it.
     ensures logins { (control : ControlFacts) (door : D) (connections : ℕ) (journal : Bool) (queues : List TableId)
-        (opened owner : OwnerFacts D) (turns : List Turn) →
+        (opened owner : OwnerFacts D D.Peer) (turns : List Turn) →
         IsOpened control door connections journal queues opened →
-        (all : TurnsTo (OwnerTurned D.Peer D.counts D.given) opened turns owner) →
-        filter is_login (commands_owned D.Peer D.counts D.given opened turns owner all)
-        ≡ filter is_login (commands_settled D.Peer D.counts D.given opened turns owner all) ++ owner.logins }
+        (all : TurnsTo (OwnerTurned D.facts) opened turns owner) →
+        filter is_login (commands_owned D.facts opened turns owner all)
+        ≡ filter is_login (commands_settled D.facts opened turns owner all) ++ owner.logins }
     ensures others { (control : ControlFacts) (door : D) (connections : ℕ) (journal : Bool) (queues : List TableId)
-        (opened owner : OwnerFacts D) (turns : List Turn) →
+        (opened owner : OwnerFacts D D.Peer) (turns : List Turn) →
         IsOpened control door connections journal queues opened →
-        (all : TurnsTo (OwnerTurned D.Peer D.counts D.given) opened turns owner) →
-        filter is_other (commands_owned D.Peer D.counts D.given opened turns owner all)
-        ≡ filter is_other (commands_given D.Peer D.counts D.given opened turns owner all) }
+        (all : TurnsTo (OwnerTurned D.facts) opened turns owner) →
+        filter is_other (commands_owned D.facts opened turns owner all)
+        ≡ filter is_other (commands_given D.facts opened turns owner all) }
     // A leave is given until it is decided, and nothing is taken before.
     ensures leaves { (control : ControlFacts) (door : D) (connections : ℕ) (journal : Bool) (queues : List TableId)
-        (opened owner : OwnerFacts D) (turns : List Turn) →
+        (opened owner : OwnerFacts D D.Peer) (turns : List Turn) →
         IsOpened control door connections journal queues opened →
-        (all : TurnsTo (OwnerTurned D.Peer D.counts D.given) opened turns owner) →
-        filter_map leave_in (commands_owned D.Peer D.counts D.given opened turns owner all)
-        ≡ leaves_decided D.Peer D.counts D.given opened turns owner all ++ listed owner.desk.leave }
+        (all : TurnsTo (OwnerTurned D.facts) opened turns owner) →
+        filter_map leave_in (commands_owned D.facts opened turns owner all)
+        ≡ leaves_decided D.facts opened turns owner all ++ listed owner.desk.leave }
 {}
 
 /// Each command that is given to the control owner, or answered since memory ran out, and each leave that is decided
 /// makes one reply to its connection, in the order in which that is done, and nothing else makes one.
 pub fn each_command_has_one_reply<D: Entrance>()
-    ensures { (old new : OwnerFacts D) (turns : List Turn) →
-        (all : TurnsTo (OwnerTurned D.Peer D.counts D.given) old turns new) →
-        map (λ reply. reply.connection) (replies_made D.Peer D.counts D.given old turns new all)
-        ≡ connections_settled D.Peer D.counts D.given old turns new all }
+    ensures { (old new : OwnerFacts D D.Peer) (turns : List Turn) →
+        (all : TurnsTo (OwnerTurned D.facts) old turns new) →
+        map (λ reply. reply.connection) (replies_made D.facts old turns new all)
+        ≡ connections_settled D.facts old turns new all }
 {}
 
 /// A command is written down as a frame of the type of the frame that asked for it, with the version that its

@@ -13,7 +13,7 @@ ghost use Rattle.mum_doorway.specs.Doors.{NoMoreCome, given_after_all};
 ghost use Rattle.mum_owner.specs.Guests.{entered, has_room, joined_by, lagging, no_guests, owned};
 ghost use Rattle.mum_owner.specs.Opened.{IsOpened, opening_of};
 ghost use Rattle.mum_owner.specs.Serving.{EmptiesFor, GivesOwned, GivesWaiting, GoesWhere, IsGiven, LeaveIsGiven, Receives, ReceivesItem, ReceivesOwned, ServesDesk, TakesItem, blocker, leave_kept, leave_of, may_go, must_wait, refusal};
-ghost use Rattle.mum_owner.specs.Bell.{new_side, plain_reply, queues};
+ghost use Rattle.mum_owner.specs.Bell.{new_side, queues};
 ghost use Rattle.mum_owner.specs.Turned.{Asks, LagsFor, Offered, OwnerTurned, PostsNotice, Presses, Publishes, ended, has_ended, is_not_to_ask, is_over, lagged_for, turn_of, with_lag};
 
 use crate::bells::Bells;
@@ -92,7 +92,7 @@ impl<'a, D: Entrance, N: Serving, R: Wait + Copy> Model for Owner<'a, D, N, R> {
     ghost use Rattle.mum_owner.specs.Decided.{HasWritten};
     ghost use Rattle.mum_owner.specs.Facts.{OwnerFacts};
 
-    ghost Value = { OwnerFacts D };
+    ghost Value = { OwnerFacts D D.Peer };
 
     ghost view = { λ o. record {
       control = o.control;
@@ -106,7 +106,7 @@ impl<'a, D: Entrance, N: Serving, R: Wait + Copy> Model for Owner<'a, D, N, R> {
       is_ending = o.is_ending;
     } };
 
-    ghost invariant = { λ o. HasCounted o.control o.scribe × HasGiven N.door.given o.guests (D.given o.doorway.door)
+    ghost invariant = { λ o. HasCounted o.control o.scribe × HasGiven N.door.given o.guests (D.facts o.doorway.door).given
         × HasWritten o.control o.scribe };
 }
 
@@ -141,7 +141,7 @@ fn leave_of(connection: u32, session: Option<SessionId>) -> Command
 
 // Memory ran out before a command was decided.
 fn refusal<N: Naming>(alloc: Global, connection: u32) -> Reply<N>
-    ensures { plain_reply result ≡ refusal connection }
+    ensures { result ≡ refusal connection }
 {
     Reply::new(
         connection,
@@ -187,7 +187,7 @@ fn empty_for<N: Naming, R: Wait>(rt: &R, control: &mut Control<'_, N>, session: 
 fn take_in<L: Drop, N: Naming>(guests: &mut Guests, kept: &mut Kept<L, N>, link: L)
     requires { IsTrue (has_room guests.old) }
     ensures guests { guests.new ≡ entered guests.old }
-    ensures kept { kept.new ≡ record kept.old { coming = Some (guests.old.given + 1) } }
+    ensures kept { kept.new ≡ record kept.old { coming = Some (record { connection = guests.old.given + 1; link = link }) } }
 {
     let connection = guests.enter();
     kept.keep_coming(connection, link);
@@ -209,7 +209,7 @@ impl<'a, D: Entrance, N: Serving, R: Wait + Copy> Owner<'a, D, N, R> {
     ) -> Result<Owner<'a, D, N, R>, D>
         requires opening { control.publisher.opening ≡ N.opening }
         requires fresh { appended control.publisher ≡ [] }
-        requires door { record { counts = D.counts door; given = D.given door; opened_at = D.opened_at door } ≡ N.door }
+        requires door { record { counts = (D.facts door).counts; given = (D.facts door).given; opened_at = (D.facts door).opened_at } ≡ N.door }
         requires connections { 0 < connections }
         requires bells { 0 < length bells.items }
         ensures owner { IfOk result (IsOpened control.entry door connections journal (queues bells.items)) }
@@ -309,7 +309,7 @@ impl<'a, D: Entrance, N: Serving, R: Wait + Copy> Owner<'a, D, N, R> {
 
     // Keeps the reply to a leave that was decided, or the leave.
     fn keep_leave(&mut self, connection: u32, decided: bool, reply: Reply<N>) -> bool
-        ensures { (result ≡ decided) × (self.new ≡ leave_kept connection decided (plain_reply reply) self.old) }
+        ensures { (result ≡ decided) × (self.new ≡ leave_kept connection decided reply self.old) }
     {
         if decided {
             self.desk.keep(None);
@@ -550,7 +550,7 @@ impl<'a, D: Entrance, N: Serving, R: Wait + Copy> Owner<'a, D, N, R> {
 
     // Asks the door, where it may.
     fn ask_door(&mut self) -> bool
-        ensures { Asks D.Peer D.counts D.given self.old result self.new }
+        ensures { Asks D.facts self.old result self.new }
     {
         if self.is_not_to_ask() {
             return false;
@@ -588,7 +588,7 @@ impl<'a, D: Entrance, N: Serving, R: Wait + Copy> Owner<'a, D, N, R> {
     /// it may. What it was opened with stays, and it is done exactly where no more connections come, a `Closed`
     /// was taken for each, and each bell took that no more come.
     pub fn turn(&mut self) -> Turn
-        ensures turned { OwnerTurned D.Peer D.counts D.given self.old result self.new }
+        ensures turned { OwnerTurned D.facts self.old result self.new }
         ensures opening { opening_of N.opening.state N.door self.new.guests.limit self.new.scribe.is_asked
             ≡ opening_of N.opening.state N.door self.old.guests.limit self.old.scribe.is_asked }
         ensures ended { (result ≡ Turn.Done) ↔ IsTrue (has_ended self.new) }
@@ -598,7 +598,7 @@ impl<'a, D: Entrance, N: Serving, R: Wait + Copy> Owner<'a, D, N, R> {
 
     // The parts of a turn, in their order.
     fn work(&mut self) -> Turn
-        ensures { OwnerTurned D.Peer D.counts D.given self.old result self.new }
+        ensures { OwnerTurned D.facts self.old result self.new }
     {
         let offered = self.offer_kept();
         let served = self.serve_desk();
@@ -636,15 +636,15 @@ impl<'a, D: Entrance, N: Serving, R: Wait + Copy> Owner<'a, D, N, R> {
         ensures writable { Each IsWritableControl result.entries.items }
         ensures no_memory { result.no_memory ≡ self.entry.scribe.no_memory }
         ensures door_failed { result.door_failed ≡ self.entry.doorway.failed }
-        ensures failed { IsTrue result.door_failed → Rose N.door.counts.faults (D.counts result.door).faults }
+        ensures failed { IsTrue result.door_failed → Rose N.door.counts.faults (D.facts result.door).counts.faults }
         // Unless the door failed, no fault was counted; and unless it ended or failed, no end.
-        ensures steady { result.door_failed ≡ false → (D.counts result.door).faults ≡ N.door.counts.faults }
-        ensures open_on { self.entry.doorway.stopped ≡ false → (D.counts result.door).ends ≡ N.door.counts.ends }
-        ensures counts { NoneFalls N.door.counts (D.counts result.door) }
-        ensures address { D.opened_at result.door ≡ N.door.opened_at }
-        ensures given { D.given result.door ≡ given_after_all N.door.given result.connections }
+        ensures steady { result.door_failed ≡ false → (D.facts result.door).counts.faults ≡ N.door.counts.faults }
+        ensures open_on { self.entry.doorway.stopped ≡ false → (D.facts result.door).counts.ends ≡ N.door.counts.ends }
+        ensures counts { NoneFalls N.door.counts (D.facts result.door).counts }
+        ensures address { (D.facts result.door).opened_at ≡ N.door.opened_at }
+        ensures given { (D.facts result.door).given ≡ given_after_all N.door.given result.connections }
         ensures over { IsTrue (has_ended self.entry)
-            → NoMoreCome result.connections self.entry.guests.limit N.door.counts (D.counts result.door) }
+            → NoMoreCome result.connections self.entry.guests.limit N.door.counts (D.facts result.door).counts }
     {
         let Owner {
             rt: _,
@@ -693,7 +693,7 @@ impl<'a, D: Entrance, N: Serving, R: Wait + Copy> Role for Owner<'a, D, N, R> {
 
     ghost has_ended = { has_ended };
 
-    ghost turned = { OwnerTurned D.Peer D.counts D.given };
+    ghost turned = { OwnerTurned D.facts };
 
     fn turn(&mut self) -> Turn {
         Owner::turn(self)

@@ -13,11 +13,11 @@ loop-queue-preserved g c =
     let steps : into_iter_items at.queue-iterator ≡ queue ∷ left = c.in-Some.ensures.steps.0 in
     let now = subst (λ (bells : List QueueFacts). at.sides.items ++ new_sides bells ≡ new_sides c.args.bells.items) steps at.invariant.0 in
     let pushed : c.push.new.self.items ≡ at.sides.items ++ new_side queue.queue ∷ [] =
-    c.in_ok-push.ensures.items ∙ ap (λ (s : SideFacts). at.sides.items ++ s ∷ []) c.of.ensures in
+    c.in_ok-push.ensures.items ∙ ap (λ (s : SideFacts g.row.L.Denot). at.sides.items ++ s ∷ []) c.of.ensures in
     let was = at.invariant.1 in
     let gone = c.in-Some.ensures.steps.1 in
     let short = ap length steps in (
-      subst (λ (sides : List SideFacts). sides ++ new_sides left ≡ new_sides c.args.bells.items) (sym pushed)
+      subst (λ (sides : List (SideFacts g.row.L.Denot)). sides ++ new_sides left ≡ new_sides c.args.bells.items) (sym pushed)
           (one_side_more at.sides.items queue left (new_sides c.args.bells.items) now),
       omega (arith, was, gone, short),
     )

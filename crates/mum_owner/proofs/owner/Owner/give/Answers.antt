@@ -1,5 +1,4 @@
 use Rattle.std.proofs.Common.{ap, refl}
-use Rattle.mum_control.specs.Facts.{ReplyFacts}
 use Rattle.mum_owner.specs.Facts.{ScribeFacts}
 use Rattle.mum_owner.proofs.Counting.{given_count, seated_count}
 use Rattle.mum_owner.proofs.Deciding.{given_written}
@@ -7,14 +6,13 @@ use Rattle.mum_owner.proofs.owner.Owner.give.Goals as goal
 
 pub invariant_of-self : goal.invariant_of-self
 invariant_of-self g c =
-    let r = c.command-reply.result in
-    let reply : ReplyFacts = record { connection = r.connection; end = r.end; note = r.note; wire = r.wire; no_memory = r.no_memory } in
+    let reply = c.command-reply.result in
     let edits =
     given_count c.self.inside.control c.args.command reply c.command-reply.new.self c.self.inside.scribe c.prepare.new.self c.settle.new.self c.mark-mark.result
-    c.args.command.connection r.no_memory c.self.invariant.0 c.command-reply.ensures (ap (λ (s : ScribeFacts). s.accepted) c.in-Ok.ensures.ok) c.mark-mark.ensures c.settle.ensures
+    c.args.command.connection c.reply.inside.no_memory c.self.invariant.0 c.command-reply.ensures (ap (λ (s : ScribeFacts). s.accepted) c.in-Ok.ensures.ok) c.mark-mark.ensures c.settle.ensures
     in
     let written =
     given_written c.self.inside.control c.args.command reply c.command-reply.new.self c.self.inside.scribe c.prepare.new.self c.settle.new.self c.mark-mark.result
-    c.args.command.connection r.no_memory c.self.invariant.2 c.command-reply.ensures c.in-Ok.ensures.ok c.mark-mark.ensures refl c.settle.ensures
+    c.args.command.connection c.reply.inside.no_memory c.self.invariant.2 c.command-reply.ensures c.in-Ok.ensures.ok c.mark-mark.ensures refl c.settle.ensures
     in
-    (edits, seated_count r.end c.args.command.connection c.self.inside.guests c.seat.new.guests g.N.Doorside.door.given _ c.self.invariant.1 c.seat.ensures, written)
+    (edits, seated_count c.reply.inside.end c.args.command.connection c.self.inside.guests c.seat.new.guests g.N.Doorside.door.given _ c.self.invariant.1 c.seat.ensures, written)

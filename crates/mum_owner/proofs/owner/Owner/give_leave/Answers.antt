@@ -1,5 +1,4 @@
 use Rattle.std.proofs.Common.{◌∙◌, ap, sym}
-use Rattle.mum_control.specs.Facts.{ReplyFacts}
 use Rattle.mum_owner.proofs.Counting.{emptied_count, given_count, prepared_count}
 use Rattle.mum_owner.proofs.Deciding.{emptied_written, given_written, prepared_ok}
 use Rattle.mum_session.specs.declared.command.Command.{Command}
@@ -7,17 +6,16 @@ use Rattle.mum_owner.proofs.owner.Owner.give_leave.Goals as goal
 
 pub invariant_of-self-2 : goal.invariant_of-self-2
 invariant_of-self-2 g c =
-    let r = c.command-reply.result in
-    let reply : ReplyFacts = record { connection = r.connection; end = r.end; note = r.note; wire = r.wire; no_memory = r.no_memory } in
+    let reply = c.command-reply.result in
     let same = emptied_count c.self.inside.control c.session_of-session.result c.empty_for.new.control c.empty_for.ensures in
     let edits =
     given_count c.empty_for.new.control c.leave_of-command.result reply c.command-reply.new.self c.self.inside.scribe c.prepare.new.self c.settle.new.self
-    c.mark-mark.result c.args.connection r.no_memory (c.self.invariant.0 ∙ sym same) c.command-reply.ensures
+    c.mark-mark.result c.args.connection c.reply.inside.no_memory (c.self.invariant.0 ∙ sym same) c.command-reply.ensures
     (prepared_count c.prepare.result c.self.inside.scribe c.prepare.new.self _ c.prepare.ensures.ok c.prepare.ensures.err) c.mark-mark.ensures c.settle.ensures
     in
     let written =
     given_written c.empty_for.new.control c.leave_of-command.result reply c.command-reply.new.self c.self.inside.scribe c.prepare.new.self c.settle.new.self
-    c.mark-mark.result c.args.connection r.no_memory
+    c.mark-mark.result c.args.connection c.reply.inside.no_memory
     (emptied_written c.self.inside.control c.session_of-session.result c.empty_for.new.control c.self.inside.scribe c.empty_for.ensures c.self.invariant.2)
     c.command-reply.ensures
     (prepared_ok c.prepare.result c.self.inside.scribe c.prepare.new.self _ (sym c.is_err.ensures.value ∙ c.if-is_err.false) c.prepare.ensures.ok) c.mark-mark.ensures

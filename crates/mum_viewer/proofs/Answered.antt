@@ -1,9 +1,9 @@
 -- What a turn comes to, and how many views there are after a connection.
-use Rattle.std.proofs.Common.{◌≡◌, ℕ, ◌+◌, Bool, true, false, List, Option, Result, Ok, Err, IsTrue, refl, ap}
+use Rattle.std.proofs.Common.{◌≡◌, ℕ, ◌+◌, Bool, true, false, List, Result, Ok, Err, IsTrue, refl, ap}
 use Rattle.std.specs.Prelude.{◌↔◌}
 use Rattle.std.specs.declared.alloc.AllocError.{AllocError}
 use Rattle.mum_crew.specs.declared.role.Turn.TheVariants as turns
-use Rattle.mum_io.specs.Counts.{Counts}
+use Rattle.mum_io.specs.Link.{LinkFacts}
 use Rattle.mum_viewer.specs.Viewer.{turn_of}
 use Rattle.mum_viewer.specs.Views.{Takes, ViewsFacts}
 
@@ -13,7 +13,7 @@ is_done false true answered = (λ e. absurd (cc e), λ e. absurd (cc e))
 is_done false false true = (λ e. absurd (cc e), λ e. absurd (cc e))
 is_done false false false = (λ e. absurd (cc e), λ e. absurd (cc e))
 
-module _ {L : Type 0} (counts : L → Counts) (unread written : L → Option (List ℕ)) (is_shut : L → Bool) where
-  pub one_more : (old new : ViewsFacts L) (link : L) (text : Result (List ℕ) AllocError) → Takes counts unread written is_shut old link text new → new.given ≡ old.given + 1
+module _ {L : Type 0} (facts : L → LinkFacts) where
+  pub one_more : (old new : ViewsFacts L) (link : L) (text : Result (List ℕ) AllocError) → Takes facts old link text new → new.given ≡ old.given + 1
   one_more old new link (Ok text) takes = ap (λ (views : ViewsFacts L). views.given) takes
   one_more old new link (Err error) takes = ap (λ (views : ViewsFacts L). views.given) takes.0

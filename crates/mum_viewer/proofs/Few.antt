@@ -1,39 +1,31 @@
 -- How many views are open.
-use Rattle.std.proofs.Common.{◌≡◌, ℕ, ◌<◌, ◌≤◌, nat_le, Bool, true, false, List, [], ◌∷◌, length, Option, Result, Ok, Err, refl, sym, ap, subst, arith}
+use Rattle.std.proofs.Common.{◌≡◌, ℕ, ◌<◌, ◌≤◌, nat_le, Bool, true, false, List, [], ◌∷◌, length, Result, Ok, Err, refl, sym, ap, subst, arith}
 use Rattle.std.specs.declared.alloc.AllocError.{AllocError}
 use Rattle.std.proofs.lemmas.Bool.{leb-false, or_parts}
 use Rattle.std.proofs.lemmas.List.{length-append}
+use Rattle.mum_crew.proofs.AlongLemmas.{along_long, fewer}
 use Rattle.mum_crew.specs.Turns.{TurnsTo}
 use Rattle.mum_crew.specs.declared.role.Turn.{Turn}
-use Rattle.mum_io.specs.Counts.{Counts}
 use Rattle.mum_io.specs.declared.door.Accept.{Accept}
 use Rattle.mum_io.specs.declared.door.Accept.TheVariants.{Conn, NotYet, End, Failed}
-use Rattle.mum_viewer.proofs.Along.{fewer}
-use Rattle.mum_viewer.specs.Along.{Along}
+use Rattle.mum_io.specs.Link.{LinkFacts}
+use Rattle.mum_io.specs.Door.{DoorFacts}
 use Rattle.mum_viewer.specs.Turns.{HasTurned}
 use Rattle.mum_viewer.specs.View.{ViewFacts, ViewMoves, is_open, new_view}
 use Rattle.mum_viewer.specs.Viewer.{Asks, ViewerFacts, ViewerTurned, is_not_to_ask, is_over}
 use Rattle.mum_viewer.specs.Views.{Answers, StepsViews, Takes, ViewsFacts}
 use Rattle.mum_viewer.specs.declared.list.TheConstants.{VIEWS_OPEN}
 
-along_long : {P C : Type 0} (step : P → C → P → C → Type 0) (olds news : List P) (before after : C) → Along step olds before news after → length olds ≡ length news
-along_long step [] [] before after same = refl
-along_long step [] (new ∷ news) before after along = absurd along
-along_long step (old ∷ olds) [] before after along = absurd along
-along_long step (old ∷ olds) (new ∷ news) before after (between, one, rest) =
-    let others : length olds ≡ length news = along_long step olds news between after rest in
-    omega (arith, others)
-
-module _ {L : Type 0} (counts : L → Counts) (unread written : L → Option (List ℕ)) (is_shut : L → Bool) where
-  steps_few : (old new : ViewsFacts L) (worked : Bool) → StepsViews counts unread written is_shut old worked new → length old.list ≤ VIEWS_OPEN → length new.list ≤ VIEWS_OPEN
+module _ {L : Type 0} (facts : L → LinkFacts) where
+  steps_few : (old new : ViewsFacts L) (worked : Bool) → StepsViews facts old worked new → length old.list ≤ VIEWS_OPEN → length new.list ≤ VIEWS_OPEN
   steps_few old new worked steps few =
       let less = fewer is_open steps.steps.stepped in
       let is = ap (λ (l : List (ViewFacts L)). length l) steps.steps.left in
-      let long = along_long (ViewMoves counts unread written is_shut) old.list steps.steps.stepped (record { whole = old.whole; worked = false })
+      let long = along_long (ViewMoves facts) old.list steps.steps.stepped (record { whole = old.whole; worked = false })
       (record { whole = new.whole; worked = worked }) steps.steps.along in
       omega (arith, less, is, long, few)
 
-  takes_few : (old new : ViewsFacts L) (link : L) (text : Result (List ℕ) AllocError) → Takes counts unread written is_shut old link text new
+  takes_few : (old new : ViewsFacts L) (link : L) (text : Result (List ℕ) AllocError) → Takes facts old link text new
       → length old.list < VIEWS_OPEN → length new.list ≤ VIEWS_OPEN
   takes_few old new link (Ok text) takes few =
       let is = ap (λ (views : ViewsFacts L). length views.list) takes in
@@ -48,33 +40,33 @@ module _ {L : Type 0} (counts : L → Counts) (unread written : L → Option (Li
       let is = ap (λ (views : ViewsFacts L). length views.list) same in
       omega (arith, is, few)
 
-  answers_few : (old new : ViewsFacts L) (answer : Accept L) (worked : Bool) → Answers counts unread written is_shut old answer worked new
+  answers_few : (old new : ViewsFacts L) (answer : Accept L) (worked : Bool) → Answers facts old answer worked new
       → length old.list < VIEWS_OPEN → length new.list ≤ VIEWS_OPEN
   answers_few old new (Conn link) worked answers few = takes_few old new link answers.1.text answers.1.takes few
   answers_few old new NotYet worked answers few = same_few old new answers.1 few
   answers_few old new End worked answers few = same_few old new answers.1 few
   answers_few old new Failed worked answers few = same_few old new answers.1 few
 
-module _ {D L : Type 0} (counts : D → Counts) (given : D → ℕ) (link_counts : L → Counts) (unread written : L → Option (List ℕ)) (is_shut : L → Bool) where
-  asks_few : (stops : Bool) (old new : ViewerFacts D L) (worked : Bool) → is_not_to_ask old ≡ stops → Asks counts given link_counts unread written is_shut old worked new
+module _ {D L : Type 0} (door_facts : D → DoorFacts) (facts : L → LinkFacts) where
+  asks_few : (stops : Bool) (old new : ViewerFacts D L) (worked : Bool) → is_not_to_ask old ≡ stops → Asks door_facts facts old worked new
       → length old.views.list ≤ VIEWS_OPEN → length new.views.list ≤ VIEWS_OPEN
   asks_few true old new worked is asks few =
       subst (λ (viewer : ViewerFacts D L). length viewer.views.list ≤ VIEWS_OPEN) (sym (asks.rests is).1) few
   asks_few false old new worked is asks few =
       let once = asks.asks is in
       let parts = or_parts (is_over old) (nat_le VIEWS_OPEN (length old.views.list)) is in
-      answers_few link_counts unread written is_shut old.views new.views once.answer worked once.answers
+      answers_few facts old.views new.views once.answer worked once.answers
       (leb-false VIEWS_OPEN (length old.views.list) parts.1)
 
-  turns_few : (old : ViewerFacts D L) (turns : List Turn) (new : ViewerFacts D L) → TurnsTo (ViewerTurned counts given link_counts unread written is_shut) old turns new
+  turns_few : (old : ViewerFacts D L) (turns : List Turn) (new : ViewerFacts D L) → TurnsTo (ViewerTurned door_facts facts) old turns new
       → length old.views.list ≤ VIEWS_OPEN → length new.views.list ≤ VIEWS_OPEN
   turns_few old [] new same few = subst (λ (viewer : ViewerFacts D L). length viewer.views.list ≤ VIEWS_OPEN) (sym same) few
   turns_few old (turn ∷ turns) new (mid, turned, rest) few =
       let between : ViewerFacts D L = record old { views = turned.between } in
-      let now = steps_few link_counts unread written is_shut old.views turned.between turned.stepped turned.steps few in
+      let now = steps_few facts old.views turned.between turned.stepped turned.steps few in
       turns_few mid turns new rest (asks_few (is_not_to_ask between) between mid turned.answered refl turned.asks now)
 
-  pub all_few : (turns : List Turn) (viewer : ViewerFacts D L) → HasTurned counts given link_counts unread written is_shut turns viewer → length viewer.views.list ≤ VIEWS_OPEN
+  pub all_few : (turns : List Turn) (viewer : ViewerFacts D L) → HasTurned door_facts facts turns viewer → length viewer.views.list ≤ VIEWS_OPEN
   all_few turns viewer run =
       let none = ap (λ (v : ViewerFacts D L). length v.views.list) run.opening in
       turns_few run.opened turns viewer run.all (omega (arith, none))

@@ -1,4 +1,3 @@
-pub mod Along
 pub mod Answered
 pub mod Causing
 pub mod Copies

@@ -1,10 +1,9 @@
 -- What a write makes of a view.
-use Rattle.std.proofs.Common.{◌≡◌, ◌≢◌, ℕ, zero, suc, ◌≤◌, ◌==◌, Bool, true, false, List, [], ◌∷◌, ◌++◌, length, take, drop, Option, IsTrue, refl, sym, ap, ◌∙◌, arith}
+use Rattle.std.proofs.Common.{◌≡◌, ◌≢◌, ℕ, zero, suc, ◌≤◌, ◌==◌, true, false, List, [], ◌∷◌, ◌++◌, length, take, drop, IsTrue, refl, sym, ap, ◌∙◌, arith}
 use Rattle.std.proofs.KnownBytes.{Appends-kept, Appends-nil}
 use Rattle.std.proofs.lemmas.Bool.{eqb-true}
 use Rattle.std.proofs.lemmas.List.{take-append-drop}
-use Rattle.mum_io.specs.Counts.{Counts}
-use Rattle.mum_io.specs.Link.{Appends, Keeps}
+use Rattle.mum_io.specs.Link.{Appends, Keeps, LinkFacts}
 use Rattle.mum_viewer.specs.View.{OpenSteps, ViewFacts}
 use Rattle.mum_viewer.specs.declared.view.Went.TheVariants.{Finished, Wrote}
 
@@ -22,20 +21,20 @@ some_went rest zero least most = absurd (omega (arith, least))
 some_went [] (suc n) least most = absurd (omega (arith, most))
 some_went (x ∷ rest) (suc n) least most = λ e. absurd (cc e)
 
-module _ {L : Type 0} (counts : L → Counts) (written : L → Option (List ℕ)) (is_shut : L → Bool) where
+module _ {L : Type 0} (facts : L → LinkFacts) where
   -- all was written before
-  pub ends : (old new : ViewFacts L) → (length old.left == 0) ≡ true → new.left ≡ old.left → Keeps (written old.link) (written new.link)
-      → counts new.link ≡ counts old.link → new.over ≡ true → IsTrue (is_shut new.link) → OpenSteps counts written is_shut old Finished new
+  pub ends : (old new : ViewFacts L) → (length old.left == 0) ≡ true → new.left ≡ old.left → Keeps (facts old.link).written (facts new.link).written
+      → (facts new.link).counts ≡ (facts old.link).counts → new.over ≡ true → IsTrue (facts new.link).is_shut → OpenSteps facts old Finished new
   ends old new none left keeps same over shut = (
     [],
-    record { left = sym left; appended = Appends-kept (written old.link) (written old.link) (written new.link) [] (Appends-nil (written old.link)) keeps; counted = same },
+    record { left = sym left; appended = Appends-kept (facts old.link).written (facts old.link).written (facts new.link).written [] (Appends-nil (facts old.link).written) keeps; counted = same },
     left ∙ nothing old.left none,
     record { over = over; shut = shut },
   )
 
   -- some bytes went
-  pub writes : (old new : ViewFacts L) (n : ℕ) → 1 ≤ n → n ≤ length old.left → new.left ≡ drop n old.left → (length new.left == 0) ≡ false → Appends (written old.link) (written new.link) (take n old.left)
-      → counts new.link ≡ counts old.link → new.over ≡ false → is_shut new.link ≡ is_shut old.link → OpenSteps counts written is_shut old Wrote new
+  pub writes : (old new : ViewFacts L) (n : ℕ) → 1 ≤ n → n ≤ length old.left → new.left ≡ drop n old.left → (length new.left == 0) ≡ false → Appends (facts old.link).written (facts new.link).written (take n old.left)
+      → (facts new.link).counts ≡ (facts old.link).counts → new.over ≡ false → (facts new.link).is_shut ≡ (facts old.link).is_shut → OpenSteps facts old Wrote new
   writes old new n least most left more appended same over shut = (
     take n old.left,
     record { left = sym (take-append-drop n old.left) ∙ ap (λ l. take n old.left ++ l) (sym left); appended = appended; counted = same },
@@ -45,14 +44,14 @@ module _ {L : Type 0} (counts : L → Counts) (written : L → Option (List ℕ)
   )
 
   -- the last byte went, and the link was shut
-  pub finishes : (old new : ViewFacts L) (mid : L) (n : ℕ) → new.left ≡ drop n old.left → (length new.left == 0) ≡ true → Appends (written old.link) (written mid) (take n old.left)
-      → Keeps (written mid) (written new.link) → counts mid ≡ counts old.link → counts new.link ≡ counts mid → new.over ≡ true → IsTrue (is_shut new.link)
-      → OpenSteps counts written is_shut old Finished new
+  pub finishes : (old new : ViewFacts L) (mid : L) (n : ℕ) → new.left ≡ drop n old.left → (length new.left == 0) ≡ true → Appends (facts old.link).written (facts mid).written (take n old.left)
+      → Keeps (facts mid).written (facts new.link).written → (facts mid).counts ≡ (facts old.link).counts → (facts new.link).counts ≡ (facts mid).counts → new.over ≡ true → IsTrue (facts new.link).is_shut
+      → OpenSteps facts old Finished new
   finishes old new mid n left none appended keeps first next over shut = (
     take n old.left,
     record {
       left = sym (take-append-drop n old.left) ∙ ap (λ l. take n old.left ++ l) (sym left);
-      appended = Appends-kept (written old.link) (written mid) (written new.link) (take n old.left) appended keeps;
+      appended = Appends-kept (facts old.link).written (facts mid).written (facts new.link).written (take n old.left) appended keeps;
       counted = next ∙ first;
     },
     nothing new.left none,

@@ -1,5 +1,5 @@
 -- What holds of the open views of a viewer, turn by turn.
-use Rattle.std.proofs.Common.{◌≡◌, ◌≢◌, ◌⊎◌, inl, inr, ℕ, Bool, true, false, not, List, [], ◌∷◌, ◌++◌, filter, if◌then◌else◌, Option, Result, Ok, Err, refl, sym, ap, subst, ◌∙◌}
+use Rattle.std.proofs.Common.{◌≡◌, ◌≢◌, ◌⊎◌, inl, inr, ℕ, Bool, true, false, not, List, [], ◌∷◌, ◌++◌, filter, if◌then◌else◌, Result, Ok, Err, refl, sym, ap, subst, ◌∙◌}
 use mathlib.Core.List.{IsPrefix}
 use Rattle.std.specs.List.{AllByRecursion}
 use Rattle.std.specs.declared.alloc.AllocError.{AllocError}
@@ -8,15 +8,16 @@ use Rattle.std.proofs.lemmas.List.Elements.{Contains-append_left, Contains-push}
 use Rattle.mum_crew.specs.Turns.{TurnsTo}
 use Rattle.mum_crew.specs.declared.role.Turn.{Turn}
 use Rattle.std.proofs.lemmas.List.{append-nil}
-use Rattle.mum_io.specs.Counts.{Counts, Rose}
-use Rattle.mum_io.specs.Link.{Appends}
-use Rattle.mum_io.specs.declared.door.Accept.{Accept}
+use Rattle.mum_io.specs.Counts.{Rose}
+use Rattle.mum_io.specs.Door.{DoorFacts}
+use Rattle.mum_io.specs.Link.{Appends, LinkFacts}
 use Rattle.mum_io.specs.declared.door.Accept.TheVariants.{Conn, NotYet, End, Failed}
+use Rattle.mum_io.specs.declared.door.Accept.{Accept}
 use Rattle.mum_published.proofs.Prefixes.{prefix_self, prefix_trans}
 use Rattle.mum_published.specs.Calls.{ask_at, looked, state_of}
 use Rattle.mum_published.specs.Facts.{PassFacts}
 use Rattle.mum_viewer.proofs.Shown.{open_on, text_not_empty}
-use Rattle.mum_viewer.specs.Along.{Along}
+use Rattle.mum_crew.specs.Along.{Along}
 use Rattle.mum_viewer.specs.Laws.{IsOpenView}
 use Rattle.mum_viewer.specs.Look.{Looks, view_ask}
 use Rattle.mum_viewer.specs.Text.{view_text}
@@ -25,8 +26,8 @@ use Rattle.mum_viewer.specs.View.{OpenSteps, ViewFacts, ViewMoves, is_open, new_
 use Rattle.mum_viewer.specs.Viewer.{Asks, ViewerFacts, ViewerTurned, is_not_to_ask}
 use Rattle.mum_viewer.specs.Views.{Answers, StepsViews, Takes, ViewsFacts}
 use Rattle.mum_viewer.specs.declared.view.Counted.{Counted}
-use Rattle.mum_viewer.specs.declared.view.Went.{Went}
 use Rattle.mum_viewer.specs.declared.view.Went.TheVariants.{Waits, Wrote, Finished, Broke}
+use Rattle.mum_viewer.specs.declared.view.Went.{Went}
 
 -- ---- lists
 
@@ -44,74 +45,74 @@ left_if : {L : Type 0} (P : ViewFacts L → Type 0) (over : Bool) (view : ViewFa
 left_if P true view kept is one others = others
 left_if P false view kept is one others = (one is, others)
 
-module _ {L : Type 0} (counts : L → Counts) (unread written : L → Option (List ℕ)) (is_shut : L → Bool) where
+module _ {L : Type 0} (facts : L → LinkFacts) where
   -- ---- a step
 
-  left_on : (went : Went) (old new : ViewFacts L) → old.left ≢ [] → OpenSteps counts written is_shut old went new → new.over ≡ false → new.left ≢ []
+  left_on : (went : Went) (old new : ViewFacts L) → old.left ≢ [] → OpenSteps facts old went new → new.over ≡ false → new.left ≢ []
   left_on Waits old new more step over = λ none. more (sym step.0.left ∙ none)
   left_on Wrote old new more step over = step.3
   left_on Finished old new more step over = absurd (cc (over, step.3.over))
   left_on Broke old new more step over = absurd (cc (over, step.1.over))
 
-  shown_on : (pass : PassFacts) (went : Went) (old new : ViewFacts L) → IsShown written pass old → OpenSteps counts written is_shut old went new → new.over ≡ false → IsShown written pass new
+  shown_on : (pass : PassFacts) (went : Went) (old new : ViewFacts L) → IsShown facts pass old → OpenSteps facts old went new → new.over ≡ false → IsShown facts pass new
   shown_on pass went old new shown step over = record {
     gave = shown.gave;
     edits = shown.edits;
     asked = shown.asked;
     begins = shown.begins;
-    sent = open_on counts unread written is_shut shown.gave (view_text (state_of pass.opening shown.edits)) went old new shown.sent step;
+    sent = open_on facts shown.gave (view_text (state_of pass.opening shown.edits)) went old new shown.sent step;
     is_open = over;
     more = left_on went old new shown.more step over;
   }
 
-  shown_along : (pass : PassFacts) (olds news : List (ViewFacts L)) (before after : Counted) → Along (ViewMoves counts unread written is_shut) olds before news after
-      → AllByRecursion (IsShown written pass) olds → AllByRecursion (IsShown written pass) (filter is_open news)
+  shown_along : (pass : PassFacts) (olds news : List (ViewFacts L)) (before after : Counted) → Along (ViewMoves facts) olds before news after
+      → AllByRecursion (IsShown facts pass) olds → AllByRecursion (IsShown facts pass) (filter is_open news)
   shown_along pass [] [] before after same all = tt
   shown_along pass [] (new ∷ news) before after along all = absurd along
   shown_along pass (old ∷ olds) [] before after along all = absurd along
   shown_along pass (old ∷ olds) (new ∷ news) before after (between, move, rest) (one, others) =
-      left_if (IsShown written pass) new.over new (filter is_open news) refl
+      left_if (IsShown facts pass) new.over new (filter is_open news) refl
       (λ over. shown_on pass move.went old new one (move.steps.moves one.is_open) over)
       (shown_along pass olds news between after rest others)
 
   -- what is over was written whole, or its link failed
 
-  ends_by : (pass : PassFacts) (went : Went) (old new : ViewFacts L) → IsShown written pass old → OpenSteps counts written is_shut old went new → new.over ≡ true
-      → IsWhole written pass new ⊎ Rose (counts old.link).faults (counts new.link).faults
+  ends_by : (pass : PassFacts) (went : Went) (old new : ViewFacts L) → IsShown facts pass old → OpenSteps facts old went new → new.over ≡ true
+      → IsWhole facts pass new ⊎ Rose (facts old.link).counts.faults (facts new.link).counts.faults
   ends_by pass Waits old new shown step over = absurd (cc (over, step.1.over))
   ends_by pass Wrote old new shown step over = absurd (cc (over, step.4.over))
   ends_by pass Finished old new shown step over =
       let text = view_text (state_of pass.opening shown.edits) in
-      let has = open_on counts unread written is_shut shown.gave text Finished old new shown.sent step in
+      let has = open_on facts shown.gave text Finished old new shown.sent step in
       let all_sent : text ≡ has.sent = has.text_is ∙ (ap (λ l. has.sent ++ l) step.2 ∙ append-nil has.sent) in
       inl (record {
         gave = shown.gave;
         edits = shown.edits;
         asked = shown.asked;
         begins = shown.begins;
-        sent = subst (λ (l : List ℕ). Appends (written shown.gave) (written new.link) l) (sym all_sent) has.appended;
+        sent = subst (λ (l : List ℕ). Appends (facts shown.gave).written (facts new.link).written l) (sym all_sent) has.appended;
       })
   ends_by pass Broke old new shown step over = inr step.2.rose
 
-  end_along : (pass : PassFacts) (olds news : List (ViewFacts L)) (before after : Counted) → Along (ViewMoves counts unread written is_shut) olds before news after
-      → AllByRecursion (IsShown written pass) olds → EndWell counts written pass olds news
+  end_along : (pass : PassFacts) (olds news : List (ViewFacts L)) (before after : Counted) → Along (ViewMoves facts) olds before news after
+      → AllByRecursion (IsShown facts pass) olds → EndWell facts pass olds news
   end_along pass [] [] before after same all = tt
   end_along pass [] (new ∷ news) before after along all = absurd along
   end_along pass (old ∷ olds) [] before after along all = absurd along
   end_along pass (old ∷ olds) (new ∷ news) before after (between, move, rest) (one, others) =
       (λ over. ends_by pass move.went old new one (move.steps.moves one.is_open) over, end_along pass olds news between after rest others)
 
-  steps_shown : (old new : ViewsFacts L) (worked : Bool) → StepsViews counts unread written is_shut old worked new
-      → AllByRecursion (IsShown written old.pass) old.list → AllByRecursion (IsShown written new.pass) new.list
+  steps_shown : (old new : ViewsFacts L) (worked : Bool) → StepsViews facts old worked new
+      → AllByRecursion (IsShown facts old.pass) old.list → AllByRecursion (IsShown facts new.pass) new.list
   steps_shown old new worked steps all =
       let same : new.pass ≡ old.pass = ap (λ (views : ViewsFacts L). views.pass) steps.others in
       let left = shown_along old.pass old.list steps.steps.stepped (record { whole = old.whole; worked = false }) (record { whole = new.whole; worked = worked }) steps.steps.along all in
-      subst (λ (pass : PassFacts). AllByRecursion (IsShown written pass) new.list) (sym same)
-      (subst (λ (l : List (ViewFacts L)). AllByRecursion (IsShown written old.pass) l) (sym steps.steps.left) left)
+      subst (λ (pass : PassFacts). AllByRecursion (IsShown facts pass) new.list) (sym same)
+      (subst (λ (l : List (ViewFacts L)). AllByRecursion (IsShown facts old.pass) l) (sym steps.steps.left) left)
 
   -- ---- a look
 
-  looked_on : (old : PassFacts) (edits : _) (view : ViewFacts L) → IsPrefix old.seen edits → IsShown written old view → IsShown written (looked old edits view_ask) view
+  looked_on : (old : PassFacts) (edits : _) (view : ViewFacts L) → IsPrefix old.seen edits → IsShown facts old view → IsShown facts (looked old edits view_ask) view
   looked_on old edits view on shown = record {
     gave = shown.gave;
     edits = shown.edits;
@@ -122,39 +123,39 @@ module _ {L : Type 0} (counts : L → Counts) (unread written : L → Option (Li
     more = shown.more;
   }
 
-  looks_shown : (old new : PassFacts) (found : Result (List ℕ) AllocError) (view : ViewFacts L) → Looks view_text old found new → IsShown written old view → IsShown written new view
+  looks_shown : (old new : PassFacts) (found : Result (List ℕ) AllocError) (view : ViewFacts L) → Looks view_text old found new → IsShown facts old view → IsShown facts new view
   looks_shown old new found view looks shown =
-      subst (λ (pass : PassFacts). IsShown written pass view) (sym looks.asked) (looked_on old looks.edits view looks.met.seen shown)
+      subst (λ (pass : PassFacts). IsShown facts pass view) (sym looks.asked) (looked_on old looks.edits view looks.met.seen shown)
 
-  new_shown : (old new : PassFacts) (link : L) (text : List ℕ) → Looks view_text old (Ok text) new → IsShown written new (new_view link text)
+  new_shown : (old new : PassFacts) (link : L) (text : List ℕ) → Looks view_text old (Ok text) new → IsShown facts new (new_view link text)
   new_shown old new link text looks =
-      subst (λ (pass : PassFacts). IsShown written pass (new_view link text)) (sym looks.asked) (record {
+      subst (λ (pass : PassFacts). IsShown facts pass (new_view link text)) (sym looks.asked) (record {
         gave = link;
         edits = looks.edits;
         asked = Contains-push old.asks (ask_at looks.edits view_ask);
         begins = prefix_self looks.edits;
-        sent = record { sent = []; text_is = sym looks.is; appended = Appends-nil (written link) };
+        sent = record { sent = []; text_is = sym looks.is; appended = Appends-nil (facts link).written };
         is_open = refl;
         more = λ none. text_not_empty (state_of old.opening looks.edits) (sym looks.is ∙ none);
       })
 
   -- ---- the door's answer
 
-  takes_shown : (old new : ViewsFacts L) (link : L) (text : Result (List ℕ) AllocError) → Looks view_text old.pass text new.pass → Takes counts unread written is_shut old link text new
-      → AllByRecursion (IsShown written old.pass) old.list → AllByRecursion (IsShown written new.pass) new.list
+  takes_shown : (old new : ViewsFacts L) (link : L) (text : Result (List ℕ) AllocError) → Looks view_text old.pass text new.pass → Takes facts old link text new
+      → AllByRecursion (IsShown facts old.pass) old.list → AllByRecursion (IsShown facts new.pass) new.list
   takes_shown old new link (Ok text) looks takes all =
-      let before = all_so (IsShown written old.pass) (IsShown written new.pass) old.list (λ view shown. looks_shown old.pass new.pass (Ok text) view looks shown) all in
-      subst (λ (l : List (ViewFacts L)). AllByRecursion (IsShown written new.pass) l) (sym (ap (λ (views : ViewsFacts L). views.list) takes))
-      (all_and (IsShown written new.pass) old.list (new_view link text) before (new_shown old.pass new.pass link text looks))
+      let before = all_so (IsShown facts old.pass) (IsShown facts new.pass) old.list (λ view shown. looks_shown old.pass new.pass (Ok text) view looks shown) all in
+      subst (λ (l : List (ViewFacts L)). AllByRecursion (IsShown facts new.pass) l) (sym (ap (λ (views : ViewsFacts L). views.list) takes))
+      (all_and (IsShown facts new.pass) old.list (new_view link text) before (new_shown old.pass new.pass link text looks))
   takes_shown old new link (Err error) looks takes all =
-      let before = all_so (IsShown written old.pass) (IsShown written new.pass) old.list (λ view shown. looks_shown old.pass new.pass (Err error) view looks shown) all in
-      subst (λ (l : List (ViewFacts L)). AllByRecursion (IsShown written new.pass) l) (sym (ap (λ (views : ViewsFacts L). views.list) takes.0)) before
+      let before = all_so (IsShown facts old.pass) (IsShown facts new.pass) old.list (λ view shown. looks_shown old.pass new.pass (Err error) view looks shown) all in
+      subst (λ (l : List (ViewFacts L)). AllByRecursion (IsShown facts new.pass) l) (sym (ap (λ (views : ViewsFacts L). views.list) takes.0)) before
 
-  same_shown : (old new : ViewsFacts L) → new ≡ old → AllByRecursion (IsShown written old.pass) old.list → AllByRecursion (IsShown written new.pass) new.list
-  same_shown old new same all = subst (λ (views : ViewsFacts L). AllByRecursion (IsShown written views.pass) views.list) (sym same) all
+  same_shown : (old new : ViewsFacts L) → new ≡ old → AllByRecursion (IsShown facts old.pass) old.list → AllByRecursion (IsShown facts new.pass) new.list
+  same_shown old new same all = subst (λ (views : ViewsFacts L). AllByRecursion (IsShown facts views.pass) views.list) (sym same) all
 
-  answers_shown : (old new : ViewsFacts L) (answer : Accept L) (worked : Bool) → Answers counts unread written is_shut old answer worked new
-      → AllByRecursion (IsShown written old.pass) old.list → AllByRecursion (IsShown written new.pass) new.list
+  answers_shown : (old new : ViewsFacts L) (answer : Accept L) (worked : Bool) → Answers facts old answer worked new
+      → AllByRecursion (IsShown facts old.pass) old.list → AllByRecursion (IsShown facts new.pass) new.list
   answers_shown old new (Conn link) worked answers all = takes_shown old new link answers.1.text answers.1.looks answers.1.takes all
   answers_shown old new NotYet worked answers all = same_shown old new answers.1 all
   answers_shown old new End worked answers all = same_shown old new answers.1 all
@@ -162,38 +163,38 @@ module _ {L : Type 0} (counts : L → Counts) (unread written : L → Option (Li
 
 -- ---- turns
 
-module _ {D L : Type 0} (counts : D → Counts) (given : D → ℕ) (link_counts : L → Counts) (unread written : L → Option (List ℕ)) (is_shut : L → Bool) where
-  asks_shown : (stops : Bool) (old new : ViewerFacts D L) (worked : Bool) → is_not_to_ask old ≡ stops → Asks counts given link_counts unread written is_shut old worked new
-      → AllByRecursion (IsShown written old.views.pass) old.views.list → AllByRecursion (IsShown written new.views.pass) new.views.list
-  asks_shown true old new worked is asks all = same_shown link_counts unread written is_shut old.views new.views (ap (λ (viewer : ViewerFacts D L). viewer.views) (asks.rests is).1) all
+module _ {D L : Type 0} (door_facts : D → DoorFacts) (facts : L → LinkFacts) where
+  asks_shown : (stops : Bool) (old new : ViewerFacts D L) (worked : Bool) → is_not_to_ask old ≡ stops → Asks door_facts facts old worked new
+      → AllByRecursion (IsShown facts old.views.pass) old.views.list → AllByRecursion (IsShown facts new.views.pass) new.views.list
+  asks_shown true old new worked is asks all = same_shown facts old.views new.views (ap (λ (viewer : ViewerFacts D L). viewer.views) (asks.rests is).1) all
   asks_shown false old new worked is asks all =
       let once = asks.asks is in
-      answers_shown link_counts unread written is_shut old.views new.views once.answer worked once.answers all
+      answers_shown facts old.views new.views once.answer worked once.answers all
 
-  pub turn_shown : (old : ViewerFacts D L) (turn : Turn) (new : ViewerFacts D L) → ViewerTurned counts given link_counts unread written is_shut old turn new
-      → AllByRecursion (IsShown written old.views.pass) old.views.list → AllByRecursion (IsShown written new.views.pass) new.views.list
+  pub turn_shown : (old : ViewerFacts D L) (turn : Turn) (new : ViewerFacts D L) → ViewerTurned door_facts facts old turn new
+      → AllByRecursion (IsShown facts old.views.pass) old.views.list → AllByRecursion (IsShown facts new.views.pass) new.views.list
   turn_shown old turn new turned all =
       let mid : ViewerFacts D L = record old { views = turned.between } in
       asks_shown (is_not_to_ask mid) mid new turned.answered refl turned.asks
-      (steps_shown link_counts unread written is_shut old.views turned.between turned.stepped turned.steps all)
+      (steps_shown facts old.views turned.between turned.stepped turned.steps all)
 
-  turns_shown : (old : ViewerFacts D L) (turns : List Turn) (new : ViewerFacts D L) → TurnsTo (ViewerTurned counts given link_counts unread written is_shut) old turns new
-      → AllByRecursion (IsShown written old.views.pass) old.views.list → AllByRecursion (IsShown written new.views.pass) new.views.list
-  turns_shown old [] new same all = same_shown link_counts unread written is_shut old.views new.views (ap (λ (viewer : ViewerFacts D L). viewer.views) same) all
+  turns_shown : (old : ViewerFacts D L) (turns : List Turn) (new : ViewerFacts D L) → TurnsTo (ViewerTurned door_facts facts) old turns new
+      → AllByRecursion (IsShown facts old.views.pass) old.views.list → AllByRecursion (IsShown facts new.views.pass) new.views.list
+  turns_shown old [] new same all = same_shown facts old.views new.views (ap (λ (viewer : ViewerFacts D L). viewer.views) same) all
   turns_shown old (turn ∷ turns) new (mid, turned, rest) all = turns_shown mid turns new rest (turn_shown old turn mid turned all)
 
-  pub all_shown : (turns : List Turn) (viewer : ViewerFacts D L) → HasTurned counts given link_counts unread written is_shut turns viewer
-      → AllByRecursion (IsShown written viewer.views.pass) viewer.views.list
+  pub all_shown : (turns : List Turn) (viewer : ViewerFacts D L) → HasTurned door_facts facts turns viewer
+      → AllByRecursion (IsShown facts viewer.views.pass) viewer.views.list
   all_shown turns viewer run =
       turns_shown run.opened turns viewer run.all
-      (subst (λ (v : ViewerFacts D L). AllByRecursion (IsShown written v.views.pass) v.views.list) (sym run.opening) tt)
+      (subst (λ (v : ViewerFacts D L). AllByRecursion (IsShown facts v.views.pass) v.views.list) (sym run.opening) tt)
 
-  pub all_end : (turns : List Turn) (old : ViewerFacts D L) (answer : Turn) (new : ViewerFacts D L) → HasTurned counts given link_counts unread written is_shut turns old
-      → (last : ViewerTurned counts given link_counts unread written is_shut old answer new) → EndWell link_counts written old.views.pass old.views.list last.steps.steps.stepped
+  pub all_end : (turns : List Turn) (old : ViewerFacts D L) (answer : Turn) (new : ViewerFacts D L) → HasTurned door_facts facts turns old
+      → (last : ViewerTurned door_facts facts old answer new) → EndWell facts old.views.pass old.views.list last.steps.steps.stepped
   all_end turns old answer new run last =
-      end_along link_counts unread written is_shut old.views.pass old.views.list last.steps.steps.stepped (record { whole = old.views.whole; worked = false })
+      end_along facts old.views.pass old.views.list last.steps.steps.stepped (record { whole = old.views.whole; worked = false })
       (record { whole = last.between.whole; worked = last.stepped }) last.steps.steps.along (all_shown turns old run)
 
-  pub all_open : (turns : List Turn) (viewer : ViewerFacts D L) → HasTurned counts given link_counts unread written is_shut turns viewer → AllByRecursion IsOpenView viewer.views.list
+  pub all_open : (turns : List Turn) (viewer : ViewerFacts D L) → HasTurned door_facts facts turns viewer → AllByRecursion IsOpenView viewer.views.list
   all_open turns viewer run =
-      all_so (IsShown written viewer.views.pass) IsOpenView viewer.views.list (λ view shown. shown.is_open) (all_shown turns viewer run)
+      all_so (IsShown facts viewer.views.pass) IsOpenView viewer.views.list (λ view shown. shown.is_open) (all_shown turns viewer run)

@@ -1,23 +1,23 @@
 -- What holds of a view over its steps, and of all views in a turn in which none did anything.
-use Rattle.std.specs.Prelude.{◌≡◌, ℕ, Bool, true, false, List, [], ◌∷◌, ◌++◌, Option, ⊤}
-use Rattle.mum_io.specs.Counts.{Counts, Rose}
-use Rattle.mum_io.specs.Link.{Appends}
+use Rattle.std.specs.Prelude.{◌≡◌, ℕ, Bool, true, false, List, [], ◌∷◌, ◌++◌, ⊤}
+use Rattle.mum_io.specs.Counts.{Rose}
+use Rattle.mum_io.specs.Link.{Appends, LinkFacts}
 use Rattle.mum_viewer.specs.View.{ViewFacts, ViewSteps}
 use Rattle.mum_viewer.specs.declared.view.Went.{Went}
 use Rattle.mum_viewer.specs.declared.view.Went.TheVariants.{Waits, Wrote, Finished, Broke}
 
 -- of the text that it was given, these bytes went over its link since it came, and the others are left
-pub record HasSent {L : Type 0} (written : L → Option (List ℕ)) (gave : L) (text : List ℕ) (view : ViewFacts L) : Type 0 where
+pub record HasSent {L : Type 0} (facts : L → LinkFacts) (gave : L) (text : List ℕ) (view : ViewFacts L) : Type 0 where
   pub sent : List ℕ
   pub text_is : text ≡ sent ++ view.left
-  pub appended : Appends (written gave) (written view.link) sent
+  pub appended : Appends (facts gave).written (facts view.link).written sent
 
-module _ {L : Type 0} (counts : L → Counts) (unread written : L → Option (List ℕ)) (is_shut : L → Bool) where
+module _ {L : Type 0} (facts : L → LinkFacts) where
   -- steps, one after another
   abbrev pub StepsTo : ViewFacts L → List Went → ViewFacts L → Type 0
   StepsTo old [] new = new ≡ old
   StepsTo old (went ∷ more) new =
-      (mid : ViewFacts L) × ViewSteps counts unread written is_shut old went mid × StepsTo mid more new
+      (mid : ViewFacts L) × ViewSteps facts old went mid × StepsTo mid more new
 
 -- its text was taken whole in this step
 abbrev pub is_finished : Went → Bool
@@ -31,9 +31,9 @@ abbrev pub IsOpenView : {L : Type 0} → ViewFacts L → Type 0
 IsOpenView view = view.over ≡ false
 
 -- each of these found its link not ready
-abbrev pub AllStalled : {L : Type 0} → (L → Counts) → List (ViewFacts L) → List (ViewFacts L) → Type 0
-AllStalled counts [] [] = ⊤
-AllStalled counts [] (new ∷ news) = ⊥
-AllStalled counts (old ∷ olds) [] = ⊥
-AllStalled counts (old ∷ olds) (new ∷ news) =
-    Rose (counts old.link).stalls (counts new.link).stalls × AllStalled counts olds news
+abbrev pub AllStalled : {L : Type 0} → (L → LinkFacts) → List (ViewFacts L) → List (ViewFacts L) → Type 0
+AllStalled facts [] [] = ⊤
+AllStalled facts [] (new ∷ news) = ⊥
+AllStalled facts (old ∷ olds) [] = ⊥
+AllStalled facts (old ∷ olds) (new ∷ news) =
+    Rose (facts old.link).counts.stalls (facts new.link).counts.stalls × AllStalled facts olds news

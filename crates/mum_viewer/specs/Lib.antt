@@ -1,6 +1,5 @@
 pub mod Picture
 pub mod Text
-pub mod Along
 pub mod View
 pub mod Look
 pub mod Views

@@ -1,12 +1,12 @@
 -- The viewer, and a turn of it.
-use Rattle.std.specs.Prelude.{◌≡◌, ℕ, ◌<◌, ◌≤◌, ◌^◌, ◌==◌, ◌||◌, ◌&&◌, nat_le, Bool, true, false, List, length, Option}
+use Rattle.std.specs.Prelude.{◌≡◌, ℕ, ◌<◌, ◌≤◌, ◌^◌, ◌==◌, ◌||◌, ◌&&◌, nat_le, Bool, true, false, length}
 use Rattle.mum_crew.specs.declared.role.Turn.{Turn}
 use Rattle.mum_crew.specs.declared.role.Turn.TheVariants as turns
 use Rattle.mum_doorway.specs.Asking.{DoorwayFacts, failed_by, new_doorway, stopped_by}
 use Rattle.mum_doorway.specs.Doors.{given_after_all}
 use Rattle.mum_doorway.specs.declared.opening.DoorOpening.{DoorOpening}
-use Rattle.mum_io.specs.Counts.{Counts}
-use Rattle.mum_io.specs.Door.{AcceptCounts, given_after}
+use Rattle.mum_io.specs.Door.{AcceptCounts, DoorFacts, given_after}
+use Rattle.mum_io.specs.Link.{LinkFacts}
 use Rattle.mum_io.specs.declared.door.Accept.{Accept}
 use Rattle.mum_published.specs.Facts.{Opening, PassFacts}
 use Rattle.mum_viewer.specs.Views.{Answers, StepsViews, ViewsFacts, no_views}
@@ -56,17 +56,16 @@ module _ {D L : Type 0} where
   abbrev pub has_ended : ViewerFacts D L → Bool
   has_ended viewer = is_over viewer && (length viewer.views.list == 0)
 
-  module _ (counts : D → Counts) (given : D → ℕ) (link_counts : L → Counts)
-      (unread written : L → Option (List ℕ)) (is_shut : L → Bool) where
+  module _ (door_facts : D → DoorFacts) (facts : L → LinkFacts) where
     -- the door was asked once
     pub record AsksOnce (old : ViewerFacts D L) (worked : Bool) (new : ViewerFacts D L) : Type 0 where
       pub answer : Accept L
-      pub counted : AcceptCounts answer (counts old.doorway.door) (counts new.doorway.door)
-      pub gave : given new.doorway.door ≡ given_after answer (given old.doorway.door)
+      pub counted : AcceptCounts answer (door_facts old.doorway.door).counts (door_facts new.doorway.door).counts
+      pub gave : (door_facts new.doorway.door).given ≡ given_after answer (door_facts old.doorway.door).given
       pub stopped : new.doorway.stopped ≡ stopped_by answer false
       pub failed : new.doorway.failed ≡ failed_by answer old.doorway.failed
       pub limit : new.limit ≡ old.limit
-      pub answers : Answers link_counts unread written is_shut old.views answer worked new.views
+      pub answers : Answers facts old.views answer worked new.views
 
     -- the door is asked where it may be
     pub record Asks (old : ViewerFacts D L) (worked : Bool) (new : ViewerFacts D L) : Type 0 where
@@ -78,6 +77,6 @@ module _ {D L : Type 0} where
       pub stepped : Bool
       pub answered : Bool
       pub between : ViewsFacts L
-      pub steps : StepsViews link_counts unread written is_shut old.views stepped between
+      pub steps : StepsViews facts old.views stepped between
       pub asks : Asks (record old { views = between }) answered new
       pub came_to : turn ≡ turn_of (has_ended new) stepped answered

@@ -1,13 +1,12 @@
 -- The views of a viewer: those that are open, how many there were, and the pass that looks for them.
-use Rattle.std.specs.Prelude.{◌≡◌, ◌+◌, ◌≤◌, ℕ, Bool, true, false, List, [], ◌∷◌, ◌++◌, length, IsTrue, Option, Result, Ok, Err}
+use Rattle.std.specs.Prelude.{◌≡◌, ◌+◌, ◌≤◌, ℕ, Bool, true, false, List, [], ◌∷◌, ◌++◌, length, IsTrue, Result, Ok, Err}
 use Rattle.std.specs.List.{AllByRecursion}
 use Rattle.std.specs.declared.alloc.AllocError.{AllocError}
-use Rattle.mum_io.specs.Counts.{Counts}
-use Rattle.mum_io.specs.Link.{Keeps}
+use Rattle.mum_crew.specs.Along.{EachAlong}
+use Rattle.mum_io.specs.Link.{Keeps, LinkFacts}
 use Rattle.mum_io.specs.declared.door.Accept.{Accept}
 use Rattle.mum_io.specs.declared.door.Accept.TheVariants as accepted
 use Rattle.mum_published.specs.Facts.{PassFacts}
-use Rattle.mum_viewer.specs.Along.{EachAlong}
 use Rattle.mum_viewer.specs.Look.{IsViewAsk, Looks}
 use Rattle.mum_viewer.specs.Text.{view_text}
 use Rattle.mum_viewer.specs.View.{ViewFacts, ViewMoves, is_open, new_view}
@@ -34,19 +33,19 @@ pub record AreViews {L : Type 0} (pass : PassFacts) (given : ℕ) (list : List (
   pub asks : AllByRecursion IsViewAsk pass.asks
   pub few : length list ≤ VIEWS_OPEN
 
-module _ {L : Type 0} (counts : L → Counts) (unread written : L → Option (List ℕ)) (is_shut : L → Bool) where
+module _ {L : Type 0} (facts : L → LinkFacts) where
   -- each view made its step, and those that were written whole are counted; views that are over are let go
   pub record StepsViews (old : ViewsFacts L) (worked : Bool) (new : ViewsFacts L) : Type 0 where
-    pub steps : EachAlong (ViewMoves counts unread written is_shut) is_open
+    pub steps : EachAlong (ViewMoves facts) is_open
         old.list (record { whole = old.whole; worked = false }) new.list (record { whole = new.whole; worked = worked })
     pub others : new ≡ record old { list = new.list; whole = new.whole }
 
   -- the link was shut, and nothing was written to it or read from it
   pub record IsTurnedAway (link : L) : Type 0 where
     pub after : L
-    pub shut : IsTrue (is_shut after)
-    pub same : Keeps (written link) (written after)
-    pub reads_nothing : Keeps (unread link) (unread after)
+    pub shut : IsTrue (facts after).is_shut
+    pub same : Keeps (facts link).written (facts after).written
+    pub reads_nothing : Keeps (facts link).left (facts after).left
 
   -- the text is to be written to the link, or there was no memory for it
   abbrev pub Takes : ViewsFacts L → L → Result (List ℕ) AllocError → ViewsFacts L → Type 0

@@ -24,18 +24,18 @@ use mum_io::Link;
 /// counted; and the link is shut uncounted only where it failed.
 pub fn views_show_their_text<L: Link>()
     ensures front { (link : L) (text : List ℕ) (steps : List Went) (view : ViewFacts L) →
-        StepsTo L.counts L.left L.written L.is_shut (new_view link text) steps view →
-        HasSent L.written link text view }
+        StepsTo L.facts (new_view link text) steps view →
+        HasSent L.facts link text view }
     ensures whole { (link : L) (text : List ℕ) (steps : List Went) (old new : ViewFacts L) →
-        StepsTo L.counts L.left L.written L.is_shut (new_view link text) steps old → old.over ≡ false →
-        ViewSteps L.counts L.left L.written L.is_shut old Finished new →
-        Appends (L.written link) (L.written new.link) text }
+        StepsTo L.facts (new_view link text) steps old → old.over ≡ false →
+        ViewSteps L.facts old Finished new →
+        Appends (L.facts link).written (L.facts new.link).written text }
     ensures exactly { (link : L) (state : StateValue) (steps : List Went) (view : ViewFacts L) →
-        StepsTo L.counts L.left L.written L.is_shut (new_view link (view_text state)) steps view →
+        StepsTo L.facts (new_view link (view_text state)) steps view →
         (view.left ≡ []) ↔ IsTrue (list_any is_finished steps) }
     ensures uncounted { (went : Went) (old new : ViewFacts L) → old.over ≡ false → new.over ≡ true →
-        ViewSteps L.counts L.left L.written L.is_shut old went new →
-        (went ≡ Finished) ⊎ Rose (L.counts old.link).faults (L.counts new.link).faults }
+        ViewSteps L.facts old went new →
+        (went ≡ Finished) ⊎ Rose (L.facts old.link).counts.faults (L.facts new.link).counts.faults }
 {}
 
 /// The list that a look sees begins with that of the look before, and is what the new ask is at.
@@ -47,5 +47,5 @@ pub fn looks_go_on()
 /// Where no view did anything in a turn, each of them found its link not ready.
 pub fn idle_views_stall<L: Link>()
     ensures { (old new : ViewsFacts L) → AllByRecursion IsOpenView old.list →
-        StepsViews L.counts L.left L.written L.is_shut old false new → AllStalled L.counts old.list new.list }
+        StepsViews L.facts old false new → AllStalled L.facts old.list new.list }
 {}

@@ -2,7 +2,7 @@
 
 ghost use Rattle.std.specs.Prelude.{◌≡◌, ◌<◌, ◌≤◌, ◌++◌, ◌∷◌, [], filter, length, IfOk};
 ghost use Rattle.std.specs.VecDeque.{deque_capacity};
-ghost use Rattle.mum_viewer.specs.Along.{Along, EachAlong};
+ghost use Rattle.mum_crew.specs.Along.{Along, EachAlong};
 ghost use Rattle.mum_viewer.specs.View.{ViewMoves, is_open, new_view};
 
 use crate::view::{Counted, View};
@@ -41,7 +41,7 @@ impl<L: Link> Model for OpenViews<L> {
 
 // Each view makes its step where it lies, in their order.
 fn step_all<L: Link>(list: &mut VecDeque<View<L>>, before: Counted) -> Counted
-    ensures steps { Along (ViewMoves L.counts L.left L.written L.is_shut)
+    ensures steps { Along (ViewMoves L.facts)
         list.old.items before list.new.items result }
     ensures capacity { deque_capacity list.new ≡ deque_capacity list.old }
     ensures same { length list.new.items ≡ length list.old.items }
@@ -67,7 +67,7 @@ fn let_go<L: Link>(list: &mut VecDeque<View<L>>)
 
 // Each view makes its step, in their order. Those that are over then are let go.
 fn step_each<L: Link>(list: &mut VecDeque<View<L>>, before: Counted) -> Counted
-    ensures steps { EachAlong (ViewMoves L.counts L.left L.written L.is_shut) is_open
+    ensures steps { EachAlong (ViewMoves L.facts) is_open
         list.old.items before list.new.items result }
     ensures capacity { deque_capacity list.new ≡ deque_capacity list.old }
     ensures few { length list.new.items ≤ length list.old.items }
@@ -102,7 +102,7 @@ impl<L: Link> OpenViews<L> {
 
     /// Each makes its step, in their order. Those that are over then are let go.
     pub(crate) fn step(&mut self, before: Counted) -> Counted
-        ensures steps { EachAlong (ViewMoves L.counts L.left L.written L.is_shut) is_open
+        ensures steps { EachAlong (ViewMoves L.facts) is_open
             self.old before self.new result }
         ensures few { length self.new ≤ length self.old }
     {

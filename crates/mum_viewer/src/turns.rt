@@ -15,52 +15,52 @@ use mum_doorway::Entrance;
 /// No more views are open at once than may be.
 pub fn views_are_few<D: Entrance>()
     ensures { (turns : List Turn) (viewer : ViewerFacts D D.Peer) →
-        HasTurned D.counts D.given D.Peer.counts D.Peer.left D.Peer.written D.Peer.is_shut turns viewer →
+        HasTurned D.facts D.Peer.facts turns viewer →
         length viewer.views.list ≤ VIEWS_OPEN }
 {}
 
 /// Each view between two turns is open, and was written a front of the text of the state at the list of an ask.
 pub fn views_are_shown<D: Entrance>()
     ensures { (turns : List Turn) (viewer : ViewerFacts D D.Peer) →
-        HasTurned D.counts D.given D.Peer.counts D.Peer.left D.Peer.written D.Peer.is_shut turns viewer →
-        AllByRecursion (IsShown D.Peer.written viewer.views.pass) viewer.views.list }
+        HasTurned D.facts D.Peer.facts turns viewer →
+        AllByRecursion (IsShown D.Peer.facts viewer.views.pass) viewer.views.list }
 {}
 
 /// A view that is shut in a turn was written the whole text of the state at the list of an ask, or its link
 /// failed.
 pub fn views_end_whole<D: Entrance>()
     ensures { (turns : List Turn) (old new : ViewerFacts D D.Peer) (answer : Turn) →
-        HasTurned D.counts D.given D.Peer.counts D.Peer.left D.Peer.written D.Peer.is_shut turns old →
-        (last : ViewerTurned D.counts D.given D.Peer.counts D.Peer.left D.Peer.written D.Peer.is_shut
+        HasTurned D.facts D.Peer.facts turns old →
+        (last : ViewerTurned D.facts D.Peer.facts
         old answer new) →
-        EndWell D.Peer.counts D.Peer.written old.views.pass old.views.list last.steps.steps.stepped }
+        EndWell D.Peer.facts old.views.pass old.views.list last.steps.steps.stepped }
 {}
 
 /// Each answer of a turn shows its cause.
 pub fn answers_have_causes<D: Entrance>()
     // `Idle` only where each view found its link not ready, and the door gave nothing or is not to be asked.
     ensures idle { (turns : List Turn) (old new : ViewerFacts D D.Peer) →
-        HasTurned D.counts D.given D.Peer.counts D.Peer.left D.Peer.written D.Peer.is_shut turns old →
-        ViewerTurned D.counts D.given D.Peer.counts D.Peer.left D.Peer.written D.Peer.is_shut old Idle new →
-        HasNothingToDo D.counts D.Peer.counts old new }
+        HasTurned D.facts D.Peer.facts turns old →
+        ViewerTurned D.facts D.Peer.facts old Idle new →
+        HasNothingToDo D.facts D.Peer.facts old new }
     // `Worked` only where a byte went over a link, a link was shut, or the door gave a connection, ended or failed.
     ensures worked { (turns : List Turn) (old new : ViewerFacts D D.Peer) →
-        HasTurned D.counts D.given D.Peer.counts D.Peer.left D.Peer.written D.Peer.is_shut turns old →
-        (last : ViewerTurned D.counts D.given D.Peer.counts D.Peer.left D.Peer.written D.Peer.is_shut
+        HasTurned D.facts D.Peer.facts turns old →
+        (last : ViewerTurned D.facts D.Peer.facts
         old Worked new) →
-        SomeMoved D.Peer.written D.Peer.is_shut old.views.list last.steps.steps.stepped
-        ⊎ HasAnswered D.counts old new }
+        SomeMoved D.Peer.facts old.views.list last.steps.steps.stepped
+        ⊎ HasAnswered D.facts old new }
     // `Done` exactly where no more connections come and each view was shut.
     ensures done { (old new : ViewerFacts D D.Peer) (answer : Turn) →
-        ViewerTurned D.counts D.given D.Peer.counts D.Peer.left D.Peer.written D.Peer.is_shut old answer new →
+        ViewerTurned D.facts D.Peer.facts old answer new →
         (answer ≡ Done) ↔ IsTrue (has_ended new) }
 {}
 
 /// As many texts are counted as steps took the last byte of one.
 pub fn texts_are_counted<D: Entrance>()
     ensures { (turns : List Turn) (viewer : ViewerFacts D D.Peer) →
-        (run : HasTurned D.counts D.given D.Peer.counts D.Peer.left D.Peer.written D.Peer.is_shut turns viewer) →
+        (run : HasTurned D.facts D.Peer.facts turns viewer) →
         viewer.views.whole ≡ given_after_all 0
-        (finished_over D.counts D.given D.Peer.counts D.Peer.left D.Peer.written D.Peer.is_shut
+        (finished_over D.facts D.Peer.facts
         run.opened turns viewer run.all) }
 {}

@@ -84,8 +84,8 @@ impl<L: Link> View<L> {
     // Writes once what is left. Its link is shut once all is written, or where it failed.
     fn write(&mut self) -> Went
         requires { self.old.over ≡ false }
-        ensures steps { OpenSteps L.counts L.written L.is_shut self.old result self.new }
-        ensures reads_nothing { Keeps (L.left self.old.link) (L.left self.new.link) }
+        ensures steps { OpenSteps L.facts self.old result self.new }
+        ensures reads_nothing { Keeps (L.facts self.old.link).left (L.facts self.new.link).left }
     {
         if self.rest.is_empty() {
             self.link.shut();
@@ -113,7 +113,7 @@ impl<L: Link> View<L> {
 
     // Writes once, where its link is open.
     fn step(&mut self) -> Went
-        ensures { ViewSteps L.counts L.left L.written L.is_shut self.old result self.new }
+        ensures { ViewSteps L.facts self.old result self.new }
     {
         if self.over {
             return Went::Waits;
@@ -123,7 +123,7 @@ impl<L: Link> View<L> {
 
     /// Makes a step, and counts it.
     pub(crate) fn go(&mut self, before: Counted) -> Counted
-        ensures { ViewMoves L.counts L.left L.written L.is_shut self.old before self.new result }
+        ensures { ViewMoves L.facts self.old before self.new result }
     {
         let went = self.step();
         counted_by(went, before)

@@ -53,7 +53,7 @@ impl<D: Entrance, N: Viewing, R: Wait + Copy> Model for Viewer<D, N, R> {
 
     ghost view = { λ v. record { doorway = v.doorway; views = v.views; limit = v.limit } };
 
-    ghost invariant = { λ v. IsViewer N.opening N.view.given (D.given v.doorway.door) v.views v.limit };
+    ghost invariant = { λ v. IsViewer N.opening N.view.given (D.facts v.doorway.door).given v.views v.limit };
 }
 
 fn turn_of(has_ended: bool, stepped: bool, answered: bool) -> Turn
@@ -74,7 +74,7 @@ impl<D: Entrance, N: Viewing, R: Wait + Copy> Viewer<D, N, R> {
     pub fn open(rt: R, alloc: Global, pass: Pass, door: D, views: u32) -> Result<Viewer<D, N, R>, D>
         requires opening { pass.opening ≡ N.opening }
         requires no_look { pass.asks ≡ [] }
-        requires door { record { counts = D.counts door; given = D.given door; opened_at = D.opened_at door }
+        requires door { record { counts = (D.facts door).counts; given = (D.facts door).given; opened_at = (D.facts door).opened_at }
             ≡ N.view }
         ensures viewer { IfOk result (IsOpened pass door views) }
         ensures door { IfErr result (λ back. back ≡ door) }
@@ -113,7 +113,7 @@ impl<D: Entrance, N: Viewing, R: Wait + Copy> Viewer<D, N, R> {
     // Asks the door once. Answers whether it gave a connection, ended or failed.
     fn ask_once(&mut self) -> bool
         requires { is_not_to_ask self.old ≡ false }
-        ensures { AsksOnce D.counts D.given D.Peer.counts D.Peer.left D.Peer.written D.Peer.is_shut
+        ensures { AsksOnce D.facts D.Peer.facts
             self.old result self.new }
     {
         let answer = self.doorway.ask();
@@ -122,7 +122,7 @@ impl<D: Entrance, N: Viewing, R: Wait + Copy> Viewer<D, N, R> {
 
     // Asks the door once, where it may be asked.
     fn ask(&mut self) -> bool
-        ensures asks { Asks D.counts D.given D.Peer.counts D.Peer.left D.Peer.written D.Peer.is_shut
+        ensures asks { Asks D.facts D.Peer.facts
             self.old result self.new }
         ensures limit { self.new.limit ≡ self.old.limit }
     {
@@ -134,7 +134,7 @@ impl<D: Entrance, N: Viewing, R: Wait + Copy> Viewer<D, N, R> {
 
     /// One turn: each open view writes once, and then the door is asked once, where it may be.
     pub fn turn(&mut self) -> Turn
-        ensures turned { ViewerTurned D.counts D.given D.Peer.counts D.Peer.left D.Peer.written D.Peer.is_shut
+        ensures turned { ViewerTurned D.facts D.Peer.facts
             self.old result self.new }
         ensures opening { opening_of N.view self.new.limit ≡ opening_of N.view self.old.limit }
         ensures ended { (result ≡ Turn.Done) ↔ IsTrue (has_ended self.new) }
@@ -152,8 +152,8 @@ impl<D: Entrance, N: Viewing, R: Wait + Copy> Viewer<D, N, R> {
         ensures no_memory { result.no_memory ≡ self.views.no_memory }
         ensures one_each { length self.views.pass.asks ≡ self.views.given }
         ensures asks { AllByRecursion IsViewAsk self.views.pass.asks }
-        ensures gave { D.given result.door ≡ given_after_all N.view.given self.views.given }
-        ensures since { IsSince N.view (D.counts result.door) (D.opened_at result.door) self.doorway.stopped
+        ensures gave { (D.facts result.door).given ≡ given_after_all N.view.given self.views.given }
+        ensures since { IsSince N.view (D.facts result.door).counts (D.facts result.door).opened_at self.doorway.stopped
             result.door_failed }
     {
         let Viewer {
@@ -182,7 +182,7 @@ impl<D: Entrance, N: Viewing, R: Wait + Copy> Role for Viewer<D, N, R> {
 
     ghost has_ended = { has_ended };
 
-    ghost turned = { ViewerTurned D.counts D.given D.Peer.counts D.Peer.left D.Peer.written D.Peer.is_shut };
+    ghost turned = { ViewerTurned D.facts D.Peer.facts };
 
     fn turn(&mut self) -> Turn {
         Viewer::turn(self)

@@ -45,9 +45,9 @@ impl<L: Link> Model for Views<L> {
 
 // A link that gets no text is shut.
 fn turn_away<L: Link>(link: L) -> L
-    ensures shut { IsTrue (L.is_shut result) }
-    ensures same { Keeps (L.written link) (L.written result) }
-    ensures reads_nothing { Keeps (L.left link) (L.left result) }
+    ensures shut { IsTrue (L.facts result).is_shut }
+    ensures same { Keeps (L.facts link).written (L.facts result).written }
+    ensures reads_nothing { Keeps (L.facts link).left (L.facts result).left }
 {
     let mut link = link;
     link.shut();
@@ -92,7 +92,7 @@ impl<L: Link> Views<L> {
 
     /// Each open view makes its step. Answers whether one did anything.
     pub(crate) fn step(&mut self) -> bool
-        ensures { StepsViews L.counts L.left L.written L.is_shut self.old result self.new }
+        ensures { StepsViews L.facts self.old result self.new }
     {
         let counted = self.list.step(Counted {
             whole: self.whole,
@@ -106,7 +106,7 @@ impl<L: Link> Views<L> {
     fn admit<R: Wait>(&mut self, rt: &R, alloc: Global, link: L)
         requires few { length self.old.list < VIEWS_OPEN }
         requires fits { self.old.given + 1 < 2 ^ 32 }
-        ensures { Admits L.counts L.left L.written L.is_shut self.old link self.new }
+        ensures { Admits L.facts self.old link self.new }
     {
         self.given += 1;
         match self.pass.text(rt, alloc) {
@@ -122,7 +122,7 @@ impl<L: Link> Views<L> {
     pub(crate) fn take<R: Wait>(&mut self, rt: &R, alloc: Global, answer: Accept<L>) -> bool
         requires few { length self.old.list < VIEWS_OPEN }
         requires fits { self.old.given + 1 < 2 ^ 32 }
-        ensures { Answers L.counts L.left L.written L.is_shut self.old answer result self.new }
+        ensures { Answers L.facts self.old answer result self.new }
     {
         match answer {
             Accept::Conn(link) => {

@@ -1,27 +1,7 @@
--- Elements that make their steps one after the other.
-use Rattle.std.proofs.Common.{◌≡◌, ℕ, zero, suc, ◌+◌, ◌<◌, Bool, true, false, if◌then◌else◌, ◌||◌, not, List, [], ◌∷◌, ◌++◌, length, take, drop, filter, get_or, set, refl, sym, ap, subst, ◌∙◌, arith, append_assoc}
-use Rattle.std.proofs.lemmas.List.{append-nil, drop_more, drop-set-lt, take_more_set}
+-- Elements of which all stay.
+use Rattle.std.proofs.Common.{◌≡◌, ℕ, ◌+◌, ◌<◌, Bool, true, false, if◌then◌else◌, ◌||◌, not, List, [], ◌∷◌, ◌++◌, length, take, filter, set, refl, sym, ap, subst, ◌∙◌}
+use Rattle.std.proofs.lemmas.List.{take_more_set}
 use Rattle.std.proofs.lemmas.List.Elements.{filter-append}
-use Rattle.mum_worker.specs.Along.{Along, EachAlong, SomeAlong}
-
--- one more of a list
-take_on : {A : Type 0} (xs : List A) (k : ℕ) (x : A) (rest : List A) → drop k xs ≡ x ∷ rest → (take (suc k) xs ≡ take k xs ++ x ∷ []) × (drop (suc k) xs ≡ rest)
-take_on [] zero x rest e = absurd (cc e)
-take_on [] (suc k) x rest e = absurd (cc e)
-take_on (y ∷ xs) zero x rest e = let heads : y ≡ x = cc e in let tails : xs ≡ rest = cc e in (ap (λ z. z ∷ []) heads, tails)
-take_on (y ∷ xs) (suc k) x rest e = let next = take_on xs k x rest e in (ap (λ l. y ∷ l) next.0, next.1)
-
--- what is left of a list that is not at its end
-some_left : {A : Type 0} (xs : List A) (k : ℕ) → k < length xs → (x : A) × (rest : List A) × (drop k xs ≡ x ∷ rest)
-some_left [] k within = absurd (omega (arith, within))
-some_left (x ∷ xs) zero within = (x, xs, refl)
-some_left (x ∷ xs) (suc k) within = some_left xs k (omega (arith, within))
-
-whole : {A : Type 0} (xs : List A) (k : ℕ) → k ≡ length xs → (take k xs ≡ xs) × (drop k xs ≡ [])
-whole [] zero e = (refl, refl)
-whole [] (suc k) e = (refl, refl)
-whole (x ∷ xs) zero e = absurd (omega (arith, e))
-whole (x ∷ xs) (suc k) e = let next = whole xs k (omega (arith, e)) in (ap (λ l. x ∷ l) next.0, next.1)
 
 neither : (a b : Bool) → (a || not b) ≡ false → (a ≡ false) × (b ≡ true)
 neither false true e = (refl, refl)
@@ -38,59 +18,3 @@ all_stay_on stays now k new gone gone_on within before is e =
     subst (λ l. filter stays l ≡ l) (sym (take_more_set now k new within))
     (filter-append stays (take k now) (new ∷ [])
     ∙ (ap (λ l. l ++ filter stays (new ∷ [])) (before none.0) ∙ ap (λ l. take k now ++ l) one))
-
-module _ {P C : Type 0} (step : P → C → P → C → Type 0) where
-  along_on : (olds mids : List P) (c m after : C) (old new : P)
-      → Along step olds c mids m → step old m new after
-      → Along step (olds ++ old ∷ []) c (mids ++ new ∷ []) after
-  along_on [] [] c m after old new along one = (after, subst (λ (x : C). step old x new after) along one, refl)
-  along_on (o ∷ olds) (n ∷ mids) c m after old new along one = (along.0, along.1, along_on olds mids along.0 m after old new along.2 one)
-  along_on [] (n ∷ mids) c m after old new along one = absurd along
-  along_on (o ∷ olds) [] c m after old new along one = absurd along
-
-  -- one more that makes its step where it lies
-  pub along_more : (olds now : List P) (c m after : C) (k : ℕ) (old new : P)
-      → k < length now → drop k now ≡ drop k olds → Along step (take k olds) c (take k now) m
-      → old ≡ get_or now k old → step old m new after
-      → Along step (take (k + 1) olds) c (take (k + 1) (set now k new)) after × (drop (k + 1) (set now k new) ≡ drop (k + 1) olds)
-  along_more olds now c m after k old new within same along is one =
-      let there : drop k olds ≡ old ∷ drop (k + 1) now = sym same ∙ (drop_more now k old within ∙ ap (λ x. x ∷ drop (k + 1) now) (sym is)) in
-      let on = take_on olds k old (drop (k + 1) now) there in
-      let next : k + 1 ≡ suc k = omega arith in
-      let each = along_on (take k olds) (take k now) c m after old new along one in
-      let mids = subst (λ (l : List P). Along step (take k olds ++ old ∷ []) c l after) (sym (take_more_set now k new within)) each in (
-        subst (λ (l : List P). Along step l c (take (k + 1) (set now k new)) after) (sym (ap (λ n. take n olds) next ∙ on.0)) mids,
-        drop-set-lt (k + 1) now k new (omega arith) ∙ sym (ap (λ n. drop n olds) next ∙ on.1),
-      )
-
-  module _ (stays : P → Bool) where
-    pub starts : (olds : List P) (c : C) → SomeAlong step stays olds c 0 olds c
-    starts olds c = record { stepped = []; along = refl; left = sym (append-nil olds) }
-
-    pub ends : (olds : List P) (c after : C) (k : ℕ) (now : List P) → k ≡ length olds → SomeAlong step stays olds c k now after → EachAlong step stays olds c now after
-    ends olds c after k now all s =
-        let e = whole olds k all in
-        record {
-          stepped = s.stepped;
-          along = subst (λ (l : List P). Along step l c s.stepped after) e.0 s.along;
-          left = s.left ∙ ap (λ l. l ++ filter stays s.stepped) e.1;
-        }
-
-    pub goes_on : (olds : List P) (c m last : C) (k k' : ℕ) (now rest after : List P) (old new : P)
-        → k < length olds → k' ≡ k + 1 → SomeAlong step stays olds c k now m → now ≡ old ∷ rest → step old m new last → after ≡ rest ++ filter stays (new ∷ [])
-        → SomeAlong step stays olds c k' after last
-    goes_on olds c m last k k' now rest after old new within next s is one put =
-        let some = some_left olds k within in
-        let split : some.0 ∷ (some.1 ++ filter stays s.stepped) ≡ old ∷ rest = sym (s.left ∙ ap (λ l. l ++ filter stays s.stepped) some.2) ∙ is in
-        let head : some.0 ≡ old = cc split in
-        let tail : some.1 ++ filter stays s.stepped ≡ rest = cc split in
-        let on = take_on olds k some.0 some.1 some.2 in
-        let k_is : k' ≡ suc k = omega (arith, next) in
-        let each = along_on (take k olds) s.stepped c m last old new s.along one in
-        rw k_is (record {
-          stepped = s.stepped ++ new ∷ [];
-          along = subst (λ (l : List P). Along step l c (s.stepped ++ new ∷ []) last) (sym (on.0 ∙ ap (λ x. take k olds ++ x ∷ []) head)) each;
-          left = (put ∙ ap (λ l. l ++ filter stays (new ∷ [])) (sym tail))
-              ∙ (append_assoc some.1 (filter stays s.stepped) (filter stays (new ∷ []))
-              ∙ (ap (λ l. some.1 ++ l) (sym (filter-append stays s.stepped (new ∷ []))) ∙ ap (λ l. l ++ filter stays (s.stepped ++ new ∷ [])) (sym on.1)));
-        })

@@ -1,24 +1,24 @@
 -- Whether a journal is kept, and the number of a worker, never change.
-use Rattle.std.proofs.Common.{◌≡◌, ℕ, Bool, List, [], ◌∷◌, Option, Some, None, refl, sym, ap, ◌∙◌, inl, inr}
+use Rattle.std.proofs.Common.{◌≡◌, ℕ, List, [], ◌∷◌, Option, Some, None, refl, ap, ◌∙◌, inl, inr}
 use Rattle.mum_base.specs.declared.number.Cause.{Cause}
 use Rattle.mum_base.specs.declared.number.SessionId.{SessionId}
+use Rattle.mum_crew.specs.Along.{Along}
 use Rattle.mum_crew.specs.declared.role.Turn.{Turn}
-use Rattle.mum_io.specs.Counts.{Counts}
+use Rattle.mum_io.specs.Link.{LinkFacts}
 use Rattle.mum_port.specs.Facts.{PortFacts}
 use Rattle.mum_port.specs.Handling.{Acts, HandlesKept, Routes}
 use Rattle.mum_port.specs.Steps.{Handles}
 use Rattle.mum_port.specs.declared.item.DeskItem.{DeskItem}
+use Rattle.mum_published.specs.Bell.{Rung, Answer, Comes, Lagging, NoMore}
 use Rattle.mum_published.specs.Facts.{Opening}
 use Rattle.mum_session.specs.Action.{action}
 use Rattle.mum_session.specs.Machine.{Machine, session_of}
 use Rattle.mum_session.specs.declared.action.Action.{Action}
 use Rattle.mum_session.specs.declared.action.Action.TheVariants.{Ask, Voice, Echo, Keep, Ignore}
-use Rattle.mum_worker.specs.Along.{Along}
-use Rattle.mum_worker.specs.Bell.{Ring, Answer, Comes, Lagging, NoMore}
 use Rattle.mum_worker.specs.Boxes.{BoxesFacts}
 use Rattle.mum_worker.specs.Facts.{WorkerFacts}
 use Rattle.mum_worker.specs.Hearing.{Hears, LagsWhereIts, TakesOrTurns}
-use Rattle.mum_worker.specs.Record.{RecordFacts, after_close, after_step}
+use Rattle.mum_worker.specs.Record.{RecordFacts, after_close}
 use Rattle.mum_worker.specs.Routing.{CommonFacts, RoutesPacket}
 use Rattle.mum_worker.specs.Stepping.{PortSteps, Shares}
 use Rattle.mum_worker.specs.Turning.{Turned}
@@ -58,25 +58,25 @@ routed_journal : (opening : Opening) (old : CommonFacts) (connection : ℕ) (spe
 routed_journal opening old connection speaker packet new (inl drops) = ap (λ (k : RecordFacts). k.journal) drops.none_kept
 routed_journal opening old connection speaker packet new (inr routes) = ap (λ (k : RecordFacts). k.journal) routes.entry
 
-module _ {L : Type 0} (counts : L → Counts) (left written : L → Option (List ℕ)) (is_shut : L → Bool) where
-  lagged_journal : (session : SessionId) (old : PortFacts L) (before : RecordFacts) (new : PortFacts L) (after : RecordFacts) → LagsWhereIts counts left written is_shut session old before new after → after.journal ≡ before.journal
+module _ {L : Type 0} (facts : L → LinkFacts) where
+  lagged_journal : (session : SessionId) (old : PortFacts L) (before : RecordFacts) (new : PortFacts L) (after : RecordFacts) → LagsWhereIts facts session old before new after → after.journal ≡ before.journal
   lagged_journal session old before new after (inl passes) = ap (λ (k : RecordFacts). k.journal) passes.kept_same
   lagged_journal session old before new after (inr lags) = ap (λ (k : RecordFacts). k.journal) lags.noted ∙ closed_journal old.machine.connection lags.closed before
 
-  lags_journal : (session : SessionId) (olds : List (PortFacts L)) (before : RecordFacts) (news : List (PortFacts L)) (after : RecordFacts) → Along (LagsWhereIts counts left written is_shut session) olds before news after → after.journal ≡ before.journal
+  lags_journal : (session : SessionId) (olds : List (PortFacts L)) (before : RecordFacts) (news : List (PortFacts L)) (after : RecordFacts) → Along (LagsWhereIts facts session) olds before news after → after.journal ≡ before.journal
   lags_journal session [] before [] after along = ap (λ (k : RecordFacts). k.journal) along
   lags_journal session (old ∷ olds) before (new ∷ news) after along = lags_journal session olds along.0 news after along.2 ∙ lagged_journal session old before new along.0 along.1
   lags_journal session [] before (new ∷ news) after along = absurd along
   lags_journal session (old ∷ olds) before [] after along = absurd along
 
-  stepped_journal : (opening : Opening) (boxes : BoxesFacts) (old : PortFacts L) (before : Shares) (new : PortFacts L) (after : Shares) → PortSteps counts left written is_shut opening boxes old before new after → after.common.kept.journal ≡ before.common.kept.journal
+  stepped_journal : (opening : Opening) (boxes : BoxesFacts) (old : PortFacts L) (before : Shares) (new : PortFacts L) (after : Shares) → PortSteps facts opening boxes old before new after → after.common.kept.journal ≡ before.common.kept.journal
   stepped_journal opening boxes old before new after steps =
       ap (λ (c : CommonFacts). c.kept.journal) steps.noted
       ∙ (closed_journal old.machine.connection steps.step.closed _
       ∙ handles_keep (RoutesPacket opening) (λ (v w : CommonFacts). w.kept.journal ≡ v.kept.journal) (λ v w e. ap (λ (c : CommonFacts). c.kept.journal) e)
       (λ v n s b w r. routed_journal opening v n s b w r) _ _ _ _ _ steps.chain.handles)
 
-  steps_journal : (opening : Opening) (boxes : BoxesFacts) (olds : List (PortFacts L)) (before : Shares) (news : List (PortFacts L)) (after : Shares) → Along (PortSteps counts left written is_shut opening boxes) olds before news after → after.common.kept.journal ≡ before.common.kept.journal
+  steps_journal : (opening : Opening) (boxes : BoxesFacts) (olds : List (PortFacts L)) (before : Shares) (news : List (PortFacts L)) (after : Shares) → Along (PortSteps facts opening boxes) olds before news after → after.common.kept.journal ≡ before.common.kept.journal
   steps_journal opening boxes [] before [] after along = ap (λ (s : Shares). s.common.kept.journal) along
   steps_journal opening boxes (old ∷ olds) before (new ∷ news) after along = steps_journal opening boxes olds along.0 news after along.2 ∙ stepped_journal opening boxes old before new along.0 along.1
   steps_journal opening boxes [] before (new ∷ news) after along = absurd along
@@ -91,7 +91,7 @@ module _ {L : Type 0} (counts : L → Counts) (left written : L → Option (List
     pub number : new.number ≡ old.number
     pub journal : new.common.kept.journal ≡ old.common.kept.journal
 
-  hears_same : (ring : Option (Ring L)) (old new : WorkerFacts L) → Hears counts left written is_shut ring old new → IsSameWorker old new
+  hears_same : (item : Option (Rung L)) (old new : WorkerFacts L) → Hears facts item old new → IsSameWorker old new
   hears_same None old new hears = record { number = ap (λ (w : WorkerFacts L). w.number) hears; journal = ap (λ (w : WorkerFacts L). w.common.kept.journal) hears }
   hears_same (Some (Answer reply)) old new hears = record {
     number = ap (λ (w : WorkerFacts L). w.number) hears.rest;
@@ -107,9 +107,9 @@ module _ {L : Type 0} (counts : L → Counts) (left written : L → Option (List
   }
   hears_same (Some NoMore) old new hears = record { number = ap (λ (w : WorkerFacts L). w.number) hears; journal = ap (λ (w : WorkerFacts L). w.common.kept.journal) hears }
 
-  pub turned_same : (opening : Opening) (old new : WorkerFacts L) (answer : Turn) → Turned counts left written is_shut opening old new answer → IsSameWorker old new
+  pub turned_same : (opening : Opening) (old new : WorkerFacts L) (answer : Turn) → Turned facts opening old new answer → IsSameWorker old new
   turned_same opening old new answer turned =
-      let heard = hears_same turned.hears.ring _ turned.between turned.hears.hears in
+      let heard = hears_same turned.hears.item _ turned.between turned.hears.hears in
       record {
         number = ap (λ (w : WorkerFacts L). w.number) turned.steps.rest ∙ heard.number;
         journal = steps_journal opening turned.between.boxes turned.between.ports _ turned.steps.steps.stepped _ turned.steps.steps.along ∙ heard.journal;

@@ -1,5 +1,5 @@
 -- Ports keep their passes at boxes that are the same, whatever passes were made of them.
-use Rattle.std.proofs.Common.{◌≡◌, ℕ, Bool, List, [], ◌∷◌, ◌++◌, filter, Option, Some, None, refl, sym, ap, subst, ◌∙◌, inl, inr}
+use Rattle.std.proofs.Common.{◌≡◌, ℕ, List, [], ◌∷◌, ◌++◌, filter, Option, Some, None, refl, sym, ap, subst, ◌∙◌, inl, inr}
 use Rattle.std.specs.Prelude.{slice_get}
 use Rattle.std.specs.List.{All}
 use Rattle.std.specs.Option.{option_map}
@@ -11,13 +11,13 @@ use Rattle.mum_base.specs.declared.number.Cause.{Cause}
 use Rattle.mum_base.specs.declared.number.SessionId.{SessionId}
 use Rattle.mum_base.specs.declared.reply.ReplyEnd.{ReplyEnd}
 use Rattle.mum_base.specs.declared.reply.ReplyEnd.TheVariants.{Joined, Decided, Rejected}
-use Rattle.mum_io.specs.Counts.{Counts}
+use Rattle.mum_crew.specs.Along.{Along, EachAlong}
+use Rattle.mum_io.specs.Link.{LinkFacts}
 use Rattle.mum_outbox.specs.Facts.{PassFacts, QueueFacts}
 use Rattle.mum_port.specs.Facts.{PortFacts, new_port}
 use Rattle.mum_port.specs.Replies.{Answers, Lags, passes_after}
 use Rattle.mum_port.specs.Taking.{IsPosted, IsVoiced}
 use Rattle.mum_port.specs.declared.passes.Passes.{Passes}
-use Rattle.mum_worker.specs.Along.{Along, EachAlong}
 use Rattle.mum_worker.specs.Boxes.{AreSameBoxes, BoxesFacts, ArePassesFor, queues}
 use Rattle.mum_worker.specs.Facts.{stays}
 use Rattle.mum_worker.specs.Hearing.{AnswersFirst, LagsWhereIts, TakesOrTurns}
@@ -84,22 +84,22 @@ module _ {L : Type 0} where
   pub owned_same : (boxes : BoxesFacts) (old new : PortFacts L) → new.passes ≡ old.passes → OwnsPasses boxes old → OwnsPasses boxes new
   owned_same boxes old new same is = owned boxes new (subst (HasPasses boxes) (sym same) (is.posted, is.voiced))
 
-module _ {L : Type 0} (counts : L → Counts) (left written : L → Option (List ℕ)) (is_shut : L → Bool) where
+module _ {L : Type 0} (facts : L → LinkFacts) where
   -- a port that takes a reply has the passes that it gives, or those that it had
   pub answers_owned : (boxes : BoxesFacts) (end : ReplyEnd) (wire : List ℕ) (given : Option Passes) (old : PortFacts L) (closed : Option Cause) (new : PortFacts L)
-      → ArePassesFor boxes end given → OwnsPasses boxes old → Answers counts left written is_shut end wire given old closed new → OwnsPasses boxes new
+      → ArePassesFor boxes end given → OwnsPasses boxes old → Answers facts end wire given old closed new → OwnsPasses boxes new
   answers_owned boxes end wire given old closed new is has (inl stays) = owned_same boxes old new (ap (λ (p : PortFacts L). p.passes) stays.same) has
   answers_owned boxes end wire given old closed new is has (inr (inl takes)) =
       owned boxes new (subst (HasPasses boxes) (sym (ap (λ (p : PortFacts L). p.passes) takes.rest)) (after_passes boxes end given old.passes is (has.posted, has.voiced)))
   answers_owned boxes end wire given old closed new is has (inr (inr closes)) = owned_same boxes old new (ap (λ (p : PortFacts L). p.passes) closes.closes.rest) has
 
   pub lags_owned : (boxes : BoxesFacts) (old : PortFacts L) (closed : Option Cause) (new : PortFacts L)
-      → OwnsPasses boxes old → Lags counts left written is_shut old closed new → OwnsPasses boxes new
+      → OwnsPasses boxes old → Lags facts old closed new → OwnsPasses boxes new
   lags_owned boxes old closed new has (inl stays) = owned_same boxes old new (ap (λ (p : PortFacts L). p.passes) stays.same) has
   lags_owned boxes old closed new has (inr closes) = owned_same boxes old new (ap (λ (p : PortFacts L). p.passes) closes.2.rest) has
 
   pub answers_all : (boxes : BoxesFacts) (connection : ℕ) (end : ReplyEnd) (wire : List ℕ) (given : Option Passes) (olds : List (PortFacts L)) (closed : Option Cause) (news : List (PortFacts L))
-      → ArePassesFor boxes end given → All (OwnsPasses boxes) olds → AnswersFirst counts left written is_shut connection end wire given olds closed news → All (OwnsPasses boxes) news
+      → ArePassesFor boxes end given → All (OwnsPasses boxes) olds → AnswersFirst facts connection end wire given olds closed news → All (OwnsPasses boxes) news
   answers_all boxes connection end wire given olds closed news is all (inl none) = All-same (OwnsPasses boxes) news olds none.same all
   answers_all boxes connection end wire given olds closed news is all (inr first) =
       let read = get_or_from_slice_get olds first.place first.old first.old first.there in
@@ -116,12 +116,12 @@ module _ {L : Type 0} (counts : L → Counts) (left written : L → Option (List
   takes_all boxes number connection link olds kept news after all (inr turns) = All-same (OwnsPasses boxes) news olds turns.ports_same all
 
   where_owned : (boxes : BoxesFacts) (session : SessionId) (old : PortFacts L) (before : RecordFacts) (new : PortFacts L) (after : RecordFacts)
-      → OwnsPasses boxes old → LagsWhereIts counts left written is_shut session old before new after → OwnsPasses boxes new
+      → OwnsPasses boxes old → LagsWhereIts facts session old before new after → OwnsPasses boxes new
   where_owned boxes session old before new after has (inl passes) = owned_same boxes old new (ap (λ (p : PortFacts L). p.passes) passes.same) has
   where_owned boxes session old before new after has (inr lags) = lags_owned boxes old lags.closed new has lags.lags
 
   along_owned : (boxes : BoxesFacts) (session : SessionId) (olds : List (PortFacts L)) (before : RecordFacts) (news : List (PortFacts L)) (after : RecordFacts)
-      → All (OwnsPasses boxes) olds → Along (LagsWhereIts counts left written is_shut session) olds before news after → All (OwnsPasses boxes) news
+      → All (OwnsPasses boxes) olds → Along (LagsWhereIts facts session) olds before news after → All (OwnsPasses boxes) news
   along_owned boxes session [] before [] after all along = All-nil (OwnsPasses boxes)
   along_owned boxes session (old ∷ olds) before (new ∷ news) after all along =
       All-cons (OwnsPasses boxes) new news
@@ -131,7 +131,7 @@ module _ {L : Type 0} (counts : L → Counts) (left written : L → Option (List
   along_owned boxes session (old ∷ olds) before [] after all along = absurd along
 
   pub lags_all : (boxes : BoxesFacts) (session : SessionId) (olds : List (PortFacts L)) (before : RecordFacts) (news : List (PortFacts L)) (after : RecordFacts)
-      → All (OwnsPasses boxes) olds → EachAlong (LagsWhereIts counts left written is_shut session) stays olds before news after → All (OwnsPasses boxes) news
+      → All (OwnsPasses boxes) olds → EachAlong (LagsWhereIts facts session) stays olds before news after → All (OwnsPasses boxes) news
   lags_all boxes session olds before news after all each =
       All-same (OwnsPasses boxes) news (filter stays each.stepped) each.left
       (All-filter stays (OwnsPasses boxes) each.stepped (along_owned boxes session olds before each.stepped after all each.along))

@@ -1,5 +1,5 @@
 -- A box of which a pass was made is the same box.
-use Rattle.std.proofs.Common.{◌≡◌, ℕ, zero, suc, List, [], ◌∷◌, get_or, refl, sym, ap, ◌∙◌}
+use Rattle.std.proofs.Common.{◌≡◌, ℕ, zero, suc, List, [], ◌∷◌, get_or, refl, ap, ◌∙◌}
 use Rattle.std.proofs.Math.ListN.{set}
 use Rattle.atomic_table.specs.Seated.{TableId}
 use Rattle.mum_outbox.specs.Facts.{QueueFacts}

@@ -1,5 +1,5 @@
 -- The boxes of all slots, from which ports take.
-use Rattle.std.specs.Prelude.{◌≡◌, ◌⊎◌, ℕ, List, map, slice_get, Option, Some, None}
+use Rattle.std.specs.Prelude.{◌≡◌, ◌⊎◌, List, map, slice_get, Option, Some, None}
 use Rattle.atomic_table.specs.Seated.{TableId}
 use Rattle.mum_base.specs.declared.number.Slot.{Slot}
 use Rattle.mum_base.specs.declared.reply.ReplyEnd.{ReplyEnd}

@@ -4,16 +4,16 @@ use Rattle.mum_base.specs.declared.number.Cause.{Cause}
 use Rattle.mum_base.specs.declared.number.SessionId.{SessionId}
 use Rattle.mum_base.specs.declared.number.TheConstants.{CONNECTION_LIMIT}
 use Rattle.mum_base.specs.declared.reply.ReplyEnd.{ReplyEnd}
-use Rattle.mum_io.specs.Counts.{Counts}
+use Rattle.mum_crew.specs.Along.{EachAlong}
+use Rattle.mum_io.specs.Link.{LinkFacts}
 use Rattle.mum_port.specs.Facts.{PortFacts, new_port}
 use Rattle.mum_port.specs.Replies.{Answers, Lags}
 use Rattle.mum_port.specs.declared.passes.Passes.{Passes}
+use Rattle.mum_published.specs.Bell.{Rung, Answer, Comes, Lagging, NoMore}
 use Rattle.mum_published.specs.Calls.{Learnt}
-use Rattle.mum_published.specs.Facts.{NoteFacts}
+use Rattle.mum_published.specs.Facts.{NoteFacts, ReplyFacts}
 use Rattle.mum_router.specs.Facts.{RouterFacts}
 use Rattle.mum_session.specs.Machine.{session_of}
-use Rattle.mum_worker.specs.Along.{EachAlong}
-use Rattle.mum_worker.specs.Bell.{ReplyFacts, Ring, Answer, Comes, Lagging, NoMore}
 use Rattle.mum_worker.specs.Boxes.{AreSameBoxes, BoxesFacts, ArePassesFor}
 use Rattle.mum_worker.specs.Facts.{WorkerFacts, is_of, stays}
 use Rattle.mum_worker.specs.Record.{RecordFacts, after_close, may_take_in, taking_in}
@@ -44,7 +44,7 @@ module _ {L : Type 0} where
   TakesOrTurns number connection link ports kept ports_after kept_after =
       TakesIn number connection link ports kept ports_after kept_after ⊎ TurnsAway ports kept ports_after kept_after
 
-module _ {L : Type 0} (counts : L → Counts) (left written : L → Option (List ℕ)) (is_shut : L → Bool) where
+module _ {L : Type 0} (facts : L → LinkFacts) where
   -- the first port of the connection takes a reply
   pub record FirstAnswers (connection : ℕ) (end : ReplyEnd) (wire : List ℕ) (passes : Option Passes) (olds : List (PortFacts L)) (closed : Option Cause) (news : List (PortFacts L)) : Type 0 where
     pub place : ℕ
@@ -52,7 +52,7 @@ module _ {L : Type 0} (counts : L → Counts) (left written : L → Option (List
     pub new : PortFacts L
     pub first : position (is_of connection) olds ≡ Some place
     pub there : slice_get olds place ≡ Some old
-    pub answers : Answers counts left written is_shut end wire passes old closed new
+    pub answers : Answers facts end wire passes old closed new
     pub others : news ≡ slice_set olds place new
 
   -- no port is of the connection, and the reply is dropped
@@ -69,7 +69,7 @@ module _ {L : Type 0} (counts : L → Counts) (left written : L → Option (List
   pub record LagsPort (session : SessionId) (old : PortFacts L) (before : RecordFacts) (new : PortFacts L) (after : RecordFacts) : Type 0 where
     pub its : session_of old.machine.stage ≡ Some session
     pub closed : Option Cause
-    pub lags : Lags counts left written is_shut old closed new
+    pub lags : Lags facts old closed new
     pub noted : after ≡ after_close old.machine.connection closed before
 
   -- a port of another session, or of none, stays as it is
@@ -109,13 +109,13 @@ module _ {L : Type 0} (counts : L → Counts) (left written : L → Option (List
     pub rest : new ≡ record old { common = new.common; ports = new.ports }
 
   -- what is made of an item
-  abbrev pub Heeds : Ring L → WorkerFacts L → WorkerFacts L → Type 0
+  abbrev pub Heeds : Rung L → WorkerFacts L → WorkerFacts L → Type 0
   Heeds (Answer reply) old new = HearsReply reply old new
   Heeds (Comes connection link) old new = HearsConnection connection link old new
   Heeds (Lagging session) old new = HearsLag session old new
   Heeds NoMore old new = new ≡ record old { ended = true }
 
   -- what is made of what the bell gave
-  abbrev pub Hears : Option (Ring L) → WorkerFacts L → WorkerFacts L → Type 0
+  abbrev pub Hears : Option (Rung L) → WorkerFacts L → WorkerFacts L → Type 0
   Hears None old new = new ≡ old
-  Hears (Some ring) old new = Heeds ring old new
+  Hears (Some item) old new = Heeds item old new

@@ -1,4 +1,3 @@
-pub mod Along
 pub mod Bell
 pub mod Boxes
 pub mod Facts

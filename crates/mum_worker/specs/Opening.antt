@@ -7,7 +7,6 @@ use Rattle.mum_outbox.specs.Calls.{IsNewPass}
 use Rattle.mum_outbox.specs.Facts.{PassFacts as BoxPassFacts}
 use Rattle.mum_outbox.specs.declared.parcel.VoiceParcel.{VoiceParcel}
 use Rattle.mum_published.specs.Facts.{Opening, PassFacts}
-use Rattle.mum_published.specs.declared.naming.Naming.{Ghosts}
 use Rattle.mum_route.specs.declared.hearer.Hearer.{Hearer}
 use Rattle.mum_router.specs.Offering.{Outs}
 use Rattle.mum_router.specs.Picking.{EntryStood, Picks}
@@ -28,10 +27,10 @@ out_queues outs = map (λ (out : BoxPassFacts VoiceParcel). out.queue) outs
 abbrev pub IsUnused : BoxPassFacts VoiceParcel → Type 0
 IsUnused out = (out.offered ≡ []) × (out.full ≡ 0)
 
-module _ {L N : Type 0} {naming : Ghosts N} where
+module _ {L N : Type 0} where
   -- it takes from the boxes and the bell that it was given, and puts into these voice boxes and onto this desk. It did
   -- none of that yet
-  pub record JoinsShared (shared : Shared L N naming) (worker : WorkerFacts L) : Type 0 where
+  pub record JoinsShared (shared : Shared L N) (worker : WorkerFacts L) : Type 0 where
     pub posts : queues worker.boxes.posts ≡ queues shared.posts.items
     pub voices : queues worker.boxes.voices ≡ queues shared.voice.items
     pub outs : out_queues worker.common.router.outs ≡ queues shared.voice.items

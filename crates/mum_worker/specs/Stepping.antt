@@ -1,6 +1,6 @@
 -- The steps of a worker's ports, one after the other.
-use Rattle.std.specs.Prelude.{◌≡◌, ◌||◌, ℕ, Bool, List, Option}
-use Rattle.mum_io.specs.Counts.{Counts}
+use Rattle.std.specs.Prelude.{◌≡◌, ◌||◌, Bool}
+use Rattle.mum_io.specs.Link.{LinkFacts}
 use Rattle.mum_outbox.specs.Facts.{PassFacts}
 use Rattle.mum_port.specs.Facts.{PortFacts}
 use Rattle.mum_port.specs.Steps.{PortChain}
@@ -23,11 +23,11 @@ pub record OwnsPasses {L : Type 0} (boxes : BoxesFacts) (port : PortFacts L) : T
   pub posted : IsPosted boxes.posts port.passes
   pub voiced : IsVoiced boxes.voices port.passes
 
-module _ {L : Type 0} (counts : L → Counts) (left written : L → Option (List ℕ)) (is_shut : L → Bool) (opening : Opening) (boxes : BoxesFacts) where
+module _ {L : Type 0} (facts : L → LinkFacts) (opening : Opening) (boxes : BoxesFacts) where
   -- a port makes its step, and what the step came to is noted
   pub record PortSteps (old : PortFacts L) (before : Shares) (new : PortFacts L) (after : Shares) : Type 0 where
     pub step : Step
     pub routed : CommonFacts
-    pub chain : PortChain counts left written is_shut (RoutesPacket opening) boxes.posts boxes.voices old before.desk before.common step new after.desk routed
+    pub chain : PortChain facts (RoutesPacket opening) boxes.posts boxes.voices old before.desk before.common step new after.desk routed
     pub noted : after.common ≡ record routed { kept = after_step old.machine.connection step routed.kept }
     pub worked : after.worked ≡ before.worked || step.worked

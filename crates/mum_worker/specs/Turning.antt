@@ -1,11 +1,12 @@
 -- A turn of a worker.
-use Rattle.std.specs.Prelude.{◌≡◌, ℕ, Bool, is_some, List, Option, if◌then◌else◌}
+use Rattle.std.specs.Prelude.{◌≡◌, Bool, is_some, Option, if◌then◌else◌}
+use Rattle.mum_crew.specs.Along.{EachAlong}
 use Rattle.mum_crew.specs.declared.role.Turn.{Turn}
 use Rattle.mum_crew.specs.declared.role.Turn.TheVariants.{Worked, Idle, Done}
-use Rattle.mum_io.specs.Counts.{Counts}
+use Rattle.mum_io.specs.Link.{LinkFacts}
+use Rattle.mum_published.specs.Bell.{Rung}
 use Rattle.mum_published.specs.Facts.{Opening}
-use Rattle.mum_worker.specs.Along.{EachAlong}
-use Rattle.mum_worker.specs.Bell.{BellFacts, Ring, TakesRing}
+use Rattle.mum_worker.specs.Bell.{BellFacts, TakesRung}
 use Rattle.mum_worker.specs.Facts.{WorkerFacts, is_done, stays}
 use Rattle.mum_worker.specs.Hearing.{Hears}
 use Rattle.mum_worker.specs.Stepping.{PortSteps, Shares}
@@ -19,18 +20,18 @@ module _ {L : Type 0} where
   abbrev pub shares_of : WorkerFacts L → Bool → Shares
   shares_of worker worked = record { common = worker.common; desk = worker.desk; worked = worked }
 
-module _ {L : Type 0} (counts : L → Counts) (left written : L → Option (List ℕ)) (is_shut : L → Bool) where
+module _ {L : Type 0} (facts : L → LinkFacts) where
   -- the bell is asked once, and what it gave is heeded
   pub record HearsBell (old : WorkerFacts L) (heard : Bool) (new : WorkerFacts L) : Type 0 where
-    pub ring : Option (Ring L)
+    pub item : Option (Rung L)
     pub bell : BellFacts L
-    pub takes : TakesRing old.bell ring bell
-    pub hears : Hears counts left written is_shut ring (record old { bell = bell }) new
-    pub heard_is : heard ≡ is_some ring
+    pub takes : TakesRung old.bell item bell
+    pub hears : Hears facts item (record old { bell = bell }) new
+    pub heard_is : heard ≡ is_some item
 
   -- each port makes its step, in their order, and those that are gone then are let go
   pub record StepsPorts (opening : Opening) (heard : Bool) (old : WorkerFacts L) (worked : Bool) (new : WorkerFacts L) : Type 0 where
-    pub steps : EachAlong (PortSteps counts left written is_shut opening old.boxes) stays
+    pub steps : EachAlong (PortSteps facts opening old.boxes) stays
         old.ports (shares_of old heard) new.ports (shares_of new worked)
     pub rest : new ≡ record old { common = new.common; desk = new.desk; ports = new.ports }
 

@@ -1,7 +1,9 @@
 //! The bell of a worker, as the worker takes from it.
 
 ghost use Rattle.std.specs.Prelude.{◌≡◌};
-ghost use Rattle.mum_worker.specs.Bell.{TakesRing, new_bell, ring_given};
+ghost use Rattle.std.specs.Option.{option_map};
+ghost use Rattle.mum_published.specs.Bell.{rung};
+ghost use Rattle.mum_worker.specs.Bell.{TakesRung, new_bell};
 
 use mum_outbox::{Bell, BoxPass};
 use mum_published::{BellItem, Naming};
@@ -38,7 +40,7 @@ impl<L: Drop, N: Naming> BellEnd<L, N> {
 
     /// Takes what is next, if anything is there.
     pub(crate) fn take<R: Wait>(&mut self, rt: &R) -> Option<BellItem<L, N>>
-        ensures { TakesRing self.old (ring_given result) self.new }
+        ensures { TakesRung self.old (option_map rung result) self.new }
     {
         self.bell.take_as(rt, &mut self.pass)
     }

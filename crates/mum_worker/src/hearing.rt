@@ -3,8 +3,7 @@
 ghost use Rattle.std.specs.Prelude.{◌≡◌};
 ghost use Rattle.std.specs.List.{All};
 ghost use Rattle.std.specs.Option.{ForSome};
-ghost use Rattle.mum_worker.specs.Along.{EachAlong};
-ghost use Rattle.mum_worker.specs.Bell.{reply_of};
+ghost use Rattle.mum_crew.specs.Along.{EachAlong};
 ghost use Rattle.mum_worker.specs.Facts.{stays};
 ghost use Rattle.mum_worker.specs.Hearing.{LagsWhereIts, LearnsGiven, TakesOrTurns, TakesReply};
 ghost use Rattle.mum_worker.specs.Record.{without_room};
@@ -40,7 +39,7 @@ pub(crate) fn take_reply<L: Link, N: Naming>(
     ports: &mut Ports<L>,
 )
     requires { All (OwnsPasses boxes.old) ports.old }
-    ensures takes { TakesReply L.counts L.left L.written L.is_shut (reply_of reply)
+    ensures takes { TakesReply L.facts reply
         router.old (without_room kept.old) boxes.old ports.old
         router.new (without_room kept.new) boxes.new ports.new }
     ensures owned { All (OwnsPasses boxes.new) ports.new }
@@ -85,7 +84,7 @@ pub(crate) fn take_lag<L: Link>(
     ports: &mut Ports<L>,
 )
     requires { All (OwnsPasses boxes.old) ports.old }
-    ensures lags { EachAlong (LagsWhereIts L.counts L.left L.written L.is_shut session) stays
+    ensures lags { EachAlong (LagsWhereIts L.facts session) stays
         ports.old (without_room kept.old) ports.new (without_room kept.new) }
     ensures owned { All (OwnsPasses boxes.new) ports.new }
     ensures boxes { boxes.new ≡ boxes.old }

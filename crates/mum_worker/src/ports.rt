@@ -3,7 +3,7 @@
 ghost use Rattle.std.specs.Prelude.{◌≡◌, ◌≤◌, ◌<◌, ◌||◌, ◌++◌, ◌∷◌, [], IfOk, IsTrue, false, filter, length, not, position};
 ghost use Rattle.std.specs.List.{All};
 ghost use Rattle.std.specs.VecDeque.{deque_capacity, deque_len};
-ghost use Rattle.mum_worker.specs.Along.{Along, EachAlong};
+ghost use Rattle.mum_crew.specs.Along.{Along, EachAlong};
 ghost use Rattle.mum_worker.specs.Facts.{is_empty, is_of, session_at, speaker_of, stays};
 ghost use Rattle.mum_worker.specs.Hearing.{AnswersFirst, LagsWhereIts, TakesOrTurns};
 ghost use Rattle.mum_worker.specs.Record.{without_room};
@@ -67,7 +67,7 @@ fn step_port<L: Link, G: Gate, N: Naming, R: Wait + Copy>(
 ) -> bool
     requires owned { OwnsPasses boxes.now port.old }
     requires buffer { 0 < length buf.old }
-    ensures steps { PortSteps L.counts L.left L.written L.is_shut N.opening boxes.now
+    ensures steps { PortSteps L.facts N.opening boxes.now
         port.old (record { common = bare common.old; desk = desk.old; worked = worked })
         port.new (record { common = bare common.new; desk = desk.new; worked = result }) }
     ensures owned { OwnsPasses boxes.now port.new }
@@ -108,7 +108,7 @@ fn step_all<L: Link, G: Gate, N: Naming, R: Wait + Copy>(
 ) -> (bool, bool)
     requires owned { All (OwnsPasses boxes.now) list.old.items }
     requires buffer { 0 < length buf.old }
-    ensures steps { Along (PortSteps L.counts L.left L.written L.is_shut N.opening boxes.now)
+    ensures steps { Along (PortSteps L.facts N.opening boxes.now)
         list.old.items (record { common = bare common.old; desk = desk.old; worked = heard })
         list.new.items (record { common = bare common.new; desk = desk.new; worked = result.0 }) }
     ensures staying { result.1 ≡ false → filter stays list.new.items ≡ list.new.items }
@@ -149,7 +149,7 @@ fn step_each<L: Link, G: Gate, N: Naming, R: Wait + Copy>(
 ) -> bool
     requires owned { All (OwnsPasses boxes.now) list.old.items }
     requires buffer { 0 < length buf.old }
-    ensures steps { EachAlong (PortSteps L.counts L.left L.written L.is_shut N.opening boxes.now) stays
+    ensures steps { EachAlong (PortSteps L.facts N.opening boxes.now) stays
         list.old.items (record { common = bare common.old; desk = desk.old; worked = heard })
         list.new.items (record { common = bare common.new; desk = desk.new; worked = result }) }
     ensures owned { All (OwnsPasses boxes.now) list.new.items }
@@ -165,7 +165,7 @@ fn step_each<L: Link, G: Gate, N: Naming, R: Wait + Copy>(
 
 // A link that is not taken in is shut.
 fn turned_away<L: Link>(link: L) -> L
-    ensures { IsTrue (L.is_shut result) }
+    ensures { IsTrue (L.facts result).is_shut }
 {
     let mut link = link;
     link.shut();
@@ -174,7 +174,7 @@ fn turned_away<L: Link>(link: L) -> L
 
 // Closes a port, where it is of this session and open.
 fn lag_port<L: Link>(port: &mut Port<L>, alloc: Global, kept: &mut Record, session: SessionId)
-    ensures { LagsWhereIts L.counts L.left L.written L.is_shut session port.old (without_room kept.old)
+    ensures { LagsWhereIts L.facts session port.old (without_room kept.old)
         port.new (without_room kept.new) }
 {
     let connection = port.connection();
@@ -194,7 +194,7 @@ fn lag_each<L: Link>(
     kept: &mut Record,
     session: SessionId,
 )
-    ensures lags { EachAlong (LagsWhereIts L.counts L.left L.written L.is_shut session) stays
+    ensures lags { EachAlong (LagsWhereIts L.facts session) stays
         list.old.items (without_room kept.old) list.new.items (without_room kept.new) }
     ensures capacity { deque_capacity list.new ≡ deque_capacity list.old }
 {
@@ -236,7 +236,7 @@ fn answer_first<L: Link>(
     wire: Octets,
     passes: Option<Passes>,
 ) -> Option<Cause>
-    ensures answers { AnswersFirst L.counts L.left L.written L.is_shut connection end wire passes
+    ensures answers { AnswersFirst L.facts connection end wire passes
         list.old.items result list.new.items }
     ensures capacity { deque_capacity list.new ≡ deque_capacity list.old }
 {
@@ -305,7 +305,7 @@ impl<L: Link> Ports<L> {
         wire: Octets,
         passes: Option<Passes>,
     ) -> Option<Cause>
-        ensures { AnswersFirst L.counts L.left L.written L.is_shut connection end wire passes
+        ensures { AnswersFirst L.facts connection end wire passes
             self.old result self.new }
     {
         answer_first(&mut self.list, alloc, connection, end, wire, passes)
@@ -313,7 +313,7 @@ impl<L: Link> Ports<L> {
 
     /// Closes each open port of a session.
     pub(crate) fn lag(&mut self, alloc: Global, kept: &mut Record, session: SessionId)
-        ensures { EachAlong (LagsWhereIts L.counts L.left L.written L.is_shut session) stays
+        ensures { EachAlong (LagsWhereIts L.facts session) stays
             self.old (without_room kept.old) self.new (without_room kept.new) }
     {
         lag_each(&mut self.list, alloc, kept, session);
@@ -332,7 +332,7 @@ impl<L: Link> Ports<L> {
     ) -> bool
         requires owned { All (OwnsPasses boxes.old) self.old }
         requires buffer { 0 < length buf.old }
-        ensures steps { EachAlong (PortSteps L.counts L.left L.written L.is_shut N.opening boxes.old) stays
+        ensures steps { EachAlong (PortSteps L.facts N.opening boxes.old) stays
             self.old (record { common = bare common.old; desk = desk.old; worked = heard })
             self.new (record { common = bare common.new; desk = desk.new; worked = result }) }
         ensures owned { All (OwnsPasses boxes.old) self.new }

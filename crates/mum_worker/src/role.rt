@@ -23,7 +23,7 @@ impl<L: Link, G: Gate, N: Naming, R: Wait + Copy> Role for Worker<L, G, N, R> {
 
     ghost has_ended = { is_done };
 
-    ghost turned = { WorkerTurned L.counts L.left L.written L.is_shut N.opening };
+    ghost turned = { WorkerTurned L.facts N.opening };
 
     fn turn(&mut self) -> Turn {
         Worker::turn(self)

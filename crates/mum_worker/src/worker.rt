@@ -2,12 +2,12 @@
 
 ghost use Rattle.std.specs.Prelude.{◌≡◌, [], IfOk, IsSome, length};
 ghost use Rattle.mum_base.specs.declared.number.TheConstants.{SLOTS};
+ghost use Rattle.mum_published.specs.Bell.{rung};
 ghost use Rattle.mum_record.specs.Journal.{Each, IsWritableEntry};
 ghost use Rattle.mum_router.specs.Offering.{copies_of, full_of};
 ghost use Rattle.mum_router.specs.Picking.{looks_of};
 ghost use Rattle.mum_state.specs.Proper.{IsProper};
 ghost use Rattle.mum_voice.specs.Packet.{IsPacket, plain_parts};
-ghost use Rattle.mum_worker.specs.Bell.{reply_of, ring_of};
 ghost use Rattle.mum_worker.specs.Facts.{speaker_of};
 ghost use Rattle.mum_worker.specs.Hearing.{Heeds, HearsConnection, HearsLag, HearsReply};
 ghost use Rattle.mum_worker.specs.Opening.{EntryStoodFor, HasOpened, JoinsShared, PicksFor, RoutesFor};
@@ -174,7 +174,7 @@ impl<L: Link, G: Gate, N: Naming, R: Wait + Copy> Worker<L, G, N, R> {
 
     // A reply: its note is learnt before its port goes on.
     fn heed_reply(&mut self, reply: Reply<N>)
-        ensures { HearsReply L.counts L.left L.written L.is_shut (reply_of reply) self.old self.new }
+        ensures { HearsReply L.facts reply self.old self.new }
     {
         take_reply(
             reply,
@@ -188,7 +188,7 @@ impl<L: Link, G: Gate, N: Naming, R: Wait + Copy> Worker<L, G, N, R> {
 
     // A connection that comes.
     fn heed_connection(&mut self, connection: u32, link: L)
-        ensures { HearsConnection L.counts L.left L.written L.is_shut connection link self.old self.new }
+        ensures { HearsConnection L.facts connection link self.old self.new }
     {
         take_connection(
             connection,
@@ -203,7 +203,7 @@ impl<L: Link, G: Gate, N: Naming, R: Wait + Copy> Worker<L, G, N, R> {
 
     // A session whose connection is to close.
     fn heed_lag(&mut self, session: SessionId)
-        ensures { HearsLag L.counts L.left L.written L.is_shut session self.old self.new }
+        ensures { HearsLag L.facts session self.old self.new }
     {
         take_lag(
             session,
@@ -216,7 +216,7 @@ impl<L: Link, G: Gate, N: Naming, R: Wait + Copy> Worker<L, G, N, R> {
 
     // What is made of an item of the bell.
     fn heed(&mut self, item: BellItem<L, N>)
-        ensures { Heeds L.counts L.left L.written L.is_shut (ring_of item) self.old self.new }
+        ensures { Heeds L.facts (rung item) self.old self.new }
     {
         match item {
             BellItem::Reply(reply) => self.heed_reply(reply),
@@ -228,7 +228,7 @@ impl<L: Link, G: Gate, N: Naming, R: Wait + Copy> Worker<L, G, N, R> {
 
     // Takes at most one item from the bell, and answers whether there was one.
     fn hear(&mut self) -> bool
-        ensures { HearsBell L.counts L.left L.written L.is_shut self.old result self.new }
+        ensures { HearsBell L.facts self.old result self.new }
     {
         let rt = self.rt;
         match self.bell.take(&rt) {
@@ -242,7 +242,7 @@ impl<L: Link, G: Gate, N: Naming, R: Wait + Copy> Worker<L, G, N, R> {
 
     // Each port makes its step.
     fn step(&mut self, heard: bool) -> bool
-        ensures { StepsPorts L.counts L.left L.written L.is_shut N.opening heard self.old result self.new }
+        ensures { StepsPorts L.facts N.opening heard self.old result self.new }
     {
         let rt = self.rt;
         let buffer = self.buffer.as_mut_slice();
@@ -260,7 +260,7 @@ impl<L: Link, G: Gate, N: Naming, R: Wait + Copy> Worker<L, G, N, R> {
     /// may try again. It answers `Done` where `Ended` was taken and no port is left, and else whether it did
     /// anything.
     pub fn turn(&mut self) -> Turn
-        ensures { Turned L.counts L.left L.written L.is_shut N.opening self.old self.new result }
+        ensures { Turned L.facts N.opening self.old self.new result }
     {
         let heard = self.hear();
         let worked = self.step(heard);

@@ -1,15 +1,16 @@
 -- What the answer of a turn shows.
 use Rattle.std.proofs.Common.{◌≡◌, ◌∙◌, ℕ, zero, suc, Bool, true, false, true≢false, ◌||◌, is_some, if◌then◌else◌, List, [], ◌∷◌, ◌++◌, Option, Some, None, refl, ap, sym, subst, inl, inr, ◌⊎◌, ⊎_elim}
 use Rattle.std.specs.List.{list_any}
+use Rattle.mum_crew.specs.Along.{Along}
 use Rattle.mum_crew.specs.Turns.{TurnsTo}
 use Rattle.mum_crew.specs.declared.role.Turn.{Turn}
 use Rattle.mum_crew.specs.declared.role.Turn.TheVariants.{Worked, Idle, Done}
-use Rattle.mum_io.specs.Counts.{Counts}
+use Rattle.mum_io.specs.Link.{LinkFacts}
 use Rattle.mum_port.specs.Facts.{PortFacts}
 use Rattle.mum_port.proofs.Turned.{did_turn}
+use Rattle.mum_published.specs.Bell.{Rung, Answer, Comes, Lagging, NoMore}
 use Rattle.mum_published.specs.Facts.{Opening}
-use Rattle.mum_worker.specs.Along.{Along}
-use Rattle.mum_worker.specs.Bell.{BellFacts, Ring, Answer, Comes, Lagging, NoMore, TakesRing}
+use Rattle.mum_worker.specs.Bell.{BellFacts, TakesRung}
 use Rattle.mum_worker.specs.Boxes.{BoxesFacts}
 use Rattle.mum_worker.specs.Facts.{WorkerFacts, is_done}
 use Rattle.mum_worker.specs.Hearing.{Hears}
@@ -43,44 +44,44 @@ done_says true worked is = refl
 done_says false true is = absurd (cc is)
 done_says false false is = absurd (cc is)
 
-module _ {L : Type 0} (counts : L → Counts) (left written : L → Option (List ℕ)) (is_shut : L → Bool) (opening : Opening) where
-  pub done_when : (old new : WorkerFacts L) (answer : Turn) → Turned counts left written is_shut opening old new answer → answer ≡ Done → is_done new ≡ true
+module _ {L : Type 0} (facts : L → LinkFacts) (opening : Opening) where
+  pub done_when : (old new : WorkerFacts L) (answer : Turn) → Turned facts opening old new answer → answer ≡ Done → is_done new ≡ true
   done_when old new answer turned is = done_says (is_done new) turned.worked (sym is ∙ turned.answer_is)
 
-  pub done_then : (old new : WorkerFacts L) (answer : Turn) → Turned counts left written is_shut opening old new answer → is_done new ≡ true → answer ≡ Done
+  pub done_then : (old new : WorkerFacts L) (answer : Turn) → Turned facts opening old new answer → is_done new ≡ true → answer ≡ Done
   done_then old new answer turned is = turned.answer_is ∙ ap (λ (b : Bool). if b then Done else (if turned.worked then Worked else Idle)) is
 
   -- ---- the bell
 
-  silent : (ring : Option (Ring L)) (heard : Bool) → heard ≡ is_some ring → heard ≡ false → ring ≡ None
+  silent : (item : Option (Rung L)) (heard : Bool) → heard ≡ is_some item → heard ≡ false → item ≡ None
   silent None heard is none = refl
-  silent (Some ring) heard is none = absurd (true≢false (sym is ∙ none))
+  silent (Some item) heard is none = absurd (true≢false (sym is ∙ none))
 
-  rung : (ring : Option (Ring L)) (heard : Bool) → heard ≡ is_some ring → heard ≡ true → (item : Ring L) × (ring ≡ Some item)
-  rung None heard is some = absurd (true≢false (sym some ∙ is))
-  rung (Some ring) heard is some = (ring, refl)
+  heard_one : (item : Option (Rung L)) (heard : Bool) → heard ≡ is_some item → heard ≡ true → (one : Rung L) × (item ≡ Some one)
+  heard_one None heard is some = absurd (true≢false (sym some ∙ is))
+  heard_one (Some item) heard is some = (item, refl)
 
-  hear_bell : (ring : Option (Ring L)) (old new : WorkerFacts L) → Hears counts left written is_shut ring old new → new.bell ≡ old.bell
+  hear_bell : (item : Option (Rung L)) (old new : WorkerFacts L) → Hears facts item old new → new.bell ≡ old.bell
   hear_bell None old new same = ap (λ (w : WorkerFacts L). w.bell) same
   hear_bell (Some (Answer reply)) old new hears = ap (λ (w : WorkerFacts L). w.bell) hears.rest
   hear_bell (Some (Comes connection link)) old new hears = ap (λ (w : WorkerFacts L). w.bell) hears.rest
   hear_bell (Some (Lagging session)) old new hears = ap (λ (w : WorkerFacts L). w.bell) hears.rest
   hear_bell (Some NoMore) old new same = ap (λ (w : WorkerFacts L). w.bell) same
 
-  bell_after : (old new : WorkerFacts L) (answer : Turn) (turned : Turned counts left written is_shut opening old new answer) → new.bell ≡ turned.hears.bell
+  bell_after : (old new : WorkerFacts L) (answer : Turn) (turned : Turned facts opening old new answer) → new.bell ≡ turned.hears.bell
   bell_after old new answer turned =
-      ap (λ (w : WorkerFacts L). w.bell) turned.steps.rest ∙ hear_bell turned.hears.ring (record old { bell = turned.hears.bell }) turned.between turned.hears.hears
+      ap (λ (w : WorkerFacts L). w.bell) turned.steps.rest ∙ hear_bell turned.hears.item (record old { bell = turned.hears.bell }) turned.between turned.hears.hears
 
   -- where the bell gave nothing, the ports step as they were
-  unheard : (old new : WorkerFacts L) (answer : Turn) (turned : Turned counts left written is_shut opening old new answer) → turned.heard ≡ false → (turned.hears.ring ≡ None) × (turned.between ≡ record old { bell = turned.hears.bell })
+  unheard : (old new : WorkerFacts L) (answer : Turn) (turned : Turned facts opening old new answer) → turned.heard ≡ false → (turned.hears.item ≡ None) × (turned.between ≡ record old { bell = turned.hears.bell })
   unheard old new answer turned none =
-      let no_ring = silent turned.hears.ring turned.heard turned.hears.heard_is none in
-      (no_ring, subst (λ (r : Option (Ring L)). Hears counts left written is_shut r (record old { bell = turned.hears.bell }) turned.between) no_ring turned.hears.hears)
+      let nothing = silent turned.hears.item turned.heard turned.hears.heard_is none in
+      (nothing, subst (λ (r : Option (Rung L)). Hears facts r (record old { bell = turned.hears.bell }) turned.between) nothing turned.hears.hears)
 
   -- ---- the ports
 
-  idle_along : (boxes : BoxesFacts) (olds : List (PortFacts L)) (before : Shares) (news : List (PortFacts L)) (after : Shares) → Along (PortSteps counts left written is_shut opening boxes) olds before news after
-      → after.worked ≡ false → (before.worked ≡ false) × Along (FindsNothing counts left written is_shut boxes) olds before.desk news after.desk
+  idle_along : (boxes : BoxesFacts) (olds : List (PortFacts L)) (before : Shares) (news : List (PortFacts L)) (after : Shares) → Along (PortSteps facts opening boxes) olds before news after
+      → after.worked ≡ false → (before.worked ≡ false) × Along (FindsNothing facts boxes) olds before.desk news after.desk
   idle_along boxes [] before [] after same none = (ap (λ (s : Shares). s.worked) (sym same) ∙ none, ap (λ (s : Shares). s.desk) same)
   idle_along boxes [] before (new ∷ news) after along none = absurd along
   idle_along boxes (old ∷ olds) before [] after along none = absurd along
@@ -90,8 +91,8 @@ module _ {L : Type 0} (counts : L → Counts) (left written : L → Option (List
       let turn = did_turn steps.chain in
       (both.0, (between.desk, (turn.0, turn.1.idle both.1), rest.1))
 
-  one_on : (boxes : BoxesFacts) (old : PortFacts L) (olds : List (PortFacts L)) (new : PortFacts L) (news : List (PortFacts L)) → StepWorked counts left written is_shut opening boxes olds news
-      → StepWorked counts left written is_shut opening boxes (old ∷ olds) (new ∷ news)
+  one_on : (boxes : BoxesFacts) (old : PortFacts L) (olds : List (PortFacts L)) (new : PortFacts L) (news : List (PortFacts L)) → StepWorked facts opening boxes olds news
+      → StepWorked facts opening boxes (old ∷ olds) (new ∷ news)
   one_on boxes old olds new news one = record {
     place = suc one.place;
     port = one.port;
@@ -106,8 +107,8 @@ module _ {L : Type 0} (counts : L → Counts) (left written : L → Option (List
     something = one.something;
   }
 
-  one_here : (boxes : BoxesFacts) (old : PortFacts L) (olds : List (PortFacts L)) (before : Shares) (new : PortFacts L) (news : List (PortFacts L)) (after : Shares) (steps : PortSteps counts left written is_shut opening boxes old before new after)
-      → steps.step.worked ≡ true → StepWorked counts left written is_shut opening boxes (old ∷ olds) (new ∷ news)
+  one_here : (boxes : BoxesFacts) (old : PortFacts L) (olds : List (PortFacts L)) (before : Shares) (new : PortFacts L) (news : List (PortFacts L)) (after : Shares) (steps : PortSteps facts opening boxes old before new after)
+      → steps.step.worked ≡ true → StepWorked facts opening boxes (old ∷ olds) (new ∷ news)
   one_here boxes old olds before new news after steps worked =
       let turn = did_turn steps.chain in record {
         place = zero;
@@ -133,8 +134,8 @@ module _ {L : Type 0} (counts : L → Counts) (left written : L → Option (List
         something = turn.1.worked worked;
       }
 
-  worked_along : (boxes : BoxesFacts) (olds : List (PortFacts L)) (before : Shares) (news : List (PortFacts L)) (after : Shares) → Along (PortSteps counts left written is_shut opening boxes) olds before news after
-      → after.worked ≡ true → (before.worked ≡ true) ⊎ StepWorked counts left written is_shut opening boxes olds news
+  worked_along : (boxes : BoxesFacts) (olds : List (PortFacts L)) (before : Shares) (news : List (PortFacts L)) (after : Shares) → Along (PortSteps facts opening boxes) olds before news after
+      → after.worked ≡ true → (before.worked ≡ true) ⊎ StepWorked facts opening boxes olds news
   worked_along boxes [] before [] after same worked = inl (ap (λ (s : Shares). s.worked) (sym same) ∙ worked)
   worked_along boxes [] before (new ∷ news) after along worked = absurd along
   worked_along boxes (old ∷ olds) before [] after along worked = absurd along
@@ -143,47 +144,47 @@ module _ {L : Type 0} (counts : L → Counts) (left written : L → Option (List
       (λ (was : between.worked ≡ true).
       ⊎_elim (λ (so : before.worked ≡ true). inl so) (λ (so : steps.step.worked ≡ true). inr (one_here boxes old olds before new news between steps so))
       (either before.worked steps.step.worked (sym steps.worked ∙ was)))
-      (λ (one : StepWorked counts left written is_shut opening boxes olds news). inr (one_on boxes old olds new news one))
+      (λ (one : StepWorked facts opening boxes olds news). inr (one_on boxes old olds new news one))
       (worked_along boxes olds between news after along worked)
 
   -- ---- the turn
 
-  pub nothing_to_do : (old new : WorkerFacts L) → Turned counts left written is_shut opening old new Idle → HasNothingToDo counts left written is_shut old new
+  pub nothing_to_do : (old new : WorkerFacts L) → Turned facts opening old new Idle → HasNothingToDo facts old new
   nothing_to_do old new turned =
       let says = idle_says (is_done new) turned.worked turned.answer_is in
       let idle = idle_along turned.between.boxes turned.between.ports (shares_of turned.between turned.heard) turned.steps.steps.stepped (shares_of new turned.worked) turned.steps.steps.along says.1 in
       let quiet = unheard old new Idle turned idle.0 in record {
-        bell = bell_after old new Idle turned ∙ subst (λ (r : Option (Ring L)). TakesRing old.bell r turned.hears.bell) quiet.0 turned.hears.takes;
+        bell = bell_after old new Idle turned ∙ subst (λ (r : Option (Rung L)). TakesRung old.bell r turned.hears.bell) quiet.0 turned.hears.takes;
         ports = record {
           stepped = turned.steps.steps.stepped;
-          along = subst (λ (w : WorkerFacts L). Along (FindsNothing counts left written is_shut w.boxes) w.ports w.desk turned.steps.steps.stepped new.desk) quiet.1 idle.1;
+          along = subst (λ (w : WorkerFacts L). Along (FindsNothing facts w.boxes) w.ports w.desk turned.steps.steps.stepped new.desk) quiet.1 idle.1;
           left = turned.steps.steps.left;
         };
         not_done = says.0;
       }
 
-  pub has_worked : (old new : WorkerFacts L) → Turned counts left written is_shut opening old new Worked → HasWorked counts left written is_shut opening old new
+  pub has_worked : (old new : WorkerFacts L) → Turned facts opening old new Worked → HasWorked facts opening old new
   has_worked old new turned = by turned.heard refl
     where
-      by : (heard : Bool) → turned.heard ≡ heard → HasWorked counts left written is_shut opening old new
+      by : (heard : Bool) → turned.heard ≡ heard → HasWorked facts opening old new
       by true is =
-          let item = rung turned.hears.ring turned.heard turned.hears.heard_is is in
+          let one = heard_one turned.hears.item turned.heard turned.hears.heard_is is in
           inl (record {
-            ring = item.0;
-            taken = bell_after old new Worked turned ∙ subst (λ (r : Option (Ring L)). TakesRing old.bell r turned.hears.bell) item.1 turned.hears.takes;
+            item = one.0;
+            taken = bell_after old new Worked turned ∙ subst (λ (r : Option (Rung L)). TakesRung old.bell r turned.hears.bell) one.1 turned.hears.takes;
           })
       by false is =
           let quiet = unheard old new Worked turned is in
           let stepped = turned.steps.steps.stepped in
           let says = worked_says (is_done new) turned.worked turned.answer_is in
-          let along = subst (λ (w : WorkerFacts L). Along (PortSteps counts left written is_shut opening w.boxes) w.ports (shares_of w turned.heard) stepped (shares_of new turned.worked)) quiet.1 turned.steps.steps.along in
-          let unheard_along = subst (λ (b : Bool). Along (PortSteps counts left written is_shut opening old.boxes) old.ports (shares_of old b) stepped (shares_of new turned.worked)) is along in
+          let along = subst (λ (w : WorkerFacts L). Along (PortSteps facts opening w.boxes) w.ports (shares_of w turned.heard) stepped (shares_of new turned.worked)) quiet.1 turned.steps.steps.along in
+          let unheard_along = subst (λ (b : Bool). Along (PortSteps facts opening old.boxes) old.ports (shares_of old b) stepped (shares_of new turned.worked)) is along in
           ⊎_elim (λ (so : false ≡ true). absurd (true≢false (sym so)))
-          (λ (one : StepWorked counts left written is_shut opening old.boxes old.ports stepped). inr (record {
-            bell = bell_after old new Worked turned ∙ subst (λ (r : Option (Ring L)). TakesRing old.bell r turned.hears.bell) quiet.0 turned.hears.takes;
+          (λ (one : StepWorked facts opening old.boxes old.ports stepped). inr (record {
+            bell = bell_after old new Worked turned ∙ subst (λ (r : Option (Rung L)). TakesRung old.bell r turned.hears.bell) quiet.0 turned.hears.takes;
             ports = record {
               stepped = stepped;
-              along = subst (λ (b : Bool). Along (PortSteps counts left written is_shut opening old.boxes) old.ports (shares_of old false) stepped (shares_of new b)) says unheard_along;
+              along = subst (λ (b : Bool). Along (PortSteps facts opening old.boxes) old.ports (shares_of old false) stepped (shares_of new b)) says unheard_along;
               left = turned.steps.steps.left;
             };
             one = one;
@@ -193,9 +194,9 @@ module _ {L : Type 0} (counts : L → Counts) (left written : L → Option (List
   -- ---- the last word of the bell
 
   -- whether what the bell gave says that no connection comes any more
-  abbrev ends_with : Option (Ring L) → Bool
+  abbrev ends_with : Option (Rung L) → Bool
   ends_with None = false
-  ends_with (Some ring) = is_no_more ring
+  ends_with (Some item) = is_no_more item
 
   or_none : (b : Bool) → b ≡ b || false
   or_none true = refl
@@ -205,38 +206,38 @@ module _ {L : Type 0} (counts : L → Counts) (left written : L → Option (List
   or_some true = refl
   or_some false = refl
 
-  any_last : (rings : List (Ring L)) (ring : Ring L) → list_any is_no_more (rings ++ ring ∷ []) ≡ list_any is_no_more rings || is_no_more ring
-  any_last [] ring = sym (or_none (is_no_more ring))
-  any_last (first ∷ rings) ring = by (is_no_more first) (any_last rings ring)
+  any_last : (items : List (Rung L)) (item : Rung L) → list_any is_no_more (items ++ item ∷ []) ≡ list_any is_no_more items || is_no_more item
+  any_last [] item = sym (or_none (is_no_more item))
+  any_last (first ∷ items) item = by (is_no_more first) (any_last items item)
     where
-      by : (b : Bool) → list_any is_no_more (rings ++ ring ∷ []) ≡ list_any is_no_more rings || is_no_more ring → b || list_any is_no_more (rings ++ ring ∷ []) ≡ (b || list_any is_no_more rings) || is_no_more ring
+      by : (b : Bool) → list_any is_no_more (items ++ item ∷ []) ≡ list_any is_no_more items || is_no_more item → b || list_any is_no_more (items ++ item ∷ []) ≡ (b || list_any is_no_more items) || is_no_more item
       by true rest = refl
       by false rest = rest
 
-  hear_ended : (ring : Option (Ring L)) (old new : WorkerFacts L) → Hears counts left written is_shut ring old new → new.ended ≡ old.ended || ends_with ring
+  hear_ended : (item : Option (Rung L)) (old new : WorkerFacts L) → Hears facts item old new → new.ended ≡ old.ended || ends_with item
   hear_ended None old new same = ap (λ (w : WorkerFacts L). w.ended) same ∙ or_none old.ended
   hear_ended (Some (Answer reply)) old new hears = ap (λ (w : WorkerFacts L). w.ended) hears.rest ∙ or_none old.ended
   hear_ended (Some (Comes connection link)) old new hears = ap (λ (w : WorkerFacts L). w.ended) hears.rest ∙ or_none old.ended
   hear_ended (Some (Lagging session)) old new hears = ap (λ (w : WorkerFacts L). w.ended) hears.rest ∙ or_none old.ended
   hear_ended (Some NoMore) old new same = ap (λ (w : WorkerFacts L). w.ended) same ∙ or_some old.ended
 
-  ring_ended : (ring : Option (Ring L)) (old new : BellFacts L) → TakesRing old ring new → list_any is_no_more new.taken ≡ list_any is_no_more old.taken || ends_with ring
-  ring_ended None old new takes = ap (λ (b : BellFacts L). list_any is_no_more b.taken) takes ∙ or_none (list_any is_no_more old.taken)
-  ring_ended (Some ring) old new takes = ap (λ (b : BellFacts L). list_any is_no_more b.taken) takes ∙ any_last old.taken ring
+  item_ended : (item : Option (Rung L)) (old new : BellFacts L) → TakesRung old item new → list_any is_no_more new.taken ≡ list_any is_no_more old.taken || ends_with item
+  item_ended None old new takes = ap (λ (b : BellFacts L). list_any is_no_more b.taken) takes ∙ or_none (list_any is_no_more old.taken)
+  item_ended (Some item) old new takes = ap (λ (b : BellFacts L). list_any is_no_more b.taken) takes ∙ any_last old.taken item
 
-  turn_ended : (old new : WorkerFacts L) (turn : Turn) → Turned counts left written is_shut opening old new turn → old.ended ≡ list_any is_no_more old.bell.taken → new.ended ≡ list_any is_no_more new.bell.taken
+  turn_ended : (old new : WorkerFacts L) (turn : Turn) → Turned facts opening old new turn → old.ended ≡ list_any is_no_more old.bell.taken → new.ended ≡ list_any is_no_more new.bell.taken
   turn_ended old new turn turned was =
       ap (λ (w : WorkerFacts L). w.ended) turned.steps.rest
-      ∙ (hear_ended turned.hears.ring (record old { bell = turned.hears.bell }) turned.between turned.hears.hears
-      ∙ (ap (λ (b : Bool). b || ends_with turned.hears.ring) was
-      ∙ (sym (ring_ended turned.hears.ring old.bell turned.hears.bell turned.hears.takes)
+      ∙ (hear_ended turned.hears.item (record old { bell = turned.hears.bell }) turned.between turned.hears.hears
+      ∙ (ap (λ (b : Bool). b || ends_with turned.hears.item) was
+      ∙ (sym (item_ended turned.hears.item old.bell turned.hears.bell turned.hears.takes)
       ∙ ap (λ (b : BellFacts L). list_any is_no_more b.taken) (sym (bell_after old new turn turned)))))
 
-  turns_ended : (old : WorkerFacts L) (turns : List Turn) (new : WorkerFacts L) → TurnsTo (WorkerTurned counts left written is_shut opening) old turns new → old.ended ≡ list_any is_no_more old.bell.taken → new.ended ≡ list_any is_no_more new.bell.taken
+  turns_ended : (old : WorkerFacts L) (turns : List Turn) (new : WorkerFacts L) → TurnsTo (WorkerTurned facts opening) old turns new → old.ended ≡ list_any is_no_more old.bell.taken → new.ended ≡ list_any is_no_more new.bell.taken
   turns_ended old [] new same was = subst (λ (w : WorkerFacts L). w.ended ≡ list_any is_no_more w.bell.taken) (sym same) was
   turns_ended old (turn ∷ turns) new (mid, turned, rest) was = turns_ended mid turns new rest (turn_ended old mid turn turned was)
 
   pub has_ended : (number : ℕ) (pass : _) (journal : Option ℕ) (opened : WorkerFacts L) (turns : List Turn) (worker : WorkerFacts L) → HasOpened number pass journal opened
-      → TurnsTo (WorkerTurned counts left written is_shut opening) opened turns worker → worker.ended ≡ list_any is_no_more worker.bell.taken
+      → TurnsTo (WorkerTurned facts opening) opened turns worker → worker.ended ≡ list_any is_no_more worker.bell.taken
   has_ended number pass journal opened turns worker begun all =
-      turns_ended opened turns worker all (begun.not_ended ∙ ap (λ (l : List (Ring L)). list_any is_no_more l) (sym begun.nothing_taken))
+      turns_ended opened turns worker all (begun.not_ended ∙ ap (λ (l : List (Rung L)). list_any is_no_more l) (sym begun.nothing_taken))

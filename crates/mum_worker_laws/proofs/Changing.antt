@@ -7,7 +7,7 @@ use Rattle.mum_base.specs.declared.number.Cause.{Cause}
 use Rattle.mum_base.specs.declared.number.SessionId.{SessionId}
 use Rattle.mum_base.specs.declared.reply.ReplyEnd.{ReplyEnd}
 use Rattle.mum_frame.specs.declared.frame.Frame.{Frame}
-use Rattle.mum_io.specs.Counts.{Counts}
+use Rattle.mum_io.specs.Link.{LinkFacts}
 use Rattle.mum_outbox.specs.Facts.{PassFacts}
 use Rattle.mum_port.specs.Did.{PortDid, action_of, desk_after_put, machine_after, port_after_put, waiting_after_put}
 use Rattle.mum_port.specs.Facts.{PortFacts, due_item}
@@ -20,9 +20,8 @@ use Rattle.mum_port.proofs.Closing.{and-left}
 use Rattle.mum_port.proofs.Idle.{and-right}
 use Rattle.mum_port.proofs.Course.{did_of}
 use Rattle.mum_port.proofs.Turned.{turned}
-use Rattle.mum_published.specs.Facts.{Opening}
+use Rattle.mum_published.specs.Facts.{Opening, ReplyFacts}
 use Rattle.mum_session.specs.Machine.{Machine}
-use Rattle.mum_worker.specs.Bell.{ReplyFacts}
 use Rattle.mum_worker.specs.Boxes.{BoxesFacts}
 use Rattle.mum_worker.specs.Facts.{is_of}
 use Rattle.mum_worker.specs.Hearing.{LagsWhereIts}
@@ -59,11 +58,11 @@ frames-append (stepped machine did ∷ events) more =
 frames-append (replied wire closed ∷ events) more = frames-append events more
 frames-append (lagged closed ∷ events) more = frames-append events more
 
-module _ {L V : Type 0} (counts : L → Counts) (left written : L → Option (List ℕ)) (is_shut : L → Bool) (routed : V → ℕ → SessionId → List ℕ → V → Type 0) where
-  lives_more : (old : PortFacts L) (events : List Event) (mid : PortFacts L) (event : Event) (new : PortFacts L) → Lives counts left written is_shut routed old events mid
-      → Happens counts left written is_shut routed mid event new → Lives counts left written is_shut routed old (events ++ event ∷ []) new
+module _ {L V : Type 0} (facts : L → LinkFacts) (routed : V → ℕ → SessionId → List ℕ → V → Type 0) where
+  lives_more : (old : PortFacts L) (events : List Event) (mid : PortFacts L) (event : Event) (new : PortFacts L) → Lives facts routed old events mid
+      → Happens facts routed mid event new → Lives facts routed old (events ++ event ∷ []) new
   lives_more old [] mid event new same happens =
-      (new, subst (λ (p : PortFacts L). Happens counts left written is_shut routed p event new) same happens, refl)
+      (new, subst (λ (p : PortFacts L). Happens facts routed p event new) same happens, refl)
   lives_more old (first ∷ events) mid event new (next, happened, lives) happens =
       (next, happened, lives_more next events mid event new lives happens)
 
@@ -92,11 +91,11 @@ module _ {L : Type 0} where
   abbrev pub Waits : ℕ → Life L → Type 0
   Waits connection life = life.first.machine.connection ≡ connection → IsTrue life.first.machine.awaits → Still connection life
 
-module _ {L : Type 0} (counts : L → Counts) (left written : L → Option (List ℕ)) (is_shut : L → Bool) (opening : Opening) where
+module _ {L : Type 0} (facts : L → LinkFacts) (opening : Opening) where
   -- a life goes on, with what was heard meanwhile, and what its port put on the desk
   pub record Changes (told : List Moment) (put : List DeskItem) (old new : Life L) : Type 0 where
     pub first : new.first ≡ old.first
-    pub lived : IsLife counts left written is_shut opening old → IsLife counts left written is_shut opening new
+    pub lived : IsLife facts opening old → IsLife facts opening new
     pub owned : IsOwn old → IsOwn new
     pub puts : put_by new ≡ put_by old ++ put
     pub its : IsOwn old → (connection : ℕ) (b : Bool) → (old.first.machine.connection == connection) ≡ b → items_of connection put ≡ cond b put []
@@ -143,7 +142,7 @@ module _ {L : Type 0} (counts : L → Counts) (left written : L → Option (List
   no_frame None never = refl
   no_frame (Some frame) never = absurd (never frame refl)
 
-  pub nothing_handled : (old : PortFacts L) (machine : Machine) (did : PortDid) (new : PortFacts L) → Steps counts left written is_shut (RoutesPacket opening) old machine did new → old.machine.awaits ≡ true → did.handled ≡ None
+  pub nothing_handled : (old : PortFacts L) (machine : Machine) (did : PortDid) (new : PortFacts L) → Steps facts (RoutesPacket opening) old machine did new → old.machine.awaits ≡ true → did.handled ≡ None
   nothing_handled old machine did new steps awaits =
       no_frame did.handled (λ f is.
       let free : not old.machine.awaits ≡ true = and-left (not old.machine.awaits) _ (and-right (is_live (port_after_put did.put old).stage) _ (steps.turn.handles.allowed f is)) in
@@ -152,7 +151,7 @@ module _ {L : Type 0} (counts : L → Counts) (left written : L → Option (List
   abbrev stepped_life : Life L → Machine → PortDid → PortFacts L → Life L
   stepped_life life machine did new = record { first = life.first; events = life.events ++ stepped machine did ∷ []; last = new }
 
-  still_step : (life : Life L) (machine : Machine) (did : PortDid) (new : PortFacts L) → Steps counts left written is_shut (RoutesPacket opening) life.last machine did new
+  still_step : (life : Life L) (machine : Machine) (did : PortDid) (new : PortFacts L) → Steps facts (RoutesPacket opening) life.last machine did new
       → (connection : ℕ) → Still connection life → Still connection (stepped_life life machine did new)
   still_step life machine did new steps connection still =
       let none = nothing_handled life.last machine did new steps still.awaits in
@@ -163,7 +162,7 @@ module _ {L : Type 0} (counts : L → Counts) (left written : L → Option (List
             ∙ (ap (λ (f : Option Frame). frames_handled life.events ++ and_frame f []) none ∙ (append-nil (frames_handled life.events) ∙ still.nothing));
       }
 
-  own_step : (life : Life L) (machine : Machine) (did : PortDid) (new : PortFacts L) → Steps counts left written is_shut (RoutesPacket opening) life.last machine did new → IsOwn life → IsOwn (stepped_life life machine did new)
+  own_step : (life : Life L) (machine : Machine) (did : PortDid) (new : PortFacts L) → Steps facts (RoutesPacket opening) life.last machine did new → IsOwn life → IsOwn (stepped_life life machine did new)
   own_step life machine did new steps own =
       let number : new.machine.connection ≡ life.last.machine.connection = ap (λ (m : Machine). m.connection) steps.turn.handles.machine ∙ connection-machine_after life.last.machine did.handled in record {
         number = number ∙ own.number;
@@ -172,7 +171,7 @@ module _ {L : Type 0} (counts : L → Counts) (left written : L → Option (List
             (asked-own life.last.machine did.handled (waiting_after_put did.put life.last.waiting) (put-own life.last.machine.connection did.put life.last.waiting own.waits) item (sym steps.turn.puts.waiting ∙ is));
       }
 
-  put_its : (life : Life L) (machine : Machine) (did : PortDid) (new : PortFacts L) → Steps counts left written is_shut (RoutesPacket opening) life.last machine did new → IsOwn life
+  put_its : (life : Life L) (machine : Machine) (did : PortDid) (new : PortFacts L) → Steps facts (RoutesPacket opening) life.last machine did new → IsOwn life
       → (connection : ℕ) (b : Bool) → (life.first.machine.connection == connection) ≡ b → items_of connection (and_item did.put []) ≡ cond b (and_item did.put []) []
   put_its life machine did new steps own connection b is =
       one_of did.put connection life.last.machine.connection b
@@ -184,11 +183,11 @@ module _ {L : Type 0} (counts : L → Counts) (left written : L → Option (List
   IsSaid told machine did =
       (connection : ℕ) → filter_map (routed_of connection) told ≡ cond (machine.connection == connection) (said_by machine (action_of machine did.handled)) []
 
-  changes_step : (told : List Moment) (life : Life L) (machine : Machine) (did : PortDid) (new : PortFacts L) → Steps counts left written is_shut (RoutesPacket opening) life.last machine did new
+  changes_step : (told : List Moment) (life : Life L) (machine : Machine) (did : PortDid) (new : PortFacts L) → Steps facts (RoutesPacket opening) life.last machine did new
       → IsSaid told machine did → Changes told (and_item did.put []) life (stepped_life life machine did new)
   changes_step told life machine did new steps said = record {
     first = refl;
-    lived = λ lives. lives_more counts left written is_shut (RoutesPacket opening) life.first life.events life.last (stepped machine did) new lives steps;
+    lived = λ lives. lives_more facts (RoutesPacket opening) life.first life.events life.last (stepped machine did) new lives steps;
     owned = own_step life machine did new steps;
     puts = items_put-append life.events (stepped machine did ∷ []);
     its = λ own connection b is. put_its life machine did new steps own connection b is;
@@ -202,10 +201,10 @@ module _ {L : Type 0} (counts : L → Counts) (left written : L → Option (List
     waits = λ connection spared waits of_it awaits. still_step life machine did new steps connection (waits of_it awaits);
   }
 
-  pub one_step : (boxes : BoxesFacts) (life : Life L) (old : PortFacts L) (before : Shares) (new : PortFacts L) (after : Shares) (steps : PortSteps counts left written is_shut opening boxes old before new after) → life.last ≡ old
-      → One (look_stepped opening counts left written is_shut boxes old before new after steps) life before.desk.offered new after.desk.offered
+  pub one_step : (boxes : BoxesFacts) (life : Life L) (old : PortFacts L) (before : Shares) (new : PortFacts L) (after : Shares) (steps : PortSteps facts opening boxes old before new after) → life.last ≡ old
+      → One (look_stepped opening facts boxes old before new after steps) life before.desk.offered new after.desk.offered
   one_step boxes life old before new after steps same =
-      let happened : Steps counts left written is_shut (RoutesPacket opening) old old.machine (did_of steps.chain) new = record {
+      let happened : Steps facts (RoutesPacket opening) old old.machine (did_of steps.chain) new = record {
         of_port = refl;
         posts = boxes.posts;
         voices = boxes.voices;
@@ -218,9 +217,9 @@ module _ {L : Type 0} (counts : L → Counts) (left written : L → Option (List
       } in record {
         put = and_item (did_of steps.chain).put [];
         now = stepped_life life old.machine (did_of steps.chain) new;
-        changes = changes_step (look_stepped opening counts left written is_shut boxes old before new after steps) life old.machine (did_of steps.chain) new
-            (subst (λ (p : PortFacts L). Steps counts left written is_shut (RoutesPacket opening) p old.machine (did_of steps.chain) new) (sym same) happened)
-            (λ connection. step_said opening connection counts left written is_shut boxes old before new after steps);
+        changes = changes_step (look_stepped opening facts boxes old before new after steps) life old.machine (did_of steps.chain) new
+            (subst (λ (p : PortFacts L). Steps facts (RoutesPacket opening) p old.machine (did_of steps.chain) new) (sym same) happened)
+            (λ connection. step_said opening connection facts boxes old before new after steps);
         last_is = refl;
         desk = offered_more (did_of steps.chain).put (due_item old) before.desk after.desk (turned steps.chain).puts.pass;
       }
@@ -239,7 +238,7 @@ module _ {L : Type 0} (counts : L → Counts) (left written : L → Option (List
   }
 
   pub place_answered : (end : ReplyEnd) (wire : List ℕ) (passes : Option Passes) (old : PortFacts L) (closed : Option Cause) (new : PortFacts L)
-      → Answers counts left written is_shut end wire passes old closed new → KeepsPlace old new
+      → Answers facts end wire passes old closed new → KeepsPlace old new
   place_answered end wire passes old closed new (inl stays) = same_place old new stays.same
   place_answered end wire passes old closed new (inr (inl takes)) = record {
     number = ap (λ (p : PortFacts L). p.machine.connection) takes.rest;
@@ -250,14 +249,14 @@ module _ {L : Type 0} (counts : L → Counts) (left written : L → Option (List
     waiting = ap (λ (p : PortFacts L). p.waiting) closes.closes.rest;
   }
 
-  pub place_lagged : (old : PortFacts L) (closed : Option Cause) (new : PortFacts L) → Lags counts left written is_shut old closed new → KeepsPlace old new
+  pub place_lagged : (old : PortFacts L) (closed : Option Cause) (new : PortFacts L) → Lags facts old closed new → KeepsPlace old new
   place_lagged old closed new (inl stays) = same_place old new stays.same
   place_lagged old closed new (inr lags) = record {
     number = ap (λ (p : PortFacts L). p.machine.connection) lags.2.rest;
     waiting = ap (λ (p : PortFacts L). p.waiting) lags.2.rest;
   }
 
-  pub awaits_lagged : (old : PortFacts L) (closed : Option Cause) (new : PortFacts L) → Lags counts left written is_shut old closed new → new.machine.awaits ≡ old.machine.awaits
+  pub awaits_lagged : (old : PortFacts L) (closed : Option Cause) (new : PortFacts L) → Lags facts old closed new → new.machine.awaits ≡ old.machine.awaits
   awaits_lagged old closed new (inl stays) = ap (λ (p : PortFacts L). p.machine.awaits) stays.same
   awaits_lagged old closed new (inr lags) = ap (λ (p : PortFacts L). p.machine.awaits) lags.2.rest
 
@@ -271,14 +270,14 @@ module _ {L : Type 0} (counts : L → Counts) (left written : L → Option (List
   }
 
   pub one_reply : (reply : ReplyFacts) (passes : Option Passes) (closed : Option Cause) (life : Life L) (new : PortFacts L) → is_of reply.connection life.last ≡ true
-      → Answers counts left written is_shut reply.end reply.wire passes life.last closed new → One (Told reply ∷ []) life [] new []
+      → Answers facts reply.end reply.wire passes life.last closed new → One (Told reply ∷ []) life [] new []
   one_reply reply passes closed life new its answers =
       let place = place_answered reply.end reply.wire passes life.last closed new answers in record {
         put = [];
         now = event_life life (replied reply.wire closed) new;
         changes = record {
           first = refl;
-          lived = λ lives. lives_more counts left written is_shut (RoutesPacket opening) life.first life.events life.last (replied reply.wire closed) new lives (reply.end, passes, answers);
+          lived = λ lives. lives_more facts (RoutesPacket opening) life.first life.events life.last (replied reply.wire closed) new lives (reply.end, passes, answers);
           owned = own_place life (replied reply.wire closed) new place;
           puts = items_put-append life.events (replied reply.wire closed ∷ []);
           its = λ own connection b is. nothing_either b;
@@ -293,14 +292,14 @@ module _ {L : Type 0} (counts : L → Counts) (left written : L → Option (List
         desk = refl;
       }
 
-  one_lagged : (closed : Option Cause) (life : Life L) (new : PortFacts L) → Lags counts left written is_shut life.last closed new → One [] life [] new []
+  one_lagged : (closed : Option Cause) (life : Life L) (new : PortFacts L) → Lags facts life.last closed new → One [] life [] new []
   one_lagged closed life new lags =
       let place = place_lagged life.last closed new lags in record {
         put = [];
         now = event_life life (lagged closed) new;
         changes = record {
           first = refl;
-          lived = λ lives. lives_more counts left written is_shut (RoutesPacket opening) life.first life.events life.last (lagged closed) new lives lags;
+          lived = λ lives. lives_more facts (RoutesPacket opening) life.first life.events life.last (lagged closed) new lives lags;
           owned = own_place life (lagged closed) new place;
           puts = items_put-append life.events (lagged closed ∷ []);
           its = λ own connection b is. nothing_either b;
@@ -318,7 +317,7 @@ module _ {L : Type 0} (counts : L → Counts) (left written : L → Option (List
         desk = refl;
       }
 
-  pub one_lag : (session : SessionId) (life : Life L) (old : PortFacts L) (before : RecordFacts) (new : PortFacts L) (after : RecordFacts) → LagsWhereIts counts left written is_shut session old before new after
+  pub one_lag : (session : SessionId) (life : Life L) (old : PortFacts L) (before : RecordFacts) (new : PortFacts L) (after : RecordFacts) → LagsWhereIts facts session old before new after
       → life.last ≡ old → One [] life [] new []
   one_lag session life old before new after (inl passes) same = record {
     put = [];
@@ -328,4 +327,4 @@ module _ {L : Type 0} (counts : L → Counts) (left written : L → Option (List
     desk = refl;
   }
   one_lag session life old before new after (inr lags) same =
-      one_lagged lags.closed life new (subst (λ (p : PortFacts L). Lags counts left written is_shut p lags.closed new) (sym same) lags.lags)
+      one_lagged lags.closed life new (subst (λ (p : PortFacts L). Lags facts p lags.closed new) (sym same) lags.lags)

@@ -8,9 +8,10 @@ use Rattle.mum_base.specs.declared.number.SessionId.{SessionId}
 use Rattle.mum_base.specs.declared.number.TheConstants.{CONNECTION_LIMIT}
 use Rattle.mum_base.specs.declared.reply.ReplyEnd.{ReplyEnd}
 use Rattle.mum_base.specs.declared.reply.ReplyEnd.TheVariants as ends
+use Rattle.mum_crew.specs.Along.{Along}
 use Rattle.mum_crew.specs.Turns.{TurnsTo}
 use Rattle.mum_crew.specs.declared.role.Turn.{Turn}
-use Rattle.mum_io.specs.Counts.{Counts}
+use Rattle.mum_io.specs.Link.{LinkFacts}
 use Rattle.mum_outbox.specs.declared.rule.TheConstants.{LAST}
 use Rattle.mum_port.specs.Did.{PortDid, action_of, stage_kept}
 use Rattle.mum_port.specs.Facts.{PortFacts, new_port}
@@ -26,14 +27,13 @@ use Rattle.mum_port.proofs.BoxParts.{taking-is}
 use Rattle.mum_port.proofs.Course.{did_of, stage_once_put-closed}
 use Rattle.mum_port.proofs.Idle.{and-right}
 use Rattle.mum_port.proofs.Turned.{turned}
+use Rattle.mum_published.specs.Bell.{Rung, Answer, Comes, Lagging, NoMore}
 use Rattle.mum_published.specs.Facts.{Opening}
 use Rattle.mum_record.specs.declared.journal.WorkerEntry.{WorkerEntry}
 use Rattle.mum_record.specs.declared.journal.WorkerEntry.TheVariants as entries
 use Rattle.mum_session.specs.Machine.{Machine, answered}
 use Rattle.mum_session.specs.declared.action.Action.{Action}
 use Rattle.mum_session.specs.declared.action.Action.TheVariants.{Ask, Voice, Echo, Keep, Ignore}
-use Rattle.mum_worker.specs.Along.{Along}
-use Rattle.mum_worker.specs.Bell.{Ring, Answer, Comes, Lagging, NoMore}
 use Rattle.mum_worker.specs.Boxes.{BoxesFacts}
 use Rattle.mum_worker.specs.Facts.{WorkerFacts, is_of, stays}
 use Rattle.mum_worker.specs.Hearing.{AnswersFirst, Hears, LagsWhereIts, TakesOrTurns}
@@ -285,10 +285,10 @@ module _ {L : Type 0} where
           let step = goes.counted test in
           omega (arith, more, before, after_it, same_entries, entry, step)
 
-module _ {L : Type 0} (counts : L → Counts) (left written : L → Option (List ℕ)) (is_shut : L → Bool) (opening : Opening) where
+module _ {L : Type 0} (facts : L → LinkFacts) (opening : Opening) where
   -- ---- the steps of the ports
 
-  goes_settled : (old : PortFacts L) (did : PortDid) (new : PortFacts L) (closed : Option Cause) → new.machine.connection ≡ old.machine.connection → LooksWhereItMay old did new → Settled counts left written is_shut old did new closed → Goes closed old new
+  goes_settled : (old : PortFacts L) (did : PortDid) (new : PortFacts L) (closed : Option Cause) → new.machine.connection ≡ old.machine.connection → LooksWhereItMay old did new → Settled facts old did new closed → Goes closed old new
   goes_settled old did new None same looks stays_so = goes_on old new same (ap (λ (s : Stage). is_closed s) stays_so.stage ∙ kept_open old did new looks)
   goes_settled old did new (Some cause) same looks closes = goes_off old new cause same closes.was_open (ap (λ (s : Stage). is_closed s) closes.stage)
 
@@ -303,7 +303,7 @@ module _ {L : Type 0} (counts : L → Counts) (left written : L → Option (List
     entries = λ test. second.entries test ∙ first.entries test;
   }
 
-  steps_keep : (boxes : BoxesFacts) (olds : List (PortFacts L)) (before : Shares) (news : List (PortFacts L)) (after : Shares) (rest : ℕ) → Along (PortSteps counts left written is_shut opening boxes) olds before news after → Balance before.common.kept olds rest
+  steps_keep : (boxes : BoxesFacts) (olds : List (PortFacts L)) (before : Shares) (news : List (PortFacts L)) (after : Shares) (rest : ℕ) → Along (PortSteps facts opening boxes) olds before news after → Balance before.common.kept olds rest
       → Keeps none_taken before.common.kept olds after.common.kept news rest
   steps_keep boxes [] before [] after rest same balance = record {
     balance = subst (λ (s : Shares). Balance {L = L} s.common.kept [] rest) (sym same) balance;
@@ -325,7 +325,7 @@ module _ {L : Type 0} (counts : L → Counts) (left written : L → Option (List
 
   -- ---- the bell
 
-  goes_lagged : (old : PortFacts L) (closed : Option Cause) (new : PortFacts L) → Lags counts left written is_shut old closed new → Goes closed old new
+  goes_lagged : (old : PortFacts L) (closed : Option Cause) (new : PortFacts L) → Lags facts old closed new → Goes closed old new
   goes_lagged old closed new (inl same) =
       subst (λ (c : Option Cause). Goes c old new) (sym same.so) (goes_on old new (ap (λ (p : PortFacts L). p.machine.connection) same.same) (ap (λ (p : PortFacts L). is_closed p.stage) same.same))
   goes_lagged old closed new (inr closes) =
@@ -337,7 +337,7 @@ module _ {L : Type 0} (counts : L → Counts) (left written : L → Option (List
   answered_number ends.Decided machine = refl
   answered_number ends.Rejected machine = refl
 
-  goes_answered : (end : ReplyEnd) (wire : List ℕ) (passes : Option Passes) (old : PortFacts L) (closed : Option Cause) (new : PortFacts L) → Answers counts left written is_shut end wire passes old closed new → Goes closed old new
+  goes_answered : (end : ReplyEnd) (wire : List ℕ) (passes : Option Passes) (old : PortFacts L) (closed : Option Cause) (new : PortFacts L) → Answers facts end wire passes old closed new → Goes closed old new
   goes_answered end wire passes old closed new (inl same) =
       subst (λ (c : Option Cause). Goes c old new) (sym same.so) (goes_on old new (ap (λ (p : PortFacts L). p.machine.connection) same.same) (ap (λ (p : PortFacts L). is_closed p.stage) same.same))
   goes_answered end wire passes old closed new (inr (inl takes)) =
@@ -351,7 +351,7 @@ module _ {L : Type 0} (counts : L → Counts) (left written : L → Option (List
   same_here : (kept : RecordFacts) → Same kept kept
   same_here kept = record { journal = refl; left = refl; owed = refl; entries = λ test. refl }
 
-  lags_keep : (session : SessionId) (olds : List (PortFacts L)) (before : RecordFacts) (news : List (PortFacts L)) (after : RecordFacts) (rest : ℕ) → Along (LagsWhereIts counts left written is_shut session) olds before news after → Balance before olds rest
+  lags_keep : (session : SessionId) (olds : List (PortFacts L)) (before : RecordFacts) (news : List (PortFacts L)) (after : RecordFacts) (rest : ℕ) → Along (LagsWhereIts facts session) olds before news after → Balance before olds rest
       → Keeps none_taken before olds after news rest
   lags_keep session [] before [] after rest same balance = record {
     balance = subst (λ (k : RecordFacts). Balance {L = L} k [] rest) (sym same) balance;
@@ -388,7 +388,7 @@ module _ {L : Type 0} (counts : L → Counts) (left written : L → Option (List
 
   -- a reply
   reply_keeps : (connection : ℕ) (end : ReplyEnd) (wire : List ℕ) (passes : Option Passes) (olds : List (PortFacts L)) (closed : Option Cause) (news : List (PortFacts L)) (kept after : RecordFacts)
-      → AnswersFirst counts left written is_shut connection end wire passes olds closed news → after ≡ after_close connection closed kept → Balance kept olds 0 → Keeps none_taken kept olds after news 0
+      → AnswersFirst facts connection end wire passes olds closed news → after ≡ after_close connection closed kept → Balance kept olds 0 → Keeps none_taken kept olds after news 0
   reply_keeps connection end wire passes olds closed news kept after (inl none) noted balance =
       let same : after ≡ kept = noted ∙ ap (λ (c : Option Cause). after_close connection c kept) none.closed_none in record {
         balance = record {
@@ -407,7 +407,7 @@ module _ {L : Type 0} (counts : L → Counts) (left written : L → Option (List
       }
   reply_keeps connection end wire passes olds closed news kept after (inr first) noted balance =
       let goes = goes_answered end wire passes first.old closed first.new first.answers in
-      let its : first.old.machine.connection ≡ connection = eqb-true first.old.machine.connection connection (first_is_of counts left written is_shut opening connection olds first.place first.old first.first first.there) in
+      let its : first.old.machine.connection ≡ connection = eqb-true first.old.machine.connection connection (first_is_of facts opening connection olds first.place first.old first.first first.there) in
       let set = changed any olds first.place first.old first.new first.there in
       let owed = balance.owed in
       let step = goes.counted any in
@@ -487,8 +487,8 @@ module _ {L : Type 0} (counts : L → Counts) (left written : L → Option (List
   nothing_keeps kept ports balance = record { balance = balance; entries = λ test. omega arith }
 
   -- what the bell gave
-  hears_keep : (ring : Option (Ring L)) (old new : WorkerFacts L) (hears : Hears counts left written is_shut ring old new) → Balance old.common.kept old.ports 0
-      → Keeps (λ test. count (is_open_one test) (taken_in counts left written is_shut ring old new hears)) old.common.kept old.ports new.common.kept new.ports 0
+  hears_keep : (item : Option (Rung L)) (old new : WorkerFacts L) (hears : Hears facts item old new) → Balance old.common.kept old.ports 0
+      → Keeps (λ test. count (is_open_one test) (taken_in facts item old new hears)) old.common.kept old.ports new.common.kept new.ports 0
   hears_keep None old new same balance =
       subst (λ (w : WorkerFacts L). Keeps none_taken old.common.kept old.ports w.common.kept w.ports 0) (sym same) (nothing_keeps old.common.kept old.ports balance)
   hears_keep (Some (Answer reply)) old new hears balance =
@@ -503,12 +503,12 @@ module _ {L : Type 0} (counts : L → Counts) (left written : L → Option (List
 
   -- ---- turns
 
-  turn_keeps : (old new : WorkerFacts L) (answer : Turn) (turned_so : Turned counts left written is_shut opening old new answer) → Balance old.common.kept old.ports 0
-      → Keeps (λ test. count (is_open_one test) (taken_in counts left written is_shut turned_so.hears.ring (record old { bell = turned_so.hears.bell }) turned_so.between turned_so.hears.hears))
+  turn_keeps : (old new : WorkerFacts L) (answer : Turn) (turned_so : Turned facts opening old new answer) → Balance old.common.kept old.ports 0
+      → Keeps (λ test. count (is_open_one test) (taken_in facts turned_so.hears.item (record old { bell = turned_so.hears.bell }) turned_so.between turned_so.hears.hears))
       old.common.kept old.ports new.common.kept new.ports 0
   turn_keeps old new answer turned_so balance =
       let mid = turned_so.between in
-      let heard = hears_keep turned_so.hears.ring (record old { bell = turned_so.hears.bell }) mid turned_so.hears.hears balance in
+      let heard = hears_keep turned_so.hears.item (record old { bell = turned_so.hears.bell }) mid turned_so.hears.hears balance in
       let stepped =
       left_keep mid.common.kept mid.ports new.common.kept turned_so.steps.steps.stepped new.ports turned_so.steps.steps.left
       (steps_keep mid.boxes mid.ports (shares_of mid turned_so.heard) turned_so.steps.steps.stepped (shares_of new turned_so.worked) 0 turned_so.steps.steps.along heard.balance) in
@@ -520,20 +520,20 @@ module _ {L : Type 0} (counts : L → Counts) (left written : L → Option (List
             omega (arith, first, second);
       }
 
-  turns_keep : (old : WorkerFacts L) (turns : List Turn) (new : WorkerFacts L) (all : TurnsTo (WorkerTurned counts left written is_shut opening) old turns new) → Balance old.common.kept old.ports 0
-      → Keeps (λ test. count (is_open_one test) (ports_taken counts left written is_shut opening old turns new all)) old.common.kept old.ports new.common.kept new.ports 0
+  turns_keep : (old : WorkerFacts L) (turns : List Turn) (new : WorkerFacts L) (all : TurnsTo (WorkerTurned facts opening) old turns new) → Balance old.common.kept old.ports 0
+      → Keeps (λ test. count (is_open_one test) (ports_taken facts opening old turns new all)) old.common.kept old.ports new.common.kept new.ports 0
   turns_keep old [] new same balance =
       subst (λ (w : WorkerFacts L). Keeps none_taken old.common.kept old.ports w.common.kept w.ports 0) (sym same) (nothing_keeps old.common.kept old.ports balance)
   turns_keep old (turn ∷ turns) new (mid, turned_so, rest) balance =
       let first = turn_keeps old mid turn turned_so balance in
       let others = turns_keep mid turns new rest first.balance in
-      let taken : List (PortFacts L) = taken_in counts left written is_shut turned_so.hears.ring (record old { bell = turned_so.hears.bell }) turned_so.between turned_so.hears.hears in
+      let taken : List (PortFacts L) = taken_in facts turned_so.hears.item (record old { bell = turned_so.hears.bell }) turned_so.between turned_so.hears.hears in
       record {
         balance = others.balance;
         entries = λ test.
             let one_turn = first.entries test in
             let more = others.entries test in
-            let both = count-append (is_open_one test) taken (ports_taken counts left written is_shut opening mid turns new rest) in
+            let both = count-append (is_open_one test) taken (ports_taken facts opening mid turns new rest) in
             omega (arith, one_turn, more, both);
       }
 
@@ -549,8 +549,8 @@ module _ {L : Type 0} (counts : L → Counts) (left written : L → Option (List
       omega (arith, rest, opened, tested, same, so)
 
   pub one_closing : (number : ℕ) (pass : _) (room : ℕ) (opened : WorkerFacts L) (turns : List Turn) (worker : WorkerFacts L) (connection : ℕ) → HasOpened number pass (Some room) opened
-      → (all : TurnsTo (WorkerTurned counts left written is_shut opening) opened turns worker)
-      → count (is_closing_of connection) worker.common.kept.entries + count (is_open_of connection) worker.ports ≡ count (is_of connection) (ports_taken counts left written is_shut opening opened turns worker all)
+      → (all : TurnsTo (WorkerTurned facts opening) opened turns worker)
+      → count (is_closing_of connection) worker.common.kept.entries + count (is_open_of connection) worker.ports ≡ count (is_of connection) (ports_taken facts opening opened turns worker all)
   one_closing number pass room opened turns worker connection begun all =
       let kept : RecordFacts = without_room (first_record (Some room)) in
       let none : List (PortFacts L) = [] in
@@ -561,5 +561,5 @@ module _ {L : Type 0} (counts : L → Counts) (left written : L → Option (List
       let sums = (turns_keep opened turns worker all balance).entries test in
       let no_entries = ap (λ (k : RecordFacts). count (closes_one test) k.entries) begun.kept_is in
       let no_ports = ap (λ (ps : List (PortFacts L)). count (is_open_one test) ps) begun.no_port in
-      let taken = taken_open test (ports_taken counts left written is_shut opening opened turns worker all) (ports_new counts left written is_shut opening opened turns worker all) in
+      let taken = taken_open test (ports_taken facts opening opened turns worker all) (ports_new facts opening opened turns worker all) in
       omega (arith, sums, no_entries, no_ports, taken)

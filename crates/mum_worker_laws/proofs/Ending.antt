@@ -4,7 +4,7 @@ use Rattle.std.specs.List.{AllByRecursion as Each}
 use Rattle.std.proofs.lemmas.List.Elements.{All-from_recursion, recursion_from_All}
 use Rattle.mum_crew.specs.Turns.{TurnsTo}
 use Rattle.mum_crew.specs.declared.role.Turn.{Turn}
-use Rattle.mum_io.specs.Counts.{Counts}
+use Rattle.mum_io.specs.Link.{LinkFacts}
 use Rattle.mum_port.specs.Did.{action_of}
 use Rattle.mum_port.specs.Facts.{PortFacts, new_port}
 use Rattle.mum_port.specs.Life.{Event, Lives, and_item, asked_item, items_asked, lagged, replied, stepped, words_said}
@@ -15,11 +15,11 @@ use Rattle.mum_port.specs.declared.stage.Stage.{Stage}
 use Rattle.mum_port.specs.declared.stage.Stage.TheVariants.{Live, Ending, Closed}
 use Rattle.mum_port.proofs.Farewells.{put_once}
 use Rattle.mum_port.proofs.Lifelong.{conserved, front_of, written_in_order}
+use Rattle.mum_published.specs.Bell.{Rung, Answer, Comes, Lagging, NoMore}
 use Rattle.mum_published.specs.Facts.{Opening}
 use Rattle.mum_session.specs.Machine.{Machine}
 use Rattle.mum_session.specs.declared.action.Action.{Action}
 use Rattle.mum_session.specs.declared.action.Action.TheVariants.{Ask, Voice, Echo, Keep, Ignore}
-use Rattle.mum_worker.specs.Bell.{Ring, Answer, Comes, Lagging, NoMore}
 use Rattle.mum_worker.specs.Facts.{WorkerFacts, is_of, stays}
 use Rattle.mum_worker.specs.Hearing.{Hears, TakesOrTurns}
 use Rattle.mum_worker.specs.Opening.{HasOpened}
@@ -81,61 +81,61 @@ module _ {L : Type 0} where
   if_new number connection link ports kept ports_after kept_after (inl takes) = (record { connection = connection; worker = number; link = link; is = refl }, tt)
   if_new number connection link ports kept ports_after kept_after (inr turns) = tt
 
-module _ {L : Type 0} (counts : L → Counts) (left written : L → Option (List ℕ)) (is_shut : L → Bool) (opening : Opening) where
-  taken_new : (ring : Option (Ring L)) (old new : WorkerFacts L) (hears : Hears counts left written is_shut ring old new) → Each IsNew (taken_in counts left written is_shut ring old new hears)
+module _ {L : Type 0} (facts : L → LinkFacts) (opening : Opening) where
+  taken_new : (item : Option (Rung L)) (old new : WorkerFacts L) (hears : Hears facts item old new) → Each IsNew (taken_in facts item old new hears)
   taken_new None old new hears = tt
   taken_new (Some (Answer reply)) old new hears = tt
   taken_new (Some (Comes connection link)) old new hears = if_new old.number connection link old.ports old.common.kept new.ports new.common.kept hears.takes
   taken_new (Some (Lagging session)) old new hears = tt
   taken_new (Some NoMore) old new hears = tt
 
-  pub ports_new : (old : WorkerFacts L) (turns : List Turn) (new : WorkerFacts L) (all : TurnsTo (WorkerTurned counts left written is_shut opening) old turns new) → Each IsNew (ports_taken counts left written is_shut opening old turns new all)
+  pub ports_new : (old : WorkerFacts L) (turns : List Turn) (new : WorkerFacts L) (all : TurnsTo (WorkerTurned facts opening) old turns new) → Each IsNew (ports_taken facts opening old turns new all)
   ports_new old [] new all = tt
   ports_new old (turn ∷ turns) new (mid, turned, rest) =
-      each-append IsNew (taken_in counts left written is_shut turned.hears.ring (record old { bell = turned.hears.bell }) turned.between turned.hears.hears) (ports_taken counts left written is_shut opening mid turns new rest)
-      (taken_new turned.hears.ring (record old { bell = turned.hears.bell }) turned.between turned.hears.hears)
+      each-append IsNew (taken_in facts turned.hears.item (record old { bell = turned.hears.bell }) turned.between turned.hears.hears) (ports_taken facts opening mid turns new rest)
+      (taken_new turned.hears.item (record old { bell = turned.hears.bell }) turned.between turned.hears.hears)
       (ports_new mid turns new rest)
 
   -- ---- each port in order
 
-  from_new : (life : Life L) (new : IsNew life.first) → IsLife counts left written is_shut opening life
-      → Lives counts left written is_shut (RoutesPacket opening) (new_port new.connection new.worker new.link) life.events life.last
-  from_new life new lives = subst (λ (p : PortFacts L). Lives counts left written is_shut (RoutesPacket opening) p life.events life.last) new.is lives
+  from_new : (life : Life L) (new : IsNew life.first) → IsLife facts opening life
+      → Lives facts (RoutesPacket opening) (new_port new.connection new.worker new.link) life.events life.last
+  from_new life new lives = subst (λ (p : PortFacts L). Lives facts (RoutesPacket opening) p life.events life.last) new.is lives
 
-  orderly_life : (life : Life L) → IsNew life.first → IsLife counts left written is_shut opening life → IsOrderly life
+  orderly_life : (life : Life L) → IsNew life.first → IsLife facts opening life → IsOrderly life
   orderly_life life new is_life =
       let lives = from_new life new is_life in
-      let handled = conserved counts left written is_shut (RoutesPacket opening) new.connection new.worker new.link life.events life.last lives in
-      let wrote = written_in_order counts left written is_shut (RoutesPacket opening) new.connection new.worker new.link life.events life.last lives in
-      let put = put_once counts left written is_shut (RoutesPacket opening) new.connection new.worker new.link life.events life.last lives in record {
+      let handled = conserved facts (RoutesPacket opening) new.connection new.worker new.link life.events life.last lives in
+      let wrote = written_in_order facts (RoutesPacket opening) new.connection new.worker new.link life.events life.last lives in
+      let put = put_once facts (RoutesPacket opening) new.connection new.worker new.link life.events life.last lives in record {
         handles = record {
           behind = handled.0;
           bytes = handled.1;
           each = handled.2;
           kept = handled.3;
           front = λ frames rest splits.
-              front_of counts left written is_shut (RoutesPacket opening) new.connection new.worker new.link life.events life.last frames rest lives splits;
-          at_end = λ ended. all_frames counts left written is_shut opening new.connection new.worker new.link life.events life.last lives ended;
+              front_of facts (RoutesPacket opening) new.connection new.worker new.link life.events life.last frames rest lives splits;
+          at_end = λ ended. all_frames facts opening new.connection new.worker new.link life.events life.last lives ended;
         };
         writes = record { behind = wrote.0; bytes = wrote.1; kept = wrote.2 };
         puts = record { commands = put.0; put = put.1; asked = put.2 };
       }
 
   firsts_new : (number : ℕ) (pass : _) (journal : Option ℕ) (opened : WorkerFacts L) (turns : List Turn) (worker : WorkerFacts L) → HasOpened number pass journal opened
-      → (all : TurnsTo (WorkerTurned counts left written is_shut opening) opened turns worker) (lives : List (Life L)) → firsts lives ≡ opened.ports ++ ports_taken counts left written is_shut opening opened turns worker all
+      → (all : TurnsTo (WorkerTurned facts opening) opened turns worker) (lives : List (Life L)) → firsts lives ≡ opened.ports ++ ports_taken facts opening opened turns worker all
       → Each (λ (life : Life L). IsNew life.first) lives
   firsts_new number pass journal opened turns worker begun all lives is =
-      let taken : firsts lives ≡ ports_taken counts left written is_shut opening opened turns worker all =
-      is ∙ ap (λ (l : List (PortFacts L)). l ++ ports_taken counts left written is_shut opening opened turns worker all) begun.no_port in
+      let taken : firsts lives ≡ ports_taken facts opening opened turns worker all =
+      is ∙ ap (λ (l : List (PortFacts L)). l ++ ports_taken facts opening opened turns worker all) begun.no_port in
       each_map IsNew (λ (life : Life L). life.first) lives (subst (λ (l : List (PortFacts L)). Each IsNew l) (sym taken) (ports_new opened turns worker all))
 
   pub all_orderly : (number : ℕ) (pass : _) (journal : Option ℕ) (opened : WorkerFacts L) (turns : List Turn) (worker : WorkerFacts L) → HasOpened number pass journal opened
-      → (all : TurnsTo (WorkerTurned counts left written is_shut opening) opened turns worker) (lived : HaveLived counts left written is_shut opening opened turns worker all) → All IsOrderly lived.lives
+      → (all : TurnsTo (WorkerTurned facts opening) opened turns worker) (lived : HaveLived facts opening opened turns worker all) → All IsOrderly lived.lives
   all_orderly number pass journal opened turns worker begun all lived =
       All-from_recursion IsOrderly lived.lives
-      (each_both (λ (life : Life L). IsNew life.first) (IsLife counts left written is_shut opening) IsOrderly orderly_life lived.lives
+      (each_both (λ (life : Life L). IsNew life.first) (IsLife facts opening) IsOrderly orderly_life lived.lives
       (firsts_new number pass journal opened turns worker begun all lived.lives lived.begun)
-      (recursion_from_All (IsLife counts left written is_shut opening) lived.lives lived.lived))
+      (recursion_from_All (IsLife facts opening) lived.lives lived.lived))
 
   -- ---- one word for each port
 
@@ -167,13 +167,13 @@ module _ {L : Type 0} (counts : L → Counts) (left written : L → Option (List
   sums_up offered all none put ports taken a b c d = omega (arith, a, b, c, d)
 
   pub one_closed : (number : ℕ) (pass : _) (journal : Option ℕ) (opened : WorkerFacts L) (turns : List Turn) (worker : WorkerFacts L) (connection : ℕ) → HasOpened number pass journal opened
-      → (all : TurnsTo (WorkerTurned counts left written is_shut opening) opened turns worker)
-      → count (is_closed_of connection) worker.desk.offered + count (is_of connection) worker.ports ≡ count (is_of connection) (ports_taken counts left written is_shut opening opened turns worker all)
+      → (all : TurnsTo (WorkerTurned facts opening) opened turns worker)
+      → count (is_closed_of connection) worker.desk.offered + count (is_of connection) worker.ports ≡ count (is_of connection) (ports_taken facts opening opened turns worker all)
   one_closed number pass journal opened turns worker connection begun all =
-      let lasting = turns_live counts left written is_shut opening opened turns worker all [] begun.no_port in
-      let taken : List (PortFacts L) = ports_taken counts left written is_shut opening opened turns worker all in
+      let lasting = turns_live facts opening opened turns worker all [] begun.no_port in
+      let taken : List (PortFacts L) = ports_taken facts opening opened turns worker all in
       let new = firsts_new number pass journal opened turns worker begun all lasting.now (lasting.grows.begun ∙ ap (λ (l : List (PortFacts L)). l ++ taken) (sym begun.no_port)) in
-      let orderly = each_both (λ (life : Life L). IsNew life.first) (IsLife counts left written is_shut opening) IsOrderly orderly_life lasting.now new (lasting.grows.lived tt) in
+      let orderly = each_both (λ (life : Life L). IsNew life.first) (IsLife facts opening) IsOrderly orderly_life lasting.now new (lasting.grows.lived tt) in
       sums_up (count (is_closed_of connection) worker.desk.offered) (count (is_closed_of connection) (put_by_all lasting.now)) 0 (count (is_closed_of connection) lasting.put)
       (count (is_of connection) worker.ports) (count (is_of connection) taken)
       (ap (λ (l : List DeskItem). count (is_closed_of connection) l) (lasting.desk ∙ ap (λ (l : List DeskItem). l ++ lasting.put) begun.nothing_put))

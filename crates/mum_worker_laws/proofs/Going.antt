@@ -9,35 +9,35 @@ use Rattle.std.proofs.lemmas.List.Elements.{All-append, All-cons, All-head, All-
 use Rattle.std.proofs.lemmas.List.Kept.{AllPairs-cons}
 use mathlib.Core.List.{IsPrefix}
 use Rattle.mum_base.specs.declared.number.SessionId.{SessionId}
+use Rattle.mum_base.specs.declared.number.TheConstants.{VOICE_CAPACITY}
 use Rattle.mum_crew.specs.Turns.{TurnsTo}
 use Rattle.mum_crew.specs.declared.role.Turn.{Turn}
-use Rattle.mum_io.specs.Counts.{Counts}
+use Rattle.mum_io.specs.Link.{LinkFacts}
 use Rattle.mum_outbox.specs.Calls.{Offers}
 use Rattle.mum_outbox.specs.Facts.{PassFacts as BoxFacts}
-use Rattle.mum_base.specs.declared.number.TheConstants.{VOICE_CAPACITY}
 use Rattle.mum_outbox.specs.declared.parcel.VoiceParcel.{VoiceParcel}
-use Rattle.mum_outbox.specs.declared.queue.Offered.{Offered}
 use Rattle.mum_outbox.specs.declared.queue.Offered.TheVariants.{Sent, Full}
+use Rattle.mum_outbox.specs.declared.queue.Offered.{Offered}
 use Rattle.mum_port.specs.Facts.{PortFacts}
 use Rattle.mum_port.specs.Handling.{Acts, HandlesKept, Routes as PortRoutes}
 use Rattle.mum_port.specs.Steps.{Handles}
 use Rattle.mum_port.specs.declared.item.DeskItem.{DeskItem}
-use Rattle.mum_published.specs.Facts.{NoteFacts, Opening, PassFacts}
+use Rattle.mum_published.specs.Facts.{NoteFacts, Opening, PassFacts, ReplyFacts}
 use Rattle.mum_published.proofs.Prefixes.{prefix_self, prefix_trans}
 use Rattle.mum_router.specs.Facts.{RouterFacts}
-use Rattle.mum_router.specs.Offering.{Delivers, Delivery, Outs, parcel_for}
 use Rattle.mum_router.specs.Laws.{RoutedPacket}
+use Rattle.mum_router.specs.Offering.{Delivers, Delivery, Outs, parcel_for}
 use Rattle.mum_router.specs.Routing.{RoutesAt}
 use Rattle.mum_router.specs.declared.offering.Routed.{Routed}
 use Rattle.mum_router.proofs.Entries.{Kept, SeesEach, kept_of, sees_append, sees_of}
+use Rattle.mum_crew.specs.Along.{Along}
+use Rattle.mum_published.specs.Bell.{Rung, Answer, Comes, Lagging, NoMore}
 use Rattle.mum_session.specs.Action.{action}
 use Rattle.mum_session.specs.Machine.{Machine, session_of}
-use Rattle.mum_session.specs.declared.action.Action.{Action}
 use Rattle.mum_session.specs.declared.action.Action.TheVariants.{Ask, Voice, Echo, Keep, Ignore}
+use Rattle.mum_session.specs.declared.action.Action.{Action}
 use Rattle.mum_state.specs.declared.edit.Edit.{Edit}
 use Rattle.mum_voice.specs.Packet.{Parts}
-use Rattle.mum_worker.specs.Along.{Along}
-use Rattle.mum_worker.specs.Bell.{ReplyFacts, Ring, Answer, Comes, Lagging, NoMore}
 use Rattle.mum_worker.specs.Boxes.{BoxesFacts}
 use Rattle.mum_worker.specs.Facts.{WorkerFacts}
 use Rattle.mum_worker.specs.Hearing.{Hears, LearnsGiven}
@@ -317,49 +317,49 @@ module _ (opening : Opening) where
     go_handled old router went new after (inr one) =
         go_kept old.machine old.framer.kept old.waiting old.out router went new.machine new.framer.kept new.waiting new.out after one.handled
 
-  module _ {L : Type 0} (counts : L → Counts) (left written : L → Option (List ℕ)) (is_shut : L → Bool) where
-    go_stepped : (boxes : BoxesFacts) (old : PortFacts L) (before : Shares) (new : PortFacts L) (after : Shares) (steps : PortSteps counts left written is_shut opening boxes old before new after)
-        → Goes opening before.common.router after.common.router (look_stepped opening counts left written is_shut boxes old before new after steps)
+  module _ {L : Type 0} (facts : L → LinkFacts) where
+    go_stepped : (boxes : BoxesFacts) (old : PortFacts L) (before : Shares) (new : PortFacts L) (after : Shares) (steps : PortSteps facts opening boxes old before new after)
+        → Goes opening before.common.router after.common.router (look_stepped opening facts boxes old before new after steps)
     go_stepped boxes old before new after steps =
-        subst (λ (r : RouterFacts). Goes opening before.common.router r (look_stepped opening counts left written is_shut boxes old before new after steps))
+        subst (λ (r : RouterFacts). Goes opening before.common.router r (look_stepped opening facts boxes old before new after steps))
         (sym (ap (λ (c : CommonFacts). c.router) steps.noted))
         (go_handled steps.chain.after_read before.common steps.chain.handled steps.chain.after_handle steps.routed steps.chain.handles)
 
-    go_along : (boxes : BoxesFacts) (olds : List (PortFacts L)) (before : Shares) (news : List (PortFacts L)) (after : Shares) (along : Along (PortSteps counts left written is_shut opening boxes) olds before news after)
-        → Goes opening before.common.router after.common.router (looks_along opening counts left written is_shut boxes olds before news after along)
+    go_along : (boxes : BoxesFacts) (olds : List (PortFacts L)) (before : Shares) (news : List (PortFacts L)) (after : Shares) (along : Along (PortSteps facts opening boxes) olds before news after)
+        → Goes opening before.common.router after.common.router (looks_along opening facts boxes olds before news after along)
     go_along boxes [] before [] after same = same_common before.common after.common (ap (λ (s : Shares). s.common) same)
     go_along boxes [] before (new ∷ news) after none = absurd none
     go_along boxes (old ∷ olds) before [] after none = absurd none
     go_along boxes (old ∷ olds) before (new ∷ news) after (between, step, rest) =
         goes_on opening before.common.router between.common.router after.common.router
-        (look_stepped opening counts left written is_shut boxes old before new between step)
-        (looks_along opening counts left written is_shut boxes olds between news after rest)
+        (look_stepped opening facts boxes old before new between step)
+        (looks_along opening facts boxes olds between news after rest)
         (go_stepped boxes old before new between step)
         (go_along boxes olds between news after rest)
 
     -- ---- the bell, and the turns
 
-    go_heard : (ring : Option (Ring L)) (old new : WorkerFacts L) → Hears counts left written is_shut ring old new → Goes opening old.common.router new.common.router (told_by ring)
+    go_heard : (item : Option (Rung L)) (old new : WorkerFacts L) → Hears facts item old new → Goes opening old.common.router new.common.router (told_by item)
     go_heard None old new same = same_common old.common new.common (ap (λ (w : WorkerFacts L). w.common) same)
     go_heard (Some (Answer reply)) old new hears = told opening reply old.common.router new.common.router hears.takes.learns
     go_heard (Some (Comes connection link)) old new hears = stays opening old.common.router new.common.router hears.router
     go_heard (Some (Lagging session)) old new hears = stays opening old.common.router new.common.router hears.router
     go_heard (Some NoMore) old new same = same_common old.common new.common (ap (λ (w : WorkerFacts L). w.common) same)
 
-    pub go_turn : (old new : WorkerFacts L) (turn : Turn) (turned : Turned counts left written is_shut opening old new turn)
-        → Goes opening old.common.router new.common.router (moments_of counts left written is_shut opening old new turn turned)
+    pub go_turn : (old new : WorkerFacts L) (turn : Turn) (turned : Turned facts opening old new turn)
+        → Goes opening old.common.router new.common.router (moments_of facts opening old new turn turned)
     go_turn old new turn turned =
         goes_on opening old.common.router turned.between.common.router new.common.router
-        (told_by turned.hears.ring)
-        (looks_along opening counts left written is_shut turned.between.boxes turned.between.ports (shares_of turned.between turned.heard) turned.steps.steps.stepped (shares_of new turned.worked) turned.steps.steps.along)
-        (go_heard turned.hears.ring (record old { bell = turned.hears.bell }) turned.between turned.hears.hears)
+        (told_by turned.hears.item)
+        (looks_along opening facts turned.between.boxes turned.between.ports (shares_of turned.between turned.heard) turned.steps.steps.stepped (shares_of new turned.worked) turned.steps.steps.along)
+        (go_heard turned.hears.item (record old { bell = turned.hears.bell }) turned.between turned.hears.hears)
         (go_along turned.between.boxes turned.between.ports (shares_of turned.between turned.heard) turned.steps.steps.stepped (shares_of new turned.worked) turned.steps.steps.along)
 
-    pub go_turns : (old : WorkerFacts L) (turns : List Turn) (new : WorkerFacts L) (all : TurnsTo (WorkerTurned counts left written is_shut opening) old turns new)
-        → Goes opening old.common.router new.common.router (history counts left written is_shut opening old turns new all)
+    pub go_turns : (old : WorkerFacts L) (turns : List Turn) (new : WorkerFacts L) (all : TurnsTo (WorkerTurned facts opening) old turns new)
+        → Goes opening old.common.router new.common.router (history facts opening old turns new all)
     go_turns old [] new same = same_common old.common new.common (ap (λ (w : WorkerFacts L). w.common) same)
     go_turns old (turn ∷ turns) new (mid, turned, rest) =
         goes_on opening old.common.router mid.common.router new.common.router
-        (moments_of counts left written is_shut opening old mid turn turned)
-        (history counts left written is_shut opening mid turns new rest)
+        (moments_of facts opening old mid turn turned)
+        (history facts opening mid turns new rest)
         (go_turn old mid turn turned) (go_turns mid turns new rest)

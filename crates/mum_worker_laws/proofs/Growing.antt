@@ -1,13 +1,13 @@
 -- What happens to the ports of a worker one after another, as lists of lives.
-use Rattle.std.proofs.Common.{◌≡◌, ◌==◌, ◌∙◌, ℕ, zero, suc, ◌+◌, ◌≤◌, Bool, true, false, cond, List, [], ◌∷◌, ◌++◌, map, filter, slice_get, slice_set, Option, Some, refl, ap, sym, subst, arith, append_assoc}
+use Rattle.std.proofs.Common.{◌≡◌, ◌==◌, ◌∙◌, ℕ, zero, suc, ◌+◌, ◌≤◌, Bool, true, false, cond, List, [], ◌∷◌, ◌++◌, map, filter, slice_get, slice_set, Some, refl, ap, sym, subst, arith, append_assoc}
 use Rattle.std.specs.List.{AllByRecursion as Each, filter_map, flat_map}
 use Rattle.std.proofs.lemmas.List.{append-nil}
 use Rattle.std.proofs.lemmas.List.Elements.{filter-append, filter_map-append}
-use Rattle.mum_io.specs.Counts.{Counts}
+use Rattle.mum_crew.specs.Along.{Along}
+use Rattle.mum_io.specs.Link.{LinkFacts}
 use Rattle.mum_port.specs.Facts.{PortFacts}
 use Rattle.mum_port.specs.declared.item.DeskItem.{DeskItem}
 use Rattle.mum_published.specs.Facts.{Opening}
-use Rattle.mum_worker.specs.Along.{Along}
 use Rattle.mum_worker.specs.Facts.{is_of, stays}
 use Rattle.mum_worker_laws.specs.Laws.{Moment}
 use Rattle.mum_worker_laws.specs.Lives.{HasAtMostOne, IsLife, IsNoReplyTo, Life, Said, count, is_item_of, is_life_of, items_of, packets_said, put_by, put_by_all, put_of, routed_of, said_by_all}
@@ -73,11 +73,11 @@ module _ {L : Type 0} where
 
 -- ---- lives that go on
 
-module _ {L : Type 0} (counts : L → Counts) (left written : L → Option (List ℕ)) (is_shut : L → Bool) (opening : Opening) where
+module _ {L : Type 0} (facts : L → LinkFacts) (opening : Opening) where
   -- these lives went on to those: what was heard meanwhile, what the desk was put, and the ports that came
   pub record Grows (told : List Moment) (put : List DeskItem) (taken : List (PortFacts L)) (olds news : List (Life L)) : Type 0 where
     pub begun : firsts news ≡ firsts olds ++ taken
-    pub lived : Each (IsLife counts left written is_shut opening) olds → Each (IsLife counts left written is_shut opening) news
+    pub lived : Each (IsLife facts opening) olds → Each (IsLife facts opening) news
     pub owned : Each IsOwn olds → Each IsOwn news
     pub total : (test : DeskItem → Bool) → count test (put_by_all news) ≡ count test (put_by_all olds) + count test put
     pub order : Each IsOwn olds → (connection : ℕ) → HasAtMostOne connection (firsts news) → put_of connection news ≡ put_of connection olds ++ items_of connection put
@@ -109,7 +109,7 @@ module _ {L : Type 0} (counts : L → Counts) (left written : L → Option (List
       (count-append test (put_by old) (put_by_all olds))
       ∙ ap (λ (n : ℕ). count test (put_by_all (old ∷ olds)) + n) (sym (count-append test put more))
 
-  pub grows_cons : (told tells : List Moment) (put more : List DeskItem) (old new : Life L) (olds news : List (Life L)) → Changes counts left written is_shut opening told put old new → Grows tells more [] olds news
+  pub grows_cons : (told tells : List Moment) (put more : List DeskItem) (old new : Life L) (olds news : List (Life L)) → Changes facts opening told put old new → Grows tells more [] olds news
       → Grows (told ++ tells) (put ++ more) [] (old ∷ olds) (new ∷ news)
   grows_cons told tells put more old new olds news change grows = record {
     begun = ap (λ (p : PortFacts L). p ∷ firsts news) change.first ∙ ap (λ (l : List (PortFacts L)). old.first ∷ l) grows.begun;
@@ -184,9 +184,9 @@ module _ {L : Type 0} (counts : L → Counts) (left written : L → Option (List
       (tells-cons : (old : PortFacts L) (olds : List (PortFacts L)) (before : C) (new : PortFacts L) (news : List (PortFacts L)) (after : C) (along : Along step (old ∷ olds) before (new ∷ news) after)
       → tells (old ∷ olds) before (new ∷ news) after along ≡ tell old before new along.0 along.1 ++ tells olds along.0 news after along.2)
       (one_more : (life : Life L) (old : PortFacts L) (before : C) (new : PortFacts L) (after : C) (steps : step old before new after) → life.last ≡ old
-      → One counts left written is_shut opening (tell old before new after steps) life (desk_of before) new (desk_of after)) where
+      → One facts opening (tell old before new after steps) life (desk_of before) new (desk_of after)) where
     grow_first : (life : Life L) (lives : List (Life L)) (old : PortFacts L) (olds : List (PortFacts L)) (before : C) (new : PortFacts L) (news : List (PortFacts L)) (after : C) (along : Along step (old ∷ olds) before (new ∷ news) after)
-        → One counts left written is_shut opening (tell old before new along.0 along.1) life (desk_of before) new (desk_of along.0)
+        → One facts opening (tell old before new along.0 along.1) life (desk_of before) new (desk_of along.0)
         → Grown (tells olds along.0 news after along.2) lives (desk_of along.0) news (desk_of after)
         → Grown (tells (old ∷ olds) before (new ∷ news) after along) (life ∷ lives) (desk_of before) (new ∷ news) (desk_of after)
     grow_first life lives old olds before new news after along mine others = record {
@@ -206,7 +206,7 @@ module _ {L : Type 0} (counts : L → Counts) (left written : L → Option (List
     grow_past told life lives before news after is others = record {
       put = others.put;
       now = life ∷ others.now;
-      grows = grows_cons [] told [] others.put life life lives others.now (unchanged counts left written is_shut opening life) others.grows;
+      grows = grows_cons [] told [] others.put life life lives others.now (unchanged facts opening life) others.grows;
       kept = ap (λ (b : Bool). cond b (life.last ∷ filter stays (lasts others.now)) (filter stays (lasts others.now))) is ∙ others.kept;
       desk = others.desk;
     }
@@ -247,8 +247,8 @@ module _ {L : Type 0} (counts : L → Counts) (left written : L → Option (List
     pub kept : filter stays (lasts now) ≡ ports
 
   module _ (told : List Moment) (old new : PortFacts L) (stays_on : stays old ≡ true → stays new ≡ true)
-      (one_set : (life : Life L) → life.last ≡ old → One counts left written is_shut opening told life [] new []) where
-    set_here : (life : Life L) (lives : List (Life L)) → One counts left written is_shut opening told life [] new [] → stays new ≡ true → Set told (life ∷ lives) (new ∷ filter stays (lasts lives))
+      (one_set : (life : Life L) → life.last ≡ old → One facts opening told life [] new []) where
+    set_here : (life : Life L) (lives : List (Life L)) → One facts opening told life [] new [] → stays new ≡ true → Set told (life ∷ lives) (new ∷ filter stays (lasts lives))
     set_here life lives mine still = record {
       now = mine.now ∷ lives;
       grows = with_told (told ++ []) told [] [] (life ∷ lives) (mine.now ∷ lives) (append-nil told)
@@ -268,14 +268,14 @@ module _ {L : Type 0} (counts : L → Counts) (left written : L → Option (List
     set_at true life lives (suc k) is rest there =
         let others = rest k there in record {
           now = life ∷ others.now;
-          grows = grows_cons [] told [] [] life life lives others.now (unchanged counts left written is_shut opening life) others.grows;
+          grows = grows_cons [] told [] [] life life lives others.now (unchanged facts opening life) others.grows;
           kept = ap (λ (b : Bool). cond b (life.last ∷ filter stays (lasts others.now)) (filter stays (lasts others.now))) is
               ∙ ap (λ (l : List (PortFacts L)). life.last ∷ l) others.kept;
         }
     set_at false life lives place is rest there =
         let others = rest place there in record {
           now = life ∷ others.now;
-          grows = grows_cons [] told [] [] life life lives others.now (unchanged counts left written is_shut opening life) others.grows;
+          grows = grows_cons [] told [] [] life life lives others.now (unchanged facts opening life) others.grows;
           kept = ap (λ (b : Bool). cond b (life.last ∷ filter stays (lasts others.now)) (filter stays (lasts others.now))) is ∙ others.kept;
         }
 

@@ -10,7 +10,7 @@ use Rattle.mum_base.specs.declared.reply.ReplyEnd.{ReplyEnd}
 use Rattle.mum_base.specs.declared.reply.ReplyEnd.TheVariants as ends
 use Rattle.mum_crew.specs.Turns.{TurnsTo}
 use Rattle.mum_crew.specs.declared.role.Turn.{Turn}
-use Rattle.mum_io.specs.Counts.{Counts}
+use Rattle.mum_io.specs.Link.{LinkFacts}
 use Rattle.mum_outbox.specs.Facts.{PassFacts}
 use Rattle.mum_port.specs.Facts.{PortFacts, new_port}
 use Rattle.mum_port.specs.Replies.{Answers}
@@ -19,8 +19,8 @@ use Rattle.mum_port.specs.declared.item.DeskItem.{DeskItem}
 use Rattle.mum_port.specs.declared.passes.Passes.{Passes}
 use Rattle.mum_port.specs.declared.stage.Stage.{Stage}
 use Rattle.mum_port.specs.declared.stage.Stage.TheVariants.{Live, Ending, Closed}
-use Rattle.mum_published.specs.Facts.{Opening}
-use Rattle.mum_worker.specs.Bell.{ReplyFacts, Ring, Answer, Comes, Lagging, NoMore}
+use Rattle.mum_published.specs.Bell.{Rung, Answer, Comes, Lagging, NoMore}
+use Rattle.mum_published.specs.Facts.{Opening, ReplyFacts}
 use Rattle.mum_worker.specs.Facts.{WorkerFacts, is_of, stays}
 use Rattle.mum_worker.specs.Hearing.{AnswersFirst, Hears, LagsWhereIts, TakesOrTurns}
 use Rattle.mum_worker.specs.Opening.{HasOpened}
@@ -102,9 +102,9 @@ module _ {L : Type 0} where
 
 -- ---- the bell
 
-module _ {L : Type 0} (counts : L → Counts) (left written : L → Option (List ℕ)) (is_shut : L → Bool) (opening : Opening) where
+module _ {L : Type 0} (facts : L → LinkFacts) (opening : Opening) where
   stays_on : (end : ReplyEnd) (wire : List ℕ) (passes : Option Passes) (old : PortFacts L) (closed : Option Cause) (new : PortFacts L)
-      → Answers counts left written is_shut end wire passes old closed new → stays old ≡ true → stays new ≡ true
+      → Answers facts end wire passes old closed new → stays old ≡ true → stays new ≡ true
   stays_on end wire passes old closed new (inl same) there = ap (λ (p : PortFacts L). stays p) same.same ∙ there
   stays_on end wire passes old closed new (inr (inl takes)) there =
       ap (λ (p : PortFacts L). stays p) takes.rest ∙ ap not (open-kept (stage_after_reply end old.stage) (answered-open end old.stage takes.was_open))
@@ -113,13 +113,13 @@ module _ {L : Type 0} (counts : L → Counts) (left written : L → Option (List
   -- what was heard leads from these ports to those
   pub record HeardLives (told : List Moment) (taken : List (PortFacts L)) (lives : List (Life L)) (ports : List (PortFacts L)) : Type 0 where
     pub now : List (Life L)
-    pub grows : Grows counts left written is_shut opening told [] taken lives now
+    pub grows : Grows facts opening told [] taken lives now
     pub kept : ports ≡ filter stays (lasts now)
 
   same_ports : (lives : List (Life L)) (old new : List (PortFacts L)) → new ≡ old → old ≡ filter stays (lasts lives) → HeardLives [] [] lives new
   same_ports lives old new same kept = record {
     now = lives;
-    grows = grows_same counts left written is_shut opening lives;
+    grows = grows_same facts opening lives;
     kept = same ∙ kept;
   }
 
@@ -133,9 +133,9 @@ module _ {L : Type 0} (counts : L → Counts) (left written : L → Option (List
       read_there (y ∷ xs) (suc k) x is = read_there xs k x is
 
   -- a reply that no port takes
-  reply_dropped : (reply : ReplyFacts) (lives : List (Life L)) → Grows counts left written is_shut opening (Told reply ∷ []) [] [] lives lives
+  reply_dropped : (reply : ReplyFacts) (lives : List (Life L)) → Grows facts opening (Told reply ∷ []) [] [] lives lives
   reply_dropped reply lives =
-      let same = grows_same counts left written is_shut opening lives in record {
+      let same = grows_same facts opening lives in record {
         begun = same.begun;
         lived = same.lived;
         owned = same.owned;
@@ -146,7 +146,7 @@ module _ {L : Type 0} (counts : L → Counts) (left written : L → Option (List
       }
 
   hear_reply : (reply : ReplyFacts) (passes : Option Passes) (closed : Option Cause) (olds news : List (PortFacts L)) (lives : List (Life L)) → olds ≡ filter stays (lasts lives)
-      → AnswersFirst counts left written is_shut reply.connection reply.end reply.wire passes olds closed news → HeardLives (Told reply ∷ []) [] lives news
+      → AnswersFirst facts reply.connection reply.end reply.wire passes olds closed news → HeardLives (Told reply ∷ []) [] lives news
   hear_reply reply passes closed olds news lives kept (inl none) = record {
     now = lives;
     grows = reply_dropped reply lives;
@@ -156,11 +156,11 @@ module _ {L : Type 0} (counts : L → Counts) (left written : L → Option (List
       let its = first_is_of reply.connection olds first.place first.old first.first first.there in
       let there : slice_get (filter stays (lasts lives)) first.place ≡ Some first.old =
       subst (λ (l : List (PortFacts L)). slice_get l first.place ≡ Some first.old) kept first.there in
-      let one_set : (life : Life L) → life.last ≡ first.old → One counts left written is_shut opening (Told reply ∷ []) life [] first.new [] =
-      λ life same. one_reply counts left written is_shut opening reply passes closed life first.new
+      let one_set : (life : Life L) → life.last ≡ first.old → One facts opening (Told reply ∷ []) life [] first.new [] =
+      λ life same. one_reply facts opening reply passes closed life first.new
       (ap (λ (p : PortFacts L). is_of reply.connection p) same ∙ its)
-      (subst (λ (p : PortFacts L). Answers counts left written is_shut reply.end reply.wire passes p closed first.new) (sym same) first.answers) in
-      let set = grow_set counts left written is_shut opening (Told reply ∷ []) first.old first.new
+      (subst (λ (p : PortFacts L). Answers facts reply.end reply.wire passes p closed first.new) (sym same) first.answers) in
+      let set = grow_set facts opening (Told reply ∷ []) first.old first.new
       (stays_on reply.end reply.wire passes first.old closed first.new first.answers) one_set lives first.place there in record {
         now = set.now;
         grows = set.grows;
@@ -172,11 +172,11 @@ module _ {L : Type 0} (counts : L → Counts) (left written : L → Option (List
 
   -- a port more
   grows_new : (lives : List (Life L)) (connection number : ℕ) (link : L)
-      → Grows counts left written is_shut opening [] [] (new_port connection number link ∷ []) lives (lives ++ begin (new_port connection number link) ∷ [])
+      → Grows facts opening [] [] (new_port connection number link ∷ []) lives (lives ++ begin (new_port connection number link) ∷ [])
   grows_new lives connection number link =
       let port : PortFacts L = new_port connection number link in record {
         begun = map-append (λ (life : Life L). life.first) lives (begin port ∷ []);
-        lived = λ lived. each-append (IsLife counts left written is_shut opening) lives (begin port ∷ []) lived (refl, tt);
+        lived = λ lived. each-append (IsLife facts opening) lives (begin port ∷ []) lived (refl, tt);
         owned = λ own. each-append IsOwn lives (begin port ∷ []) own (record { number = refl; waits = new_own port connection number link refl }, tt);
         total = λ test. count_new test;
         order = λ own asked few. order_new asked;
@@ -218,26 +218,26 @@ module _ {L : Type 0} (counts : L → Counts) (left written : L → Option (List
   }
   hear_new number connection link olds kept_before news kept_after (inr turns) lives kept = same_ports lives olds news turns.ports_same kept
 
-  hear_lives : (ring : Option (Ring L)) (old new : WorkerFacts L) (hears : Hears counts left written is_shut ring old new) (lives : List (Life L)) → old.ports ≡ filter stays (lasts lives)
-      → HeardLives (told_by ring) (taken_in counts left written is_shut ring old new hears) lives new.ports
+  hear_lives : (item : Option (Rung L)) (old new : WorkerFacts L) (hears : Hears facts item old new) (lives : List (Life L)) → old.ports ≡ filter stays (lasts lives)
+      → HeardLives (told_by item) (taken_in facts item old new hears) lives new.ports
   hear_lives None old new same lives kept = same_ports lives old.ports new.ports (ap (λ (w : WorkerFacts L). w.ports) same) kept
   hear_lives (Some (Answer reply)) old new hears lives kept =
       hear_reply reply hears.takes.passes hears.takes.closed old.ports new.ports lives kept hears.takes.answers
   hear_lives (Some (Comes connection link)) old new hears lives kept =
       hear_new old.number connection link old.ports old.common.kept new.ports new.common.kept hears.takes lives kept
   hear_lives (Some (Lagging session)) old new hears lives kept =
-      let grown = grow_along counts left written is_shut opening (LagsWhereIts counts left written is_shut session) (λ (r : RecordFacts). [])
+      let grown = grow_along facts opening (LagsWhereIts facts session) (λ (r : RecordFacts). [])
       (λ port before after_port after lags. []) (λ ports before ports_after after along. []) (λ before after same. refl) (λ port ports before after_port after_ports after along. refl)
-      (λ life port before after_port after lags same. one_lag counts left written is_shut opening session life port before after_port after lags same)
+      (λ life port before after_port after lags same. one_lag facts opening session life port before after_port after lags same)
       lives old.ports old.common.kept hears.each.stepped new.common.kept kept hears.each.along in record {
         now = grown.now;
-        grows = with_put counts left written is_shut opening [] grown.put [] [] lives grown.now (sym grown.desk) grown.grows;
+        grows = with_put facts opening [] grown.put [] [] lives grown.now (sym grown.desk) grown.grows;
         kept = hears.each.left ∙ sym grown.kept;
       }
   hear_lives (Some NoMore) old new same lives kept = same_ports lives old.ports new.ports (ap (λ (w : WorkerFacts L). w.ports) same) kept
 
   -- the desk is left alone meanwhile
-  hear_desk : (ring : Option (Ring L)) (old new : WorkerFacts L) → Hears counts left written is_shut ring old new → new.desk ≡ old.desk
+  hear_desk : (item : Option (Rung L)) (old new : WorkerFacts L) → Hears facts item old new → new.desk ≡ old.desk
   hear_desk None old new same = ap (λ (w : WorkerFacts L). w.desk) same
   hear_desk (Some (Answer reply)) old new hears = ap (λ (w : WorkerFacts L). w.desk) hears.rest
   hear_desk (Some (Comes connection link)) old new hears = ap (λ (w : WorkerFacts L). w.desk) hears.rest
@@ -250,36 +250,36 @@ module _ {L : Type 0} (counts : L → Counts) (left written : L → Option (List
   pub record Lasts (told : List Moment) (taken : List (PortFacts L)) (lives : List (Life L)) (before : List DeskItem) (ports : List (PortFacts L)) (after : List DeskItem) : Type 0 where
     pub put : List DeskItem
     pub now : List (Life L)
-    pub grows : Grows counts left written is_shut opening told put taken lives now
+    pub grows : Grows facts opening told put taken lives now
     pub kept : ports ≡ filter stays (lasts now)
     pub desk : after ≡ before ++ put
 
-  turn_lives : (old new : WorkerFacts L) (turn : Turn) (turned : Turned counts left written is_shut opening old new turn) (lives : List (Life L)) → old.ports ≡ filter stays (lasts lives)
-      → Lasts (moments_of counts left written is_shut opening old new turn turned)
-      (taken_in counts left written is_shut turned.hears.ring (record old { bell = turned.hears.bell }) turned.between turned.hears.hears) lives old.desk.offered new.ports new.desk.offered
+  turn_lives : (old new : WorkerFacts L) (turn : Turn) (turned : Turned facts opening old new turn) (lives : List (Life L)) → old.ports ≡ filter stays (lasts lives)
+      → Lasts (moments_of facts opening old new turn turned)
+      (taken_in facts turned.hears.item (record old { bell = turned.hears.bell }) turned.between turned.hears.hears) lives old.desk.offered new.ports new.desk.offered
   turn_lives old new turn turned lives kept =
-      let heard = hear_lives turned.hears.ring (record old { bell = turned.hears.bell }) turned.between turned.hears.hears lives kept in
-      let looks : List Moment = looks_along opening counts left written is_shut turned.between.boxes turned.between.ports (shares_of turned.between turned.heard)
+      let heard = hear_lives turned.hears.item (record old { bell = turned.hears.bell }) turned.between turned.hears.hears lives kept in
+      let looks : List Moment = looks_along opening facts turned.between.boxes turned.between.ports (shares_of turned.between turned.heard)
       turned.steps.steps.stepped (shares_of new turned.worked) turned.steps.steps.along in
-      let stepped = grow_along counts left written is_shut opening (PortSteps counts left written is_shut opening turned.between.boxes) (λ (s : Shares). s.desk.offered)
-      (look_stepped opening counts left written is_shut turned.between.boxes) (looks_along opening counts left written is_shut turned.between.boxes) (λ before after same. refl) (λ port ports before after_port after_ports after along. refl)
-      (λ life port before after_port after steps same. one_step counts left written is_shut opening turned.between.boxes life port before after_port after steps same)
+      let stepped = grow_along facts opening (PortSteps facts opening turned.between.boxes) (λ (s : Shares). s.desk.offered)
+      (look_stepped opening facts turned.between.boxes) (looks_along opening facts turned.between.boxes) (λ before after same. refl) (λ port ports before after_port after_ports after along. refl)
+      (λ life port before after_port after steps same. one_step facts opening turned.between.boxes life port before after_port after steps same)
       heard.now turned.between.ports (shares_of turned.between turned.heard) turned.steps.steps.stepped (shares_of new turned.worked) heard.kept turned.steps.steps.along in
-      let taken : List (PortFacts L) = taken_in counts left written is_shut turned.hears.ring (record old { bell = turned.hears.bell }) turned.between turned.hears.hears in record {
+      let taken : List (PortFacts L) = taken_in facts turned.hears.item (record old { bell = turned.hears.bell }) turned.between turned.hears.hears in record {
         put = stepped.put;
         now = stepped.now;
-        grows = with_taken counts left written is_shut opening (told_by turned.hears.ring ++ looks) stepped.put (taken ++ []) taken lives stepped.now (append-nil taken)
-            (grows_on counts left written is_shut opening (told_by turned.hears.ring) looks [] stepped.put taken [] lives heard.now stepped.now heard.grows stepped.grows);
+        grows = with_taken facts opening (told_by turned.hears.item ++ looks) stepped.put (taken ++ []) taken lives stepped.now (append-nil taken)
+            (grows_on facts opening (told_by turned.hears.item) looks [] stepped.put taken [] lives heard.now stepped.now heard.grows stepped.grows);
         kept = turned.steps.steps.left ∙ sym stepped.kept;
-        desk = stepped.desk ∙ ap (λ (d : PassFacts DeskItem). d.offered ++ stepped.put) (hear_desk turned.hears.ring (record old { bell = turned.hears.bell }) turned.between turned.hears.hears);
+        desk = stepped.desk ∙ ap (λ (d : PassFacts DeskItem). d.offered ++ stepped.put) (hear_desk turned.hears.item (record old { bell = turned.hears.bell }) turned.between turned.hears.hears);
       }
 
-  pub turns_live : (old : WorkerFacts L) (turns : List Turn) (new : WorkerFacts L) (all : TurnsTo (WorkerTurned counts left written is_shut opening) old turns new) (lives : List (Life L)) → old.ports ≡ filter stays (lasts lives)
-      → Lasts (history counts left written is_shut opening old turns new all) (ports_taken counts left written is_shut opening old turns new all) lives old.desk.offered new.ports new.desk.offered
+  pub turns_live : (old : WorkerFacts L) (turns : List Turn) (new : WorkerFacts L) (all : TurnsTo (WorkerTurned facts opening) old turns new) (lives : List (Life L)) → old.ports ≡ filter stays (lasts lives)
+      → Lasts (history facts opening old turns new all) (ports_taken facts opening old turns new all) lives old.desk.offered new.ports new.desk.offered
   turns_live old [] new same lives kept = record {
     put = [];
     now = lives;
-    grows = grows_same counts left written is_shut opening lives;
+    grows = grows_same facts opening lives;
     kept = ap (λ (w : WorkerFacts L). w.ports) same ∙ kept;
     desk = ap (λ (w : WorkerFacts L). w.desk.offered) same ∙ sym (append-nil old.desk.offered);
   }
@@ -288,9 +288,9 @@ module _ {L : Type 0} (counts : L → Counts) (left written : L → Option (List
       let others = turns_live mid turns new rest first.now first.kept in record {
         put = first.put ++ others.put;
         now = others.now;
-        grows = grows_on counts left written is_shut opening (moments_of counts left written is_shut opening old mid turn turned) (history counts left written is_shut opening mid turns new rest)
-            first.put others.put (taken_in counts left written is_shut turned.hears.ring (record old { bell = turned.hears.bell }) turned.between turned.hears.hears)
-            (ports_taken counts left written is_shut opening mid turns new rest) lives first.now others.now first.grows others.grows;
+        grows = grows_on facts opening (moments_of facts opening old mid turn turned) (history facts opening mid turns new rest)
+            first.put others.put (taken_in facts turned.hears.item (record old { bell = turned.hears.bell }) turned.between turned.hears.hears)
+            (ports_taken facts opening mid turns new rest) lives first.now others.now first.grows others.grows;
         kept = others.kept;
         desk = others.desk ∙ (ap (λ (l : List DeskItem). l ++ others.put) first.desk ∙ append_assoc old.desk.offered first.put others.put);
       }
@@ -303,29 +303,29 @@ module _ {L : Type 0} (counts : L → Counts) (left written : L → Option (List
     pub own : Each WaitsForOwn ports
 
   pub opened_settled : (number : ℕ) (pass : _) (journal : Option ℕ) (opened : WorkerFacts L) (turns : List Turn) (mid : WorkerFacts L) → HasOpened number pass journal opened
-      → TurnsTo (WorkerTurned counts left written is_shut opening) opened turns mid → IsSettled mid.ports
+      → TurnsTo (WorkerTurned facts opening) opened turns mid → IsSettled mid.ports
   opened_settled number pass journal opened turns mid begun all =
       let lasting = turns_live opened turns mid all [] begun.no_port in record {
         stay = ap (λ (l : List (PortFacts L)). filter stays l) lasting.kept ∙ (left_twice stays (lasts lasting.now) ∙ sym lasting.kept);
         own = subst (λ (l : List (PortFacts L)). Each WaitsForOwn l) (sym lasting.kept) (own_lasts lasting.now (lasting.grows.owned tt));
       }
 
-  lived_begin : (ports : List (PortFacts L)) → Each (IsLife counts left written is_shut opening) (map begin ports)
+  lived_begin : (ports : List (PortFacts L)) → Each (IsLife facts opening) (map begin ports)
   lived_begin [] = tt
   lived_begin (port ∷ ports) = (refl, lived_begin ports)
 
   sums : (new old now none put : ℕ) → new ≡ old + put → now ≡ none + put → none ≡ 0 → new ≡ old + now
   sums new old now none put a b c = omega (arith, a, b, c)
 
-  pub have_lived : (old : WorkerFacts L) (turns : List Turn) (new : WorkerFacts L) (all : TurnsTo (WorkerTurned counts left written is_shut opening) old turns new) → IsSettled old.ports
-      → HaveLived counts left written is_shut opening old turns new all
+  pub have_lived : (old : WorkerFacts L) (turns : List Turn) (new : WorkerFacts L) (all : TurnsTo (WorkerTurned facts opening) old turns new) → IsSettled old.ports
+      → HaveLived facts opening old turns new all
   have_lived old turns new all settled =
       let lasting = turns_live old turns new all (map begin old.ports) (sym settled.stay ∙ ap (λ (l : List (PortFacts L)). filter stays l) (sym (lasts-begin old.ports))) in
-      let begun : firsts lasting.now ≡ old.ports ++ ports_taken counts left written is_shut opening old turns new all =
-      lasting.grows.begun ∙ ap (λ (l : List (PortFacts L)). l ++ ports_taken counts left written is_shut opening old turns new all) (firsts-begin old.ports) in record {
+      let begun : firsts lasting.now ≡ old.ports ++ ports_taken facts opening old turns new all =
+      lasting.grows.begun ∙ ap (λ (l : List (PortFacts L)). l ++ ports_taken facts opening old turns new all) (firsts-begin old.ports) in record {
         lives = lasting.now;
         begun = begun;
-        lived = All-from_recursion (IsLife counts left written is_shut opening) lasting.now (lasting.grows.lived (lived_begin old.ports));
+        lived = All-from_recursion (IsLife facts opening) lasting.now (lasting.grows.lived (lived_begin old.ports));
         kept = lasting.kept;
         put = λ test.
             sums (count test new.desk.offered) (count test old.desk.offered) (count test (put_by_all lasting.now)) (count test (put_by_all (map begin old.ports))) (count test lasting.put)
@@ -340,9 +340,9 @@ module _ {L : Type 0} (counts : L → Counts) (left written : L → Option (List
             ∙ ap (λ (l : List DeskItem). l ++ items_of connection lasting.put) (nothing_put_of connection old.ports))));
         routed = λ connection few.
             sym (lasting.grows.says (own_begin old.ports settled.own) connection (subst (λ (l : List (PortFacts L)). HasAtMostOne connection l) (sym begun) few)
-            ∙ ap (λ (l : List Said). l ++ filter_map (routed_of connection) (history counts left written is_shut opening old turns new all)) (nothing_said connection old.ports));
+            ∙ ap (λ (l : List Said). l ++ filter_map (routed_of connection) (history facts opening old turns new all)) (nothing_said connection old.ports));
         waits = λ connection none.
             All-from_recursion (HandlesNothing connection) lasting.now
             (each_so (Waits connection) (HandlesNothing connection) (λ life waits of_it awaits. (waits of_it awaits).nothing) lasting.now
-            (lasting.grows.waits connection (recursion_from_All (IsNoReplyTo connection) (history counts left written is_shut opening old turns new all) none) (waits_begin connection old.ports)));
+            (lasting.grows.waits connection (recursion_from_All (IsNoReplyTo connection) (history facts opening old turns new all) none) (waits_begin connection old.ports)));
       }

@@ -7,7 +7,7 @@ use Rattle.mum_base.specs.declared.number.Cause.TheVariants.{End}
 use Rattle.mum_frame.specs.declared.frame.Frame.{Frame}
 use Rattle.mum_frame.specs.Frame.{IsFrame, frame_spelling}
 use Rattle.mum_frame.specs.Stream.{Splits}
-use Rattle.mum_io.specs.Counts.{Counts}
+use Rattle.mum_io.specs.Link.{LinkFacts}
 use Rattle.mum_port.specs.Did.{PortDid, is_last, stage_once_put}
 use Rattle.mum_port.specs.Facts.{PortFacts, new_port}
 use Rattle.mum_port.specs.Life.{Event, Happens, Lives, Steps, and_frame, bytes_taken, frames_handled, lagged, replied, stepped}
@@ -51,12 +51,12 @@ taken-append (stepped machine did ∷ events) more =
 taken-append (replied wire closed ∷ events) more = taken-append events more
 taken-append (lagged closed ∷ events) more = taken-append events more
 
-module _ {L : Type 0} (counts : L → Counts) (left written : L → Option (List ℕ)) (is_shut : L → Bool) (opening : Opening) where
+module _ {L : Type 0} (facts : L → LinkFacts) (opening : Opening) where
   -- a port that is closed stays closed for that cause
-  closed_cause : (old : PortFacts L) (events : List Event) (new : PortFacts L) → Lives counts left written is_shut (RoutesPacket opening) old events new → is_closed old.stage ≡ true → cause_of new.stage ≡ cause_of old.stage
+  closed_cause : (old : PortFacts L) (events : List Event) (new : PortFacts L) → Lives facts (RoutesPacket opening) old events new → is_closed old.stage ≡ true → cause_of new.stage ≡ cause_of old.stage
   closed_cause old [] new same closed = ap (λ (p : PortFacts L). cause_of p.stage) same
   closed_cause old (stepped machine did ∷ events) new (mid, steps, lives) closed =
-      let rests = quiet counts left written is_shut (RoutesPacket opening) old machine did mid steps closed in
+      let rests = quiet facts (RoutesPacket opening) old machine did mid steps closed in
       closed_cause mid events new lives (ap is_closed rests.stage ∙ (stage_once_put-closed did.put old.waiting old.stage ∙ closed))
       ∙ (ap cause_of rests.stage ∙ once_put-cause did.put old.waiting old.stage)
   closed_cause old (replied wire cause ∷ events) new (mid, (end, passes, inl stays), lives) closed =
@@ -76,13 +76,13 @@ module _ {L : Type 0} (counts : L → Counts) (left written : L → Option (List
     pub mid : PortFacts L
     pub after : List Event
     pub is : events ≡ before ++ stepped machine did ∷ after
-    pub leads : Lives counts left written is_shut (RoutesPacket opening) old before port
-    pub steps : Steps counts left written is_shut (RoutesPacket opening) port machine did mid
+    pub leads : Lives facts (RoutesPacket opening) old before port
+    pub steps : Steps facts (RoutesPacket opening) port machine did mid
     pub closes : did.closed ≡ Some End
     pub closed : is_closed mid.stage ≡ true
-    pub lives : Lives counts left written is_shut (RoutesPacket opening) mid after new
+    pub lives : Lives facts (RoutesPacket opening) mid after new
 
-  ends_later : (old mid new : PortFacts L) (event : Event) (events : List Event) → Happens counts left written is_shut (RoutesPacket opening) old event mid → EndsAt mid events new → EndsAt old (event ∷ events) new
+  ends_later : (old mid new : PortFacts L) (event : Event) (events : List Event) → Happens facts (RoutesPacket opening) old event mid → EndsAt mid events new → EndsAt old (event ∷ events) new
   ends_later old mid new event events happens later = record {
     before = event ∷ later.before;
     port = later.port;
@@ -98,8 +98,8 @@ module _ {L : Type 0} (counts : L → Counts) (left written : L → Option (List
     lives = later.lives;
   }
 
-  ends_step : (old mid new : PortFacts L) (machine : Machine) (did : PortDid) (events : List Event) (closed : Option Cause) → did.closed ≡ closed → Steps counts left written is_shut (RoutesPacket opening) old machine did mid
-      → Settled counts left written is_shut old did mid closed → Lives counts left written is_shut (RoutesPacket opening) mid events new → is_closed old.stage ≡ false → cause_of new.stage ≡ Some End
+  ends_step : (old mid new : PortFacts L) (machine : Machine) (did : PortDid) (events : List Event) (closed : Option Cause) → did.closed ≡ closed → Steps facts (RoutesPacket opening) old machine did mid
+      → Settled facts old did mid closed → Lives facts (RoutesPacket opening) mid events new → is_closed old.stage ≡ false → cause_of new.stage ≡ Some End
       → (is_closed mid.stage ≡ false → EndsAt mid events new) → EndsAt old (stepped machine did ∷ events) new
   ends_step old mid new machine did events None is steps stays lives opened ended later =
       ends_later old mid new (stepped machine did) events steps
@@ -120,7 +120,7 @@ module _ {L : Type 0} (counts : L → Counts) (left written : L → Option (List
         lives = lives;
       }
 
-  ends_at : (old : PortFacts L) (events : List Event) (new : PortFacts L) → Lives counts left written is_shut (RoutesPacket opening) old events new → is_closed old.stage ≡ false → cause_of new.stage ≡ Some End → EndsAt old events new
+  ends_at : (old : PortFacts L) (events : List Event) (new : PortFacts L) → Lives facts (RoutesPacket opening) old events new → is_closed old.stage ≡ false → cause_of new.stage ≡ Some End → EndsAt old events new
   ends_at old [] new same opened ended =
       absurd (cc (sym (ap (λ (p : PortFacts L). cause_of p.stage) same ∙ no_cause old.stage opened) ∙ ended))
   ends_at old (stepped machine did ∷ events) new (mid, steps, lives) opened ended =
@@ -136,18 +136,18 @@ module _ {L : Type 0} (counts : L → Counts) (left written : L → Option (List
       absurd (cc (sym ended ∙ (closed_cause mid events new lives (ap (λ (p : PortFacts L). is_closed p.stage) lags.2.rest) ∙ ap (λ (p : PortFacts L). cause_of p.stage) lags.2.rest)))
 
   -- that step takes and handles nothing
-  shown_at_end : (old : PortFacts L) (did : PortDid) (new : PortFacts L) (closed : Option Cause) → closed ≡ Some End → Settled counts left written is_shut old did new closed → (did.handled ≡ None) × (did.took ≡ [])
+  shown_at_end : (old : PortFacts L) (did : PortDid) (new : PortFacts L) (closed : Option Cause) → closed ≡ Some End → Settled facts old did new closed → (did.handled ≡ None) × (did.took ≡ [])
   shown_at_end old did new None is settled = absurd (cc is)
   shown_at_end old did new (Some cause) is closes =
       let same : cause ≡ End = cc is in
-      let at_end = subst (λ (x : Cause). Settled counts left written is_shut old did new (Some x)) same closes in
+      let at_end = subst (λ (x : Cause). Settled facts old did new (Some x)) same closes in
       (at_end.shown.1, at_end.shown.2)
 
   taken_at_end : (old : PortFacts L) (events : List Event) (new : PortFacts L) (at : EndsAt old events new) → bytes_taken events ≡ bytes_taken at.before
   taken_at_end old events new at =
       ap bytes_taken at.is
       ∙ (taken-append at.before (stepped at.machine at.did ∷ at.after)
-      ∙ (ap (λ (l : List ℕ). bytes_taken at.before ++ (at.did.took ++ l)) (closed_life counts left written is_shut (RoutesPacket opening) at.mid at.after new at.lives at.closed).0
+      ∙ (ap (λ (l : List ℕ). bytes_taken at.before ++ (at.did.took ++ l)) (closed_life facts (RoutesPacket opening) at.mid at.after new at.lives at.closed).0
       ∙ (ap (λ (l : List ℕ). bytes_taken at.before ++ (l ++ [])) (shown_at_end at.port at.did at.mid at.did.closed at.closes at.steps.turn.ends.settled).1
       ∙ append-nil (bytes_taken at.before))))
 
@@ -155,15 +155,15 @@ module _ {L : Type 0} (counts : L → Counts) (left written : L → Option (List
   handled_at_end old events new at =
       ap frames_handled at.is
       ∙ (frames-append at.before (stepped at.machine at.did ∷ at.after)
-      ∙ (ap (λ (l : List Frame). frames_handled at.before ++ and_frame at.did.handled l) (closed_life counts left written is_shut (RoutesPacket opening) at.mid at.after new at.lives at.closed).1
+      ∙ (ap (λ (l : List Frame). frames_handled at.before ++ and_frame at.did.handled l) (closed_life facts (RoutesPacket opening) at.mid at.after new at.lives at.closed).1
       ∙ (ap (λ (f : Option Frame). frames_handled at.before ++ and_frame f []) (shown_at_end at.port at.did at.mid at.did.closed at.closes at.steps.turn.ends.settled).0
       ∙ append-nil (frames_handled at.before))))
 
-  pub all_frames : (connection worker : ℕ) (link : L) (events : List Event) (new : PortFacts L) → Lives counts left written is_shut (RoutesPacket opening) (new_port connection worker link) events new
+  pub all_frames : (connection worker : ℕ) (link : L) (events : List Event) (new : PortFacts L) → Lives facts (RoutesPacket opening) (new_port connection worker link) events new
       → cause_of new.stage ≡ Some End → (rest : List ℕ) × Splits (bytes_taken events) (frames_handled events) rest
   all_frames connection worker link events new lives ended =
       let at = ends_at (new_port connection worker link) events new lives refl ended in
-      let splits = end_has_all counts left written is_shut (RoutesPacket opening) connection worker link at.before at.port at.mid at.machine at.did at.leads at.steps at.closes in
+      let splits = end_has_all facts (RoutesPacket opening) connection worker link at.before at.port at.mid at.machine at.did at.leads at.steps at.closes in
       let handled = handled_at_end (new_port connection worker link) events new at in (
         at.port.framer.kept,
         record {

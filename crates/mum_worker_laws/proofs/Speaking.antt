@@ -2,7 +2,7 @@
 use Rattle.std.proofs.Common.{◌≡◌, ◌==◌, ◌∙◌, ℕ, Bool, true, false, cond, List, [], ◌∷◌, Option, Some, None, Result, refl, ap, sym, inl, inr, if◌then◌else◌}
 use Rattle.std.specs.List.{cons_option, filter_map}
 use Rattle.mum_base.specs.declared.number.SessionId.{SessionId}
-use Rattle.mum_io.specs.Counts.{Counts}
+use Rattle.mum_io.specs.Link.{LinkFacts}
 use Rattle.mum_port.specs.Did.{action_of}
 use Rattle.mum_port.specs.Facts.{PortFacts}
 use Rattle.mum_port.specs.Handling.{Acts, HandlesKept, Routes as PortRoutes}
@@ -71,9 +71,9 @@ module _ (opening : Opening) (asked : ℕ) where
     handled_said old router went new after (inr one) =
         kept_said old.machine old.framer.kept old.waiting old.out router went new.machine new.framer.kept new.waiting new.out after one.handled
 
-  pub step_said : {L : Type 0} (counts : L → Counts) (left written : L → Option (List ℕ)) (is_shut : L → Bool) (boxes : BoxesFacts) (old : PortFacts L) (before : Shares) (new : PortFacts L) (after : Shares)
-      (steps : PortSteps counts left written is_shut opening boxes old before new after)
-      → Are old.machine.connection (look_stepped opening counts left written is_shut boxes old before new after steps) (said_by old.machine (action_of old.machine (did_of steps.chain).handled))
-  step_said counts left written is_shut boxes old before new after steps =
+  pub step_said : {L : Type 0} (facts : L → LinkFacts) (boxes : BoxesFacts) (old : PortFacts L) (before : Shares) (new : PortFacts L) (after : Shares)
+      (steps : PortSteps facts opening boxes old before new after)
+      → Are old.machine.connection (look_stepped opening facts boxes old before new after steps) (said_by old.machine (action_of old.machine (did_of steps.chain).handled))
+  step_said facts boxes old before new after steps =
       handled_said steps.chain.after_read before.common steps.chain.handled steps.chain.after_handle steps.routed steps.chain.handles
       ∙ ap (λ (m : Machine). cond (m.connection == asked) (said_by m (action_of m (did_of steps.chain).handled)) []) (machine_read steps.chain)

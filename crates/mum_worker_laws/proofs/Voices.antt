@@ -5,15 +5,17 @@ use Rattle.std.proofs.lemmas.List.{append-nil, map-append}
 use Rattle.std.proofs.lemmas.List.Elements.{filter_map-append}
 use Rattle.mum_base.specs.declared.number.Cause.{Cause}
 use Rattle.mum_base.specs.declared.number.SessionId.{SessionId}
+use Rattle.mum_crew.specs.Along.{Along}
 use Rattle.mum_crew.specs.Turns.{TurnsTo}
 use Rattle.mum_crew.specs.declared.role.Turn.{Turn}
-use Rattle.mum_io.specs.Counts.{Counts}
+use Rattle.mum_io.specs.Link.{LinkFacts}
 use Rattle.mum_port.specs.Facts.{PortFacts}
 use Rattle.mum_port.specs.Handling.{Acts, HandlesKept, Routes as PortRoutes}
 use Rattle.mum_port.specs.Steps.{Handles}
 use Rattle.mum_outbox.specs.declared.rule.TheConstants.{LAST}
 use Rattle.mum_port.specs.declared.item.DeskItem.{DeskItem}
 use Rattle.mum_port.specs.declared.port.Step.{Step}
+use Rattle.mum_published.specs.Bell.{Rung, Answer, Comes, Lagging, NoMore}
 use Rattle.mum_published.specs.Facts.{Opening}
 use Rattle.mum_record.specs.declared.journal.WorkerEntry.{WorkerEntry}
 use Rattle.mum_record.specs.declared.journal.WorkerEntry.TheVariants as entries
@@ -24,8 +26,6 @@ use Rattle.mum_session.specs.declared.action.Action.{Action}
 use Rattle.mum_session.specs.declared.action.Action.TheVariants.{Ask, Voice, Echo, Keep, Ignore}
 use Rattle.mum_voice.specs.Packet.{Parts, packet}
 use Rattle.mum_voice.specs.declared.fault.BadVoice.{BadVoice}
-use Rattle.mum_worker.specs.Along.{Along}
-use Rattle.mum_worker.specs.Bell.{Ring, Answer, Comes, Lagging, NoMore}
 use Rattle.mum_worker.specs.Boxes.{BoxesFacts}
 use Rattle.mum_worker.specs.Facts.{WorkerFacts}
 use Rattle.mum_worker.specs.Hearing.{Hears, LagsWhereIts, TakesOrTurns}
@@ -131,7 +131,7 @@ module _ (opening : Opening) where
     handled old router went new after (inr one) =
         of_kept old.machine old.framer.kept old.waiting old.out router went new.machine new.framer.kept new.waiting new.out after one.handled
 
-  module _ {L : Type 0} (counts : L → Counts) (left written : L → Option (List ℕ)) (is_shut : L → Bool) where
+  module _ {L : Type 0} (facts : L → LinkFacts) where
     -- what is noted behind it adds no packet
     behind : (moments : List Moment) (old mid new : RecordFacts) → Writes moments old mid → Writes [] mid new → Writes moments old new
     behind moments old mid new one other = record {
@@ -139,10 +139,10 @@ module _ (opening : Opening) where
       voices = λ asked. other.voices (one.journal ∙ asked) ∙ append-nil (filter_map talk_in mid.entries) ∙ one.voices asked;
     }
 
-    stepped : (boxes : BoxesFacts) (old : PortFacts L) (before : Shares) (new : PortFacts L) (after : Shares) (steps : PortSteps counts left written is_shut opening boxes old before new after)
-        → Writes (look_stepped opening counts left written is_shut boxes old before new after steps) before.common.kept after.common.kept
+    stepped : (boxes : BoxesFacts) (old : PortFacts L) (before : Shares) (new : PortFacts L) (after : Shares) (steps : PortSteps facts opening boxes old before new after)
+        → Writes (look_stepped opening facts boxes old before new after steps) before.common.kept after.common.kept
     stepped boxes old before new after steps =
-        behind (look_stepped opening counts left written is_shut boxes old before new after steps) before.common.kept steps.routed.kept after.common.kept
+        behind (look_stepped opening facts boxes old before new after steps) before.common.kept steps.routed.kept after.common.kept
         (handled steps.chain.after_read before.common steps.chain.handled steps.chain.after_handle steps.routed steps.chain.handles)
         (noted old.machine.connection steps.step steps.routed.kept after.common.kept (ap (λ (c : CommonFacts). c.kept) steps.noted))
       where
@@ -151,19 +151,19 @@ module _ (opening : Opening) where
             let silent = closed connection step.closed (record kept { stale = min (kept.stale + step.stale) LAST }) after_it is in
             record { journal = silent.journal; voices = silent.voices }
 
-    along : (boxes : BoxesFacts) (olds : List (PortFacts L)) (before : Shares) (news : List (PortFacts L)) (after : Shares) (all : Along (PortSteps counts left written is_shut opening boxes) olds before news after)
-        → Writes (looks_along opening counts left written is_shut boxes olds before news after all) before.common.kept after.common.kept
+    along : (boxes : BoxesFacts) (olds : List (PortFacts L)) (before : Shares) (news : List (PortFacts L)) (after : Shares) (all : Along (PortSteps facts opening boxes) olds before news after)
+        → Writes (looks_along opening facts boxes olds before news after all) before.common.kept after.common.kept
     along boxes [] before [] after same = same_common before.common after.common (ap (λ (s : Shares). s.common) same)
     along boxes [] before (new ∷ news) after none = absurd none
     along boxes (old ∷ olds) before [] after none = absurd none
     along boxes (old ∷ olds) before (new ∷ news) after (between, step, rest) =
-        and_then (look_stepped opening counts left written is_shut boxes old before new between step) (looks_along opening counts left written is_shut boxes olds between news after rest)
+        and_then (look_stepped opening facts boxes old before new between step) (looks_along opening facts boxes olds between news after rest)
         before.common.kept between.common.kept after.common.kept
         (stepped boxes old before new between step) (along boxes olds between news after rest)
 
     -- ---- the bell, and the turns
 
-    lagged : (session : SessionId) (olds : List (PortFacts L)) (before : RecordFacts) (news : List (PortFacts L)) (after : RecordFacts) → Along (LagsWhereIts counts left written is_shut session) olds before news after → Writes [] before after
+    lagged : (session : SessionId) (olds : List (PortFacts L)) (before : RecordFacts) (news : List (PortFacts L)) (after : RecordFacts) → Along (LagsWhereIts facts session) olds before news after → Writes [] before after
     lagged session [] before [] after same = rests before after same
     lagged session [] before (new ∷ news) after none = absurd none
     lagged session (old ∷ olds) before [] after none = absurd none
@@ -183,32 +183,32 @@ module _ (opening : Opening) where
     told : (reply : _) (old new : RecordFacts) → Writes [] old new → Writes (Told reply ∷ []) old new
     told reply old new silent = record { journal = silent.journal; voices = silent.voices }
 
-    heard : (ring : Option (Ring L)) (old new : WorkerFacts L) → Hears counts left written is_shut ring old new → Writes (told_by ring) old.common.kept new.common.kept
+    heard : (item : Option (Rung L)) (old new : WorkerFacts L) → Hears facts item old new → Writes (told_by item) old.common.kept new.common.kept
     heard None old new same = same_common old.common new.common (ap (λ (w : WorkerFacts L). w.common) same)
     heard (Some (Answer reply)) old new hears = told reply old.common.kept new.common.kept (closed reply.connection hears.takes.closed old.common.kept new.common.kept hears.takes.noted)
     heard (Some (Comes connection link)) old new hears = comes old.number connection link old.ports old.common.kept new.ports new.common.kept hears.takes
     heard (Some (Lagging session)) old new hears = lagged session old.ports old.common.kept hears.each.stepped new.common.kept hears.each.along
     heard (Some NoMore) old new same = same_common old.common new.common (ap (λ (w : WorkerFacts L). w.common) same)
 
-    turn_writes : (old new : WorkerFacts L) (turn : Turn) (turned : Turned counts left written is_shut opening old new turn)
-        → Writes (moments_of counts left written is_shut opening old new turn turned) old.common.kept new.common.kept
+    turn_writes : (old new : WorkerFacts L) (turn : Turn) (turned : Turned facts opening old new turn)
+        → Writes (moments_of facts opening old new turn turned) old.common.kept new.common.kept
     turn_writes old new turn turned =
-        and_then (told_by turned.hears.ring)
-        (looks_along opening counts left written is_shut turned.between.boxes turned.between.ports (shares_of turned.between turned.heard) turned.steps.steps.stepped (shares_of new turned.worked) turned.steps.steps.along)
+        and_then (told_by turned.hears.item)
+        (looks_along opening facts turned.between.boxes turned.between.ports (shares_of turned.between turned.heard) turned.steps.steps.stepped (shares_of new turned.worked) turned.steps.steps.along)
         old.common.kept turned.between.common.kept new.common.kept
-        (heard turned.hears.ring (record old { bell = turned.hears.bell }) turned.between turned.hears.hears)
+        (heard turned.hears.item (record old { bell = turned.hears.bell }) turned.between turned.hears.hears)
         (along turned.between.boxes turned.between.ports (shares_of turned.between turned.heard) turned.steps.steps.stepped (shares_of new turned.worked) turned.steps.steps.along)
 
-    turns_write : (old : WorkerFacts L) (turns : List Turn) (new : WorkerFacts L) (all : TurnsTo (WorkerTurned counts left written is_shut opening) old turns new)
-        → Writes (history counts left written is_shut opening old turns new all) old.common.kept new.common.kept
+    turns_write : (old : WorkerFacts L) (turns : List Turn) (new : WorkerFacts L) (all : TurnsTo (WorkerTurned facts opening) old turns new)
+        → Writes (history facts opening old turns new all) old.common.kept new.common.kept
     turns_write old [] new same = same_common old.common new.common (ap (λ (w : WorkerFacts L). w.common) same)
     turns_write old (turn ∷ turns) new (mid, turned, rest) =
-        and_then (moments_of counts left written is_shut opening old mid turn turned) (history counts left written is_shut opening mid turns new rest)
+        and_then (moments_of facts opening old mid turn turned) (history facts opening mid turns new rest)
         old.common.kept mid.common.kept new.common.kept
         (turn_writes old mid turn turned) (turns_write mid turns new rest)
 
-    pub one_entry_each : (number : ℕ) (pass : _) (room : ℕ) (opened : WorkerFacts L) (turns : List Turn) (worker : WorkerFacts L) → HasOpened number pass (Some room) opened → (all : TurnsTo (WorkerTurned counts left written is_shut opening) opened turns worker)
-        → filter_map talk_in worker.common.kept.entries ≡ map talk_made (looks_in (history counts left written is_shut opening opened turns worker all))
+    pub one_entry_each : (number : ℕ) (pass : _) (room : ℕ) (opened : WorkerFacts L) (turns : List Turn) (worker : WorkerFacts L) → HasOpened number pass (Some room) opened → (all : TurnsTo (WorkerTurned facts opening) opened turns worker)
+        → filter_map talk_in worker.common.kept.entries ≡ map talk_made (looks_in (history facts opening opened turns worker all))
     one_entry_each number pass room opened turns worker begun all =
         (turns_write opened turns worker all).voices (ap (λ (k : RecordFacts). k.journal) begun.kept_is)
-        ∙ ap (λ (k : RecordFacts). filter_map talk_in k.entries ++ map talk_made (looks_in (history counts left written is_shut opening opened turns worker all))) begun.kept_is
+        ∙ ap (λ (k : RecordFacts). filter_map talk_in k.entries ++ map talk_made (looks_in (history facts opening opened turns worker all))) begun.kept_is

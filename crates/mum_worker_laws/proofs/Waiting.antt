@@ -1,13 +1,14 @@
 -- A connection that awaits a reply is not heard before it comes.
-use Rattle.std.proofs.Common.{◌≡◌, ◌≢◌, ◌∙◌, ℕ, zero, suc, Bool, true, true≢false, not, IsTrue, List, [], ◌∷◌, All, slice_set, Option, Some, None, refl, ap, sym, subst, inl, inr}
+use Rattle.std.proofs.Common.{◌≡◌, ◌≢◌, ◌∙◌, ℕ, zero, suc, true, true≢false, not, IsTrue, List, [], ◌∷◌, All, slice_set, Option, Some, None, refl, ap, sym, subst, inl, inr}
 use Rattle.std.specs.List.{AllByRecursion as Each}
 use Rattle.std.proofs.lemmas.Bool.{eqb-true}
 use Rattle.std.proofs.lemmas.List.Elements.{All-from_recursion, recursion_from_All}
 use Rattle.mum_base.specs.declared.number.SessionId.{SessionId}
+use Rattle.mum_crew.specs.Along.{Along}
 use Rattle.mum_crew.specs.Turns.{TurnsTo}
 use Rattle.mum_crew.specs.declared.role.Turn.{Turn}
 use Rattle.mum_frame.specs.declared.frame.Frame.{Frame}
-use Rattle.mum_io.specs.Counts.{Counts}
+use Rattle.mum_io.specs.Link.{LinkFacts}
 use Rattle.mum_port.specs.Did.{action_of, machine_after}
 use Rattle.mum_port.specs.Facts.{PortFacts, may_handle, new_port}
 use Rattle.mum_port.specs.Handling.{Acts, HandlesKept, Routes as PortRoutes}
@@ -19,13 +20,12 @@ use Rattle.mum_port.proofs.Closing.{and-left}
 use Rattle.mum_port.proofs.Course.{machine_read}
 use Rattle.mum_port.proofs.Idle.{and-right}
 use Rattle.mum_port.proofs.Turned.{did_turn}
+use Rattle.mum_published.specs.Bell.{Rung, Answer, Comes, Lagging, NoMore}
 use Rattle.mum_published.specs.Facts.{Opening}
 use Rattle.mum_session.specs.Action.{action, after_frame, asks}
 use Rattle.mum_session.specs.Machine.{Machine, session_of}
 use Rattle.mum_session.specs.declared.action.Action.{Action}
 use Rattle.mum_session.specs.declared.action.Action.TheVariants.{Ask, Voice, Echo, Keep, Ignore}
-use Rattle.mum_worker.specs.Along.{Along}
-use Rattle.mum_worker.specs.Bell.{Ring, Answer, Comes, Lagging, NoMore}
 use Rattle.mum_worker.specs.Boxes.{BoxesFacts}
 use Rattle.mum_worker.specs.Facts.{WorkerFacts, stays}
 use Rattle.mum_worker.specs.Hearing.{AnswersFirst, Hears, LagsWhereIts, TakesOrTurns}
@@ -106,17 +106,17 @@ module _ (opening : Opening) (asked : ℕ) where
         kept_of_another old.machine old.framer.kept old.waiting old.out router went new.machine new.framer.kept new.waiting new.out after one.handled
         (λ its. not_handled old (awaits its) one.allowed)
 
-  module _ {L : Type 0} (counts : L → Counts) (left written : L → Option (List ℕ)) (is_shut : L → Bool) where
-    step_of_another : (boxes : BoxesFacts) (old : PortFacts L) (before : Shares) (new : PortFacts L) (after : Shares) (steps : PortSteps counts left written is_shut opening boxes old before new after) → AwaitsReply asked old
-        → Each (IsNoPacketOf asked) (look_stepped opening counts left written is_shut boxes old before new after steps)
+  module _ {L : Type 0} (facts : L → LinkFacts) where
+    step_of_another : (boxes : BoxesFacts) (old : PortFacts L) (before : Shares) (new : PortFacts L) (after : Shares) (steps : PortSteps facts opening boxes old before new after) → AwaitsReply asked old
+        → Each (IsNoPacketOf asked) (look_stepped opening facts boxes old before new after steps)
     step_of_another boxes old before new after steps awaits =
         handled_of_another steps.chain.after_read before.common steps.chain.handled steps.chain.after_handle steps.routed steps.chain.handles
         (subst (λ (m : Machine). m.connection ≡ asked → IsTrue m.awaits) (sym (machine_read steps.chain)) awaits)
 
-    step_awaits : (boxes : BoxesFacts) (old : PortFacts L) (before : Shares) (new : PortFacts L) (after : Shares) → PortSteps counts left written is_shut opening boxes old before new after → AwaitsReply asked old → AwaitsReply asked new
+    step_awaits : (boxes : BoxesFacts) (old : PortFacts L) (before : Shares) (new : PortFacts L) (after : Shares) → PortSteps facts opening boxes old before new after → AwaitsReply asked old → AwaitsReply asked new
     step_awaits boxes old before new after steps awaits =
         let turn = did_turn steps.chain in
-        let happened : Steps counts left written is_shut (RoutesPacket opening) old old.machine turn.0 new = record {
+        let happened : Steps facts (RoutesPacket opening) old old.machine turn.0 new = record {
           of_port = refl;
           posts = boxes.posts;
           voices = boxes.voices;
@@ -129,28 +129,28 @@ module _ (opening : Opening) (asked : ℕ) where
         } in
         λ its.
         let was : old.machine.awaits ≡ true = awaits (sym (connection-machine_after old.machine turn.0.handled) ∙ (ap (λ (m : Machine). m.connection) (sym turn.1.handles.machine) ∙ its)) in
-        ap (λ (m : Machine). m.awaits) (turn.1.handles.machine ∙ ap (λ (f : Option Frame). machine_after old.machine f) (nothing_handled counts left written is_shut opening old old.machine turn.0 new happened was)) ∙ was
+        ap (λ (m : Machine). m.awaits) (turn.1.handles.machine ∙ ap (λ (f : Option Frame). machine_after old.machine f) (nothing_handled facts opening old old.machine turn.0 new happened was)) ∙ was
 
-    along_of_another : (boxes : BoxesFacts) (olds : List (PortFacts L)) (before : Shares) (news : List (PortFacts L)) (after : Shares) (along : Along (PortSteps counts left written is_shut opening boxes) olds before news after)
-        → Each (AwaitsReply asked) olds → Each (AwaitsReply asked) news × Each (IsNoPacketOf asked) (looks_along opening counts left written is_shut boxes olds before news after along)
+    along_of_another : (boxes : BoxesFacts) (olds : List (PortFacts L)) (before : Shares) (news : List (PortFacts L)) (after : Shares) (along : Along (PortSteps facts opening boxes) olds before news after)
+        → Each (AwaitsReply asked) olds → Each (AwaitsReply asked) news × Each (IsNoPacketOf asked) (looks_along opening facts boxes olds before news after along)
     along_of_another boxes [] before [] after same await = (tt, tt)
     along_of_another boxes [] before (new ∷ news) after along await = absurd along
     along_of_another boxes (old ∷ olds) before [] after along await = absurd along
     along_of_another boxes (old ∷ olds) before (new ∷ news) after (between, steps, along) await =
         let rest = along_of_another boxes olds between news after along await.1 in (
           (step_awaits boxes old before new between steps await.0, rest.0),
-          each-append (IsNoPacketOf asked) (look_stepped opening counts left written is_shut boxes old before new between steps) (looks_along opening counts left written is_shut boxes olds between news after along)
+          each-append (IsNoPacketOf asked) (look_stepped opening facts boxes old before new between steps) (looks_along opening facts boxes olds between news after along)
               (step_of_another boxes old before new between steps await.0) rest.1,
         )
 
     -- ---- the bell
 
-    answer_awaits : (connection : ℕ) (end : _) (wire : List ℕ) (passes : _) (olds : List (PortFacts L)) (closed : _) (news : List (PortFacts L)) → AnswersFirst counts left written is_shut connection end wire passes olds closed news
+    answer_awaits : (connection : ℕ) (end : _) (wire : List ℕ) (passes : _) (olds : List (PortFacts L)) (closed : _) (news : List (PortFacts L)) → AnswersFirst facts connection end wire passes olds closed news
         → connection ≢ asked → Each (AwaitsReply asked) olds → Each (AwaitsReply asked) news
     answer_awaits connection end wire passes olds closed news (inl none) another await = subst (λ (l : List (PortFacts L)). Each (AwaitsReply asked) l) (sym none.same) await
     answer_awaits connection end wire passes olds closed news (inr first) another await =
-        let its = eqb-true first.old.machine.connection connection (first_is_of counts left written is_shut opening connection olds first.place first.old first.first first.there) in
-        let place = place_answered counts left written is_shut opening end wire passes first.old closed first.new first.answers in
+        let its = eqb-true first.old.machine.connection connection (first_is_of facts opening connection olds first.place first.old first.first first.there) in
+        let place = place_answered facts opening end wire passes first.old closed first.new first.answers in
         subst (λ (l : List (PortFacts L)). Each (AwaitsReply asked) l) (sym first.others)
         (each_set (AwaitsReply asked) olds first.place first.new (λ of_it. absurd (another (sym its ∙ (sym place.number ∙ of_it)))) await)
 
@@ -161,12 +161,12 @@ module _ (opening : Opening) (asked : ℕ) where
         (each-append (AwaitsReply asked) ports (new_port connection number link ∷ []) await (λ its. absurd (others.0 its), tt))
     taken_awaits number connection link ports kept ports_after kept_after (inr turns) others await = subst (λ (l : List (PortFacts L)). Each (AwaitsReply asked) l) (sym turns.ports_same) await
 
-    lag_awaits : (session : SessionId) (old : PortFacts L) (before : RecordFacts) (new : PortFacts L) (after : RecordFacts) → LagsWhereIts counts left written is_shut session old before new after → AwaitsReply asked old → AwaitsReply asked new
+    lag_awaits : (session : SessionId) (old : PortFacts L) (before : RecordFacts) (new : PortFacts L) (after : RecordFacts) → LagsWhereIts facts session old before new after → AwaitsReply asked old → AwaitsReply asked new
     lag_awaits session old before new after (inl passes) awaits = subst (λ (p : PortFacts L). AwaitsReply asked p) (sym passes.same) awaits
     lag_awaits session old before new after (inr lags) awaits =
-        λ its. awaits_lagged counts left written is_shut opening old lags.closed new lags.lags ∙ awaits (sym (place_lagged counts left written is_shut opening old lags.closed new lags.lags).number ∙ its)
+        λ its. awaits_lagged facts opening old lags.closed new lags.lags ∙ awaits (sym (place_lagged facts opening old lags.closed new lags.lags).number ∙ its)
 
-    lags_await : (session : SessionId) (olds : List (PortFacts L)) (before : RecordFacts) (news : List (PortFacts L)) (after : RecordFacts) → Along (LagsWhereIts counts left written is_shut session) olds before news after
+    lags_await : (session : SessionId) (olds : List (PortFacts L)) (before : RecordFacts) (news : List (PortFacts L)) (after : RecordFacts) → Along (LagsWhereIts facts session) olds before news after
         → Each (AwaitsReply asked) olds → Each (AwaitsReply asked) news
     lags_await session [] before [] after same await = tt
     lags_await session [] before (new ∷ news) after along await = absurd along
@@ -174,7 +174,7 @@ module _ (opening : Opening) (asked : ℕ) where
     lags_await session (old ∷ olds) before (new ∷ news) after (between, lags, along) await =
         (lag_awaits session old before new between lags await.0, lags_await session olds between news after along await.1)
 
-    hear_awaits : (ring : Option (Ring L)) (old new : WorkerFacts L) (hears : Hears counts left written is_shut ring old new) → Each (IsNoReplyTo asked) (told_by ring) → Each (IsOfAnother asked) (taken_in counts left written is_shut ring old new hears)
+    hear_awaits : (item : Option (Rung L)) (old new : WorkerFacts L) (hears : Hears facts item old new) → Each (IsNoReplyTo asked) (told_by item) → Each (IsOfAnother asked) (taken_in facts item old new hears)
         → Each (AwaitsReply asked) old.ports → Each (AwaitsReply asked) new.ports
     hear_awaits None old new same spared others await = subst (λ (w : WorkerFacts L). Each (AwaitsReply asked) w.ports) (sym same) await
     hear_awaits (Some (Answer reply)) old new hears spared others await =
@@ -188,44 +188,44 @@ module _ (opening : Opening) (asked : ℕ) where
 
     -- ---- the turns
 
-    none_of_it : (old : WorkerFacts L) (turns : List Turn) (new : WorkerFacts L) (all : TurnsTo (WorkerTurned counts left written is_shut opening) old turns new)
-        → Each (IsNoReplyTo asked) (history counts left written is_shut opening old turns new all) → Each (IsOfAnother asked) (ports_taken counts left written is_shut opening old turns new all)
-        → Each (AwaitsReply asked) old.ports → Each (IsNoPacketOf asked) (history counts left written is_shut opening old turns new all)
+    none_of_it : (old : WorkerFacts L) (turns : List Turn) (new : WorkerFacts L) (all : TurnsTo (WorkerTurned facts opening) old turns new)
+        → Each (IsNoReplyTo asked) (history facts opening old turns new all) → Each (IsOfAnother asked) (ports_taken facts opening old turns new all)
+        → Each (AwaitsReply asked) old.ports → Each (IsNoPacketOf asked) (history facts opening old turns new all)
     none_of_it old [] new all spared others await = tt
     none_of_it old (turn ∷ turns) new (mid, turned, rest) spared others await =
-        let moments : List Moment = moments_of counts left written is_shut opening old mid turn turned in
-        let later : List Moment = history counts left written is_shut opening mid turns new rest in
-        let looks : List Moment = looks_along opening counts left written is_shut turned.between.boxes turned.between.ports (shares_of turned.between turned.heard) turned.steps.steps.stepped (shares_of mid turned.worked) turned.steps.steps.along in
-        let taken : List (PortFacts L) = taken_in counts left written is_shut turned.hears.ring (record old { bell = turned.hears.bell }) turned.between turned.hears.hears in
-        let heard = hear_awaits turned.hears.ring (record old { bell = turned.hears.bell }) turned.between turned.hears.hears
-        (each_front (IsNoReplyTo asked) (told_by turned.hears.ring) looks (each_front (IsNoReplyTo asked) moments later spared))
-        (each_front (IsOfAnother asked) taken (ports_taken counts left written is_shut opening mid turns new rest) others) await in
+        let moments : List Moment = moments_of facts opening old mid turn turned in
+        let later : List Moment = history facts opening mid turns new rest in
+        let looks : List Moment = looks_along opening facts turned.between.boxes turned.between.ports (shares_of turned.between turned.heard) turned.steps.steps.stepped (shares_of mid turned.worked) turned.steps.steps.along in
+        let taken : List (PortFacts L) = taken_in facts turned.hears.item (record old { bell = turned.hears.bell }) turned.between turned.hears.hears in
+        let heard = hear_awaits turned.hears.item (record old { bell = turned.hears.bell }) turned.between turned.hears.hears
+        (each_front (IsNoReplyTo asked) (told_by turned.hears.item) looks (each_front (IsNoReplyTo asked) moments later spared))
+        (each_front (IsOfAnother asked) taken (ports_taken facts opening mid turns new rest) others) await in
         let stepped = along_of_another turned.between.boxes turned.between.ports (shares_of turned.between turned.heard) turned.steps.steps.stepped (shares_of mid turned.worked) turned.steps.steps.along heard in
         each-append (IsNoPacketOf asked) moments later
-        (each-append (IsNoPacketOf asked) (told_by turned.hears.ring) looks (none_told turned.hears.ring) stepped.1)
+        (each-append (IsNoPacketOf asked) (told_by turned.hears.item) looks (none_told turned.hears.item) stepped.1)
         (none_of_it mid turns new rest (each_back (IsNoReplyTo asked) moments later spared)
-        (each_back (IsOfAnother asked) taken (ports_taken counts left written is_shut opening mid turns new rest) others)
+        (each_back (IsOfAnother asked) taken (ports_taken facts opening mid turns new rest) others)
         (subst (λ (l : List (PortFacts L)). Each (AwaitsReply asked) l) (sym turned.steps.steps.left) (each_left (AwaitsReply asked) stays turned.steps.steps.stepped stepped.0)))
       where
-        none_told : (ring : Option (Ring L)) → Each (IsNoPacketOf asked) (told_by ring)
+        none_told : (item : Option (Rung L)) → Each (IsNoPacketOf asked) (told_by item)
         none_told None = tt
         none_told (Some (Answer reply)) = (tt, tt)
         none_told (Some (Comes connection link)) = tt
         none_told (Some (Lagging session)) = tt
         none_told (Some NoMore) = tt
 
-    pub no_packet : (old : WorkerFacts L) (turns : List Turn) (new : WorkerFacts L) (all : TurnsTo (WorkerTurned counts left written is_shut opening) old turns new) → All (AwaitsReply asked) old.ports
-        → All (IsNoReplyTo asked) (history counts left written is_shut opening old turns new all) → All (IsOfAnother asked) (ports_taken counts left written is_shut opening old turns new all)
-        → All (IsNoPacketOf asked) (history counts left written is_shut opening old turns new all)
+    pub no_packet : (old : WorkerFacts L) (turns : List Turn) (new : WorkerFacts L) (all : TurnsTo (WorkerTurned facts opening) old turns new) → All (AwaitsReply asked) old.ports
+        → All (IsNoReplyTo asked) (history facts opening old turns new all) → All (IsOfAnother asked) (ports_taken facts opening old turns new all)
+        → All (IsNoPacketOf asked) (history facts opening old turns new all)
     no_packet old turns new all await spared others =
-        All-from_recursion (IsNoPacketOf asked) (history counts left written is_shut opening old turns new all)
+        All-from_recursion (IsNoPacketOf asked) (history facts opening old turns new all)
         (none_of_it old turns new all
-        (recursion_from_All (IsNoReplyTo asked) (history counts left written is_shut opening old turns new all) spared)
-        (recursion_from_All (IsOfAnother asked) (ports_taken counts left written is_shut opening old turns new all) others)
+        (recursion_from_All (IsNoReplyTo asked) (history facts opening old turns new all) spared)
+        (recursion_from_All (IsOfAnother asked) (ports_taken facts opening old turns new all) others)
         (recursion_from_All (AwaitsReply asked) old.ports await))
 
-module _ {L : Type 0} (counts : L → Counts) (left written : L → Option (List ℕ)) (is_shut : L → Bool) (opening : Opening) where
-  pub command_awaits : (old new : PortFacts L) (machine : Machine) (did : _) (item : DeskItem) → Steps counts left written is_shut (RoutesPacket opening) old machine did new
+module _ {L : Type 0} (facts : L → LinkFacts) (opening : Opening) where
+  pub command_awaits : (old new : PortFacts L) (machine : Machine) (did : _) (item : DeskItem) → Steps facts (RoutesPacket opening) old machine did new
       → asked_item (action_of machine did.handled) ≡ Some item → IsTrue new.machine.awaits
   command_awaits old new machine did item steps asked =
       ap (λ (m : Machine). m.awaits) (steps.turn.handles.machine ∙ ap (λ (m : Machine). machine_after m did.handled) (sym steps.of_port)) ∙ awaits_behind machine did.handled item asked

@@ -1,11 +1,11 @@
 -- The lists of edits that looks saw, beside what the pass of their worker saw last.
-use Rattle.std.proofs.Common.{◌≡◌, ◌⊎◌, ℕ, List, [], ◌∷◌, Option, Bool, refl, inl, inr}
+use Rattle.std.proofs.Common.{◌≡◌, ◌⊎◌, List, [], ◌∷◌, refl, inl, inr}
 use Rattle.std.specs.Prelude.{All}
 use Rattle.std.proofs.lemmas.List.Elements.{All-cons, All-head, All-nil}
 use mathlib.Core.List.{IsPrefix}
 use Rattle.mum_crew.specs.Turns.{TurnsTo}
 use Rattle.mum_crew.specs.declared.role.Turn.{Turn}
-use Rattle.mum_io.specs.Counts.{Counts}
+use Rattle.mum_io.specs.Link.{LinkFacts}
 use Rattle.mum_published.proofs.Prefixes.{prefix_trans}
 use Rattle.mum_published.specs.Facts.{Opening, PassFacts}
 use Rattle.mum_state.specs.declared.edit.Edit.{Edit}
@@ -52,9 +52,9 @@ looks_pair published looks others all rest =
     (λ next sees. either_begins look.edits next.edits published saw sees) others rest)
     looks all
 
-module _ {L : Type 0} (counts : L → Counts) (left written : L → Option (List ℕ)) (is_shut : L → Bool) (opening : Opening) where
-  pub looks_within : (old : WorkerFacts L) (turns : List Turn) (new : WorkerFacts L) (all : TurnsTo (WorkerTurned counts left written is_shut opening) old turns new)
-      → All (SawOf new.common.router.pass.seen) (looks_in (history counts left written is_shut opening old turns new all))
+module _ {L : Type 0} (facts : L → LinkFacts) (opening : Opening) where
+  pub looks_within : (old : WorkerFacts L) (turns : List Turn) (new : WorkerFacts L) (all : TurnsTo (WorkerTurned facts opening) old turns new)
+      → All (SawOf new.common.router.pass.seen) (looks_in (history facts opening old turns new all))
   looks_within old turns new all =
-      looks_seen new.common.router.pass (history counts left written is_shut opening old turns new all)
-      (go_turns opening counts left written is_shut old turns new all).looked
+      looks_seen new.common.router.pass (history facts opening old turns new all)
+      (go_turns opening facts old turns new all).looked

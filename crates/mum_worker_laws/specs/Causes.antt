@@ -1,6 +1,7 @@
 -- What a turn of a worker shows of its answer.
-use Rattle.std.specs.Prelude.{◌≡◌, ◌≢◌, ◌⊎◌, ℕ, Bool, true, false, List, [], ◌∷◌, ◌++◌, slice_get, Option, Some}
-use Rattle.mum_io.specs.Counts.{Counts}
+use Rattle.std.specs.Prelude.{◌≡◌, ◌≢◌, ◌⊎◌, ℕ, Bool, true, false, List, [], ◌∷◌, ◌++◌, slice_get, Some}
+use Rattle.mum_crew.specs.Along.{EachAlong}
+use Rattle.mum_io.specs.Link.{LinkFacts}
 use Rattle.mum_outbox.specs.Calls.{one_more}
 use Rattle.mum_outbox.specs.Facts.{PassFacts}
 use Rattle.mum_port.specs.Did.{PortDid}
@@ -8,25 +9,24 @@ use Rattle.mum_port.specs.Facts.{PortFacts}
 use Rattle.mum_port.specs.Life.{Steps}
 use Rattle.mum_port.specs.Turn.{IsIdle, did_nothing}
 use Rattle.mum_port.specs.declared.item.DeskItem.{DeskItem}
+use Rattle.mum_published.specs.Bell.{Rung, NoMore}
 use Rattle.mum_published.specs.Facts.{Opening}
 use Rattle.mum_session.specs.Machine.{Machine}
-use Rattle.mum_worker.specs.Along.{EachAlong}
-use Rattle.mum_worker.specs.Bell.{Ring, NoMore}
 use Rattle.mum_worker.specs.Boxes.{BoxesFacts}
 use Rattle.mum_worker.specs.Facts.{WorkerFacts, is_done, stays}
 use Rattle.mum_worker.specs.Routing.{RoutesPacket}
 use Rattle.mum_worker.specs.Stepping.{PortSteps}
 use Rattle.mum_worker.specs.Turning.{shares_of}
 
-abbrev pub is_no_more : {L : Type 0} → Ring L → Bool
+abbrev pub is_no_more : {L : Type 0} → Rung L → Bool
 is_no_more NoMore = true
 is_no_more other = false
 
-module _ {L : Type 0} (counts : L → Counts) (left written : L → Option (List ℕ)) (is_shut : L → Bool) where
+module _ {L : Type 0} (facts : L → LinkFacts) where
   -- a port did nothing, and found nothing that it might do: see `IsIdle`
   abbrev pub FindsNothing : BoxesFacts → PortFacts L → PassFacts DeskItem → PortFacts L → PassFacts DeskItem → Type 0
   FindsNothing boxes old desk new after =
-      (did : PortDid) × IsIdle counts left written is_shut boxes.posts boxes.voices old desk did new after
+      (did : PortDid) × IsIdle facts boxes.posts boxes.voices old desk did new after
 
   -- the bell gave nothing, which is counted, each port found nothing that it might do, and the worker is not done
   pub record HasNothingToDo (old new : WorkerFacts L) : Type 0 where
@@ -36,8 +36,8 @@ module _ {L : Type 0} (counts : L → Counts) (left written : L → Option (List
 
   -- the bell gave something, which is the last that was taken from it
   pub record HasHeard (old new : WorkerFacts L) : Type 0 where
-    pub ring : Ring L
-    pub taken : new.bell ≡ record old.bell { taken = old.bell.taken ++ ring ∷ [] }
+    pub item : Rung L
+    pub taken : new.bell ≡ record old.bell { taken = old.bell.taken ++ item ∷ [] }
 
   -- the step that led from one of these ports to the one at its place did something
   pub record StepWorked (opening : Opening) (boxes : BoxesFacts) (olds stepped : List (PortFacts L)) : Type 0 where
@@ -48,7 +48,7 @@ module _ {L : Type 0} (counts : L → Counts) (left written : L → Option (List
     pub after_there : slice_get stepped place ≡ Some after
     pub machine : Machine
     pub did : PortDid
-    pub steps : Steps counts left written is_shut (RoutesPacket opening) port machine did after
+    pub steps : Steps facts (RoutesPacket opening) port machine did after
     pub posts : steps.posts ≡ boxes.posts
     pub voices : steps.voices ≡ boxes.voices
     pub something : did ≢ did_nothing
@@ -57,7 +57,7 @@ module _ {L : Type 0} (counts : L → Counts) (left written : L → Option (List
   -- step of one of them did something
   pub record OneWorked (opening : Opening) (old new : WorkerFacts L) : Type 0 where
     pub bell : new.bell ≡ record old.bell { empty = one_more old.bell.empty }
-    pub ports : EachAlong (PortSteps counts left written is_shut opening old.boxes) stays
+    pub ports : EachAlong (PortSteps facts opening old.boxes) stays
         old.ports (shares_of old false) new.ports (shares_of new true)
     pub one : StepWorked opening old.boxes old.ports ports.stepped
 

@@ -4,31 +4,31 @@ use mathlib.Core.Logic.{inl, inr}
 use Rattle.std.specs.List.{filter_map}
 use mathlib.Core.List.{IsPrefix}
 use Rattle.mum_base.specs.declared.number.SessionId.{SessionId}
+use Rattle.mum_crew.specs.Along.{Along}
 use Rattle.mum_crew.specs.Turns.{TurnsTo}
 use Rattle.mum_crew.specs.declared.role.Turn.{Turn}
-use Rattle.mum_io.specs.Counts.{Counts}
+use Rattle.mum_io.specs.Link.{LinkFacts}
 use Rattle.mum_outbox.specs.Facts.{PassFacts}
 use Rattle.mum_outbox.specs.declared.parcel.VoiceParcel.{VoiceParcel}
-use Rattle.mum_outbox.specs.declared.queue.Offered.{Offered}
 use Rattle.mum_outbox.specs.declared.queue.Offered.TheVariants.{Sent, Full}
+use Rattle.mum_outbox.specs.declared.queue.Offered.{Offered}
 use Rattle.mum_port.specs.Facts.{PortFacts}
 use Rattle.mum_port.specs.Handling.{Acts, HandlesKept, Routes as PortRoutes}
 use Rattle.mum_port.specs.Steps.{Handles}
 use Rattle.mum_port.specs.declared.item.DeskItem.{DeskItem}
+use Rattle.mum_published.specs.Bell.{Rung, Answer, Comes, Lagging, NoMore}
 use Rattle.mum_published.specs.Calls.{ask_at}
-use Rattle.mum_published.specs.Facts.{NoteFacts, Opening}
+use Rattle.mum_published.specs.Facts.{NoteFacts, Opening, ReplyFacts}
 use Rattle.mum_published.specs.declared.rule.AskAt.{AskAt}
 use Rattle.mum_router.specs.Laws.{RoutedPacket}
 use Rattle.mum_router.specs.Offering.{Delivery, Outs, parcel_for}
 use Rattle.mum_router.specs.Picking.{ask_of}
-use Rattle.mum_session.specs.Machine.{Machine, session_of}
 use Rattle.mum_session.specs.Action.{action}
-use Rattle.mum_session.specs.declared.action.Action.{Action}
+use Rattle.mum_session.specs.Machine.{Machine, session_of}
 use Rattle.mum_session.specs.declared.action.Action.TheVariants.{Ask, Voice, Echo, Keep, Ignore}
+use Rattle.mum_session.specs.declared.action.Action.{Action}
 use Rattle.mum_state.specs.declared.edit.Edit.{Edit}
 use Rattle.mum_voice.specs.Packet.{Parts}
-use Rattle.mum_worker.specs.Along.{Along}
-use Rattle.mum_worker.specs.Bell.{ReplyFacts, Ring, Answer, Comes, Lagging, NoMore}
 use Rattle.mum_worker.specs.Boxes.{BoxesFacts}
 use Rattle.mum_worker.specs.Facts.{WorkerFacts}
 use Rattle.mum_worker.specs.Routing.{CommonFacts, RoutesPacket}
@@ -159,14 +159,14 @@ module _ (opening : Opening) where
     look_handled old router went new after (inr one) =
         look_kept old.machine old.framer.kept old.waiting old.out router went new.machine new.framer.kept new.waiting new.out after one.handled
 
-  module _ {L : Type 0} (counts : L → Counts) (left written : L → Option (List ℕ)) (is_shut : L → Bool) where
+  module _ {L : Type 0} (facts : L → LinkFacts) where
     -- the packet that the step of a port routed, if it did
-    abbrev pub look_stepped : (boxes : BoxesFacts) (old : PortFacts L) (before : Shares) (new : PortFacts L) (after : Shares) → PortSteps counts left written is_shut opening boxes old before new after → List Moment
+    abbrev pub look_stepped : (boxes : BoxesFacts) (old : PortFacts L) (before : Shares) (new : PortFacts L) (after : Shares) → PortSteps facts opening boxes old before new after → List Moment
     look_stepped boxes old before new after steps =
         look_handled steps.chain.after_read before.common steps.chain.handled steps.chain.after_handle steps.routed steps.chain.handles
 
     -- the packets that ports routed, one after the other
-    abbrev pub looks_along : (boxes : BoxesFacts) (olds : List (PortFacts L)) (before : Shares) (news : List (PortFacts L)) (after : Shares) → Along (PortSteps counts left written is_shut opening boxes) olds before news after → List Moment
+    abbrev pub looks_along : (boxes : BoxesFacts) (olds : List (PortFacts L)) (before : Shares) (news : List (PortFacts L)) (after : Shares) → Along (PortSteps facts opening boxes) olds before news after → List Moment
     looks_along boxes [] before [] after none = []
     looks_along boxes [] before (new ∷ news) after none = []
     looks_along boxes (old ∷ olds) before [] after none = []
@@ -175,26 +175,26 @@ module _ (opening : Opening) where
 
 -- ---- the turns
 
-abbrev pub told_of : {L : Type 0} → Ring L → List Moment
+abbrev pub told_of : {L : Type 0} → Rung L → List Moment
 told_of (Answer reply) = Told reply ∷ []
 told_of (Comes connection link) = []
 told_of (Lagging session) = []
 told_of NoMore = []
 
 -- the reply that a turn heard, if it did
-abbrev pub told_by : {L : Type 0} → Option (Ring L) → List Moment
+abbrev pub told_by : {L : Type 0} → Option (Rung L) → List Moment
 told_by None = []
-told_by (Some ring) = told_of ring
+told_by (Some item) = told_of item
 
-module _ {L : Type 0} (counts : L → Counts) (left written : L → Option (List ℕ)) (is_shut : L → Bool) (opening : Opening) where
+module _ {L : Type 0} (facts : L → LinkFacts) (opening : Opening) where
   -- what a turn heard and routed, in order
-  abbrev pub moments_of : (old new : WorkerFacts L) (turn : Turn) → Turned counts left written is_shut opening old new turn → List Moment
+  abbrev pub moments_of : (old new : WorkerFacts L) (turn : Turn) → Turned facts opening old new turn → List Moment
   moments_of old new turn turned =
-      told_by turned.hears.ring
-      ++ looks_along opening counts left written is_shut turned.between.boxes turned.between.ports (shares_of turned.between turned.heard)
+      told_by turned.hears.item
+      ++ looks_along opening facts turned.between.boxes turned.between.ports (shares_of turned.between turned.heard)
       turned.steps.steps.stepped (shares_of new turned.worked) turned.steps.steps.along
 
   -- the replies that the turns heard, and the packets that they routed, in order
-  abbrev pub history : (old : WorkerFacts L) (turns : List Turn) (new : WorkerFacts L) → TurnsTo (WorkerTurned counts left written is_shut opening) old turns new → List Moment
+  abbrev pub history : (old : WorkerFacts L) (turns : List Turn) (new : WorkerFacts L) → TurnsTo (WorkerTurned facts opening) old turns new → List Moment
   history old [] new all = []
   history old (turn ∷ turns) new all = moments_of old all.0 turn all.1 ++ history all.0 turns new all.2

@@ -6,23 +6,23 @@ use Rattle.mum_base.specs.declared.number.Cause.TheVariants.{End}
 use Rattle.mum_base.specs.declared.number.SessionId.{SessionId}
 use Rattle.mum_crew.specs.Turns.{TurnsTo}
 use Rattle.mum_crew.specs.declared.role.Turn.{Turn}
-use Rattle.mum_frame.specs.declared.frame.Frame.{Frame}
 use Rattle.mum_frame.specs.Frame.{IsFrame, frame_spelling}
 use Rattle.mum_frame.specs.Stream.{IsFront, Splits}
-use Rattle.mum_io.specs.Counts.{Counts}
+use Rattle.mum_frame.specs.declared.frame.Frame.{Frame}
+use Rattle.mum_io.specs.Link.{LinkFacts}
 use Rattle.mum_port.specs.Did.{action_of}
 use Rattle.mum_port.specs.Facts.{PortFacts, new_port}
 use Rattle.mum_port.specs.Life.{Event, Lives, and_item, bytes_queued, bytes_taken, bytes_written, frames_handled, items_asked, items_put, lagged, replied, stepped, words_said}
 use Rattle.mum_port.specs.Stage.{cause_of, is_closed}
-use Rattle.mum_port.specs.declared.item.DeskItem.{DeskItem}
 use Rattle.mum_port.specs.declared.item.DeskItem.TheVariants as items
+use Rattle.mum_port.specs.declared.item.DeskItem.{DeskItem}
+use Rattle.mum_published.specs.Bell.{Rung, Answer, Comes, Lagging, NoMore}
 use Rattle.mum_published.specs.Facts.{Opening}
 use Rattle.mum_session.specs.Machine.{Machine, session_of}
-use Rattle.mum_session.specs.declared.action.Action.{Action}
 use Rattle.mum_session.specs.declared.action.Action.TheVariants.{Ask, Voice, Echo, Keep, Ignore}
+use Rattle.mum_session.specs.declared.action.Action.{Action}
 use Rattle.mum_voice.specs.Packet.{Parts, packet}
 use Rattle.mum_voice.specs.declared.fault.BadVoice.{BadVoice}
-use Rattle.mum_worker.specs.Bell.{Ring, Answer, Comes, Lagging, NoMore}
 use Rattle.mum_worker.specs.Facts.{WorkerFacts, is_of, stays}
 use Rattle.mum_worker.specs.Hearing.{Hears, TakesOrTurns}
 use Rattle.mum_worker.specs.Record.{RecordFacts}
@@ -189,10 +189,10 @@ module _ {L : Type 0} where
   if_taken number connection link ports kept ports_after kept_after (inl takes) = new_port connection number link ∷ []
   if_taken number connection link ports kept ports_after kept_after (inr turns) = []
 
-module _ {L : Type 0} (counts : L → Counts) (left written : L → Option (List ℕ)) (is_shut : L → Bool) where
+module _ {L : Type 0} (facts : L → LinkFacts) where
   -- the port that was taken in of what the bell gave, if one was
-  abbrev pub taken_in : (ring : Option (Ring L)) (old new : WorkerFacts L)
-      → Hears counts left written is_shut ring old new → List (PortFacts L)
+  abbrev pub taken_in : (item : Option (Rung L)) (old new : WorkerFacts L)
+      → Hears facts item old new → List (PortFacts L)
   taken_in None old new hears = []
   taken_in (Some (Answer reply)) old new hears = []
   taken_in (Some (Comes connection link)) old new hears =
@@ -200,22 +200,22 @@ module _ {L : Type 0} (counts : L → Counts) (left written : L → Option (List
   taken_in (Some (Lagging session)) old new hears = []
   taken_in (Some NoMore) old new hears = []
 
-module _ {L : Type 0} (counts : L → Counts) (left written : L → Option (List ℕ)) (is_shut : L → Bool) (opening : Opening) where
+module _ {L : Type 0} (facts : L → LinkFacts) (opening : Opening) where
   -- what happened to the port leads from how it was first to how it was last
   abbrev pub IsLife : Life L → Type 0
-  IsLife life = Lives counts left written is_shut (RoutesPacket opening) life.first life.events life.last
+  IsLife life = Lives facts (RoutesPacket opening) life.first life.events life.last
 
   -- the ports that turns took in, in order
   abbrev pub ports_taken : (old : WorkerFacts L) (turns : List Turn) (new : WorkerFacts L)
-      → TurnsTo (WorkerTurned counts left written is_shut opening) old turns new → List (PortFacts L)
+      → TurnsTo (WorkerTurned facts opening) old turns new → List (PortFacts L)
   ports_taken old [] new all = []
   ports_taken old (turn ∷ turns) new all =
-      taken_in counts left written is_shut all.1.hears.ring (record old { bell = all.1.hears.bell }) all.1.between all.1.hears.hears
+      taken_in facts all.1.hears.item (record old { bell = all.1.hears.bell }) all.1.between all.1.hears.hears
       ++ ports_taken all.0 turns new all.2
 
   -- what became of the ports of a worker over turns
   pub record HaveLived (old : WorkerFacts L) (turns : List Turn) (new : WorkerFacts L)
-      (all : TurnsTo (WorkerTurned counts left written is_shut opening) old turns new) : Type 0 where
+      (all : TurnsTo (WorkerTurned facts opening) old turns new) : Type 0 where
     pub lives : List (Life L)
     -- each port that was there has a life, and then each that was taken in, and no other
     pub begun : map (λ (life : Life L). life.first) lives ≡ old.ports ++ ports_taken old turns new all
@@ -229,7 +229,7 @@ module _ {L : Type 0} (counts : L → Counts) (left written : L → Option (List
         → items_of connection new.desk.offered ≡ items_of connection old.desk.offered ++ put_of connection lives
     -- the packets of a connection that were routed are those that the port of this connection said, each once and in order
     pub routed : (connection : ℕ) → HasAtMostOne connection (old.ports ++ ports_taken old turns new all)
-        → filter_map (routed_of connection) (history counts left written is_shut opening old turns new all) ≡ said_by_all connection lives
+        → filter_map (routed_of connection) (history facts opening old turns new all) ≡ said_by_all connection lives
     -- a port that awaits a reply handles no frame before a reply to its connection is heard
-    pub waits : (connection : ℕ) → All (IsNoReplyTo connection) (history counts left written is_shut opening old turns new all)
+    pub waits : (connection : ℕ) → All (IsNoReplyTo connection) (history facts opening old turns new all)
         → All (HandlesNothing connection) lives

@@ -18,18 +18,18 @@ use mum_io::Link;
 pub fn answers_have_causes<L: Link>()
     // `Idle` only where the bell gave nothing, and no port did anything or found anything that it might do.
     ensures idle { (opening : Opening) (old new : WorkerFacts L) →
-        Turned L.counts L.left L.written L.is_shut opening old new Idle →
-        HasNothingToDo L.counts L.left L.written L.is_shut old new }
+        Turned L.facts opening old new Idle →
+        HasNothingToDo L.facts old new }
     // `Worked` only where the bell gave something, or the step of a port in this turn did something.
     ensures worked { (opening : Opening) (old new : WorkerFacts L) →
-        Turned L.counts L.left L.written L.is_shut opening old new Worked →
-        HasWorked L.counts L.left L.written L.is_shut opening old new }
+        Turned L.facts opening old new Worked →
+        HasWorked L.facts opening old new }
     // `Done` exactly where no connection comes any more and no port is left.
     ensures done { (opening : Opening) (old new : WorkerFacts L) (answer : Turn) →
-        Turned L.counts L.left L.written L.is_shut opening old new answer → (answer ≡ Done) ↔ IsTrue (is_done new) }
+        Turned L.facts opening old new answer → (answer ≡ Done) ↔ IsTrue (is_done new) }
     // That no connection comes any more is known exactly where the bell gave that word.
     ensures ended { (opening : Opening) (number : ℕ) (pass : PassFacts) (journal : Option ℕ)
         (opened worker : WorkerFacts L) (turns : List Turn) → HasOpened number pass journal opened →
-        TurnsTo (WorkerTurned L.counts L.left L.written L.is_shut opening) opened turns worker →
+        TurnsTo (WorkerTurned L.facts opening) opened turns worker →
         worker.ended ≡ list_any is_no_more worker.bell.taken }
 {}

@@ -23,9 +23,9 @@ use mum_io::Link;
 pub fn looks_are_asks<L: Link>()
     ensures { (opening : Opening) (number : ℕ) (pass : PassFacts) (journal : Option ℕ)
         (opened worker : WorkerFacts L) (turns : List Turn) → HasOpened number pass journal opened →
-        (all : TurnsTo (WorkerTurned L.counts L.left L.written L.is_shut opening) opened turns worker) →
+        (all : TurnsTo (WorkerTurned L.facts opening) opened turns worker) →
         worker.common.router.pass.asks
-        ≡ pass.asks ++ map ask_made (looks_in (history L.counts L.left L.written L.is_shut opening opened turns worker all)) }
+        ≡ pass.asks ++ map ask_made (looks_in (history L.facts opening opened turns worker all)) }
 {}
 
 /// Where a journal is kept, it has an entry for each packet that was routed, in order, and no other voice entry: of its
@@ -33,9 +33,9 @@ pub fn looks_are_asks<L: Link>()
 pub fn voice_entries_are_the_looks<L: Link>()
     ensures { (opening : Opening) (number : ℕ) (pass : PassFacts) (room : ℕ)
         (opened worker : WorkerFacts L) (turns : List Turn) → HasOpened number pass (Some room) opened →
-        (all : TurnsTo (WorkerTurned L.counts L.left L.written L.is_shut opening) opened turns worker) →
+        (all : TurnsTo (WorkerTurned L.facts opening) opened turns worker) →
         filter_map talk_in worker.common.kept.entries
-        ≡ map talk_made (looks_in (history L.counts L.left L.written L.is_shut opening opened turns worker all)) }
+        ≡ map talk_made (looks_in (history L.facts opening opened turns worker all)) }
 {}
 
 /// What a look saw and what a reply told is never lost: each later packet is routed at a list of edits that begins
@@ -43,22 +43,22 @@ pub fn voice_entries_are_the_looks<L: Link>()
 pub fn later_looks_see_more<L: Link>()
     ensures follows { (opening : Opening) (number : ℕ) (pass : PassFacts) (journal : Option ℕ)
         (opened worker : WorkerFacts L) (turns : List Turn) → HasOpened number pass journal opened →
-        (all : TurnsTo (WorkerTurned L.counts L.left L.written L.is_shut opening) opened turns worker) →
-        AllPairs Follows (history L.counts L.left L.written L.is_shut opening opened turns worker all) }
+        (all : TurnsTo (WorkerTurned L.facts opening) opened turns worker) →
+        AllPairs Follows (history L.facts opening opened turns worker all) }
     // What the pass knew as the worker opened begins each list.
     ensures known { (opening : Opening) (number : ℕ) (pass : PassFacts) (journal : Option ℕ)
         (opened worker : WorkerFacts L) (turns : List Turn) → HasOpened number pass journal opened →
-        (all : TurnsTo (WorkerTurned L.counts L.left L.written L.is_shut opening) opened turns worker) →
-        All (SeesFrom pass.known) (history L.counts L.left L.written L.is_shut opening opened turns worker all) }
+        (all : TurnsTo (WorkerTurned L.facts opening) opened turns worker) →
+        All (SeesFrom pass.known) (history L.facts opening opened turns worker all) }
 {}
 
 /// Each packet is routed at a beginning of the list of edits that the worker's pass saw last, from any moment of a
 /// worker on.
 pub fn looks_are_within<L: Link>()
     ensures { (opening : Opening) (old worker : WorkerFacts L) (turns : List Turn) →
-        (all : TurnsTo (WorkerTurned L.counts L.left L.written L.is_shut opening) old turns worker) →
+        (all : TurnsTo (WorkerTurned L.facts opening) old turns worker) →
         All (λ look. IsPrefix look.edits worker.common.router.pass.seen)
-        (looks_in (history L.counts L.left L.written L.is_shut opening old turns worker all)) }
+        (looks_in (history L.facts opening old turns worker all)) }
 {}
 
 /// Where what the passes of workers saw last are beginnings of one list, as of what is published, all of these workers
@@ -66,19 +66,19 @@ pub fn looks_are_within<L: Link>()
 pub fn looks_are_of_one_list<L: Link>()
     // Each packet is routed at a beginning of it.
     ensures begins { (opening : Opening) (old worker : WorkerFacts L) (turns : List Turn) (published : List Edit) →
-        (all : TurnsTo (WorkerTurned L.counts L.left L.written L.is_shut opening) old turns worker) →
+        (all : TurnsTo (WorkerTurned L.facts opening) old turns worker) →
         IsPrefix worker.common.router.pass.seen published →
         All (λ look. IsPrefix look.edits published)
-        (looks_in (history L.counts L.left L.written L.is_shut opening old turns worker all)) }
+        (looks_in (history L.facts opening old turns worker all)) }
     // Of two packets, of one worker or of two, the list of one goes on from that of the other.
     ensures pairs { (opening : Opening) (old worker second other : WorkerFacts L) (turns others : List Turn)
         (published : List Edit) →
-        (all : TurnsTo (WorkerTurned L.counts L.left L.written L.is_shut opening) old turns worker) →
-        (rest : TurnsTo (WorkerTurned L.counts L.left L.written L.is_shut opening) second others other) →
+        (all : TurnsTo (WorkerTurned L.facts opening) old turns worker) →
+        (rest : TurnsTo (WorkerTurned L.facts opening) second others other) →
         IsPrefix worker.common.router.pass.seen published → IsPrefix other.common.router.pass.seen published →
         All (λ look. All (λ next. AreOfOneList look.edits next.edits)
-        (looks_in (history L.counts L.left L.written L.is_shut opening second others other rest)))
-        (looks_in (history L.counts L.left L.written L.is_shut opening old turns worker all)) }
+        (looks_in (history L.facts opening second others other rest)))
+        (looks_in (history L.facts opening old turns worker all)) }
 {}
 
 /// Copies are offered to a box in the order of the looks: what was sent to the voice box of a slot is, in order, the
@@ -86,11 +86,11 @@ pub fn looks_are_of_one_list<L: Link>()
 pub fn copies_keep_their_order<L: Link>()
     ensures { (opening : Opening) (number : ℕ) (pass : PassFacts) (journal : Option ℕ)
         (opened worker : WorkerFacts L) (turns : List Turn) (slot : ℕ) → HasOpened number pass journal opened →
-        (all : TurnsTo (WorkerTurned L.counts L.left L.written L.is_shut opening) opened turns worker) →
+        (all : TurnsTo (WorkerTurned L.facts opening) opened turns worker) →
         copies_at slot worker.common.router.outs
         ≡ copies_at slot opened.common.router.outs
         ++ flat_map (copies_made slot)
-        (looks_in (history L.counts L.left L.written L.is_shut opening opened turns worker all)) }
+        (looks_in (history L.facts opening opened turns worker all)) }
 {}
 
 /// Routes that a turn found are kept: each packet that it routed, but for loopback, has the entry of its speaker and
@@ -100,8 +100,8 @@ pub fn routes_are_kept<L: Link>()
     ensures { (opening : Opening) (number : ℕ) (pass : PassFacts) (journal : Option ℕ)
         (opened old new : WorkerFacts L) (before : List Turn) (answer : Turn) → HasOpened number pass journal opened →
         pass.opening ≡ opening → IsProper opening.state →
-        TurnsTo (WorkerTurned L.counts L.left L.written L.is_shut opening) opened before old →
-        (turned : Turned L.counts L.left L.written L.is_shut opening old new answer) →
-        HaveEntries opening (packets_in (moments_of L.counts L.left L.written L.is_shut opening old new answer turned))
+        TurnsTo (WorkerTurned L.facts opening) opened before old →
+        (turned : Turned L.facts opening old new answer) →
+        HaveEntries opening (packets_in (moments_of L.facts opening old new answer turned))
         new.common.router.pass.seen new.common.router.caches.routes }
 {}

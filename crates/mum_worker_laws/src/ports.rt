@@ -27,9 +27,9 @@ use mum_io::Link;
 pub fn each_connection_closes_once<L: Link>()
     ensures { (opening : Opening) (number : ℕ) (pass : PassFacts) (journal : Option ℕ)
         (opened worker : WorkerFacts L) (turns : List Turn) (connection : ℕ) → HasOpened number pass journal opened →
-        (all : TurnsTo (WorkerTurned L.counts L.left L.written L.is_shut opening) opened turns worker) →
+        (all : TurnsTo (WorkerTurned L.facts opening) opened turns worker) →
         count (is_closed_of connection) worker.desk.offered + count (is_of connection) worker.ports
-        ≡ count (is_of connection) (ports_taken L.counts L.left L.written L.is_shut opening opened turns worker all) }
+        ≡ count (is_of connection) (ports_taken L.facts opening opened turns worker all) }
 {}
 
 /// Where a journal is kept, each connection that was taken in has one closing entry once its port closed, and none while
@@ -37,9 +37,9 @@ pub fn each_connection_closes_once<L: Link>()
 pub fn each_connection_has_one_closing_entry<L: Link>()
     ensures { (opening : Opening) (number : ℕ) (pass : PassFacts) (room : ℕ)
         (opened worker : WorkerFacts L) (turns : List Turn) (connection : ℕ) → HasOpened number pass (Some room) opened →
-        (all : TurnsTo (WorkerTurned L.counts L.left L.written L.is_shut opening) opened turns worker) →
+        (all : TurnsTo (WorkerTurned L.facts opening) opened turns worker) →
         count (is_closing_of connection) worker.common.kept.entries + count (is_open_of connection) worker.ports
-        ≡ count (is_of connection) (ports_taken L.counts L.left L.written L.is_shut opening opened turns worker all) }
+        ≡ count (is_of connection) (ports_taken L.facts opening opened turns worker all) }
 {}
 
 /// Each port has a life: what happens to it leads from its taking in to what it is. No port is lost; the desk has
@@ -48,14 +48,14 @@ pub fn ports_live<L: Link>()
     // From any moment of a worker on.
     ensures lives { (opening : Opening) (number : ℕ) (pass : PassFacts) (journal : Option ℕ)
         (opened old worker : WorkerFacts L) (before turns : List Turn) → HasOpened number pass journal opened →
-        TurnsTo (WorkerTurned L.counts L.left L.written L.is_shut opening) opened before old →
-        (all : TurnsTo (WorkerTurned L.counts L.left L.written L.is_shut opening) old turns worker) →
-        HaveLived L.counts L.left L.written L.is_shut opening old turns worker all }
+        TurnsTo (WorkerTurned L.facts opening) opened before old →
+        (all : TurnsTo (WorkerTurned L.facts opening) old turns worker) →
+        HaveLived L.facts opening old turns worker all }
     // From the opening on, each port handles frames, writes bytes and puts commands in their order.
     ensures orderly { (opening : Opening) (number : ℕ) (pass : PassFacts) (journal : Option ℕ)
         (opened worker : WorkerFacts L) (turns : List Turn) → HasOpened number pass journal opened →
-        (all : TurnsTo (WorkerTurned L.counts L.left L.written L.is_shut opening) opened turns worker) →
-        (lived : HaveLived L.counts L.left L.written L.is_shut opening opened turns worker all) →
+        (all : TurnsTo (WorkerTurned L.facts opening) opened turns worker) →
+        (lived : HaveLived L.facts opening opened turns worker all) →
         All IsOrderly lived.lives }
 {}
 
@@ -64,12 +64,12 @@ pub fn ports_live<L: Link>()
 pub fn a_reply_comes_before_the_next_packet<L: Link>()
     // Behind a frame that asks for a command its port awaits a reply.
     ensures awaits { (opening : Opening) (old new : PortFacts L) (machine : Machine) (did : PortDid) (item : DeskItem) →
-        Steps L.counts L.left L.written L.is_shut (RoutesPacket opening) old machine did new →
+        Steps L.facts (RoutesPacket opening) old machine did new →
         asked_item (action_of machine did.handled) ≡ Some item → IsTrue new.machine.awaits }
     ensures packets { (opening : Opening) (old worker : WorkerFacts L) (turns : List Turn) (connection : ℕ) →
-        (all : TurnsTo (WorkerTurned L.counts L.left L.written L.is_shut opening) old turns worker) →
+        (all : TurnsTo (WorkerTurned L.facts opening) old turns worker) →
         All (AwaitsReply connection) old.ports →
-        All (IsNoReplyTo connection) (history L.counts L.left L.written L.is_shut opening old turns worker all) →
-        All (IsOfAnother connection) (ports_taken L.counts L.left L.written L.is_shut opening old turns worker all) →
-        All (IsNoPacketOf connection) (history L.counts L.left L.written L.is_shut opening old turns worker all) }
+        All (IsNoReplyTo connection) (history L.facts opening old turns worker all) →
+        All (IsOfAnother connection) (ports_taken L.facts opening old turns worker all) →
+        All (IsNoPacketOf connection) (history L.facts opening old turns worker all) }
 {}

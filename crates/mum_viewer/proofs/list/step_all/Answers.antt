@@ -1,6 +1,6 @@
 use Rattle.std.proofs.Common.{◌<◌, ◌∙◌, length, rules, arith, sym}
 use Rattle.std.proofs.lemmas.List.{length-set}
-use Rattle.mum_viewer.proofs.Along.{along_more}
+use Rattle.mum_crew.proofs.AlongLemmas.{along_more}
 use Rattle.mum_viewer.specs.View.{ViewMoves}
 use Rattle.mum_viewer.proofs.list.step_all.Goals as goal
 
@@ -11,7 +11,7 @@ loop-done-preserved g c =
     let same = c.loop-done.invariant.same in
     let test = c.loop-done-test.true in
     let within : c.loop-done.done < length views = omega (arith, same, test) in
-    let on = along_more (ViewMoves g.L.Link.counts g.L.Link.left g.L.Link.written g.L.Link.is_shut) c.args.list.now.items views
+    let on = along_more (ViewMoves g.L.Link.facts) c.args.list.now.items views
     c.args.before c.loop-done.counted c.go-counted.result
     c.loop-done.done c.index_mut-view.result.now view within c.loop-done.invariant.rest c.loop-done.invariant.along
     c.index_mut-view.ensures.value c.go-counted.ensures in

@@ -1,6 +1,6 @@
 use Rattle.std.proofs.Common.{◌≡◌, ◌≤◌, ◌-◌, length, take, drop}
 use Rattle.std.specs.VecDeque.{deque_capacity}
-use Rattle.mum_viewer.specs.Along.{Along}
+use Rattle.mum_crew.specs.Along.{Along}
 use Rattle.mum_viewer.specs.View.{ViewMoves}
 use Rattle.mum_viewer.proofs.list.step_all.Given as goal
 
@@ -9,7 +9,7 @@ invariant-loop-done g l = record {
   within : l.done ≤ l.count;
   all : l.count ≡ length l.fn.list.items;
   same : l.count ≡ length l.list.items;
-  along : Along (ViewMoves g.L.Link.counts g.L.Link.left g.L.Link.written g.L.Link.is_shut)
+  along : Along (ViewMoves g.L.Link.facts)
       (take l.done l.fn.list.items) l.fn.before (take l.done l.list.items) l.counted;
   rest : drop l.done l.list.items ≡ drop l.done l.fn.list.items;
   capacity : deque_capacity l.list ≡ deque_capacity l.fn.list;

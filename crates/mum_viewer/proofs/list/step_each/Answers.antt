@@ -1,6 +1,6 @@
 use Rattle.std.proofs.Common.{length, arith, ap}
+use Rattle.mum_crew.proofs.AlongLemmas.{fewer}
 use Rattle.mum_viewer.specs.View.{is_open}
-use Rattle.mum_viewer.proofs.Along.{fewer}
 use Rattle.mum_viewer.proofs.list.step_each.Goals as goal
 
 pub returns-clause-few : goal.returns-clause-few

@@ -1,5 +1,5 @@
 use Rattle.std.proofs.Common.{◌≡◌, ◌+◌, ◌<◌, length, rules, arith, refl}
-use Rattle.mum_worker.proofs.Lists.{ends, goes_on, starts}
+use Rattle.mum_crew.proofs.AlongLemmas.{goes_on, starts}
 use Rattle.mum_worker.specs.Facts.{stays}
 use Rattle.mum_worker.specs.Hearing.{LagsWhereIts}
 use Rattle.mum_worker.specs.Record.{without_room}
@@ -11,7 +11,7 @@ loop-done-init g c =
     record {
       within = omega arith;
       all = count;
-      some = starts (LagsWhereIts g.L.Link.counts g.L.Link.left g.L.Link.written g.L.Link.is_shut c.args.session) stays c.args.list.now.items (without_room c.args.kept.now);
+      some = starts (LagsWhereIts g.L.Link.facts c.args.session) stays c.args.list.now.items (without_room c.args.kept.now);
       capacity = refl;
     }
 
@@ -23,7 +23,7 @@ loop-done-preserved g c =
     record {
       within = omega (arith, test);
       all = all;
-      some = goes_on (LagsWhereIts g.L.Link.counts g.L.Link.left g.L.Link.written g.L.Link.is_shut c.args.session) stays c.args.list.now.items
+      some = goes_on (LagsWhereIts g.L.Link.facts c.args.session) stays c.args.list.now.items
           (without_room c.args.kept.now) (without_room c.loop-done.kept) (without_room c.lag_port.new.kept) c.loop-done.done (c.loop-done.done + 1)
           c.loop-done.list.items c.pop_front.new.self.items c.put_back.new.list.items
           c.in-Some.port c.lag_port.new.port within refl c.loop-done.invariant.some (search rules) c.lag_port.ensures c.put_back.ensures.items;

@@ -1,7 +1,8 @@
 use Rattle.std.proofs.Common.{◌<◌, ◌∙◌, length, rules, arith, sym}
 use Rattle.std.proofs.lemmas.List.{length-set}
 use Rattle.std.proofs.lemmas.List.Elements.{All-set}
-use Rattle.mum_worker.proofs.Lists.{all_stay_on, along_more}
+use Rattle.mum_crew.proofs.AlongLemmas.{along_more}
+use Rattle.mum_worker.proofs.Lists.{all_stay_on}
 use Rattle.mum_worker.specs.Facts.{stays}
 use Rattle.mum_worker.specs.Routing.{bare}
 use Rattle.mum_worker.specs.Stepping.{OwnsPasses, PortSteps}
@@ -14,7 +15,7 @@ loop-done-preserved g c =
     let same = c.loop-done.invariant.same in
     let test = c.loop-done-test.true in
     let within : c.loop-done.done < length ports = omega (arith, same, test) in
-    let on = along_more (PortSteps g.L.Link.counts g.L.Link.left g.L.Link.written g.L.Link.is_shut g.N.Naming.opening c.args.boxes.now) c.args.list.now.items ports
+    let on = along_more (PortSteps g.L.Link.facts g.N.Naming.opening c.args.boxes.now) c.args.list.now.items ports
     (record { common = bare c.args.common.now; desk = c.args.desk.now; worked = c.args.heard })
     (record { common = bare c.loop-done.common; desk = c.loop-done.desk; worked = c.loop-done.worked })
     (record { common = bare c.step_port-worked.new.common; desk = c.step_port-worked.new.desk; worked = c.step_port-worked.result })

@@ -1,7 +1,7 @@
 use Rattle.std.proofs.Common.{◌≡◌, ◌≤◌, ◌-◌, false, length, take, drop, filter}
 use Rattle.std.specs.List.{All}
 use Rattle.std.specs.VecDeque.{deque_capacity}
-use Rattle.mum_worker.specs.Along.{Along}
+use Rattle.mum_crew.specs.Along.{Along}
 use Rattle.mum_worker.specs.Facts.{stays}
 use Rattle.mum_worker.specs.Routing.{bare}
 use Rattle.mum_worker.specs.Stepping.{OwnsPasses, PortSteps}
@@ -12,7 +12,7 @@ invariant-loop-done g l = record {
   within : l.done ≤ l.count;
   all : l.count ≡ length l.fn.list.items;
   same : l.count ≡ length l.list.items;
-  along : Along (PortSteps g.L.Link.counts g.L.Link.left g.L.Link.written g.L.Link.is_shut g.N.Naming.opening l.boxes)
+  along : Along (PortSteps g.L.Link.facts g.N.Naming.opening l.boxes)
       (take l.done l.fn.list.items) (record { common = bare l.fn.common; desk = l.fn.desk; worked = l.heard })
       (take l.done l.list.items) (record { common = bare l.common; desk = l.desk; worked = l.worked });
   rest : drop l.done l.list.items ≡ drop l.done l.fn.list.items;

@@ -7,9 +7,9 @@ use Rattle.mum_worker_laws.proofs.laws.later_looks_see_more.Goals as goal
 
 pub returns-clause-follows : goal.returns-clause-follows
 returns-clause-follows g c opening number pass journal opened worker turns begun all =
-    (go_turns opening g.L.Link.counts g.L.Link.left g.L.Link.written g.L.Link.is_shut opened turns worker all).pairs
+    (go_turns opening g.L.Link.facts opened turns worker all).pairs
 
 pub returns-clause-known : goal.returns-clause-known
 returns-clause-known g c opening number pass journal opened worker turns begun all =
-    subst (λ (p : PassFacts). All (SeesFrom p.known) (history g.L.Link.counts g.L.Link.left g.L.Link.written g.L.Link.is_shut opening opened turns worker all)) begun.pass_is
-    (go_turns opening g.L.Link.counts g.L.Link.left g.L.Link.written g.L.Link.is_shut opened turns worker all).beyond
+    subst (λ (p : PassFacts). All (SeesFrom p.known) (history g.L.Link.facts opening opened turns worker all)) begun.pass_is
+    (go_turns opening g.L.Link.facts opened turns worker all).beyond

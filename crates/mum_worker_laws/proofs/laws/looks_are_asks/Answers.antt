@@ -6,5 +6,5 @@ use Rattle.mum_worker_laws.proofs.laws.looks_are_asks.Goals as goal
 
 pub returns : goal.returns
 returns g c opening number pass journal opened worker turns begun all =
-    (go_turns opening g.L.Link.counts g.L.Link.left g.L.Link.written g.L.Link.is_shut opened turns worker all).asks
-    ∙ ap (λ (p : PassFacts). p.asks ++ map ask_made (looks_in (history g.L.Link.counts g.L.Link.left g.L.Link.written g.L.Link.is_shut opening opened turns worker all))) begun.pass_is
+    (go_turns opening g.L.Link.facts opened turns worker all).asks
+    ∙ ap (λ (p : PassFacts). p.asks ++ map ask_made (looks_in (history g.L.Link.facts opening opened turns worker all))) begun.pass_is

@@ -3,4 +3,4 @@ use Rattle.mum_worker_laws.proofs.laws.voice_entries_are_the_looks.Goals as goal
 
 pub returns : goal.returns
 returns g c opening number pass room opened worker turns begun all =
-    one_entry_each opening g.L.Link.counts g.L.Link.left g.L.Link.written g.L.Link.is_shut number pass room opened turns worker begun all
+    one_entry_each opening g.L.Link.facts number pass room opened turns worker begun all

@@ -3,4 +3,4 @@ use Rattle.mum_worker_laws.proofs.ports.each_connection_closes_once.Goals as goa
 
 pub returns : goal.returns
 returns g c opening number pass journal opened worker turns connection begun all =
-    one_closed g.L.Link.counts g.L.Link.left g.L.Link.written g.L.Link.is_shut opening number pass journal opened turns worker connection begun all
+    one_closed g.L.Link.facts opening number pass journal opened turns worker connection begun all

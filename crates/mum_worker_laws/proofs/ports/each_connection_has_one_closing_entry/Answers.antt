@@ -3,4 +3,4 @@ use Rattle.mum_worker_laws.proofs.ports.each_connection_has_one_closing_entry.Go
 
 pub returns : goal.returns
 returns g c opening number pass room opened worker turns connection begun all =
-    one_closing g.L.Link.counts g.L.Link.left g.L.Link.written g.L.Link.is_shut opening number pass room opened turns worker connection begun all
+    one_closing g.L.Link.facts opening number pass room opened turns worker connection begun all

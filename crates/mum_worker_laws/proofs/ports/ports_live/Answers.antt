@@ -4,9 +4,9 @@ use Rattle.mum_worker_laws.proofs.ports.ports_live.Goals as goal
 
 pub returns-clause-lives : goal.returns-clause-lives
 returns-clause-lives g c opening number pass journal opened old worker before turns begun first all =
-    have_lived g.L.Link.counts g.L.Link.left g.L.Link.written g.L.Link.is_shut opening old turns worker all
-    (opened_settled g.L.Link.counts g.L.Link.left g.L.Link.written g.L.Link.is_shut opening number pass journal opened before old begun first)
+    have_lived g.L.Link.facts opening old turns worker all
+    (opened_settled g.L.Link.facts opening number pass journal opened before old begun first)
 
 pub returns-clause-orderly : goal.returns-clause-orderly
 returns-clause-orderly g c opening number pass journal opened worker turns begun all lived =
-    all_orderly g.L.Link.counts g.L.Link.left g.L.Link.written g.L.Link.is_shut opening number pass journal opened turns worker begun all lived
+    all_orderly g.L.Link.facts opening number pass journal opened turns worker begun all lived

@@ -4,12 +4,12 @@ use Rattle.mum_viewer.proofs.view.View.write.Goals as goal
 
 pub returns-then-is_empty-clause-steps : goal.returns-then-is_empty-clause-steps
 returns-then-is_empty-clause-steps g c =
-    ends g.L.Link.counts g.L.Link.written g.L.Link.is_shut _ _ (search rules) (search rules) (search rules) (search rules) (search rules) (search rules)
+    ends g.L.Link.facts _ _ (search rules) (search rules) (search rules) (search rules) (search rules) (search rules)
 
 pub returns-then-not-is_empty-clause-steps : goal.returns-then-not-is_empty-clause-steps
 returns-then-not-is_empty-clause-steps g c =
-    writes g.L.Link.counts g.L.Link.written g.L.Link.is_shut _ _ c.in-Took.count (search rules) (search rules) (search rules) (search rules) (search rules) (search rules) (search rules) (search rules)
+    writes g.L.Link.facts _ _ c.in-Took.count (search rules) (search rules) (search rules) (search rules) (search rules) (search rules) (search rules) (search rules)
 
 pub returns-else-not-is_empty-clause-steps : goal.returns-else-not-is_empty-clause-steps
 returns-else-not-is_empty-clause-steps g c =
-    finishes g.L.Link.counts g.L.Link.written g.L.Link.is_shut _ _ c.poll_write.new.self c.in-Took.count (search rules) (search rules) (search rules) (search rules) (search rules) (search rules) (search rules) (search rules)
+    finishes g.L.Link.facts _ _ c.poll_write.new.self c.in-Took.count (search rules) (search rules) (search rules) (search rules) (search rules) (search rules) (search rules) (search rules)

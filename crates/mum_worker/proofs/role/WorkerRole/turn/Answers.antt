@@ -1,4 +1,4 @@
-use Rattle.std.proofs.Common.{◌≡◌, ℕ, Bool, true, false, ◌↔◌, IsTrue, refl, ap, ◌∙◌, rules}
+use Rattle.std.proofs.Common.{◌≡◌, ℕ, Bool, true, false, ◌↔◌, IsTrue, refl, ap, ◌∙◌}
 use Rattle.std.specs.Prelude.{if◌then◌else◌}
 use Rattle.mum_crew.specs.declared.role.Turn.{Turn}
 use Rattle.mum_crew.specs.declared.role.Turn.TheVariants.{Worked, Idle, Done}
@@ -14,7 +14,7 @@ says_done false false answer e = (λ d. absurd (cc (d, e)), λ t. absurd (cc t))
 
 pub returns-clause-opening : goal.returns-clause-opening
 returns-clause-opening g c =
-    let same = turned_same g.L.Link.counts g.L.Link.left g.L.Link.written g.L.Link.is_shut g.N.Naming.opening c.args.self.now c.turn.new.self c.turn.result c.turn.ensures in
+    let same = turned_same g.L.Link.facts g.N.Naming.opening c.args.self.now c.turn.new.self c.turn.result c.turn.ensures in
     let put : ℕ → Bool → WorkerOpening = λ n j. record { number = n; journal = j } in
     ap (λ n. put n c.turn.new.self.common.kept.journal) same.number ∙ ap (put c.args.self.now.number) same.journal
 

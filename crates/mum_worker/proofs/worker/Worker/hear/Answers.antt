@@ -1,16 +1,17 @@
 use Rattle.std.proofs.Common.{Some, ap, refl, subst}
-use Rattle.mum_worker.specs.Bell.{BellFacts, TakesRing, ring_of}
+use Rattle.mum_published.specs.Bell.{rung}
+use Rattle.mum_worker.specs.Bell.{BellFacts, TakesRung}
 use Rattle.mum_worker.specs.Facts.{WorkerFacts}
 use Rattle.mum_worker.specs.Hearing.{Heeds}
 use Rattle.mum_worker.proofs.worker.Worker.hear.Goals as goal
 
 pub returns-in-Some : goal.returns-in-Some
 returns-in-Some g c = record {
-  ring = Some (ring_of c.in-Some.item);
+  item = Some (rung c.in-Some.item);
   bell = c.take.new.self;
-  takes = subst (λ (b : BellFacts g.row.L.Denot). TakesRing b (Some (ring_of c.in-Some.item)) c.take.new.self)
+  takes = subst (λ (b : BellFacts g.row.L.Denot). TakesRung b (Some (rung c.in-Some.item)) c.take.new.self)
       (ap (λ (w : WorkerFacts g.row.L.Denot). w.bell) c.self.view_is) c.in-Some.ensures;
-  hears = subst (λ (w : WorkerFacts g.row.L.Denot). Heeds g.L.Link.counts g.L.Link.left g.L.Link.written g.L.Link.is_shut (ring_of c.in-Some.item) w c.heed.new.self)
+  hears = subst (λ (w : WorkerFacts g.row.L.Denot). Heeds g.L.Link.facts (rung c.in-Some.item) w c.heed.new.self)
       (ap (λ (w : WorkerFacts g.row.L.Denot). record w { bell = c.take.new.self }) c.self.view_is) c.heed.ensures;
   heard_is = refl;
 }

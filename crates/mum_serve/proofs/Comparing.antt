@@ -31,7 +31,7 @@ module _ {D G N R L : Type 0} where
       subst (λ (left : List (Roles D G N R L)). Compared published left all) (left_at all i role (roles.Worker worker) inside is is_worker) before in
       (now.0, λ rest. now.1 (within, rest))
 
-  pub no_owner_left : (published : List Edit) (all : List (Roles D G N R L)) (i : ℕ) (role : Roles D G N R L) (owner : OwnerFacts D) → i < length all → role ≡ get_or all i role → role ≡ roles.Owner owner
+  pub no_owner_left : (published : List Edit) (all : List (Roles D G N R L)) (i : ℕ) (role : Roles D G N R L) (owner : OwnerFacts D L) → i < length all → role ≡ get_or all i role → role ≡ roles.Owner owner
       → Compared published (drop i all) all → ⊥
   no_owner_left published all i role owner inside is is_owner before =
       is_no_owner (drop i all) (drop (i + 1) all) role owner (left_at all i role role inside is refl) is_owner before.0

@@ -7,6 +7,8 @@ use Rattle.mum_crew.specs.Turns.{TurnsLead}
 use Rattle.mum_crew.specs.declared.crew.CrewEnd.{CrewEnd}
 use Rattle.mum_crew.specs.declared.crew.CrewEnd.TheVariants.{Ran, Refused, NoMemory}
 use Rattle.mum_doorway.specs.declared.opening.DoorOpening.{DoorOpening}
+use Rattle.mum_io.specs.Link.{LinkFacts}
+use Rattle.mum_io.specs.Door.{DoorFacts}
 use Rattle.mum_owner.specs.Facts.{OwnerFacts}
 use Rattle.mum_owner.specs.Opened.{opening_of as owner_opening}
 use Rattle.mum_owner.specs.Turned.{has_ended as owner_has_ended}
@@ -16,7 +18,6 @@ use Rattle.mum_worker.specs.declared.role.WorkerOpening.{WorkerOpening}
 use Rattle.mum_serve.specs.Roles.{AreLed, AreWorkers, CameTo, Collects, RoleTurned, has_ended, opening_of, role_openings, with_workers, worker_opening, worker_openings, workers_in}
 use Rattle.mum_record.specs.Journal.{Each, IsWritableEntry}
 use Rattle.mum_record.specs.declared.journal.WorkerEntry.{WorkerEntry}
-use Rattle.mum_serve.specs.Facts.{DoorFacts, LinkFacts}
 use Rattle.mum_serve.specs.Journals.{entries_of}
 use Rattle.mum_serve.specs.Serving.{HasRun, opening_at}
 use Rattle.mum_serve.specs.declared.entries.Entries.{Entries}
@@ -95,7 +96,7 @@ module _ {D G N R L : Type 0} where
   entries_taken [] wrote goal none so = sym (append-nil wrote) ∙ so
   entries_taken (role ∷ left) wrote goal none so = absurd (omega (arith, none))
 
-  pub is_no_owner : (all rest : List (Roles D G N R L)) (role : Roles D G N R L) (owner : OwnerFacts D) → all ≡ role ∷ rest → role ≡ roles.Owner owner → AreWorkers all → ⊥
+  pub is_no_owner : (all rest : List (Roles D G N R L)) (role : Roles D G N R L) (owner : OwnerFacts D L) → all ≡ role ∷ rest → role ≡ roles.Owner owner → AreWorkers all → ⊥
   is_no_owner all rest role owner is is_owner are =
       subst (λ (xs : List (Roles D G N R L)). AreWorkers xs) (is ∙ ap (λ (r : Roles D G N R L). r ∷ rest) is_owner) are
 
@@ -118,7 +119,7 @@ module _ {D G N R L : Type 0} where
   no_worker_first all rest role worker led value items is =
       subst (λ (xs : List (Roles D G N R L)). AreLed xs) (first_taken all rest role led value items ∙ ap (λ (r : Roles D G N R L). r ∷ rest) is) led
 
-  pub others_are_workers : (all rest : List (Roles D G N R L)) (owner : OwnerFacts D) → all ≡ roles.Owner owner ∷ rest → AreLed all → AreWorkers rest
+  pub others_are_workers : (all rest : List (Roles D G N R L)) (owner : OwnerFacts D L) → all ≡ roles.Owner owner ∷ rest → AreLed all → AreWorkers rest
   others_are_workers all rest owner is led = subst (λ (xs : List (Roles D G N R L)). AreLed xs) is led
 
   -- ---- what came back
@@ -188,11 +189,11 @@ module _ {D G N R L : Type 0} where
     all_done others (All-tail (λ role. IsTrue (has_ended role)) (roles.Worker worker) others ended),
   )
 
-  pub has_run : (links : LinkFacts L) (doors : DoorFacts D) (began : Opening) (door : DoorOpening) (opened : D) (journal : Bool) (connections workers : ℕ) (begun back : List (Roles D G N R L)) (totals : Totals) (entries : Entries) (no_memory door_failed : Bool) (left : D)
-      → opening_at doors opened ≡ door → AreBegun began opened journal connections workers begun → AllZip (TurnsLead (RoleTurned links doors began)) begun back
+  pub has_run : (facts : L → LinkFacts) (door_facts : D → DoorFacts) (began : Opening) (door : DoorOpening) (opened : D) (journal : Bool) (connections workers : ℕ) (begun back : List (Roles D G N R L)) (totals : Totals) (entries : Entries) (no_memory door_failed : Bool) (left : D)
+      → opening_at door_facts opened ≡ door → AreBegun began opened journal connections workers begun → AllZip (TurnsLead (RoleTurned facts door_facts began)) begun back
       → map (opening_of began.state door) back ≡ role_openings began.state door journal connections workers → All (λ role. IsTrue (has_ended role)) back
-      → Collects doors began.state door back totals entries no_memory door_failed left → HasRun links doors began.state opened journal connections workers totals entries no_memory door_failed left
-  has_run links doors began door opened journal connections workers begun back totals entries no_memory door_failed left opened_at begins turned openings_are ended collected =
+      → Collects door_facts began.state door back totals entries no_memory door_failed left → HasRun facts door_facts began.state opened journal connections workers totals entries no_memory door_failed left
+  has_run facts door_facts began door opened journal connections workers begun back totals entries no_memory door_failed left opened_at begins turned openings_are ended collected =
       let state = began.state in
       let owner = collected.owner in
       let others = collected.others in
@@ -205,13 +206,13 @@ module _ {D G N R L : Type 0} where
         crew = workers_in others;
         began = began;
         began_at = refl;
-        turned = have_turned G N R links doors began opened journal connections workers begun back owner others collected.are collected.workers begins turned;
+        turned = have_turned G N R facts door_facts began opened journal connections workers begun back owner others collected.are collected.workers begins turned;
         limit = ap (λ (xs : List RoleOpening). limit_in (first_in xs)) same;
         journal_is = ap (λ (xs : List RoleOpening). journal_in (first_in xs)) same;
         numbers = numbers_so state door others (worker_openings journal 0 workers) (ap rest_in same);
         owner_ended = All-head (λ role. IsTrue (has_ended role)) (roles.Owner owner) others done;
         crew_ended = all_done others (All-tail (λ role. IsTrue (has_ended role)) (roles.Owner owner) others done);
         came =
-            subst (λ (o : DoorOpening). CameTo doors state o owner (workers_in others) totals entries no_memory door_failed left) (sym opened_at) collected.came;
+            subst (λ (o : DoorOpening). CameTo door_facts state o owner (workers_in others) totals entries no_memory door_failed left) (sym opened_at) collected.came;
         one_list = collected.one_list;
       }

@@ -12,7 +12,6 @@ use Rattle.mum_owner.specs.Opened.{IsOpened}
 use Rattle.mum_port.specs.declared.item.DeskItem.{DeskItem}
 use Rattle.mum_published.specs.Calls.{IsFresh, appended}
 use Rattle.mum_published.specs.Facts.{Opening, PassFacts as Pass, PublisherFacts}
-use Rattle.mum_published.specs.declared.naming.Naming.{Ghosts}
 use Rattle.mum_worker.specs.Bell.{BellFacts}
 use Rattle.mum_worker.specs.Boxes.{queues as queues_of}
 use Rattle.mum_worker.specs.Facts.{WorkerFacts}
@@ -28,24 +27,24 @@ use Rattle.mum_serve.proofs.Sharing.{all_behind}
 
 -- ---- the owner
 
-named : (names : List TableId) → side_queues (map new_side names) ≡ names
-named [] = refl
-named (name ∷ names) = ap (λ (more : List TableId). name ∷ more) (named names)
+named : (L : Type 0) (names : List TableId) → side_queues (map (new_side {L = L}) names) ≡ names
+named L [] = refl
+named L (name ∷ names) = ap (λ (more : List TableId). name ∷ more) (named L names)
 
-module _ {D : Type 0} where
+module _ {D L : Type 0} where
   -- an owner that was opened has the queues that it was given
-  pub is_over : (control : ControlFacts) (door : D) (connections : ℕ) (journal : Bool) (bells : List QueueFacts) (desk : QueueFacts) (owner : OwnerFacts D)
+  pub is_over : (control : ControlFacts) (door : D) (connections : ℕ) (journal : Bool) (bells : List QueueFacts) (desk : QueueFacts) (owner : OwnerFacts D L)
       → IsOpened control door connections journal (queues_of bells) owner → IsNewPass desk owner.desk.pass
       → IsOver door (post_queues control.posts) desk.queue (queues_of bells) owner
   is_over control door connections journal bells desk owner opened new = record {
-    door_is = ap (λ (o : OwnerFacts D). o.doorway.door) opened;
-    posts_are = ap (λ (o : OwnerFacts D). post_queues o.control.posts) opened;
+    door_is = ap (λ (o : OwnerFacts D L). o.doorway.door) opened;
+    posts_are = ap (λ (o : OwnerFacts D L). post_queues o.control.posts) opened;
     desk_is = ap (λ (p : PassFacts DeskItem). p.queue) new;
-    bells_are = ap (λ (o : OwnerFacts D). side_queues o.bells) opened ∙ named (queues_of bells);
+    bells_are = ap (λ (o : OwnerFacts D L). side_queues o.bells) opened ∙ named L (queues_of bells);
   }
 
   -- it has the door
-  pub has_door : (door : D) (posts : List TableId) (desk : TableId) (bells : List TableId) (owners : List (OwnerFacts D)) → AllByRecursion (IsOver door posts desk bells) owners
+  pub has_door : (door : D) (posts : List TableId) (desk : TableId) (bells : List TableId) (owners : List (OwnerFacts D L)) → AllByRecursion (IsOver door posts desk bells) owners
       → AllByRecursion (HasDoor door) owners
   has_door door posts desk bells [] over = tt
   has_door door posts desk bells (owner ∷ owners) over = (over.0.door_is, has_door door posts desk bells owners over.1)
@@ -62,13 +61,13 @@ control_begins opening publisher posts control of nothing opened =
       nothing = ap (λ (p : PublisherFacts). appended p) is ∙ nothing;
     }
 
-module _ {D : Type 0} where
+module _ {D L : Type 0} where
   -- and so is the owner that was opened over it
-  pub owner_begins : (opening : Opening) (control : ControlFacts) (door : D) (journal : Bool) (connections : ℕ) (bells : List TableId) (desk : QueueFacts) (owner : OwnerFacts D)
+  pub owner_begins : (opening : Opening) (control : ControlFacts) (door : D) (journal : Bool) (connections : ℕ) (bells : List TableId) (desk : QueueFacts) (owner : OwnerFacts D L)
       → ControlBegins opening control → IsOpened control door connections journal bells owner → IsNewPass desk owner.desk.pass
       → OwnerBegins opening door journal connections owner
   owner_begins opening control door journal connections bells desk owner begins opened new =
-      let is = ap (λ (o : OwnerFacts D). o.control) opened in
+      let is = ap (λ (o : OwnerFacts D L). o.control) opened in
       record {
         bells = bells;
         opened = subst (λ (k : ControlFacts). IsOpened k door connections journal bells owner) (sym is) opened;
@@ -79,11 +78,11 @@ module _ {D : Type 0} where
 
 module _ {D G N R L : Type 0} where
   -- what holds of the owner holds of all that there are
-  pub alone : (P : OwnerFacts D → Type 0) (old new : List (Roles D G N R L)) (owner : OwnerFacts D)
+  pub alone : (P : OwnerFacts D L → Type 0) (old new : List (Roles D G N R L)) (owner : OwnerFacts D L)
       → old ≡ [] → new ≡ old ++ roles.Owner owner ∷ [] → P owner → AllByRecursion P (owners_in new)
   alone P old new owner nobody pushed holds = rw (pushed, nobody) (holds, tt)
 
-  pub no_worker_yet : (old new : List (Roles D G N R L)) (owner : OwnerFacts D) → old ≡ [] → new ≡ old ++ roles.Owner owner ∷ [] → workers_in new ≡ []
+  pub no_worker_yet : (old new : List (Roles D G N R L)) (owner : OwnerFacts D L) → old ≡ [] → new ≡ old ++ roles.Owner owner ∷ [] → workers_in new ≡ []
   no_worker_yet old new owner nobody pushed = rw (pushed, nobody) refl
 
   no_owners : (others : List (Roles D G N R L)) → AreWorkers others → owners_in others ≡ []
@@ -92,12 +91,12 @@ module _ {D G N R L : Type 0} where
   no_owners (roles.Worker worker ∷ others) are = no_owners others are
 
   -- the owner at the front is the only one
-  pub one_owner : (all others : List (Roles D G N R L)) (owner : OwnerFacts D) → all ≡ roles.Owner owner ∷ others → AreWorkers others → owners_in all ≡ owner ∷ []
+  pub one_owner : (all others : List (Roles D G N R L)) (owner : OwnerFacts D L) → all ≡ roles.Owner owner ∷ others → AreWorkers others → owners_in all ≡ owner ∷ []
   one_owner all others owner are workers =
-      ap (λ (xs : List (Roles D G N R L)). owners_in xs) are ∙ ap (λ (more : List (OwnerFacts D)). owner ∷ more) (no_owners others workers)
+      ap (λ (xs : List (Roles D G N R L)). owners_in xs) are ∙ ap (λ (more : List (OwnerFacts D L)). owner ∷ more) (no_owners others workers)
 
   -- the door that comes back is the one that was handed in
-  pub same_door : (all : List (Roles D G N R L)) (owners : List (OwnerFacts D)) (door back : D) (posts : List TableId) (desk : TableId) (bells : List TableId)
+  pub same_door : (all : List (Roles D G N R L)) (owners : List (OwnerFacts D L)) (door back : D) (posts : List TableId) (desk : TableId) (bells : List TableId)
       → AreLed all → owners_in all ≡ owners → AllByRecursion (IsOver door posts desk bells) owners
       → AllByRecursion (HasDoor back) (owners_in all) → back ≡ door
   same_door [] owners door back posts desk bells led same over backs = absurd led
@@ -110,7 +109,7 @@ module _ {D G N R L : Type 0} where
 
   owners_with : (old : List (Roles D G N R L)) (worker : WorkerFacts L) → owners_in (old ++ roles.Worker worker ∷ []) ≡ owners_in old
   owners_with [] worker = refl
-  owners_with (roles.Owner owner ∷ old) worker = ap (λ (more : List (OwnerFacts D)). owner ∷ more) (owners_with old worker)
+  owners_with (roles.Owner owner ∷ old) worker = ap (λ (more : List (OwnerFacts D L)). owner ∷ more) (owners_with old worker)
   owners_with (roles.Worker other ∷ old) worker = owners_with old worker
 
   workers_with : (old : List (Roles D G N R L)) (worker : WorkerFacts L) → workers_in (old ++ roles.Worker worker ∷ []) ≡ workers_in old ++ worker ∷ []
@@ -133,27 +132,27 @@ module _ {L : Type 0} where
   opened_behind opening closings first next (one ∷ old) worker is all begins =
       (all.0, opened_behind opening closings (first + 1) next old worker (omega (arith, is)) all.1 begins)
 
-module _ {L N : Type 0} {naming : Ghosts N} where
-  over_behind : (one : Shared L N naming) (rest all : List (Shared L N naming)) (old : List (WorkerFacts L)) (worker : WorkerFacts L)
+module _ {L N : Type 0} where
+  over_behind : (one : Shared L N) (rest all : List (Shared L N)) (old : List (WorkerFacts L)) (worker : WorkerFacts L)
       → AreOver (one ∷ rest) all old → JoinsShared one worker → AreOver rest all (old ++ worker ∷ [])
-  over_behind one rest all [] worker over joins = subst (λ (xs : List (Shared L N naming)). AreOver rest xs (worker ∷ [])) (sym over) (joins, refl)
+  over_behind one rest all [] worker over joins = subst (λ (xs : List (Shared L N)). AreOver rest xs (worker ∷ [])) (sym over) (joins, refl)
   over_behind one rest [] (first ∷ old) worker over joins = absurd over
   over_behind one rest (top ∷ all) (first ∷ old) worker over joins = (over.0, over_behind one rest all old worker over.1 joins)
 
   -- the next worker works over what is next
-  pub over_more : (opening : Opening) (closings : Option ℕ) (number : ℕ) (one : Shared L N naming) (left rest all : List (Shared L N naming)) (old new : List (WorkerFacts L))
+  pub over_more : (opening : Opening) (closings : Option ℕ) (number : ℕ) (one : Shared L N) (left rest all : List (Shared L N)) (old new : List (WorkerFacts L))
       → left ≡ one ∷ rest → AreOver left all old → OpensOver opening one closings number old new → AreOver rest all new
   over_more opening closings number one left rest all old new is over opens =
-      let now = subst (λ (xs : List (Shared L N naming)). AreOver xs all old) is over in
+      let now = subst (λ (xs : List (Shared L N)). AreOver xs all old) is over in
       subst (AreOver rest all) (sym opens.behind) (over_behind one rest all old opens.worker now opens.joins)
 
   -- it is numbered behind the others
-  pub opened_with : (opening : Opening) (closings : Option ℕ) (number : ℕ) (one : Shared L N naming) (old new : List (WorkerFacts L))
+  pub opened_with : (opening : Opening) (closings : Option ℕ) (number : ℕ) (one : Shared L N) (old new : List (WorkerFacts L))
       → length old ≡ number → AreOpenedFrom opening closings 0 old → OpensOver opening one closings number old new → AreOpenedFrom opening closings 0 new
   opened_with opening closings number one old new many all opens =
       subst (AreOpenedFrom opening closings 0) (sym opens.behind) (opened_behind opening closings 0 number old opens.worker (omega (arith, many)) all opens.begins)
 
-  pub many_with : (opening : Opening) (closings : Option ℕ) (number : ℕ) (one : Shared L N naming) (old new : List (WorkerFacts L))
+  pub many_with : (opening : Opening) (closings : Option ℕ) (number : ℕ) (one : Shared L N) (old new : List (WorkerFacts L))
       → length old ≡ number → OpensOver opening one closings number old new → length new ≡ number + 1
   many_with opening closings number one old new many opens =
       let all = ap (λ (ws : List (WorkerFacts L)). length ws) opens.behind in
@@ -161,23 +160,23 @@ module _ {L N : Type 0} {naming : Ghosts N} where
       omega (arith, all, last, many)
 
   -- and is new
-  pub begins_so : (opening : Opening) (pass : Pass) (closings : Option ℕ) (number : ℕ) (one : Shared L N naming) (worker : WorkerFacts L)
+  pub begins_so : (opening : Opening) (pass : Pass) (closings : Option ℕ) (number : ℕ) (one : Shared L N) (worker : WorkerFacts L)
       → IsFresh opening pass → HasOpened number pass closings worker → JoinsShared one worker → WorkerBegins opening closings number worker
   begins_so opening pass closings number one worker fresh opened joins =
       record { opened = subst (λ (p : Pass). HasOpened number p closings worker) fresh opened; unused = joins.unused }
 
   -- nothing is left for others
-  pub over_all : (rest all : List (Shared L N naming)) (workers : List (WorkerFacts L)) → length rest ≡ 0 → AreOver rest all workers → AreOver [] all workers
+  pub over_all : (rest all : List (Shared L N)) (workers : List (WorkerFacts L)) → length rest ≡ 0 → AreOver rest all workers → AreOver [] all workers
   over_all [] all workers none over = over
   over_all (one ∷ rest) all workers none over = absurd (omega (arith, none))
 
   -- nobody works yet
-  pub over_nobody : (all rest : List (Shared L N naming)) (workers : List (WorkerFacts L)) → workers ≡ [] → all ≡ rest → AreOver rest all workers
+  pub over_nobody : (all rest : List (Shared L N)) (workers : List (WorkerFacts L)) → workers ≡ [] → all ≡ rest → AreOver rest all workers
   over_nobody all rest workers nobody same = subst (AreOver rest all) (sym nobody) same
 
   -- ---- all of them
 
-  each_joined : (posts voices : List TableId) (desk : TableId) (shared : List (Shared L N naming)) (workers : List (WorkerFacts L))
+  each_joined : (posts voices : List TableId) (desk : TableId) (shared : List (Shared L N)) (workers : List (WorkerFacts L))
       → AllByRecursion (SharesQueues posts voices desk) shared → AreOver [] shared workers → AllByRecursion (IsJoinedTo posts voices desk) workers
   each_joined posts voices desk shared [] each over = tt
   each_joined posts voices desk [] (worker ∷ workers) each over = absurd over
@@ -191,7 +190,7 @@ module _ {L N : Type 0} {naming : Ghosts N} where
     each_joined posts voices desk shared workers each.1 over.1,
   )
 
-  bells_joined : (shared : List (Shared L N naming)) (workers : List (WorkerFacts L)) → AreOver [] shared workers → bell_queues workers ≡ bells_of shared
+  bells_joined : (shared : List (Shared L N)) (workers : List (WorkerFacts L)) → AreOver [] shared workers → bell_queues workers ≡ bells_of shared
   bells_joined [] [] over = refl
   bells_joined (one ∷ shared) [] over = absurd (cc)
   bells_joined [] (worker ∷ workers) over = absurd over
@@ -199,7 +198,7 @@ module _ {L N : Type 0} {naming : Ghosts N} where
       ap (λ (name : TableId). name ∷ bell_queues workers) (ap (λ (bell : BellFacts L). bell.queue) over.0.bell)
       ∙ ap (λ (names : List TableId). one.bell.queue ∷ names) (bells_joined shared workers over.1)
 
-  pub are_joined : {D G M R : Type 0} (all : List (Roles D G M R L)) (owners : List (OwnerFacts D)) (door : D) (posts : List TableId) (desk : TableId) (bells : List TableId) (shared : List (Shared L N naming))
+  pub are_joined : {D G M R : Type 0} (all : List (Roles D G M R L)) (owners : List (OwnerFacts D L)) (door : D) (posts : List TableId) (desk : TableId) (bells : List TableId) (shared : List (Shared L N))
       → AreLed all → owners_in all ≡ owners → AllByRecursion (IsOver door posts desk bells) owners → AreShared posts desk bells shared → AreOver [] shared (workers_in all) → AreJoined all
   are_joined [] owners door posts desk bells shared led same over are works = absurd led
   are_joined (roles.Worker worker ∷ others) owners door posts desk bells shared led same over are works = absurd led

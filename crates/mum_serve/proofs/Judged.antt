@@ -11,9 +11,10 @@ use Rattle.mum_crew.specs.declared.crew.CrewEnd.TheVariants.{Ran}
 use Rattle.mum_io.specs.Counts.{Rose}
 use Rattle.mum_io.specs.Outside.{Appends, AppendsFront, Keeps}
 use Rattle.mum_io.proofs.OutsideLemmas.{AppendsFront-behind, AppendsFront-longer}
+use Rattle.mum_io.specs.Link.{LinkFacts}
+use Rattle.mum_io.specs.Door.{DoorFacts}
 use Rattle.mum_opening.specs.Opening.{document_fault}
 use Rattle.mum_record.specs.declared.journal.Journal.{Journal}
-use Rattle.mum_serve.specs.Facts.{DoorFacts, LinkFacts}
 use Rattle.mum_serve.specs.Journals.{AreWritable, journal_of, journal_text, where_asked}
 use Rattle.mum_serve.specs.Program.{EndsWith, GivesText, HasServed, RunsInCrew, WritesAll, WritesCounted, WritesJournal, WritesText, document_of, served_line, written}
 use Rattle.mum_serve.specs.declared.entries.Entries.{Entries}
@@ -147,10 +148,10 @@ no_crew_fault : (asked : Option Journal) (totals : Totals) (no_memory door_faile
 no_crew_fault None totals no_memory door_failed old new writes = writes
 no_crew_fault (Some journal) totals no_memory door_failed old new writes = writes.1
 
-module _ {D L : Type 0} (links : LinkFacts L) (doors : DoorFacts D) where
+module _ {D L : Type 0} (facts : L → LinkFacts) (door_facts : D → DoorFacts) where
   -- where all were served the run ends so
   pub all_served : (address : List ℕ) (journal : Bool) (connections : ℕ) (input : Input) (end : ServerEnd) (door left : Option D) (old new : Option (List ℕ)) (before after : CrewCounts)
-      → HasServed links doors address journal connections input end door left old new before after → EndsWith links doors address journal connections input end door left old new before after
+      → HasServed facts door_facts address journal connections input end door left old new before after → EndsWith facts door_facts address journal connections input end door left old new before after
   all_served address journal connections input ends.Finished door left old new before after served = served
   all_served address journal connections input (ends.AuditWrong line given defined) door left old new before after served = served
   all_served address journal connections input ends.CrewFault door left old new before after served =

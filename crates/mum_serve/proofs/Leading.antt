@@ -16,10 +16,10 @@ use Rattle.mum_serve.specs.declared.roles.Roles.{Roles}
 use Rattle.mum_serve.specs.declared.roles.Roles.TheVariants as roles
 
 module _ {D G N R L : Type 0} where
-  pub led_alone : (old new : List (Roles D G N R L)) (owner : OwnerFacts D) → old ≡ [] → new ≡ old ++ roles.Owner owner ∷ [] → AreLed new
+  pub led_alone : (old new : List (Roles D G N R L)) (owner : OwnerFacts D L) → old ≡ [] → new ≡ old ++ roles.Owner owner ∷ [] → AreLed new
   led_alone old new owner nobody pushed = rw (pushed, nobody) tt
 
-  pub opened_alone : (state : StateValue) (door : DoorOpening) (journal : Bool) (connections : ℕ) (old new : List (Roles D G N R L)) (owner : OwnerFacts D) → old ≡ [] → new ≡ old ++ roles.Owner owner ∷ []
+  pub opened_alone : (state : StateValue) (door : DoorOpening) (journal : Bool) (connections : ℕ) (old new : List (Roles D G N R L)) (owner : OwnerFacts D L) → old ≡ [] → new ≡ old ++ roles.Owner owner ∷ []
       → owner.guests.limit ≡ connections → owner.scribe.is_asked ≡ journal → map (opening_of state door) new ≡ role_openings state door journal connections 0
   opened_alone state door journal connections old new owner nobody pushed limit asked = rw (pushed, nobody, limit, asked) refl
 

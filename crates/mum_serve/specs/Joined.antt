@@ -7,7 +7,6 @@ use Rattle.mum_outbox.specs.declared.parcel.PostParcel.{PostParcel}
 use Rattle.mum_owner.specs.Bell.{SideFacts}
 use Rattle.mum_owner.specs.Facts.{OwnerFacts}
 use Rattle.mum_published.specs.Facts.{Opening}
-use Rattle.mum_published.specs.declared.naming.Naming.{Ghosts}
 use Rattle.mum_worker.specs.Boxes.{queues as queues_of}
 use Rattle.mum_worker.specs.Facts.{WorkerFacts}
 use Rattle.mum_worker.specs.Opening.{JoinsShared, out_queues}
@@ -24,8 +23,8 @@ abbrev pub post_queues : List (PassFacts PostParcel) → List TableId
 post_queues posts = map (λ (post : PassFacts PostParcel). post.queue) posts
 
 -- the bells into which an owner puts, by the places of their workers
-abbrev pub side_queues : List SideFacts → List TableId
-side_queues sides = map (λ (side : SideFacts). side.queue) sides
+abbrev pub side_queues : {L : Type 0} → List (SideFacts L) → List TableId
+side_queues {L} sides = map (λ (side : SideFacts L). side.queue) sides
 
 module _ {L : Type 0} where
   -- the bells from which these workers take
@@ -45,7 +44,7 @@ module _ {L : Type 0} where
 
 module _ {D L : Type 0} where
   -- an owner and its workers, by their places
-  pub record AreJoinedTo (owner : OwnerFacts D) (workers : List (WorkerFacts L)) : Type 0 where
+  pub record AreJoinedTo (owner : OwnerFacts D L) (workers : List (WorkerFacts L)) : Type 0 where
     -- the bell from which a worker takes is the one into which the owner puts what is for the worker at its place
     pub bells_are : bell_queues workers ≡ side_queues owner.bells
     -- the boxes of speech
@@ -63,26 +62,26 @@ module _ {D G N R L : Type 0} where
 
 -- ---- one after the other
 
-module _ {D : Type 0} where
-  abbrev pub HasDoor : D → OwnerFacts D → Type 0
+module _ {D L : Type 0} where
+  abbrev pub HasDoor : D → OwnerFacts D L → Type 0
   HasDoor door owner = owner.doorway.door ≡ door
 
   -- an owner has this door, and these queues
-  pub record IsOver (door : D) (posts : List TableId) (desk : TableId) (bells : List TableId) (owner : OwnerFacts D) : Type 0 where
+  pub record IsOver (door : D) (posts : List TableId) (desk : TableId) (bells : List TableId) (owner : OwnerFacts D L) : Type 0 where
     pub door_is : HasDoor door owner
     pub posts_are : post_queues owner.control.posts ≡ posts
     pub desk_is : owner.desk.pass.queue ≡ desk
     pub bells_are : side_queues owner.bells ≡ bells
 
-module _ {L N : Type 0} {naming : Ghosts N} where
+module _ {L N : Type 0} where
   -- each worker works over what is shared at its place; the rest of it is for nobody yet
-  abbrev pub AreOver : (rest all : List (Shared L N naming)) → List (WorkerFacts L) → Type 0
+  abbrev pub AreOver : (rest all : List (Shared L N)) → List (WorkerFacts L) → Type 0
   AreOver rest all [] = all ≡ rest
   AreOver rest [] (worker ∷ workers) = ⊥
   AreOver rest (one ∷ all) (worker ∷ workers) = JoinsShared one worker × AreOver rest all workers
 
   -- one worker more stands behind the others: the worker of this number, which is new, and works over what is shared
-  pub record OpensOver (opening : Opening) (shared : Shared L N naming) (closings : Option ℕ) (number : ℕ) (old new : List (WorkerFacts L)) : Type 0 where
+  pub record OpensOver (opening : Opening) (shared : Shared L N) (closings : Option ℕ) (number : ℕ) (old new : List (WorkerFacts L)) : Type 0 where
     pub worker : WorkerFacts L
     pub behind : new ≡ old ++ worker ∷ []
     pub joins : JoinsShared shared worker

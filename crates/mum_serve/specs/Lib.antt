@@ -1,4 +1,3 @@
-pub mod Facts
 pub mod OneList
 pub mod Opened
 pub mod Queues

@@ -20,9 +20,9 @@ pub record ControlBegins (opening : Opening) (control : ControlFacts) : Type 0 w
   pub opening_is : control.publisher.opening ≡ opening
   pub nothing : appended control.publisher ≡ []
 
-module _ {D : Type 0} where
+module _ {D L : Type 0} where
   -- the owner is new, over this door, and so are its control owner and its pass of the desk
-  pub record OwnerBegins (opening : Opening) (door : D) (journal : Bool) (connections : ℕ) (owner : OwnerFacts D) : Type 0 where
+  pub record OwnerBegins (opening : Opening) (door : D) (journal : Bool) (connections : ℕ) (owner : OwnerFacts D L) : Type 0 where
     pub bells : List TableId
     pub opened : IsOpened owner.control door connections journal bells owner
     pub control : ControlBegins opening owner.control

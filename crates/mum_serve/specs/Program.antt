@@ -11,13 +11,14 @@ use Rattle.mum_config.specs.declared.refusal.BadConfig.{BadConfig as DocumentErr
 use Rattle.mum_config.specs.declared.refusal.BadConfig.TheVariants as errors
 use Rattle.mum_io.specs.Counts.{Rose}
 use Rattle.mum_io.specs.Outside.{Appends, AppendsFront, Keeps}
+use Rattle.mum_io.specs.Link.{LinkFacts}
+use Rattle.mum_io.specs.Door.{DoorFacts}
 use Rattle.mum_record.specs.Words.{line_of_words}
 use Rattle.mum_state.specs.After.{after}
 use Rattle.mum_audit.specs.Audit.{audited}
 use Rattle.mum_audit.specs.Legal.{IsLegal}
 use Rattle.mum_audit.specs.declared.audited.Audited.TheVariants.{Wrong}
 use Rattle.mum_record.specs.declared.journal.Journal.{Journal}
-use Rattle.mum_serve.specs.Facts.{DoorFacts, LinkFacts}
 use Rattle.mum_serve.specs.Journals.{journal_of, journal_text, where_asked}
 use Rattle.mum_serve.specs.Opening.{opening_edits}
 use Rattle.mum_serve.specs.Serving.{RunsCounted, ServesOver}
@@ -144,7 +145,7 @@ WritesAll None totals no_memory door_failed end old new = WritesText (served_lin
 
 -- ---- how it ends
 
-module _ {D L : Type 0} (links : LinkFacts L) (doors : DoorFacts D) where
+module _ {D L : Type 0} (facts : L → LinkFacts) (door_facts : D → DoorFacts) where
   -- all were served, from the state that the configuration describes, in a run that the crew counted, and this is what was
   -- written of it
   pub record HasServed (address : List ℕ) (journal : Bool) (connections : ℕ) (input : Input) (end : ServerEnd) (door left : Option D) (old new : Option (List ℕ)) (crew crew_after : CrewCounts) : Type 0 where
@@ -152,13 +153,13 @@ module _ {D L : Type 0} (links : LinkFacts L) (doors : DoorFacts D) where
     pub entries : Entries
     pub no_memory : Bool
     pub door_failed : Bool
-    pub serves : ServesOver links doors address (after (opening_edits input.config.edits)) journal connections input.config.workers door (Whole totals entries no_memory door_failed) left
+    pub serves : ServesOver facts door_facts address (after (opening_edits input.config.edits)) journal connections input.config.workers door (Whole totals entries no_memory door_failed) left
     pub ran : RunCounts Ran crew crew_after
     pub writes : WritesAll (where_asked journal (journal_of input.config.workers input.document entries)) totals no_memory door_failed end old new
 
   -- nobody was served, which is what it came to, and nothing is written
   pub record ServesNobody (address : List ℕ) (journal : Bool) (connections : ℕ) (input : Input) (served : Served) (door left : Option D) (old new : Option (List ℕ)) (crew crew_after : CrewCounts) : Type 0 where
-    pub serves : ServesOver links doors address (after (opening_edits input.config.edits)) journal connections input.config.workers door served left
+    pub serves : ServesOver facts door_facts address (after (opening_edits input.config.edits)) journal connections input.config.workers door served left
     pub counted : RunsCounted served crew crew_after
     pub keeps : Keeps old new
 

@@ -8,13 +8,14 @@ use Rattle.mum_owner.specs.Facts.{OwnerFacts}
 use Rattle.mum_owner.specs.Opened.{opening_of as owner_opening}
 use Rattle.mum_owner.specs.Turned.{OwnerTurned, has_ended as owner_has_ended}
 use Rattle.mum_doorway.specs.declared.opening.DoorOpening.{DoorOpening}
+use Rattle.mum_io.specs.Link.{LinkFacts}
+use Rattle.mum_io.specs.Door.{DoorFacts}
 use Rattle.mum_published.specs.Calls.{appended}
 use Rattle.mum_published.specs.Facts.{Opening}
 use Rattle.mum_state.specs.State.{StateValue}
 use Rattle.mum_worker.specs.Facts.{WorkerFacts, is_done}
 use Rattle.mum_worker.specs.Turning.{WorkerTurned}
 use Rattle.mum_worker.specs.declared.role.WorkerOpening.{WorkerOpening}
-use Rattle.mum_serve.specs.Facts.{DoorFacts, LinkFacts}
 use Rattle.mum_serve.specs.Journals.{AreWritable, entries_of}
 use Rattle.mum_serve.specs.OneList.{AreWithin}
 use Rattle.mum_serve.specs.Totals.{nothing, totals_of, with_worker}
@@ -74,20 +75,20 @@ module _ {D G N R L : Type 0} where
   workers_in (roles.Worker worker ∷ others) = worker ∷ workers_in others
 
   -- the owners among these
-  abbrev pub owners_in : List (Roles D G N R L) → List (OwnerFacts D)
+  abbrev pub owners_in : List (Roles D G N R L) → List (OwnerFacts D L)
   owners_in [] = []
   owners_in (roles.Owner owner ∷ others) = owner ∷ owners_in others
   owners_in (roles.Worker worker ∷ others) = owners_in others
 
 -- ---- their turns
 
-module _ {D G N R L : Type 0} (links : LinkFacts L) (doors : DoorFacts D) (opening : Opening) where
+module _ {D G N R L : Type 0} (facts : L → LinkFacts) (door_facts : D → DoorFacts) (opening : Opening) where
   -- a turn of the owner is one of an owner, and a turn of a worker is one of a worker
   abbrev pub RoleTurned : Roles D G N R L → Turn → Roles D G N R L → Type 0
-  RoleTurned (roles.Owner old) answer (roles.Owner new) = OwnerTurned L doors.counts doors.given old answer new
+  RoleTurned (roles.Owner old) answer (roles.Owner new) = OwnerTurned door_facts old answer new
   RoleTurned (roles.Owner old) answer (roles.Worker new) = ⊥
   RoleTurned (roles.Worker old) answer (roles.Owner new) = ⊥
-  RoleTurned (roles.Worker old) answer (roles.Worker new) = WorkerTurned links.counts links.left links.written links.is_shut opening old answer new
+  RoleTurned (roles.Worker old) answer (roles.Worker new) = WorkerTurned facts opening old answer new
 
 -- ---- how they end
 
@@ -96,12 +97,12 @@ abbrev pub with_workers : {L : Type 0} → List (WorkerFacts L) → WorkerTotals
 with_workers [] totals = totals
 with_workers (worker ∷ others) totals = with_workers others (with_worker worker totals)
 
-module _ {D L : Type 0} (doors : DoorFacts D) where
+module _ {D L : Type 0} (door_facts : D → DoorFacts) where
   -- what a server of this owner and these workers came to: its totals, what was written down, whether memory ran out in
   -- a role, whether the owner found that the door failed, which it counted exactly then, and the door, at the address at which it was opened. Where a
   -- journal was asked for, the control entries are the commands that were decided, and what they accepted is all that was
   -- appended. Where the owner has ended, as many connections were given as there were to be, or the door ended or failed
-  pub record CameTo (state : StateValue) (opening : DoorOpening) (owner : OwnerFacts D) (workers : List (WorkerFacts L)) (totals : Totals) (entries : Entries) (no_memory door_failed : Bool) (door : D) : Type 0 where
+  pub record CameTo (state : StateValue) (opening : DoorOpening) (owner : OwnerFacts D L) (workers : List (WorkerFacts L)) (totals : Totals) (entries : Entries) (no_memory door_failed : Bool) (door : D) : Type 0 where
     pub began : owner.control.publisher.opening.state ≡ state
     pub controls : entries.controls ≡ owner.scribe.entries
     pub decided : HasWritten owner.control owner.scribe
@@ -109,21 +110,21 @@ module _ {D L : Type 0} (doors : DoorFacts D) where
     pub writable : AreWritable entries
     pub sums : totals ≡ totals_of owner.guests.given (length (appended owner.control.publisher)) (with_workers workers nothing)
     pub memory : no_memory ≡ (owner.scribe.no_memory || (with_workers workers nothing).no_memory)
-    pub counted : NoneFalls opening.counts (doors.counts door)
+    pub counted : NoneFalls opening.counts (door_facts door).counts
     pub failed_is : door_failed ≡ owner.doorway.failed
-    pub failed : door_failed ≡ true → Rose opening.counts.faults (doors.counts door).faults
-    pub steady : door_failed ≡ false → (doors.counts door).faults ≡ opening.counts.faults
-    pub gave : doors.given door ≡ given_after_all opening.given owner.guests.given
-    pub address : doors.opened_at door ≡ opening.opened_at
+    pub failed : door_failed ≡ true → Rose opening.counts.faults (door_facts door).counts.faults
+    pub steady : door_failed ≡ false → (door_facts door).counts.faults ≡ opening.counts.faults
+    pub gave : (door_facts door).given ≡ given_after_all opening.given owner.guests.given
+    pub address : (door_facts door).opened_at ≡ opening.opened_at
     pub door_is : door ≡ owner.doorway.door
-    pub over : owner_has_ended owner ≡ true → NoMoreCome owner.guests.given owner.guests.limit opening.counts (doors.counts door)
+    pub over : owner_has_ended owner ≡ true → NoMoreCome owner.guests.given owner.guests.limit opening.counts (door_facts door).counts
 
-module _ {D G N R L : Type 0} (doors : DoorFacts D) where
+module _ {D G N R L : Type 0} (door_facts : D → DoorFacts) where
   -- the roles are an owner and workers, this is what they came to, and what the workers saw begins what was published
   pub record Collects (state : StateValue) (opening : DoorOpening) (all : List (Roles D G N R L)) (totals : Totals) (entries : Entries) (no_memory door_failed : Bool) (door : D) : Type 0 where
-    pub owner : OwnerFacts D
+    pub owner : OwnerFacts D L
     pub others : List (Roles D G N R L)
     pub are : all ≡ roles.Owner owner ∷ others
     pub workers : AreWorkers others
-    pub came : CameTo doors state opening owner (workers_in others) totals entries no_memory door_failed door
+    pub came : CameTo door_facts state opening owner (workers_in others) totals entries no_memory door_failed door
     pub one_list : AreWithin owner.control.publisher.published (workers_in others)

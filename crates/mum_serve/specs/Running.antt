@@ -2,23 +2,24 @@
 use Rattle.std.specs.Prelude.{ℕ, Bool, List}
 use Rattle.std.specs.List.{AllZip}
 use Rattle.mum_crew.specs.Turns.{TurnsLead}
+use Rattle.mum_io.specs.Link.{LinkFacts}
+use Rattle.mum_io.specs.Door.{DoorFacts}
 use Rattle.mum_owner.specs.Facts.{OwnerFacts}
 use Rattle.mum_owner.specs.Turned.{OwnerTurned}
 use Rattle.mum_published.specs.Facts.{Opening}
 use Rattle.mum_worker.specs.Facts.{WorkerFacts}
 use Rattle.mum_worker.specs.Turning.{WorkerTurned}
-use Rattle.mum_serve.specs.Facts.{DoorFacts, LinkFacts}
 use Rattle.mum_serve.specs.Joined.{AreJoinedTo}
 use Rattle.mum_serve.specs.Journals.{closing_room}
 use Rattle.mum_serve.specs.Opened.{AreOpened, OwnerBegins}
 
-module _ {D L : Type 0} (links : LinkFacts L) (doors : DoorFacts D) where
+module _ {D L : Type 0} (facts : L → LinkFacts) (door_facts : D → DoorFacts) where
   -- an owner and workers were opened, joined by their queues, and turns of its own led each of them to what it is
-  pub record HaveTurned (opening : Opening) (door : D) (journal : Bool) (connections workers : ℕ) (owner : OwnerFacts D) (crew : List (WorkerFacts L)) : Type 0 where
-    pub first_owner : OwnerFacts D
+  pub record HaveTurned (opening : Opening) (door : D) (journal : Bool) (connections workers : ℕ) (owner : OwnerFacts D L) (crew : List (WorkerFacts L)) : Type 0 where
+    pub first_owner : OwnerFacts D L
     pub first_crew : List (WorkerFacts L)
     pub owner_begins : OwnerBegins opening door journal connections first_owner
     pub crew_begins : AreOpened opening (closing_room journal connections workers) workers first_crew
     pub joined : AreJoinedTo first_owner first_crew
-    pub owner_turned : TurnsLead (OwnerTurned L doors.counts doors.given) first_owner owner
-    pub crew_turned : AllZip (TurnsLead (WorkerTurned links.counts links.left links.written links.is_shut opening)) first_crew crew
+    pub owner_turned : TurnsLead (OwnerTurned door_facts) first_owner owner
+    pub crew_turned : AllZip (TurnsLead (WorkerTurned facts opening)) first_crew crew

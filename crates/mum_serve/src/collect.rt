@@ -3,7 +3,6 @@
 ghost use Rattle.std.specs.Prelude.{◌≡◌, ◌+◌, ◌≤◌, ◌∷◌, [], length, map, vec_capacity};
 ghost use Rattle.std.specs.List.{AllByRecursion};
 ghost use Rattle.mum_record.specs.Journal.{Each, IsWritableEntry};
-ghost use Rattle.mum_serve.specs.Facts.{door_facts};
 ghost use Rattle.mum_serve.specs.Joined.{HasDoor};
 ghost use Rattle.mum_serve.specs.Journals.{entries_of};
 ghost use Rattle.mum_serve.specs.OneList.{AreWithin};
@@ -117,7 +116,7 @@ pub(crate) fn collect<D: Door + Send, G: Gate, N: Serving, R: Wait + Copy + Send
     requires led { AreLed roles.items }
     requires empty { room.items ≡ [] }
     requires room { length roles.items ≤ vec_capacity room + 1 }
-    ensures { Collects (door_facts D.counts D.given D.opened_at) N.opening.state N.door
+    ensures { Collects D.facts N.opening.state N.door
         roles.entry.items result.totals result.entries result.no_memory result.door_failed result.door }
 {
     let mut roles = roles;

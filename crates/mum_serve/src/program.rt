@@ -3,7 +3,6 @@
 ghost use Rattle.std.specs.Prelude.{◌≡◌, ◌<◌, ◌≤◌, ◌++◌, ℕ, IfErr, IfOk, IfSome, IsTrue, None, is_some, length, string_bytes, true};
 ghost use Rattle.mum_audit.specs.Audit.{IsAuditable};
 ghost use Rattle.mum_config.specs.Document.{fault_of};
-ghost use Rattle.mum_serve.specs.Facts.{door_facts, link_facts};
 ghost use Rattle.mum_serve.specs.Journals.{AreWritable, journal_of, where_asked};
 ghost use Rattle.mum_serve.specs.Opening.{opening_edits};
 ghost use Rattle.mum_serve.specs.Program.{Describes, EndsAt, EndsWith, IsRefusal, ReadsCounted, RunsInCrew, Says, WritesAll, WritesCounted, WritesJournal, WritesText, document_of, refusal, served_line, written};
@@ -282,8 +281,8 @@ fn serve_input<R: Wait + Copy + Send, O: Sink, D: Door + Send, C: Crew>(
     requires faultless { fault_of (document_of said.document) ≡ None }
     requires door { is_some door.old ≡ true }
     requires connections { 0 < connections }
-    ensures ends { EndsWith (link_facts D.Conn.counts D.Conn.left D.Conn.written D.Conn.is_shut)
-        (door_facts D.counts D.given D.opened_at) address.now journal connections said
+    ensures ends { EndsWith D.Conn.facts
+        D.facts address.now journal connections said
         result door.old door.new (O.written output.old) (O.written output.new) (C.counts crew.old) (C.counts crew.new) }
     ensures runs { RunsInCrew result (C.counts crew.old) (C.counts crew.new) }
     ensures writes { WritesCounted result (O.faults output.old) (O.faults output.new) }
@@ -330,8 +329,8 @@ pub fn run_server<R: Wait + Copy + Send, I: Source, O: Sink, D: Door + Send, C: 
 ) -> ServerEnd
     requires door { is_some door.old ≡ true }
     requires connections { 0 < connections }
-    ensures ends { EndsAt (link_facts D.Conn.counts D.Conn.left D.Conn.written D.Conn.is_shut)
-        (door_facts D.counts D.given D.opened_at) address.now journal connections (I.left input.old)
+    ensures ends { EndsAt D.Conn.facts
+        D.facts address.now journal connections (I.left input.old)
         result door.old door.new (O.written output.old) (O.written output.new) (C.counts crew.old) (C.counts crew.new) }
     ensures runs { RunsInCrew result (C.counts crew.old) (C.counts crew.new) }
     ensures reads { ReadsCounted result (I.faults input.old) (I.faults input.new) }

@@ -19,7 +19,6 @@ pub enum RoleOpening {
 }
 
 impl<'a, D: Entrance, G: Gate, N: Serving, R: Wait + Copy> Role for Roles<'a, D, G, N, R> {
-    ghost use Rattle.mum_serve.specs.Facts.{door_facts, link_facts};
     ghost use Rattle.mum_serve.specs.Roles.{RoleTurned, has_ended, opening_of};
 
     type Opening = RoleOpening;
@@ -28,8 +27,8 @@ impl<'a, D: Entrance, G: Gate, N: Serving, R: Wait + Copy> Role for Roles<'a, D,
 
     ghost has_ended = { has_ended };
 
-    ghost turned = { RoleTurned (link_facts D.Peer.counts D.Peer.left D.Peer.written D.Peer.is_shut)
-        (door_facts D.counts D.given D.opened_at) N.opening };
+    ghost turned = { RoleTurned D.Peer.facts
+        D.facts N.opening };
 
     fn turn(&mut self) -> Turn {
         match self {

@@ -4,7 +4,6 @@ ghost use Rattle.std.specs.Prelude.{◌≡◌, ◌<◌, ◌≤◌, [], IfOk, IsT
 ghost use Rattle.std.specs.List.{All};
 ghost use Rattle.mum_published.specs.Calls.{IsFresh, appended, latest};
 ghost use Rattle.mum_base.specs.declared.number.TheConstants.{PLACES as places, SLOTS as slots};
-ghost use Rattle.mum_serve.specs.Facts.{door_facts, link_facts};
 ghost use Rattle.mum_serve.specs.Opening.{opening_edits};
 ghost use Rattle.mum_serve.specs.Serving.{Runs, RunsCounted, Serves, ServesOver};
 ghost use Rattle.mum_state.specs.After.{after, all_fit};
@@ -71,11 +70,11 @@ fn run<N: Serving + Send, R: Wait + Copy + Send, D: Door + Send, C: Crew>(
     requires passes { All (IsFresh N.opening) passes.items }
     requires one_each { length passes.items ≡ workers }
     requires some { 0 < workers }
-    requires door { record { counts = D.counts door; given = D.given door; opened_at = D.opened_at door } ≡ N.door }
+    requires door { record { counts = (D.facts door).counts; given = (D.facts door).given; opened_at = (D.facts door).opened_at } ≡ N.door }
     requires connections { 0 < connections }
     ensures counts { RunsCounted result.0 (C.counts crew.old) (C.counts crew.new) }
-    ensures runs { Runs (link_facts D.Conn.counts D.Conn.left D.Conn.written D.Conn.is_shut)
-        (door_facts D.counts D.given D.opened_at) N.opening.state door journal connections workers
+    ensures runs { Runs D.Conn.facts
+        D.facts N.opening.state door journal connections workers
         result.0 result.1 }
 {
     let Started { roles, room } = match roles::<D, N, R>(
@@ -178,8 +177,8 @@ fn run_opened<R: Wait + Copy + Send, D: Door + Send, C: Crew>(
     requires some { 0 < workers }
     requires connections { 0 < connections }
     ensures counts { RunsCounted result.0 (C.counts crew.old) (C.counts crew.new) }
-    ensures runs { Runs (link_facts D.Conn.counts D.Conn.left D.Conn.written D.Conn.is_shut)
-        (door_facts D.counts D.given D.opened_at) publisher.old.opening.state door journal connections
+    ensures runs { Runs D.Conn.facts
+        D.facts publisher.old.opening.state door journal connections
         workers result.0 result.1 }
 {
     run::<Brand, R, D, C>(
@@ -219,8 +218,8 @@ fn serve_at<R: Wait + Copy + Send, D: Door + Send, C: Crew>(
     requires some { 0 < workers }
     requires connections { 0 < connections }
     ensures counts { RunsCounted result.0 (C.counts crew.old) (C.counts crew.new) }
-    ensures serves { Serves (link_facts D.Conn.counts D.Conn.left D.Conn.written D.Conn.is_shut)
-        (door_facts D.counts D.given D.opened_at) address.now publisher.old.opening.state journal
+    ensures serves { Serves D.Conn.facts
+        D.facts address.now publisher.old.opening.state journal
         connections workers door result.0 result.1 }
 {
     let mut door = door;
@@ -258,8 +257,8 @@ fn serve_over<R: Wait + Copy + Send, D: Door + Send, C: Crew>(
     requires workers { (0 < config.now.workers) × (config.now.workers ≤ 10) }
     requires connections { 0 < connections }
     ensures counts { RunsCounted result.0 (C.counts crew.old) (C.counts crew.new) }
-    ensures serves { Serves (link_facts D.Conn.counts D.Conn.left D.Conn.written D.Conn.is_shut)
-        (door_facts D.counts D.given D.opened_at) address.now (after (opening_edits config.now.edits))
+    ensures serves { Serves D.Conn.facts
+        D.facts address.now (after (opening_edits config.now.edits))
         journal connections config.now.workers door result.0 result.1 }
 {
     let Ok((state, copy)) = states(alloc, config.edits.as_slice()) else {
@@ -308,8 +307,8 @@ pub fn serve<R: Wait + Copy + Send, D: Door + Send, C: Crew>(
     requires door { is_some door.old ≡ true }
     requires connections { 0 < connections }
     ensures counts { RunsCounted result (C.counts crew.old) (C.counts crew.new) }
-    ensures serves { ServesOver (link_facts D.Conn.counts D.Conn.left D.Conn.written D.Conn.is_shut)
-        (door_facts D.counts D.given D.opened_at) address.now (after (opening_edits config.now.edits))
+    ensures serves { ServesOver D.Conn.facts
+        D.facts address.now (after (opening_edits config.now.edits))
         journal connections config.now.workers door.old result door.new }
 {
     let Some(taken) = door.take() else {

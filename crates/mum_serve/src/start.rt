@@ -103,7 +103,7 @@ fn lead<'a, D: Door + Send, N: Serving, R: Wait + Copy + Send>(
 ) -> Result<(), D>
     requires control { ControlBegins N.opening control }
     requires bells { 0 < length bells.items }
-    requires door { record { counts = D.counts door; given = D.given door; opened_at = D.opened_at door } ≡ N.door }
+    requires door { record { counts = (D.facts door).counts; given = (D.facts door).given; opened_at = (D.facts door).opened_at } ≡ N.door }
     requires connections { 0 < connections }
     requires nobody { roles.old.items ≡ [] }
     requires room { 0 < vec_capacity roles.old }
@@ -205,7 +205,7 @@ pub(crate) fn roles<'a, D: Door + Send, N: Serving, R: Wait + Copy + Send>(
     requires passes { All (IsFresh N.opening) passes.items }
     requires one_each { length passes.items ≡ workers }
     requires some { 0 < workers }
-    requires door { record { counts = D.counts door; given = D.given door; opened_at = D.opened_at door } ≡ N.door }
+    requires door { record { counts = (D.facts door).counts; given = (D.facts door).given; opened_at = (D.facts door).opened_at } ≡ N.door }
     requires connections { 0 < connections }
     ensures led { IfOk result (λ started. AreLed started.roles.items) }
     ensures openings { IfOk result (λ started. map (opening_of N.opening.state N.door) started.roles.items

@@ -2,7 +2,8 @@
 use Rattle.std.specs.Prelude.{◌≡◌, ⊤, ℕ, Bool, List, [], ◌∷◌, ◌++◌, codes, Option, Some, None}
 use Rattle.mum_crew.specs.Crew.{CrewCounts}
 use Rattle.mum_io.specs.Counts.{Counts, Rose}
-use Rattle.mum_serve.specs.Facts.{DoorFacts, LinkFacts}
+use Rattle.mum_io.specs.Link.{LinkFacts}
+use Rattle.mum_io.specs.Door.{DoorFacts}
 use Rattle.mum_serve.specs.Program.{EndsAt, ReadsCounted, RunsInCrew, WritesCounted}
 use Rattle.mum_serve.specs.declared.program.ServerEnd.{ServerEnd}
 use Rattle.mum_serve.specs.declared.program.ServerEnd.TheVariants as ends
@@ -30,16 +31,16 @@ ServerReports ends.CrewFault status old new failed = (status ≡ 9) × Tells cre
 ServerReports ends.OutOfMemory status old new failed = Reports OutOfMemory status old new failed
 
 -- the faults of a door rose
-abbrev pub DoorFailed : {D : Type 0} → (D → Counts) → Option D → Option D → Type 0
-DoorFailed counts (Some door) (Some left) = Rose (counts door).faults (counts left).faults
-DoorFailed counts door left = ⊥
+abbrev pub DoorFailed : {D : Type 0} → (D → DoorFacts) → Option D → Option D → Type 0
+DoorFailed door_facts (Some door) (Some left) = Rose (door_facts door).counts.faults (door_facts left).counts.faults
+DoorFailed door_facts door left = ⊥
 
-module _ {D L : Type 0} (links : LinkFacts L) (doors : DoorFacts D) where
+module _ {D L : Type 0} (facts : L → LinkFacts) (door_facts : D → DoorFacts) where
   -- a server was run at this address for this many connections, with a journal or without one: how it ended, and what was
   -- answered and said of that
   pub record RunsServer (address : List ℕ) (connections : ℕ) (journal : Bool) (input input_after : InputFacts) (output output_after errors errors_after : SinkFacts) (door left : Option D) (crew crew_after : CrewCounts) (status : ℕ) : Type 0 where
     pub end : ServerEnd
-    pub ends : EndsAt links doors address journal connections input.left end door left output.written output_after.written crew crew_after
+    pub ends : EndsAt facts door_facts address journal connections input.left end door left output.written output_after.written crew crew_after
     pub runs : RunsInCrew end crew crew_after
     pub reads : ReadsCounted end input.faults input_after.faults
     pub writes : WritesCounted end output.faults output_after.faults

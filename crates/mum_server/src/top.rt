@@ -2,7 +2,6 @@
 
 ghost use Rattle.std.specs.Prelude.{◌≡◌, ◌⊎◌, ℕ, Bool, List, is_some, map, string_bytes, true};
 ghost use Rattle.mum_io.specs.Outside.{Keeps, Rose};
-ghost use Rattle.mum_serve.specs.Facts.{door_facts, link_facts};
 ghost use Rattle.mum_server.specs.Command.{BeginsWithServe, IsServe};
 ghost use Rattle.mum_server.specs.Plain.{RunsPlainly};
 ghost use Rattle.mum_server.specs.Program.{Reports, Tells, usage_line};
@@ -86,8 +85,8 @@ pub fn murmur<R: Wait + Copy + Send, I: Source, O: Sink, E: Sink, D: Door + Send
     // `serve` with an address and a number of connections runs a server, which keeps a journal where that is asked for.
     ensures serves { (address : List ℕ) → (connections : ℕ) → (journal : Bool) →
         IsServe (map string_bytes words.now) address connections journal →
-        RunsServer (link_facts D.Conn.counts D.Conn.left D.Conn.written D.Conn.is_shut)
-        (door_facts D.counts D.given D.opened_at) address connections journal
+        RunsServer D.Conn.facts
+        D.facts address connections journal
         (record { left = I.left input.old; faults = I.faults input.old })
         (record { left = I.left input.new; faults = I.faults input.new })
         (record { written = O.written output.old; faults = O.faults output.old })
@@ -106,7 +105,7 @@ pub fn murmur<R: Wait + Copy + Send, I: Source, O: Sink, E: Sink, D: Door + Send
     // Each fault has its cause in this call.
     ensures read_fault { result ≡ 3 → Rose (I.faults input.old) (I.faults input.new) }
     ensures write_fault { result ≡ 4 → Rose (O.faults output.old) (O.faults output.new) }
-    ensures door_fault { result ≡ 8 → DoorFailed D.counts door.old door.new }
+    ensures door_fault { result ≡ 8 → DoorFailed D.facts door.old door.new }
     ensures crew_fault { result ≡ 9 → Rose (C.counts crew.old).refused (C.counts crew.new).refused }
     // A journal that is named wrong is that of a server that the crew ran, and nothing is written.
     ensures audit_fault { result ≡ 5 → (BeginsWithServe (map string_bytes words.now) → ⊥)

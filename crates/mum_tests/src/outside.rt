@@ -26,15 +26,7 @@ struct Echo {
 }
 
 impl Link for Echo {
-    ghost counts = { λ e. e.tally };
-
-    ghost left = { λ _. None };
-
-    ghost written = { λ _. None };
-
-    ghost address = { λ _. replicate 16 0 };
-
-    ghost is_shut = { λ e. e.is_shut };
+    ghost facts = { λ e. record { counts = e.tally; left = None; written = None; address = replicate 16 0; is_shut = e.is_shut } };
 
     fn poll_read(&mut self, buf: &mut [u8]) -> PollRead {
         let Some(byte) = self.byte.take() else {
@@ -73,11 +65,7 @@ struct OneEcho {
 impl Door for OneEcho {
     type Conn = Echo;
 
-    ghost counts = { λ d. d.tally };
-
-    ghost given = { λ d. d.given };
-
-    ghost opened_at = { λ _. None };
+    ghost facts = { λ d. record { counts = d.tally; given = d.given; opened_at = None } };
 
     fn open(&mut self, _address: &str) -> DoorOpen {
         DoorOpen::Opened
@@ -116,7 +104,11 @@ impl Station for Awake {
 
     fn wake_others(&mut self, _owner_too: bool) {}
 
+    fn wake_all(&mut self) {}
+
     fn note_owner(&mut self) {}
+
+    fn note_ended(&mut self) {}
 
     fn did_owner_work(&mut self) -> bool {
         false
@@ -142,12 +134,12 @@ impl Station for Awake {
 #[derive(Drop)]
 struct Watchers<X> {
     rt: X,
-    threads: usize,
+    threads: u16,
     tally: RunTally,
 }
 
-fn stations(alloc: Global, threads: usize) -> Result<Vec<Awake>, AllocError> {
-    let mut all = Vec::with_capacity(alloc, threads)?;
+fn stations(alloc: Global, threads: u16) -> Result<Vec<Awake>, AllocError> {
+    let mut all = Vec::with_capacity(alloc, usize::from(threads))?;
     for _ in 0..threads {
         all.push(Awake)?;
     }
@@ -169,6 +161,7 @@ impl<X: Wait + Threads + Clock + Copy + Sync> Crew for Watchers<X> {
         Plan::Threads {
             stations: stations(alloc, self.threads).unwrap_or(Vec::new(alloc)),
             workers: roles,
+            spread: self.threads.saturating_sub(1),
         }
     }
 

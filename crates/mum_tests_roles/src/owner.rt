@@ -218,7 +218,7 @@ fn journal_named<D: Door, N: Serving, R: Abort + Copy + Wait>(
     requires fresh { appended publisher.old ≡ [] }
     requires pending { publisher.old.pending ≡ [] }
     requires boxes { length boxes.items ≡ slots }
-    requires door { record { counts = D.counts door; given = D.given door; opened_at = D.opened_at door } ≡ N.door }
+    requires door { record { counts = (D.facts door).counts; given = (D.facts door).given; opened_at = (D.facts door).opened_at } ≡ N.door }
 {
     let control = Control::<N>::open(alloc, state, publisher, boxes).expect(rt, "memory");
     let (desk, bells, peer) = queues::<D::Conn, N>(rt, alloc);

@@ -48,15 +48,7 @@ fn deaf_link(sends: Sends) -> Deaf {
 }
 
 impl Link for Deaf {
-    ghost counts = { λ l. l.tally };
-
-    ghost left = { λ _. None };
-
-    ghost written = { λ _. None };
-
-    ghost address = { λ _. replicate 16 0 };
-
-    ghost is_shut = { λ l. l.is_shut };
+    ghost facts = { λ l. record { counts = l.tally; left = None; written = None; address = replicate 16 0; is_shut = l.is_shut } };
 
     fn poll_read(&mut self, buf: &mut [u8]) -> PollRead {
         match self.sends {

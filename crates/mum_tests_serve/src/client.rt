@@ -183,15 +183,7 @@ impl Client {
 }
 
 impl Link for Client {
-    ghost counts = { λ c. c.tally };
-
-    ghost left = { λ _. None };
-
-    ghost written = { λ _. None };
-
-    ghost address = { λ _. replicate 16 0 };
-
-    ghost is_shut = { λ c. c.is_shut };
+    ghost facts = { λ c. record { counts = c.tally; left = None; written = None; address = replicate 16 0; is_shut = c.is_shut } };
 
     fn poll_read(&mut self, buf: &mut [u8]) -> PollRead {
         self.note_read();

@@ -86,11 +86,7 @@ impl Lobby {
 impl Door for Lobby {
     type Conn = Client;
 
-    ghost counts = { λ l. l.tally };
-
-    ghost given = { λ l. l.given };
-
-    ghost opened_at = { λ _. None };
+    ghost facts = { λ l. record { counts = l.tally; given = l.given; opened_at = None } };
 
     fn open(&mut self, _address: &str) -> DoorOpen {
         DoorOpen::Opened

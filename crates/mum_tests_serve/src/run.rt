@@ -190,6 +190,7 @@ impl<X: Wait + Threads + Clock + Copy + Sync> Crew for NoThreads<X> {
         Plan::Threads {
             stations: Vec::new(alloc),
             workers: roles,
+            spread: 0,
         }
     }
 

@@ -45,10 +45,10 @@ returns g c =
         failed_is = end.door_failed;
         failed = end.failed;
         steady = end.steady;
-        gave = subst (λ (n : ℕ). g.D.Door.given left ≡ given_after_all g.N.Doorside.door.given n) end.connections end.given;
+        gave = subst (λ (n : ℕ). (g.D.Door.facts left).given ≡ given_after_all g.N.Doorside.door.given n) end.connections end.given;
         address = end.address;
         door_is = end.door;
-        over = subst (λ (n : ℕ). has_ended owner ≡ true → NoMoreCome n owner.guests.limit g.N.Doorside.door.counts (g.D.Door.counts left)) end.connections end.over;
+        over = subst (λ (n : ℕ). has_ended owner ≡ true → NoMoreCome n owner.guests.limit g.N.Doorside.door.counts (g.D.Door.facts left).counts) end.connections end.over;
       };
       one_list = subst (λ (xs : List (Roles _ _ _ _ _)). AreWithin owner.control.publisher.published (workers_in xs)) c.deref.ensures.value c.compare.ensures;
     }

@@ -2,7 +2,6 @@
 use Rattle.std.proofs.Common.{◌∙◌, subst, arith}
 use Rattle.mum_crew.specs.Crew.{RunCounts}
 use Rattle.mum_crew.specs.declared.crew.CrewEnd.{CrewEnd}
-use Rattle.mum_serve.specs.Facts.{door_facts}
 use Rattle.mum_serve.proofs.Doors.{door_kept}
 use Rattle.mum_serve.proofs.Ended.{as_many_back, as_many_opened, has_run, led_back}
 use Rattle.mum_serve.proofs.server.run.Goals as goal
@@ -48,11 +47,11 @@ returns-in-Err-clause-runs g c = c.in-Err.ensures.back
 pub returns-in-Refused-clause-runs : goal.returns-in-Refused-clause-runs
 returns-in-Refused-clause-runs g c =
     let run = c.run-run in
-    door_kept (door_facts g.D.Door.counts g.D.Door.given g.D.Door.opened_at) g.N.Naming.opening.state g.N.Doorside.door run.result.roles.items c.in-Ok.started.roles.items _ _ _ _ c.args.door _
+    door_kept g.D.Door.facts g.N.Naming.opening.state g.N.Doorside.door run.result.roles.items c.in-Ok.started.roles.items _ _ _ _ c.args.door _
     (run.ensures.refused c.in-Refused.is) c.in-Ok.ensures.door c.collect-door.ensures
 
 pub returns-in-NoMemory-clause-runs : goal.returns-in-NoMemory-clause-runs
 returns-in-NoMemory-clause-runs g c =
     let run = c.run-run in
-    door_kept (door_facts g.D.Door.counts g.D.Door.given g.D.Door.opened_at) g.N.Naming.opening.state g.N.Doorside.door run.result.roles.items c.in-Ok.started.roles.items _ _ _ _ c.args.door _
+    door_kept g.D.Door.facts g.N.Naming.opening.state g.N.Doorside.door run.result.roles.items c.in-Ok.started.roles.items _ _ _ _ c.args.door _
     (run.ensures.no_memory c.in-NoMemory.is) c.in-Ok.ensures.door c.collect-door.ensures

@@ -5,4 +5,4 @@ abbrev pub ghosts-run-N-Naming : goal.ghosts-run-N-Naming
 ghosts-run-N-Naming g a = record { opening = a.publisher.now.opening }
 
 abbrev pub ghosts-run-N-Doorside : goal.ghosts-run-N-Doorside
-ghosts-run-N-Doorside g a = record { door = record { counts = g.D.Door.counts a.door; given = g.D.Door.given a.door; opened_at = g.D.Door.opened_at a.door } }
+ghosts-run-N-Doorside g a = record { door = record { counts = (g.D.Door.facts a.door).counts; given = (g.D.Door.facts a.door).given; opened_at = (g.D.Door.facts a.door).opened_at } }

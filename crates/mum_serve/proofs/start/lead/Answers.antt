@@ -12,8 +12,8 @@ returns-clause-led g c = led_alone c.args.roles.now.items c.push_reserved.new.se
 pub returns-clause-openings : goal.returns-clause-openings
 returns-clause-openings g c =
     opened_alone g.N.Naming.opening.state g.N.Doorside.door c.args.journal c.args.connections c.args.roles.now.items c.push_reserved.new.self.items _ c.requires.nobody c.push_reserved.ensures.items
-    (ap (λ (o : OwnerFacts _). o.guests.limit) c.in_ok-owner.ensures.owner)
-    (ap (λ (o : OwnerFacts _). o.scribe.is_asked) c.in_ok-owner.ensures.owner)
+    (ap (λ (o : OwnerFacts _ _). o.guests.limit) c.in_ok-owner.ensures.owner)
+    (ap (λ (o : OwnerFacts _ _). o.scribe.is_asked) c.in_ok-owner.ensures.owner)
 
 pub returns-clause-over : goal.returns-clause-over
 returns-clause-over g c =

@@ -5,4 +5,4 @@ abbrev pub ghosts-journal_named-N-Naming : goal.ghosts-journal_named-N-Naming
 ghosts-journal_named-N-Naming g a = record { opening = a.publisher.now.opening }
 
 abbrev pub ghosts-journal_named-N-Doorside : goal.ghosts-journal_named-N-Doorside
-ghosts-journal_named-N-Doorside g a = record { door = record { counts = g.D.Door.counts a.door; given = g.D.Door.given a.door; opened_at = g.D.Door.opened_at a.door } }
+ghosts-journal_named-N-Doorside g a = record { door = record { counts = (g.D.Door.facts a.door).counts; given = (g.D.Door.facts a.door).given; opened_at = (g.D.Door.facts a.door).opened_at } }

@@ -9,7 +9,7 @@ use Rattle.mum_core.specs.declared.connection.Seat.{Seat}
 use Rattle.mum_core.specs.Case.{Case, is_closed, not_opened}
 use Rattle.mum_core.specs.Connection.{asking, is_untold, untold}
 use Rattle.mum_core.specs.Core.{CoreState, connection_at, worker_at, at_connection, at_worker}
-use Rattle.mum_core.specs.Worker.{HeldPacket, in_hand}
+use Rattle.mum_core.specs.Worker.{HeldPacket, WorkerState, in_hand}
 
 abbrev pub forbids : CoreState → ℕ → List Case
 forbids core c =
@@ -26,10 +26,14 @@ abbrev pub spoken : Option Seat → Result Parts BadVoice → Option HeldPacket
 spoken (Some seat) (Ok parts) = Some (record { speaker = seat.session; parts = parts })
 spoken seat read = None
 
+-- a worker that takes a packet
+abbrev pub holding : HeldPacket → WorkerState → WorkerState
+holding held worker = record worker { held = Some held }
+
 -- the worker holds a packet; one that doesn't parse is answered by its fault, and dropped
 abbrev pub hears : CoreState → ℕ → Option HeldPacket → CoreState
 hears core w None = core
-hears core w (Some held) = at_worker w (λ worker. record worker { held = Some held }) core
+hears core w (Some held) = at_worker w (λ worker. holding held worker) core
 
 -- what an action changes of the core, where the connection has told this version
 abbrev pub does : CoreState → ℕ → Option ℕ → Action → CoreState

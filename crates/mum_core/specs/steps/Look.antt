@@ -6,7 +6,7 @@ use Rattle.mum_route.specs.Hearers.{copy_for, hearers_at}
 use Rattle.mum_core.specs.declared.worker.Outgoing.{Outgoing}
 use Rattle.mum_core.specs.Case.{Case, no_worker}
 use Rattle.mum_core.specs.Core.{CoreState, worker_at, state_at, at_worker, up}
-use Rattle.mum_core.specs.Worker.{HeldPacket, least_look}
+use Rattle.mum_core.specs.Worker.{HeldPacket, WorkerState, least_look}
 
 abbrev pub forbids : CoreState → ℕ → ℕ → List Case
 forbids core w revision =
@@ -35,10 +35,14 @@ abbrev pub copies : StateValue → Option HeldPacket → List Outgoing
 copies state None = []
 copies state (Some held) = map (outgoing held) (audience state (Some held))
 
+-- a worker whose look at a revision found these copies: it holds no packet, and has them to offer
+abbrev pub looked : ℕ → List Outgoing → WorkerState → WorkerState
+looked revision found worker = record worker { seen = revision; held = None; copies = found }
+
 abbrev pub does : CoreState → ℕ → ℕ → CoreState
 does core w revision =
-    let left = copies (state_at core revision) (worker_at core w).held in
-    record (at_worker w (λ worker. record worker { seen = revision; held = None; copies = left }) core)
+    let found = copies (state_at core revision) (worker_at core w).held in
+    record (at_worker w (λ worker. looked revision found worker) core)
     { totals = record core.totals { looks = up core.totals.looks } }
 
 -- a session and how the packet reaches it: SESSION/CONTEXT

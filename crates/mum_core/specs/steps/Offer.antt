@@ -1,9 +1,10 @@
 -- A worker offers its next copy to the outbox of its slot, where that has room.
-use Rattle.std.specs.Prelude.{ℕ, Bool, List, [], ◌∷◌, ◌++◌, length, drop, Option, Some, None, is_none, nat_lt, slice_get, codes, decimal, if◌then◌else◌}
+use Rattle.std.specs.Prelude.{ℕ, Bool, true, false, List, [], ◌∷◌, ◌++◌, length, drop, Option, Some, None, is_none, nat_lt, slice_get, codes, decimal, if◌then◌else◌}
 use Rattle.mum_base.specs.declared.number.TheConstants.{VOICE_CAPACITY}
-use Rattle.mum_core.specs.declared.worker.Outgoing.{Outgoing}
+use Rattle.mum_core.specs.declared.{outbox.Parcel.Parcel, worker.Outgoing.Outgoing}
 use Rattle.mum_core.specs.Case.{Case, no_worker}
 use Rattle.mum_core.specs.Core.{CoreState, worker_at, outbox_at, at_worker, at_outbox, up}
+use Rattle.mum_core.specs.Worker.{WorkerState}
 
 -- the copy that a worker offers next, if one is left
 abbrev pub next_copy : CoreState → ℕ → Option Outgoing
@@ -15,17 +16,26 @@ forbids core w = no_worker core w ∷ record { stands = is_none (next_copy core 
 abbrev pub has_room : CoreState → ℕ → Bool
 has_room core slot = nat_lt (length (outbox_at core slot)) VOICE_CAPACITY
 
+-- a worker that has offered its next copy
+abbrev pub left : WorkerState → WorkerState
+left worker = record worker { copies = drop 1 worker.copies }
+
+-- an outbox after an offer that found room in it, or none: the copy goes to its back
+abbrev pub put : Bool → Outgoing → List Parcel → List Parcel
+put true next parcels = parcels ++ record { to = next.to; bytes = next.bytes } ∷ []
+put false next parcels = parcels
+
 -- the copy goes to the back of the outbox and is counted, or is counted as one that found it full
 abbrev pub puts : CoreState → Option Outgoing → CoreState
 puts core None = core
 puts core (Some next) =
     if has_room core next.slot.0
-    then record (at_outbox next.slot.0 (λ parcels. parcels ++ record { to = next.to; bytes = next.bytes } ∷ []) core)
+    then record (at_outbox next.slot.0 (λ parcels. put true next parcels) core)
     { totals = record core.totals { copies = up core.totals.copies } }
     else record core { totals = record core.totals { full = up core.totals.full } }
 
 abbrev pub does : CoreState → ℕ → CoreState
-does core w = puts (at_worker w (λ worker. record worker { copies = drop 1 worker.copies }) core) (next_copy core w)
+does core w = puts (at_worker w (λ worker. left worker) core) (next_copy core w)
 
 abbrev pub line_of : CoreState → ℕ → Option Outgoing → List (List ℕ)
 line_of core w None = []

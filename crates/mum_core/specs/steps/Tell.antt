@@ -7,6 +7,7 @@ use Rattle.mum_core.specs.Case.{Case, not_opened}
 use Rattle.mum_core.specs.Connection.{is_accepted, revision_of, told, wire_of}
 use Rattle.mum_core.specs.Core.{CoreState, connection_at, at_connection, at_worker}
 use Rattle.mum_core.specs.Line.{wire_words}
+use Rattle.mum_core.specs.Worker.{WorkerState}
 
 -- whether a reply tells of an accepted edit, and of which revision
 abbrev pub has_edit : Option Reply → Bool
@@ -31,9 +32,13 @@ forbids core c revision =
     ∷ record { stands = is_none decided; given = c; against = 0 }
     ∷ note_cases core decided revision
 
+-- a worker that is told a revision
+abbrev pub noted : ℕ → WorkerState → WorkerState
+noted revision worker = record worker { told = max worker.told revision }
+
 abbrev pub notes : ℕ → Option ℕ → CoreState → CoreState
 notes w None core = core
-notes w (Some revision) core = at_worker w (λ worker. record worker { told = max worker.told revision }) core
+notes w (Some revision) core = at_worker w (λ worker. noted revision worker) core
 
 -- the connection knows the seat that it was given, and its worker what the note holds
 abbrev pub does : CoreState → ℕ → Option ℕ → CoreState

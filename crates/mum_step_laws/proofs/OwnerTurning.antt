@@ -1,0 +1,265 @@
+-- What a turn of an owner makes of its control owner is what a run of steps makes of the core.
+use Rattle.std.proofs.Common.{◌≡◌, ◌∙◌, ℕ, Bool, true, false, cond, List, [], ◌∷◌, ◌++◌, length, Option, Some, None, refl, sym, ap, subst, inl, inr}
+use Rattle.std.specs.Prelude.{◌&&◌, ◌||◌, ◌==◌, is_none, is_some, nat_lt}
+use Rattle.std.specs.List.{AllByRecursion, flat_map}
+use Rattle.std.proofs.lemmas.Grind.{fold-append}
+use Rattle.std.proofs.lemmas.List.{append-nil}
+use Rattle.mum_base.specs.declared.number.SessionId.{SessionId}
+use Rattle.mum_base.specs.declared.number.Slot.{Slot}
+use Rattle.mum_base.specs.declared.number.TheConstants.{CONNECTION_LIMIT}
+use Rattle.mum_control.specs.Commanded.{Commanded, current}
+use Rattle.mum_control.specs.Facts.{ControlFacts}
+use Rattle.mum_control.specs.Kept.{slot_of}
+use Rattle.mum_control.specs.Posting.{EmptiesPost, PostsNext, answer_of}
+use Rattle.mum_control.specs.declared.posted.Posted.{Posted}
+use Rattle.mum_control.specs.declared.posted.Posted.TheVariants as posted
+use Rattle.mum_core.specs.Core.{CoreState}
+use Rattle.mum_core.specs.Laws.{IsRun, ran}
+use Rattle.mum_core.specs.Step.{does}
+use Rattle.mum_io.specs.Door.{DoorFacts}
+use Rattle.mum_notify.specs.declared.notice.Notice.{Notice}
+use Rattle.mum_outbox.specs.declared.parcel.PostParcel.{PostParcel}
+use Rattle.mum_outbox.specs.declared.queue.Offered.{Offered}
+use Rattle.mum_outbox.specs.declared.queue.Offered.TheVariants.{Sent, Full}
+use Rattle.mum_owner.specs.Facts.{OwnerFacts}
+use Rattle.mum_owner.specs.Guests.{lagging, owned, session_of}
+use Rattle.mum_owner.specs.Serving.{EmptiesFor, GivesOwned, GoesWhere, IsGiven, LeaveIsGiven, LeavesWhere, PendsWhere, ReceivesBy, ReceivesItem, ReceivesOwned, ServesDesk, ServesWhere, TakesWhere, blocker, leave_of, may_go, must_wait, with_pass}
+use Rattle.mum_owner.specs.Turned.{AsksWhere, LagsFor, LagsOnce, PostsOne, PostsWhere, PressesWhere, PublishesWhere, has_posted, is_not_to_ask, is_over, lagged_by, lagged_for}
+use Rattle.mum_owner.specs.Waiting.{are_none}
+use Rattle.mum_owner.specs.Written.{is_leave, is_login}
+use Rattle.mum_owner.specs.declared.desk.TheConstants.{PENDING_LIMIT}
+use Rattle.mum_owner.specs.declared.guests.Guest.{Guest}
+use Rattle.mum_port.specs.declared.item.DeskItem.{DeskItem}
+use Rattle.mum_port.specs.declared.item.DeskItem.TheVariants as items
+use Rattle.mum_published.specs.Facts.{NoteFacts, ReplyFacts}
+use Rattle.mum_record.specs.declared.step.Step.{Step}
+use Rattle.mum_record.specs.declared.step.Step.TheVariants as steps
+use Rattle.mum_session.specs.declared.command.Command.{Command}
+use Rattle.mum_step_laws.proofs.ControlParts.{dropped_owns, edits_as, posts}
+use Rattle.mum_step_laws.proofs.OwnerParts.{publishes}
+use Rattle.mum_step_laws.specs.ControlSteps.{HasAsked, OwnsAs, published_with}
+use Rattle.mum_step_laws.specs.OwnerTurns.{Decision, OwnersAreOwners, decided_by, decided_given, decided_going, decided_in, decided_item, decided_leave, decided_leaving, decided_owned, decided_pending, decided_receiving, decided_taking, decided_waiting, decided_where, publish_noted, step_where, steps_decided}
+
+-- ---- runs
+
+-- one run after another
+run_on : (core : CoreState) (xs ys : List Step) → IsRun core xs → IsRun (ran core xs) ys → IsRun core (xs ++ ys)
+run_on core [] ys first later = later
+run_on core (x ∷ xs) ys first later = (first.0, run_on (does core x) xs ys first.1 later)
+
+-- where the core has what the first control owner has, and the commands that are decided wait in it, these steps are
+-- allowed and give it what the second has
+record Leads (old new : ControlFacts) (decisions : List Decision) (taken : List Step) : Type 0 where
+  leads : (core : CoreState) → OwnsAs old core → AllByRecursion (λ decision. HasAsked decision.command core) decisions
+      → IsRun core taken × OwnsAs new (ran core taken)
+
+-- of the core only the publisher and the notices are seen
+record KeepsOwned (old new : ControlFacts) : Type 0 where
+  publisher : new.publisher ≡ old.publisher
+  pending : new.pending ≡ old.pending
+
+owns_on : (old new : ControlFacts) (core : CoreState) → KeepsOwned old new → OwnsAs old core → OwnsAs new core
+owns_on old new core keeps owns = record {
+  opening_is = owns.opening_is ∙ ap (λ p. p.opening.state) (sym keeps.publisher);
+  accepted_are = owns.accepted_are ∙ ap (λ p. p.published ++ p.pending) (sym keeps.publisher);
+  published_are = owns.published_are ∙ ap (λ p. length p.published) (sym keeps.publisher);
+  pending_are = owns.pending_are ∙ sym keeps.pending;
+}
+
+same_kept : (old new : ControlFacts) → new ≡ old → KeepsOwned old new
+same_kept old new same = record { publisher = ap (λ (k : ControlFacts). k.publisher) same; pending = ap (λ (k : ControlFacts). k.pending) same }
+
+-- no step
+rests : (old new : ControlFacts) → new ≡ old → Leads old new [] []
+rests old new same = record { leads = λ core owns asked. (tt, owns_on old new core (same_kept old new same) owns) }
+
+-- ---- a command
+
+noted_run : (core : CoreState) (note : Option NoteFacts) → IsRun core (publish_noted note)
+noted_run core None = tt
+noted_run core (Some note) = (refl, tt)
+
+noted_ran : (core : CoreState) (note : Option NoteFacts) → ran core (publish_noted note) ≡ published_with note core
+noted_ran core None = refl
+noted_ran core (Some note) = refl
+
+commanded : (old emptied new : ControlFacts) (command : Command) (reply : ReplyFacts) → KeepsOwned old emptied → (given : Commanded emptied command reply new)
+    → Leads old new (decided_by emptied command reply new given) (flat_map steps_decided (decided_by emptied command reply new given))
+commanded old emptied new command reply keeps (inl dropped) = record {
+  leads = λ core owns asked. (tt, dropped_owns emptied new command reply core dropped (owns_on old emptied core keeps owns));
+}
+commanded old emptied new command reply keeps (inr decides) = record {
+  leads = λ core owns asked.
+      let edit = edits_as emptied new command reply decides core (owns_on old emptied core keeps owns) asked.0 in
+      let whole : List Step = steps_decided (record { command = command; reply = reply }) in
+      let after = does core (steps.Edit command.connection) in
+      subst (λ (xs : List Step). IsRun core xs × OwnsAs new (ran core xs)) (sym (append-nil whole)) (
+        (edit.allowed, noted_run after reply.note),
+        subst (λ (k : CoreState). OwnsAs new k) (sym (noted_ran after reply.note)) edit.owns,
+      );
+}
+
+emptied_slot : (old : ControlFacts) (slot : Option Slot) (after : ControlFacts) → EmptiesPost old slot after → KeepsOwned old after
+emptied_slot old None after same = same_kept old after same
+emptied_slot old (Some slot) after empties = record { publisher = ap (λ (k : ControlFacts). k.publisher) empties.1; pending = ap (λ (k : ControlFacts). k.pending) empties.1 }
+
+emptied_kept : (old : ControlFacts) (session : Option SessionId) (after : ControlFacts) → EmptiesFor old session after → KeepsOwned old after
+emptied_kept old None after same = same_kept old after same
+emptied_kept old (Some session) after empties = emptied_slot old (slot_of (current old) session) after empties
+
+-- ---- a notice
+
+answered : (to : SessionId) (offered : Offered PostParcel) (answer : Posted) → answer ≡ answer_of to offered → has_posted answer ≡ true
+answered to Sent answer is = ap has_posted is
+answered to (Full back) answer is = ap has_posted is
+
+posts_next : (old : ControlFacts) (pending : List Notice) (answer : Posted) (after : ControlFacts) → old.pending ≡ pending → PostsNext old pending answer after
+    → Leads old after [] (step_where (has_posted answer) steps.Post)
+posts_next old [] answer after is done =
+    subst (λ (a : Posted). Leads old after [] (step_where (has_posted a) steps.Post)) (sym done.0) (rests old after done.1)
+posts_next old (notice ∷ rest) answer after is done =
+    subst (λ (b : Bool). Leads old after [] (step_where b steps.Post)) (sym (answered notice.to done.offered answer done.answer)) (record {
+      leads = λ core owns asked. let step = posts old after notice rest answer done is core owns in ((step.0, tt), step.2);
+    })
+
+-- ---- the desk
+
+module _ {D L : Type 0} where
+  abbrev Moves : (old new : OwnerFacts D L) → List Decision → Type 0
+  Moves old new decisions = Leads old.control new.control decisions (flat_map steps_decided decisions)
+
+  still : (old new : OwnerFacts D L) → new ≡ old → Moves old new []
+  still old new same = rests old.control new.control (ap (λ (o : OwnerFacts D L). o.control) same)
+
+  given_moves : (old : OwnerFacts D L) (command : Command) (new : OwnerFacts D L) (given : IsGiven old command new) → Moves old new (decided_given old command new given)
+  given_moves old command new (inl gives) = commanded old.control old.control new.control command gives.reply (same_kept old.control old.control refl) gives.commanded
+  given_moves old command new (inr drops) = rests old.control new.control (ap (λ (o : OwnerFacts D L). o.control) drops.others)
+
+  leave_moves : (old : OwnerFacts D L) (connection : ℕ) (decided : Bool) (new : OwnerFacts D L) (given : LeaveIsGiven old connection decided new) → Moves old new (decided_leave old connection decided new given)
+  leave_moves old connection decided new (inl gives) =
+      commanded old.control gives.emptied new.control (leave_of connection (session_of connection old.guests.rows)) gives.reply
+      (emptied_kept old.control (session_of connection old.guests.rows) gives.emptied gives.empties) gives.commanded
+  leave_moves old connection decided new (inr drops) = rests old.control new.control (ap (λ (o : OwnerFacts D L). o.control) drops.others)
+
+  receiving_moves : (leave waits : Bool) (old : OwnerFacts D L) (command : Command) (new : OwnerFacts D L) (received : ReceivesBy leave waits old command new)
+      → Moves old new (decided_receiving leave waits old command new received)
+  receiving_moves true waits old command new received = leave_moves old command.connection received.0 new received.1
+  receiving_moves false true old command new received = rests old.control new.control (ap (λ (o : OwnerFacts D L). o.control) received)
+  receiving_moves false false old command new received = given_moves old command new received
+
+  owned_moves : (own : Option Command) (old new : OwnerFacts D L) (received : ReceivesOwned old own new) → Moves old new (decided_owned own old new received)
+  owned_moves None old new received = still old new received
+  owned_moves (Some command) old new received = receiving_moves (is_leave command.what) (is_login command && must_wait old) old command new received
+
+  item_moves : (old : OwnerFacts D L) (item : Option DeskItem) (worked : Bool) (new : OwnerFacts D L) (received : ReceivesItem old item worked new) → Moves old new (decided_item old item worked new received)
+  item_moves old None worked new received = still old new received.1
+  item_moves old (Some (items.Closed connection)) worked new received = rests old.control new.control (ap (λ (o : OwnerFacts D L). o.control) received.1)
+  item_moves old (Some (items.Command command)) worked new received = owned_moves (owned old.guests.rows command) old new received.1
+
+  taking_moves : (b : Bool) (old : OwnerFacts D L) (worked : Bool) (new : OwnerFacts D L) (takes : TakesWhere b old worked new) → Moves old new (decided_taking b old worked new takes)
+  taking_moves true old worked new takes = item_moves (with_pass takes.pass old) takes.item worked new takes.received
+  taking_moves false old worked new (so, same) = still old new same
+
+  waiting_moves : (own : Option Command) (old new : OwnerFacts D L) (given : GivesOwned old own new) → Moves old new (decided_waiting own old new given)
+  waiting_moves None old new given = still old new given
+  waiting_moves (Some command) old new given = given_moves old command new given
+
+  going_moves : (b : Bool) (old : OwnerFacts D L) (worked : Bool) (new : OwnerFacts D L) (goes : GoesWhere b old worked new) → Moves old new (decided_going b old worked new goes)
+  going_moves true old worked new gives = waiting_moves (owned old.guests.rows gives.login) (record old { logins = gives.rest }) new gives.given
+  going_moves false old worked new takes = taking_moves (nat_lt (length old.logins) CONNECTION_LIMIT) old worked new takes
+
+  pending_moves : (b : Bool) (old : OwnerFacts D L) (worked : Bool) (new : OwnerFacts D L) (pends : PendsWhere b old worked new) → Moves old new (decided_pending b old worked new pends)
+  pending_moves true old worked new (so, same) = still old new same
+  pending_moves false old worked new goes = going_moves (may_go old) old worked new goes
+
+  leaving_moves : (leave : Option ℕ) (old : OwnerFacts D L) (worked : Bool) (new : OwnerFacts D L) (leaves : LeavesWhere leave old worked new) → Moves old new (decided_leaving leave old worked new leaves)
+  leaving_moves (Some connection) old worked new given = leave_moves old connection worked new given
+  leaving_moves None old worked new pends = pending_moves (nat_lt PENDING_LIMIT (length old.control.pending)) old worked new pends
+
+  where_moves : (b : Bool) (old : OwnerFacts D L) (worked : Bool) (new : OwnerFacts D L) (serves : ServesWhere b old worked new) → Moves old new (decided_where b old worked new serves)
+  where_moves true old worked new (so, same) = still old new same
+  where_moves false old worked new leaves = leaving_moves old.desk.leave old worked new leaves
+
+  desk_moves : (old : OwnerFacts D L) (worked : Bool) (new : OwnerFacts D L) (serves : ServesDesk old worked new) → Moves old new (decided_in old worked new serves)
+  desk_moves old worked new serves = where_moves (is_some old.kept.reply) old worked new serves
+
+  -- ---- lag items
+
+  lags_once : (old : OwnerFacts D L) (connection : ℕ) (session : Option SessionId) (lagged worked : Bool) (new : OwnerFacts D L) → LagsOnce old connection session lagged worked new → new.control ≡ old.control
+  lags_once old connection None lagged worked new lags = ap (λ (o : OwnerFacts D L). o.control) lags.1
+  lags_once old connection (Some session) true worked new lags = ap (λ (o : OwnerFacts D L). o.control) lags.1
+  lags_once old connection (Some session) false worked new lags = ap (λ (o : OwnerFacts D L). o.control) lags.1
+
+  lags_for : (old : OwnerFacts D L) (guest : Option Guest) (worked : Bool) (new : OwnerFacts D L) → LagsFor old guest worked new → new.control ≡ old.control
+  lags_for old None worked new lags = ap (λ (o : OwnerFacts D L). o.control) lags.1
+  lags_for old (Some guest) worked new lags = lags_once old guest.connection guest.session guest.lagged worked new lags
+
+  presses_where : (b : Bool) (old : OwnerFacts D L) (worked : Bool) (new : OwnerFacts D L) → PressesWhere b old worked new → new.control ≡ old.control
+  presses_where true old worked new presses = ap (λ (o : OwnerFacts D L). o.control) presses.1
+  presses_where false old worked new presses = lags_for old (blocker old) worked new presses
+
+  lag_keeps : (connection : Option ℕ) (session : SessionId) (owner : OwnerFacts D L) → (lagged_for connection session owner).control ≡ owner.control
+  lag_keeps None session owner = refl
+  lag_keeps (Some connection) session owner = refl
+
+  answer_keeps : (answer : Posted) (owner : OwnerFacts D L) → (lagged_by answer owner).control ≡ owner.control
+  answer_keeps posted.None owner = refl
+  answer_keeps (posted.Posted session) owner = refl
+  answer_keeps (posted.Lagged session) owner = lag_keeps (lagging session owner.guests.rows) session owner
+
+  -- ---- publishing and posting
+
+  published_moves : (b : Bool) (old : OwnerFacts D L) (worked : Bool) (new : OwnerFacts D L) → PublishesWhere b old worked new → Leads old.control new.control [] (step_where worked steps.Publish)
+  published_moves true old worked new (so, same) =
+      subst (λ (w : Bool). Leads old.control new.control [] (step_where w steps.Publish)) (sym so) (still old new same)
+  published_moves false old true new done = record {
+    leads = λ core owns asked. let shown = publishes old new done core owns in ((shown.0, tt), shown.1);
+  }
+  published_moves false old false new same = still old new same
+
+  posted_one : (old : OwnerFacts D L) (worked : Bool) (new : OwnerFacts D L) → PostsOne old worked new → Leads old.control new.control [] (step_where worked steps.Post)
+  posted_one old worked new one =
+      let control : new.control ≡ one.after = ap (λ (o : OwnerFacts D L). o.control) one.others ∙ answer_keeps one.answer (record old { control = one.after }) in
+      subst (λ (k : ControlFacts). Leads old.control k [] (step_where worked steps.Post)) (sym control)
+      (subst (λ (b : Bool). Leads old.control one.after [] (step_where b steps.Post)) (sym one.so)
+      (posts_next old.control old.control.pending one.answer one.after refl one.posts))
+
+  posted_moves : (b : Bool) (old : OwnerFacts D L) (worked : Bool) (new : OwnerFacts D L) → PostsWhere b old worked new → Leads old.control new.control [] (step_where worked steps.Post)
+  posted_moves true old worked new (so, same) =
+      subst (λ (w : Bool). Leads old.control new.control [] (step_where w steps.Post)) (sym so) (still old new same)
+  posted_moves false old worked new one = posted_one old worked new one
+
+  -- ---- the whole turn
+
+  ended_keeps : (b : Bool) (owner : OwnerFacts D L) → (cond b (record owner { is_ending = true }) owner).control ≡ owner.control
+  ended_keeps true owner = refl
+  ended_keeps false owner = refl
+
+module _ {D L : Type 0} (door_facts : D → DoorFacts) where
+  asks_keep : (b : Bool) (old : OwnerFacts D L) (worked : Bool) (new : OwnerFacts D L) → AsksWhere door_facts b old worked new → new.control ≡ old.control
+  asks_keep true old worked new rests = ap (λ (o : OwnerFacts D L). o.control) rests.1
+  asks_keep false old worked new asks = ap (λ (o : OwnerFacts D L). o.control) asks.others
+
+  pub owners : OwnersAreOwners D L door_facts
+  owners old turn new turned core owns asked =
+      let first : turned.after_offers.control ≡ old.control = ap (λ (o : OwnerFacts D L). o.control) turned.offers.others in
+      let desk = (desk_moves turned.after_offers turned.served turned.after_desk turned.serves).leads core
+      (owns_on old.control turned.after_offers.control core (same_kept old.control turned.after_offers.control first) owns) asked in
+      let decided = flat_map steps_decided (decided_in turned.after_offers turned.served turned.after_desk turned.serves) in
+      let mid = ran core decided in
+      let pressed : turned.after_press.control ≡ turned.after_desk.control =
+      presses_where (are_none turned.after_desk.logins || is_some turned.after_desk.kept.lag) turned.after_desk turned.pressed turned.after_press turned.presses in
+      let shown = (published_moves (length turned.after_press.control.publisher.pending == 0) turned.after_press turned.published turned.after_publish turned.publishes).leads mid
+      (owns_on turned.after_desk.control turned.after_press.control mid (same_kept turned.after_desk.control turned.after_press.control pressed) desk.1) tt in
+      let later = ran mid (step_where turned.published steps.Publish) in
+      let sent = (posted_moves (is_some turned.after_publish.kept.lag) turned.after_publish turned.posted turned.after_post turned.posts).leads later shown.1 tt in
+      let asks : turned.after_door.control ≡ turned.after_post.control = asks_keep (is_not_to_ask turned.after_post) turned.after_post turned.came turned.after_door turned.asks in
+      let last : new.control ≡ turned.after_post.control =
+      ap (λ (o : OwnerFacts D L). o.control) turned.ends ∙ ended_keeps (is_over turned.after_door && is_none turned.after_door.kept.coming) turned.after_door ∙ asks in
+      let rest = step_where turned.published steps.Publish ++ step_where turned.posted steps.Post in
+      let end : ran core (decided ++ rest) ≡ ran later (step_where turned.posted steps.Post) =
+      fold-append does core decided rest ∙ fold-append does mid (step_where turned.published steps.Publish) (step_where turned.posted steps.Post) in (
+        run_on core decided rest desk.0 (run_on mid (step_where turned.published steps.Publish) (step_where turned.posted steps.Post) shown.0 sent.0),
+        subst (λ (k : CoreState). OwnsAs new.control k) (sym end)
+            (owns_on turned.after_post.control new.control (ran later (step_where turned.posted steps.Post)) (same_kept turned.after_post.control new.control last) sent.1),
+      )

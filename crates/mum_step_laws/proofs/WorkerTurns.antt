@@ -1,0 +1,154 @@
+-- What holds of each reply that is heard and of each packet that is routed, from one to the next, holds over turns.
+use Rattle.std.proofs.Common.{◌≡◌, ◌∙◌, ℕ, List, [], ◌∷◌, ◌++◌, length, Option, Some, None, refl, sym, ap, subst, inl, inr}
+use Rattle.mum_base.specs.declared.number.SessionId.{SessionId}
+use Rattle.mum_core.specs.Worker.{idle}
+use Rattle.mum_crew.specs.Along.{Along}
+use Rattle.mum_crew.specs.Turns.{TurnsTo}
+use Rattle.mum_crew.specs.declared.role.Turn.{Turn}
+use Rattle.mum_io.specs.Link.{LinkFacts}
+use Rattle.mum_port.specs.Facts.{PortFacts}
+use Rattle.mum_port.specs.Handling.{Acts, HandlesKept, Routes as PortRoutes}
+use Rattle.mum_port.specs.Steps.{Handles}
+use Rattle.mum_port.specs.declared.item.DeskItem.{DeskItem}
+use Rattle.mum_published.specs.Bell.{Rung, Answer, Comes, Lagging, NoMore}
+use Rattle.mum_published.specs.Facts.{Opening, PassFacts, ReplyFacts}
+use Rattle.mum_router.specs.Facts.{RouterFacts}
+use Rattle.mum_router.specs.Offering.{Delivery}
+use Rattle.mum_router.specs.Routing.{RoutesAt}
+use Rattle.mum_router.specs.declared.offering.Routed.{Routed}
+use Rattle.mum_session.specs.Action.{action}
+use Rattle.mum_session.specs.Machine.{Machine, session_of}
+use Rattle.mum_session.specs.declared.action.Action.{Action}
+use Rattle.mum_session.specs.declared.action.Action.TheVariants.{Ask, Voice, Echo, Keep, Ignore}
+use Rattle.mum_state.specs.declared.edit.Edit.{Edit}
+use Rattle.mum_voice.specs.Packet.{Parts}
+use Rattle.mum_worker.specs.Boxes.{BoxesFacts}
+use Rattle.mum_worker.specs.Facts.{WorkerFacts}
+use Rattle.mum_worker.specs.Hearing.{Hears, LearnsGiven}
+use Rattle.mum_worker.specs.Routing.{CommonFacts, RoutesPacket}
+use Rattle.mum_worker.specs.Stepping.{PortSteps, Shares}
+use Rattle.mum_worker.specs.Turning.{Turned, WorkerTurned, shares_of}
+use Rattle.mum_worker_laws.specs.Laws.{Moment, Told, Looked, history, look_acted, look_handled, look_kept, look_made, look_of_session, look_stepped, looks_along, moments_of, told_by}
+use Rattle.mum_step_laws.specs.WorkerRuns.{WorkersAreWorkers}
+use Rattle.mum_step_laws.proofs.WorkerRunning.{Leads, leads_on, leads_same, leads_saw, leads_told}
+
+-- a relation of routers by what happened between them, that holds of nothing, of a reply, of a route, and of one
+-- thing after another
+record Walks (opening : Opening) (R : RouterFacts → RouterFacts → List Moment → Type 0) : Type 0 where
+  same : (old new : RouterFacts) → new ≡ old → R old new []
+  told : (reply : ReplyFacts) (old new : RouterFacts) → LearnsGiven reply.note old new → R old new (Told reply ∷ [])
+  saw : (connection : ℕ) (old : RouterFacts) (speaker : SessionId) (packet : Parts) (edits : List Edit) (deliveries : List Delivery) (new : RouterFacts) (routed : Routed)
+      → RoutesAt opening old speaker packet edits deliveries new routed
+      → R old new (Looked (record { connection = connection; speaker = speaker; packet = packet; edits = edits; deliveries = deliveries }) ∷ [])
+  on : (old mid new : RouterFacts) (ms ns : List Moment) → R old mid ms → R mid new ns → R old new (ms ++ ns)
+
+module _ (opening : Opening) (R : RouterFacts → RouterFacts → List Moment → Type 0) (walks : Walks opening R) where
+  made : (old : CommonFacts) (connection : ℕ) (speaker : SessionId) (bytes : List ℕ) (new : CommonFacts) (routes : RoutesPacket opening old connection speaker bytes new)
+      → R old.router new.router (look_made opening old connection speaker bytes new routes)
+  made old connection speaker bytes new (inl drops) = walks.same old.router new.router drops.not_one.same
+  made old connection speaker bytes new (inr keeps) =
+      walks.saw connection old.router speaker keeps.once.parts keeps.once.routes.0 keeps.once.routes.1 new.router keeps.routed keeps.once.routes.2
+
+  same_common : (old new : CommonFacts) → new ≡ old → R old.router new.router []
+  same_common old new is = walks.same old.router new.router (ap (λ (c : CommonFacts). c.router) is)
+
+  of_session : (old : CommonFacts) (connection : ℕ) (session : Option SessionId) (bytes : List ℕ) (new : CommonFacts) (routes : PortRoutes (RoutesPacket opening) connection session bytes old new)
+      → R old.router new.router (look_of_session opening old connection session bytes new routes)
+  of_session old connection None bytes new is = same_common old new is
+  of_session old connection (Some speaker) bytes new routes = made old connection speaker bytes new routes
+
+  acted : (connection : ℕ) (session : Option SessionId) (asked : Action) (waiting : Option DeskItem) (out : List ℕ) (old : CommonFacts) (went : _) (waiting_after : Option DeskItem) (out_after : List ℕ) (new : CommonFacts)
+      (acts : Acts (RoutesPacket opening) connection session asked waiting out old went waiting_after out_after new)
+      → R old.router new.router (look_acted opening connection session asked waiting out old went waiting_after out_after new acts)
+  acted connection session (Ask command) waiting out old went waiting_after out_after new acts = same_common old new acts.3
+  acted connection session (Voice packet) waiting out old went waiting_after out_after new acts = of_session old connection session packet new acts.3
+  acted connection session (Echo wire) waiting out old went waiting_after out_after new acts = same_common old new acts.2
+  acted connection session Keep waiting out old went waiting_after out_after new acts = same_common old new acts.3
+  acted connection session (Ignore why) waiting out old went waiting_after out_after new acts = same_common old new acts.3
+
+  kept : (machine : Machine) (bytes : List ℕ) (waiting : Option DeskItem) (out : List ℕ) (old : CommonFacts) (went : _) (machine_after : Machine) (bytes_after : List ℕ) (waiting_after : Option DeskItem) (out_after : List ℕ) (new : CommonFacts)
+      (handles : HandlesKept (RoutesPacket opening) machine bytes waiting out old went machine_after bytes_after waiting_after out_after new)
+      → R old.router new.router (look_kept opening machine bytes waiting out old went machine_after bytes_after waiting_after out_after new handles)
+  kept machine bytes waiting out old went machine_after bytes_after waiting_after out_after new (inl (has, inl first)) =
+      acted machine.connection (session_of machine.stage) (action machine first.frame.kind first.frame.payload) waiting out old went waiting_after out_after new first.handled.acts
+  kept machine bytes waiting out old went machine_after bytes_after waiting_after out_after new (inl (has, inr lacks)) = same_common old new lacks.router_same
+  kept machine bytes waiting out old went machine_after bytes_after waiting_after out_after new (inr none) = same_common old new none.router_same
+
+  module _ {L : Type 0} where
+    handled : (old : PortFacts L) (router : CommonFacts) (went : _) (new : PortFacts L) (after : CommonFacts) (handles : Handles (RoutesPacket opening) old router went new after)
+        → R router.router after.router (look_handled opening old router went new after handles)
+    handled old router went new after (inl none) = same_common router after none.1
+    handled old router went new after (inr one) =
+        kept old.machine old.framer.kept old.waiting old.out router went new.machine new.framer.kept new.waiting new.out after one.handled
+
+  module _ {L : Type 0} (facts : L → LinkFacts) where
+    stepped : (boxes : BoxesFacts) (old : PortFacts L) (before : Shares) (new : PortFacts L) (after : Shares) (steps : PortSteps facts opening boxes old before new after)
+        → R before.common.router after.common.router (look_stepped opening facts boxes old before new after steps)
+    stepped boxes old before new after steps =
+        subst (λ (r : RouterFacts). R before.common.router r (look_stepped opening facts boxes old before new after steps))
+        (sym (ap (λ (c : CommonFacts). c.router) steps.noted))
+        (handled steps.chain.after_read before.common steps.chain.handled steps.chain.after_handle steps.routed steps.chain.handles)
+
+    along_all : (boxes : BoxesFacts) (olds : List (PortFacts L)) (before : Shares) (news : List (PortFacts L)) (after : Shares) (along : Along (PortSteps facts opening boxes) olds before news after)
+        → R before.common.router after.common.router (looks_along opening facts boxes olds before news after along)
+    along_all boxes [] before [] after is = same_common before.common after.common (ap (λ (s : Shares). s.common) is)
+    along_all boxes [] before (new ∷ news) after none = absurd none
+    along_all boxes (old ∷ olds) before [] after none = absurd none
+    along_all boxes (old ∷ olds) before (new ∷ news) after (between, step, rest) =
+        walks.on before.common.router between.common.router after.common.router
+        (look_stepped opening facts boxes old before new between step)
+        (looks_along opening facts boxes olds between news after rest)
+        (stepped boxes old before new between step)
+        (along_all boxes olds between news after rest)
+
+    heard : (item : Option (Rung L)) (old new : WorkerFacts L) → Hears facts item old new → R old.common.router new.common.router (told_by item)
+    heard None old new is = same_common old.common new.common (ap (λ (w : WorkerFacts L). w.common) is)
+    heard (Some (Answer reply)) old new hears = walks.told reply old.common.router new.common.router hears.takes.learns
+    heard (Some (Comes connection link)) old new hears = walks.same old.common.router new.common.router hears.router
+    heard (Some (Lagging session)) old new hears = walks.same old.common.router new.common.router hears.router
+    heard (Some NoMore) old new is = same_common old.common new.common (ap (λ (w : WorkerFacts L). w.common) is)
+
+    turned_one : (old new : WorkerFacts L) (turn : Turn) (turned : Turned facts opening old new turn)
+        → R old.common.router new.common.router (moments_of facts opening old new turn turned)
+    turned_one old new turn turned =
+        walks.on old.common.router turned.between.common.router new.common.router
+        (told_by turned.hears.item)
+        (looks_along opening facts turned.between.boxes turned.between.ports (shares_of turned.between turned.heard) turned.steps.steps.stepped (shares_of new turned.worked) turned.steps.steps.along)
+        (heard turned.hears.item (record old { bell = turned.hears.bell }) turned.between turned.hears.hears)
+        (along_all turned.between.boxes turned.between.ports (shares_of turned.between turned.heard) turned.steps.steps.stepped (shares_of new turned.worked) turned.steps.steps.along)
+
+    turned_all : (old : WorkerFacts L) (turns : List Turn) (new : WorkerFacts L) (all : TurnsTo (WorkerTurned facts opening) old turns new)
+        → R old.common.router new.common.router (history facts opening old turns new all)
+    turned_all old [] new is = same_common old.common new.common (ap (λ (w : WorkerFacts L). w.common) is)
+    turned_all old (turn ∷ turns) new (mid, turned, rest) =
+        walks.on old.common.router mid.common.router new.common.router
+        (moments_of facts opening old mid turn turned)
+        (history facts opening mid turns new rest)
+        (turned_one old mid turn turned) (turned_all mid turns new rest)
+
+-- ---- a worker of the core
+
+module _ (opening : Opening) (published : List Edit) where
+  leads_walk : Walks opening (Leads opening published)
+  leads_walk = record {
+    same = leads_same opening published;
+    told = leads_told opening published;
+    saw = leads_saw opening published;
+    on = leads_on opening published;
+  }
+
+module _ {L : Type 0} (facts : L → LinkFacts) where
+  pub workers : WorkersAreWorkers facts
+  workers opening number pass journal opened worker turns published begun fresh all front =
+      let first : opened.common.router.pass ≡ record { opening = opening; seen = []; known = []; asks = [] } = begun.pass_is ∙ fresh in
+      let leads = turned_all opening (Leads opening published) (leads_walk opening published) facts opened turns worker all in
+      let runs = leads.runs front idle (record {
+        seen_is = ap (λ (p : PassFacts). length p.seen) (sym first);
+        least_is = ap (λ (p : PassFacts). length p.known) (sym first);
+        held_is = refl;
+        copies_are = refl;
+      }) in record {
+        allowed = runs.allowed;
+        offers = runs.offers;
+        stands = runs.stands;
+      }

@@ -123,6 +123,13 @@ impl Looker {
         Looker { pass, kept: None }
     }
 
+    /// The pass that looks.
+    pub(crate) fn pass(&self) -> &Pass
+        ensures { result.now ≡ self.now }
+    {
+        &self.pass
+    }
+
     /// One look, and the text of the state that it found.
     pub(crate) fn text<R: Wait>(&mut self, rt: &R, alloc: Global) -> Result<Octets, OutOfMemory>
         ensures { Looks view_text self.old result self.new }

@@ -144,6 +144,14 @@ impl<D: Entrance, N: Viewing, R: Wait + Copy> Viewer<D, N, R> {
         turn_of(self.has_ended(), stepped, answered)
     }
 
+    /// The pass by which the viewer looks. It is of the opening that the viewer is named for.
+    pub fn pass(&self) -> &Pass
+        ensures pass { result.now ≡ self.now.views.pass }
+        ensures opening { result.now.opening ≡ N.opening }
+    {
+        self.views.pass()
+    }
+
     /// What it leaves.
     pub fn finish(self) -> ViewerEnd<D>
         ensures door { result.door ≡ self.doorway.door }

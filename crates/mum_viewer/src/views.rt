@@ -76,6 +76,13 @@ impl<L: Link> Views<L> {
         })
     }
 
+    /// The pass that looks for them.
+    pub(crate) fn pass(&self) -> &Pass
+        ensures { result.now ≡ self.now.pass }
+    {
+        self.pass.pass()
+    }
+
     /// How many there were.
     pub(crate) fn given(&self) -> u32
         ensures { result ≡ self.now.given }

@@ -1,36 +1,29 @@
 -- What is written of a run that came to its end, with a journal or without one.
-use Rattle.std.proofs.Common.{◌≡◌, ◌∙◌, ℕ, ◌≤◌, Bool, true, false, List, [], ◌∷◌, ◌++◌, length, map, Option, None, Some, Result, Ok, Err, OnOk, OnErr, is_err, inl, inr, refl, sym, ap, subst, arith}
-use Rattle.std.proofs.lemmas.List.{length-map}
+use Rattle.std.proofs.Common.{◌≡◌, ◌∙◌, ℕ, ◌≤◌, Bool, true, false, List, ◌++◌, length, Option, None, Some, Result, Ok, Err, OnOk, OnErr, is_err, inl, inr, refl, sym, ap, subst, arith}
 use Rattle.mum_audit.specs.Audit.{IsAuditable, answer, audited, counts_of, findings, first_line, first_wrong}
 use Rattle.mum_audit.specs.Legal.{IsLegal}
 use Rattle.mum_audit.specs.declared.audited.Audited.{Audited}
-use Rattle.mum_audit.specs.declared.audited.Audited.TheVariants.{Legal, Wrong}
-use Rattle.mum_config.specs.Document.{fault_of}
-use Rattle.mum_crew.specs.Crew.{CrewCounts, RunCounts}
-use Rattle.mum_crew.specs.declared.crew.CrewEnd.TheVariants.{Ran}
+use Rattle.mum_audit.specs.declared.audited.Audited.TheVariants.{Legal}
+use Rattle.mum_crew.specs.Crew.{CrewCounts}
 use Rattle.mum_io.specs.Counts.{Rose}
-use Rattle.mum_io.specs.Outside.{Appends, AppendsFront, Keeps}
-use Rattle.mum_io.proofs.OutsideLemmas.{AppendsFront-behind, AppendsFront-longer}
+use Rattle.mum_io.specs.Outside.{Appends, Keeps}
 use Rattle.mum_io.specs.Link.{LinkFacts}
 use Rattle.mum_io.specs.Door.{DoorFacts}
 use Rattle.mum_opening.specs.Opening.{document_fault}
 use Rattle.mum_record.specs.declared.journal.Journal.{Journal}
+use Rattle.mum_serve.specs.Asked.{Lent, Service}
 use Rattle.mum_serve.specs.Journals.{AreWritable, journal_of, journal_text, where_asked}
-use Rattle.mum_serve.specs.Program.{EndsWith, GivesText, HasServed, RunsInCrew, WritesAll, WritesCounted, WritesJournal, WritesText, document_of, served_line, written}
+use Rattle.mum_serve.specs.Program.{EndsWith, GivesText, HasServed, RunsInCrew, WritesAll, WritesCounted, WritesJournal, WritesText, last_lines, written}
 use Rattle.mum_serve.specs.declared.entries.Entries.{Entries}
 use Rattle.mum_serve.specs.declared.program.Input.{Input}
 use Rattle.mum_serve.specs.declared.program.ServerEnd.{ServerEnd}
 use Rattle.mum_serve.specs.declared.program.ServerEnd.TheVariants as ends
-use Rattle.mum_serve.specs.declared.totals.Totals.{Totals}
+use Rattle.mum_serve.specs.declared.summary.Summary.{Summary}
 
 -- ---- the journal
 
-no_fault : (document : List ℕ) → fault_of (document_of document) ≡ None → document_fault document ≡ None
-no_fault [] none = refl
-no_fault (byte ∷ bytes) none = none
-
 -- the journal of a server may be audited
-pub is_auditable : (workers : ℕ) (document : List ℕ) (entries : Entries) → 1 ≤ workers → workers ≤ 8 → length entries.by_worker ≡ workers → AreWritable entries → fault_of (document_of document) ≡ None
+pub is_auditable : (workers : ℕ) (document : List ℕ) (entries : Entries) → 1 ≤ workers → workers ≤ 8 → length entries.by_worker ≡ workers → AreWritable entries → document_fault document ≡ None
     → IsAuditable (journal_of workers document entries)
 is_auditable workers document entries least greatest lists writable none = record {
   writable = record {
@@ -41,7 +34,7 @@ is_auditable workers document entries least greatest lists writable none = recor
     controls = writable.controls;
     entries = writable.by_worker;
   };
-  faultless = no_fault document none;
+  faultless = none;
 }
 
 -- ---- its audit
@@ -78,35 +71,35 @@ no_more_writes true door_failed end old new is same = rw is same
 no_more_writes false true end old new is same = rw is same
 no_more_writes false false end old new is same = rw is same
 
-legal_written : (journal : Journal) (totals : Totals) (no_memory door_failed : Bool) (end : ServerEnd) (old new : Option (List ℕ)) → IsLegal journal
-    → WritesText (journal_text journal ++ served_line totals) no_memory door_failed end old new → WritesJournal journal totals no_memory door_failed end old new
-legal_written journal totals no_memory door_failed ends.Finished old new legal writes = (legal, writes)
-legal_written journal totals no_memory door_failed (ends.BadConfig code key) old new legal writes = (legal, writes)
-legal_written journal totals no_memory door_failed ends.ReadFault old new legal writes = (legal, writes)
-legal_written journal totals no_memory door_failed ends.WriteFault old new legal writes = (legal, writes)
-legal_written journal totals no_memory door_failed ends.DoorFault old new legal writes = (legal, writes)
-legal_written journal totals no_memory door_failed ends.CrewFault old new legal writes = (legal, writes)
-legal_written journal totals no_memory door_failed (ends.AuditWrong line given defined) old new legal writes = absurd writes
-legal_written journal totals no_memory door_failed ends.OutOfMemory old new legal (inl none) = inl none
-legal_written journal totals no_memory door_failed ends.OutOfMemory old new legal (inr all) = inr (legal, all.0, all.1)
+legal_written : (journal : Journal) (summary : Summary) (end : ServerEnd) (old new : Option (List ℕ)) → IsLegal journal
+    → WritesText (journal_text journal ++ last_lines summary) summary.no_memory summary.door_failed end old new → WritesJournal journal summary end old new
+legal_written journal summary ends.Finished old new legal writes = (legal, writes)
+legal_written journal summary (ends.BadConfig code key) old new legal writes = (legal, writes)
+legal_written journal summary ends.ReadFault old new legal writes = (legal, writes)
+legal_written journal summary ends.WriteFault old new legal writes = (legal, writes)
+legal_written journal summary ends.DoorFault old new legal writes = (legal, writes)
+legal_written journal summary ends.CrewFault old new legal writes = (legal, writes)
+legal_written journal summary (ends.AuditWrong line given defined) old new legal writes = absurd writes
+legal_written journal summary ends.OutOfMemory old new legal (inl none) = inl none
+legal_written journal summary ends.OutOfMemory old new legal (inr all) = inr (legal, all.0, all.1)
 
 -- a legal journal, and the line behind it
-pub journal_written : (journal : Journal) (totals : Totals) (text line : List ℕ) (no_memory door_failed : Bool) (end : ServerEnd) (old new : Option (List ℕ)) → GivesText journal (Ok text) → line ≡ served_line totals
-    → WritesText (text ++ line) no_memory door_failed end old new → WritesJournal journal totals no_memory door_failed end old new
-journal_written journal totals text line no_memory door_failed end old new gives is writes =
-    legal_written journal totals no_memory door_failed end old new gives.0
-    (subst (λ (all : List ℕ). WritesText all no_memory door_failed end old new) (ap (λ (t : List ℕ). t ++ line) gives.1 ∙ ap (λ (l : List ℕ). journal_text journal ++ l) is) writes)
+pub journal_written : (journal : Journal) (summary : Summary) (text lines : List ℕ) (end : ServerEnd) (old new : Option (List ℕ)) → GivesText journal (Ok text) → lines ≡ last_lines summary
+    → WritesText (text ++ lines) summary.no_memory summary.door_failed end old new → WritesJournal journal summary end old new
+journal_written journal summary text lines end old new gives is writes =
+    legal_written journal summary end old new gives.0
+    (subst (λ (all : List ℕ). WritesText all summary.no_memory summary.door_failed end old new) (ap (λ (t : List ℕ). t ++ lines) gives.1 ∙ ap (λ (l : List ℕ). journal_text journal ++ l) is) writes)
 
 -- a journal that is not written
-pub not_written : (journal : Journal) (totals : Totals) (no_memory door_failed : Bool) (end : ServerEnd) (old : Option (List ℕ)) → GivesText journal (Err end) → Keeps old old → WritesJournal journal totals no_memory door_failed end old old
-not_written journal totals no_memory door_failed (ends.AuditWrong line given defined) old gives kept = (gives, kept)
-not_written journal totals no_memory door_failed ends.OutOfMemory old gives kept = inl kept
-not_written journal totals no_memory door_failed ends.Finished old gives kept = absurd gives
-not_written journal totals no_memory door_failed (ends.BadConfig code key) old gives kept = absurd gives
-not_written journal totals no_memory door_failed ends.ReadFault old gives kept = absurd gives
-not_written journal totals no_memory door_failed ends.WriteFault old gives kept = absurd gives
-not_written journal totals no_memory door_failed ends.DoorFault old gives kept = absurd gives
-not_written journal totals no_memory door_failed ends.CrewFault old gives kept = absurd gives
+pub not_written : (journal : Journal) (summary : Summary) (end : ServerEnd) (old : Option (List ℕ)) → GivesText journal (Err end) → Keeps old old → WritesJournal journal summary end old old
+not_written journal summary (ends.AuditWrong line given defined) old gives kept = (gives, kept)
+not_written journal summary ends.OutOfMemory old gives kept = inl kept
+not_written journal summary ends.Finished old gives kept = absurd gives
+not_written journal summary (ends.BadConfig code key) old gives kept = absurd gives
+not_written journal summary ends.ReadFault old gives kept = absurd gives
+not_written journal summary ends.WriteFault old gives kept = absurd gives
+not_written journal summary ends.DoorFault old gives kept = absurd gives
+not_written journal summary ends.CrewFault old gives kept = absurd gives
 
 pub not_counted : (journal : Journal) (end : ServerEnd) (faults : ℕ) → GivesText journal (Err end) → WritesCounted end faults faults
 not_counted journal (ends.AuditWrong line given defined) faults gives = refl
@@ -132,32 +125,32 @@ text_runs text no_memory door_failed ends.DoorFault old new before after writes 
 text_runs text no_memory door_failed ends.OutOfMemory old new before after writes rose = tt
 
 -- the roles have run
-pub all_run : (journal : Option Journal) (totals : Totals) (no_memory door_failed : Bool) (end : ServerEnd) (old new : Option (List ℕ)) (before after : CrewCounts) → WritesAll journal totals no_memory door_failed end old new
+pub all_run : (journal : Option Journal) (summary : Summary) (end : ServerEnd) (old new : Option (List ℕ)) (before after : CrewCounts) → WritesAll journal summary end old new
     → Rose before.runs after.runs → RunsInCrew end before after
-all_run None totals no_memory door_failed end old new before after writes rose = text_runs (served_line totals) no_memory door_failed end old new before after writes rose
-all_run (Some journal) totals no_memory door_failed ends.Finished old new before after writes rose = rose
-all_run (Some journal) totals no_memory door_failed (ends.AuditWrong line given defined) old new before after writes rose = rose
-all_run (Some journal) totals no_memory door_failed ends.CrewFault old new before after writes rose = absurd writes.1
-all_run (Some journal) totals no_memory door_failed (ends.BadConfig code key) old new before after writes rose = tt
-all_run (Some journal) totals no_memory door_failed ends.ReadFault old new before after writes rose = tt
-all_run (Some journal) totals no_memory door_failed ends.WriteFault old new before after writes rose = rose
-all_run (Some journal) totals no_memory door_failed ends.DoorFault old new before after writes rose = tt
-all_run (Some journal) totals no_memory door_failed ends.OutOfMemory old new before after writes rose = tt
+all_run None summary end old new before after writes rose = text_runs (last_lines summary) summary.no_memory summary.door_failed end old new before after writes rose
+all_run (Some journal) summary ends.Finished old new before after writes rose = rose
+all_run (Some journal) summary (ends.AuditWrong line given defined) old new before after writes rose = rose
+all_run (Some journal) summary ends.CrewFault old new before after writes rose = absurd writes.1
+all_run (Some journal) summary (ends.BadConfig code key) old new before after writes rose = tt
+all_run (Some journal) summary ends.ReadFault old new before after writes rose = tt
+all_run (Some journal) summary ends.WriteFault old new before after writes rose = rose
+all_run (Some journal) summary ends.DoorFault old new before after writes rose = tt
+all_run (Some journal) summary ends.OutOfMemory old new before after writes rose = tt
 
-no_crew_fault : (asked : Option Journal) (totals : Totals) (no_memory door_failed : Bool) (old new : Option (List ℕ)) → WritesAll asked totals no_memory door_failed ends.CrewFault old new → ⊥
-no_crew_fault None totals no_memory door_failed old new writes = writes
-no_crew_fault (Some journal) totals no_memory door_failed old new writes = writes.1
+no_crew_fault : (asked : Option Journal) (summary : Summary) (old new : Option (List ℕ)) → WritesAll asked summary ends.CrewFault old new → ⊥
+no_crew_fault None summary old new writes = writes
+no_crew_fault (Some journal) summary old new writes = writes.1
 
 module _ {D L : Type 0} (facts : L → LinkFacts) (door_facts : D → DoorFacts) where
   -- where all were served the run ends so
-  pub all_served : (address : List ℕ) (journal : Bool) (connections : ℕ) (input : Input) (end : ServerEnd) (door left : Option D) (old new : Option (List ℕ)) (before after : CrewCounts)
-      → HasServed facts door_facts address journal connections input end door left old new before after → EndsWith facts door_facts address journal connections input end door left old new before after
-  all_served address journal connections input ends.Finished door left old new before after served = served
-  all_served address journal connections input (ends.AuditWrong line given defined) door left old new before after served = served
-  all_served address journal connections input ends.CrewFault door left old new before after served =
-      absurd (no_crew_fault (where_asked journal (journal_of input.config.workers input.document served.entries)) served.totals served.no_memory served.door_failed old new served.writes)
-  all_served address journal connections input (ends.BadConfig code key) door left old new before after served = served
-  all_served address journal connections input ends.ReadFault door left old new before after served = served
-  all_served address journal connections input ends.WriteFault door left old new before after served = served
-  all_served address journal connections input ends.DoorFault door left old new before after served = inl served
-  all_served address journal connections input ends.OutOfMemory door left old new before after served = inl served
+  pub all_served : (asked : Service) (input : Input) (end : ServerEnd) (doors left : Lent D) (old new : Option (List ℕ)) (before after : CrewCounts)
+      → HasServed facts door_facts asked input end doors left old new before after → EndsWith facts door_facts asked input end doors left old new before after
+  all_served asked input ends.Finished doors left old new before after served = served
+  all_served asked input (ends.AuditWrong line given defined) doors left old new before after served = served
+  all_served asked input ends.CrewFault doors left old new before after served =
+      absurd (no_crew_fault (where_asked asked.journal (journal_of input.config.workers input.document served.entries)) served.summary old new served.writes)
+  all_served asked input (ends.BadConfig code key) doors left old new before after served = served
+  all_served asked input ends.ReadFault doors left old new before after served = served
+  all_served asked input ends.WriteFault doors left old new before after served = served
+  all_served asked input ends.DoorFault doors left old new before after served = inl served
+  all_served asked input ends.OutOfMemory doors left old new before after served = inl served

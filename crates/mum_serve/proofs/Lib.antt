@@ -1,10 +1,10 @@
 mod Sharing
-mod Joining
-mod Leading
-mod Turning
-mod Ended
-mod Comparing
-mod Limited
 mod Refused
 mod Judged
 mod Doors
+mod Together
+mod Joining
+mod Opening
+mod Turning
+mod Ending
+mod Viewing

@@ -1,10 +1,8 @@
 -- Runs that end before anything is opened.
-use Rattle.std.proofs.Common.{◌≡◌, ◌∙◌, ℕ, ◌<◌, ◌⊎◌, true, false, List, [], ◌∷◌, ◌++◌, length, Option, None, Some, Result, Ok, Err, IfSome, inl, inr, length-append, refl, sym, ap, subst, arith}
-use Rattle.std.specs.Option.{option_map}
+use Rattle.std.proofs.Common.{◌≡◌, ◌∙◌, ℕ, ◌<◌, true, List, [], ◌∷◌, ◌++◌, length, Option, None, Some, Result, Ok, Err, IfSome, inl, inr, length-append, refl, sym, subst, arith}
 use Rattle.std.specs.Prelude.{codes, nat_lt}
 use Rattle.std.proofs.lemmas.Bool.Decides.{nat_tests}
-use Rattle.mum_config.specs.Document.{ReadsConfig, config_in, fault_of}
-use Rattle.mum_config.specs.Refusal.{told_fault}
+use Rattle.mum_config.specs.Document.{fault_of}
 use Rattle.mum_config.specs.declared.config.Config.{Config}
 use Rattle.mum_crew.specs.Crew.{CrewCounts}
 use Rattle.mum_document.specs.Fault.{Fault, or_else}
@@ -12,7 +10,9 @@ use Rattle.mum_config.specs.declared.refusal.BadConfig.{BadConfig}
 use Rattle.mum_config.specs.declared.refusal.BadConfig.TheVariants as errors
 use Rattle.mum_document.specs.declared.fault.ConfigFault.TheVariants.{Limit}
 use Rattle.mum_io.specs.Outside.{IsAllOrLonger, Keeps}
-use Rattle.mum_serve.specs.Program.{Describes, DescribesConfig, IsInput, IsRefusal, NamesFault, ReadsCounted, RunsInCrew, WritesCounted, document_of, refusal}
+use Rattle.mum_opening.specs.Opening.{document_fault}
+use Rattle.mum_opening.specs.Reading.{ReadsDescribed}
+use Rattle.mum_serve.specs.Program.{Describes, DescribesConfig, IsInput, IsRefusal, NamesFault, ReadsCounted, RunsInCrew, WritesCounted, refusal}
 use Rattle.mum_serve.specs.declared.program.ServerEnd.{ServerEnd}
 use Rattle.mum_serve.specs.declared.program.ServerEnd.TheVariants as ends
 
@@ -26,17 +26,14 @@ long_fault bytes long =
     let over : nat_lt 65536 (length bytes) ≡ true = grind (arith, nat_tests) in
     rw over refl
 
-too_long : (bytes : List ℕ) → 65536 < length bytes → fault_of (document_of bytes) ≡ Some over_limit
+too_long : (bytes : List ℕ) → 65536 < length bytes → document_fault bytes ≡ Some over_limit
 too_long [] long = absurd (omega (arith, long))
 too_long (byte ∷ bytes) long = long_fault (byte ∷ bytes) long
 
--- the document of some bytes is read as the bytes say
-pub read_as : (bytes document : List ℕ) (config : Config) → document ≡ document_of bytes → ReadsConfig document (Ok config) → Describes bytes (Ok config)
-read_as bytes document config is reads = subst (λ (d : List ℕ). (fault_of d ≡ None) × (config_in d ≡ Some config)) is reads
-
-pub refused_as : (bytes document : List ℕ) (error : BadConfig) → document ≡ document_of bytes → ReadsConfig document (Err error) → Describes bytes (Err (refusal error))
-refused_as bytes document (errors.Fault code key) is reads = subst (λ (d : List ℕ). option_map told_fault (fault_of d) ≡ Some (code, key)) is reads
-refused_as bytes document errors.OutOfMemory is reads = tt
+-- a document that was not read is refused by the fault that it has
+pub refused_as : (bytes : List ℕ) (error : BadConfig) → ReadsDescribed bytes (Err error) → Describes bytes (Err (refusal error))
+refused_as bytes (errors.Fault code key) reads = reads
+refused_as bytes errors.OutOfMemory reads = tt
 
 -- bytes that are too long say the same as all that follow them
 longer_so : (bytes rest : List ℕ) (r : Result Config ServerEnd) → 65536 < length bytes → Describes bytes r → Describes (bytes ++ rest) r

@@ -1,6 +1,6 @@
 -- The journal of a server.
 use Rattle.std.specs.Prelude.{ℕ, ◌+◌, ◌/◌, ◌%◌, min, Bool, true, false, List, Option, Some, None}
-use Rattle.mum_base.specs.declared.number.TheConstants.{PLACES, SLOTS}
+use Rattle.mum_opening.specs.Opening.{greatest_limits}
 use Rattle.mum_record.specs.Journal.{Each, IsWritableControl, IsWritableEntry, ended_lines, lines_of}
 use Rattle.mum_record.specs.declared.journal.Journal.{Journal}
 use Rattle.mum_record.specs.declared.journal.WorkerEntry.{WorkerEntry}
@@ -24,11 +24,11 @@ pub record AreWritable (entries : Entries) : Type 0 where
   pub controls : Each IsWritableControl entries.controls
   pub by_worker : Each (Each IsWritableEntry) entries.by_worker
 
--- the journal of a server that read this document. There may be a session in each slot and a channel at each place
+-- the journal of a server that read this document
 abbrev pub journal_of : ℕ → List ℕ → Entries → Journal
 journal_of workers document entries = record {
   workers = workers;
-  limits = Some (SLOTS, PLACES);
+  limits = greatest_limits;
   config = document;
   controls = entries.controls;
   by_worker = entries.by_worker;

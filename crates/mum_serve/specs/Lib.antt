@@ -1,3 +1,4 @@
+pub mod Asked
 pub mod OneList
 pub mod Opened
 pub mod Queues
@@ -5,7 +6,8 @@ pub mod Totals
 pub mod Journals
 pub mod Roles
 pub mod Joined
-pub mod Opening
 pub mod Running
+pub mod Views
+pub mod Beginning
 pub mod Serving
 pub mod Program

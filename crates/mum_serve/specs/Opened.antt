@@ -1,6 +1,8 @@
 -- The roles of a server as they are opened.
-use Rattle.std.specs.Prelude.{◌≡◌, ⊤, ℕ, ◌+◌, Bool, List, [], ◌∷◌, length, Option}
+use Rattle.std.specs.Prelude.{◌≡◌, ⊤, ℕ, ◌+◌, ◌≤◌, Bool, List, [], ◌∷◌, length, Option}
+use Rattle.std.specs.Global.{Vec}
 use Rattle.std.specs.List.{All}
+use Rattle.std.specs.Vec.{vec_capacity}
 use Rattle.atomic_table.specs.Seated.{TableId}
 use Rattle.mum_control.specs.Facts.{ControlFacts}
 use Rattle.mum_control.specs.Posting.{IsOpened as IsOpenedControl}
@@ -49,3 +51,7 @@ module _ {L : Type 0} where
   pub record AreOpened (opening : Opening) (closings : Option ℕ) (count : ℕ) (workers : List (WorkerFacts L)) : Type 0 where
     pub many : length workers ≡ count
     pub each : AreOpenedFrom opening closings 0 workers
+
+-- nothing is in it yet, and there is room for so many
+abbrev pub HasRoom : {X : Type 0} → ℕ → Vec X → Type 0
+HasRoom count room = (room.items ≡ []) × (count ≤ vec_capacity room)

@@ -1,7 +1,6 @@
 -- A run of the program that serves: what it reads, what it writes, and how it ends.
 use Rattle.std.specs.Option.{option_map}
 use Rattle.std.specs.Prelude.{◌≡◌, ⊤, ◌⊎◌, ℕ, Bool, true, false, List, [], ◌∷◌, ◌++◌, codes, decimal, IfSome, Option, Some, None, Result, Ok, Err}
-use Rattle.mum_config.specs.Document.{config_in, fault_of}
 use Rattle.mum_config.specs.declared.config.Config.{Config}
 use Rattle.mum_crew.specs.Crew.{CrewCounts, RunCounts}
 use Rattle.mum_crew.specs.declared.crew.CrewEnd.TheVariants.{Ran}
@@ -13,14 +12,14 @@ use Rattle.mum_io.specs.Counts.{Rose}
 use Rattle.mum_io.specs.Outside.{Appends, AppendsFront, Keeps}
 use Rattle.mum_io.specs.Link.{LinkFacts}
 use Rattle.mum_io.specs.Door.{DoorFacts}
+use Rattle.mum_opening.specs.Opening.{described, document_fault, greatest_limits, opening}
 use Rattle.mum_record.specs.Words.{line_of_words}
-use Rattle.mum_state.specs.After.{after}
 use Rattle.mum_audit.specs.Audit.{audited}
 use Rattle.mum_audit.specs.Legal.{IsLegal}
 use Rattle.mum_audit.specs.declared.audited.Audited.TheVariants.{Wrong}
 use Rattle.mum_record.specs.declared.journal.Journal.{Journal}
+use Rattle.mum_serve.specs.Asked.{Lent, Service}
 use Rattle.mum_serve.specs.Journals.{journal_of, journal_text, where_asked}
-use Rattle.mum_serve.specs.Opening.{opening_edits}
 use Rattle.mum_serve.specs.Serving.{RunsCounted, ServesOver}
 use Rattle.mum_serve.specs.declared.entries.Entries.{Entries}
 use Rattle.mum_serve.specs.declared.program.Input.{Input}
@@ -28,14 +27,10 @@ use Rattle.mum_serve.specs.declared.program.ServerEnd.{ServerEnd}
 use Rattle.mum_serve.specs.declared.program.ServerEnd.TheVariants.{Finished, BadConfig, ReadFault, WriteFault, DoorFault, CrewFault, AuditWrong, OutOfMemory}
 use Rattle.mum_serve.specs.declared.server.Served.{Served}
 use Rattle.mum_serve.specs.declared.server.Served.TheVariants.{Whole, DoorFault as DoorStaysShut, CrewFault as CrewIsRefused, OutOfMemory as NothingStarts}
+use Rattle.mum_serve.specs.declared.summary.Summary.{Summary}
 use Rattle.mum_serve.specs.declared.totals.Totals.{Totals}
 
 -- ---- what is read
-
--- the document of a server whose input has these bytes: an empty input is an empty document
-abbrev pub document_of : List ℕ → List ℕ
-document_of [] = codes "{}"
-document_of (byte ∷ bytes) = byte ∷ bytes
 
 -- the end names this fault, if there is one; the input may fail before it is known, and memory may run out
 abbrev pub NamesFault : ServerEnd → Option Fault → Type 0
@@ -58,12 +53,12 @@ IsRefusal others = ⊥
 
 -- the bytes describe a configuration
 abbrev pub DescribesConfig : List ℕ → Config → Type 0
-DescribesConfig bytes config = (fault_of (document_of bytes) ≡ None) × (config_in (document_of bytes) ≡ Some config)
+DescribesConfig bytes config = (document_fault bytes ≡ None) × (described bytes ≡ Some config)
 
 -- the bytes describe a configuration, or are no such document
 abbrev pub Describes : List ℕ → Result Config ServerEnd → Type 0
 Describes bytes (Ok config) = DescribesConfig bytes config
-Describes bytes (Err end) = NamesFault end (fault_of (document_of bytes))
+Describes bytes (Err end) = NamesFault end (document_fault bytes)
 
 -- what an input says: its bytes, all of them where they are known, and the configuration that they describe
 pub record IsInput (left : Option (List ℕ)) (input : Input) : Type 0 where
@@ -73,7 +68,7 @@ pub record IsInput (left : Option (List ℕ)) (input : Input) : Type 0 where
 -- the input says that, or its bytes are no such document
 abbrev pub Says : Option (List ℕ) → Result Input ServerEnd → Type 0
 Says left (Ok input) = IsInput left input
-Says left (Err end) = IfSome left (λ bytes. NamesFault end (fault_of (document_of bytes)))
+Says left (Err end) = IfSome left (λ bytes. NamesFault end (document_fault bytes))
 
 -- ---- what is counted
 
@@ -107,6 +102,15 @@ served_line totals = line_of_words (codes "served"
     ∷ codes "full" ∷ decimal totals.full
     ∷ codes "stale" ∷ decimal totals.stale ∷ []) ++ 10 ∷ []
 
+-- the line of the views, where there was a door for them
+abbrev pub viewed_line : Option ℕ → List ℕ
+viewed_line None = []
+viewed_line (Some views) = line_of_words (codes "viewed" ∷ decimal views ∷ []) ++ 10 ∷ []
+
+-- the last lines of a run
+abbrev pub last_lines : Summary → List ℕ
+last_lines summary = served_line summary.totals ++ viewed_line summary.viewed
+
 -- how a run ends whose text is written. Memory that ran out on the way counts before a door that failed
 abbrev pub written : Bool → Bool → ServerEnd
 written true door_failed = OutOfMemory
@@ -128,57 +132,55 @@ GivesText journal (Err (AuditWrong line given defined)) = audited journal ≡ Wr
 GivesText journal (Err OutOfMemory) = ⊤
 GivesText journal (Err others) = ⊥
 
--- a journal is written whole where it is legal, and then the line of the totals; of another its first wrong line is
--- named, and nothing is written
-abbrev pub WritesJournal : Journal → Totals → Bool → Bool → ServerEnd → Option (List ℕ) → Option (List ℕ) → Type 0
-WritesJournal journal totals no_memory door_failed (AuditWrong line given defined) old new =
+-- a journal is written whole where it is legal, and then the last lines; of another its first wrong line is named, and
+-- nothing is written
+abbrev pub WritesJournal : Journal → Summary → ServerEnd → Option (List ℕ) → Option (List ℕ) → Type 0
+WritesJournal journal summary (AuditWrong line given defined) old new =
     (audited journal ≡ Wrong line given defined) × Keeps old new
-WritesJournal journal totals no_memory door_failed OutOfMemory old new =
-    Keeps old new ⊎ (IsLegal journal × (no_memory ≡ true) × Appends old new (journal_text journal ++ served_line totals))
-WritesJournal journal totals no_memory door_failed end old new =
-    IsLegal journal × WritesText (journal_text journal ++ served_line totals) no_memory door_failed end old new
+WritesJournal journal summary OutOfMemory old new =
+    Keeps old new ⊎ (IsLegal journal × (summary.no_memory ≡ true) × Appends old new (journal_text journal ++ last_lines summary))
+WritesJournal journal summary end old new =
+    IsLegal journal × WritesText (journal_text journal ++ last_lines summary) summary.no_memory summary.door_failed end old new
 
--- the journal, where one was made, and the line of the totals
-abbrev pub WritesAll : Option Journal → Totals → Bool → Bool → ServerEnd → Option (List ℕ) → Option (List ℕ) → Type 0
-WritesAll (Some journal) totals no_memory door_failed end old new = WritesJournal journal totals no_memory door_failed end old new
-WritesAll None totals no_memory door_failed end old new = WritesText (served_line totals) no_memory door_failed end old new
+-- the journal, where one was made, and the last lines
+abbrev pub WritesAll : Option Journal → Summary → ServerEnd → Option (List ℕ) → Option (List ℕ) → Type 0
+WritesAll (Some journal) summary end old new = WritesJournal journal summary end old new
+WritesAll None summary end old new = WritesText (last_lines summary) summary.no_memory summary.door_failed end old new
 
 -- ---- how it ends
 
 module _ {D L : Type 0} (facts : L → LinkFacts) (door_facts : D → DoorFacts) where
   -- all were served, from the state that the configuration describes, in a run that the crew counted, and this is what was
   -- written of it
-  pub record HasServed (address : List ℕ) (journal : Bool) (connections : ℕ) (input : Input) (end : ServerEnd) (door left : Option D) (old new : Option (List ℕ)) (crew crew_after : CrewCounts) : Type 0 where
-    pub totals : Totals
+  pub record HasServed (asked : Service) (input : Input) (end : ServerEnd) (doors left : Lent D) (old new : Option (List ℕ)) (crew crew_after : CrewCounts) : Type 0 where
+    pub summary : Summary
     pub entries : Entries
-    pub no_memory : Bool
-    pub door_failed : Bool
-    pub serves : ServesOver facts door_facts address (after (opening_edits input.config.edits)) journal connections input.config.workers door (Whole totals entries no_memory door_failed) left
+    pub serves : ServesOver facts door_facts (opening greatest_limits input.document) asked input.config.workers doors (Whole summary entries) left
     pub ran : RunCounts Ran crew crew_after
-    pub writes : WritesAll (where_asked journal (journal_of input.config.workers input.document entries)) totals no_memory door_failed end old new
+    pub writes : WritesAll (where_asked asked.journal (journal_of input.config.workers input.document entries)) summary end old new
 
   -- nobody was served, which is what it came to, and nothing is written
-  pub record ServesNobody (address : List ℕ) (journal : Bool) (connections : ℕ) (input : Input) (served : Served) (door left : Option D) (old new : Option (List ℕ)) (crew crew_after : CrewCounts) : Type 0 where
-    pub serves : ServesOver facts door_facts address (after (opening_edits input.config.edits)) journal connections input.config.workers door served left
+  pub record ServesNobody (asked : Service) (input : Input) (served : Served) (doors left : Lent D) (old new : Option (List ℕ)) (crew crew_after : CrewCounts) : Type 0 where
+    pub serves : ServesOver facts door_facts (opening greatest_limits input.document) asked input.config.workers doors served left
     pub counted : RunsCounted served crew crew_after
     pub keeps : Keeps old new
 
-  -- all were served; or the door did not open, the crew did not start, or memory ran out, and nothing is written
-  abbrev pub EndsWith : List ℕ → Bool → ℕ → Input → ServerEnd → Option D → Option D → Option (List ℕ) → Option (List ℕ) → CrewCounts → CrewCounts → Type 0
-  EndsWith address journal connections input DoorFault door left old new crew crew_after =
-      HasServed address journal connections input DoorFault door left old new crew crew_after
-      ⊎ ServesNobody address journal connections input DoorStaysShut door left old new crew crew_after
-  EndsWith address journal connections input CrewFault door left old new crew crew_after =
-      ServesNobody address journal connections input CrewIsRefused door left old new crew crew_after
-  EndsWith address journal connections input OutOfMemory door left old new crew crew_after =
-      HasServed address journal connections input OutOfMemory door left old new crew crew_after
-      ⊎ ServesNobody address journal connections input NothingStarts door left old new crew crew_after
-  EndsWith address journal connections input end door left old new crew crew_after =
-      HasServed address journal connections input end door left old new crew crew_after
+  -- all were served; or a door did not open, the crew did not start, or memory ran out, and nothing is written
+  abbrev pub EndsWith : Service → Input → ServerEnd → Lent D → Lent D → Option (List ℕ) → Option (List ℕ) → CrewCounts → CrewCounts → Type 0
+  EndsWith asked input DoorFault doors left old new crew crew_after =
+      HasServed asked input DoorFault doors left old new crew crew_after
+      ⊎ ServesNobody asked input DoorStaysShut doors left old new crew crew_after
+  EndsWith asked input CrewFault doors left old new crew crew_after =
+      ServesNobody asked input CrewIsRefused doors left old new crew crew_after
+  EndsWith asked input OutOfMemory doors left old new crew crew_after =
+      HasServed asked input OutOfMemory doors left old new crew crew_after
+      ⊎ ServesNobody asked input NothingStarts doors left old new crew crew_after
+  EndsWith asked input end doors left old new crew crew_after =
+      HasServed asked input end doors left old new crew crew_after
 
   -- the input describes a configuration, and the run ends with it; or it names a fault, the input failed or memory ran
   -- out, and nothing else happened
-  abbrev pub EndsAt : List ℕ → Bool → ℕ → Option (List ℕ) → ServerEnd → Option D → Option D → Option (List ℕ) → Option (List ℕ) → CrewCounts → CrewCounts → Type 0
-  EndsAt address journal connections bytes end door left old new crew crew_after =
-      ((input : Input) × IsInput bytes input × EndsWith address journal connections input end door left old new crew crew_after)
-      ⊎ (IsRefusal end × IfSome bytes (λ all. NamesFault end (fault_of (document_of all))) × (left ≡ door) × Keeps old new × (crew_after ≡ crew))
+  abbrev pub EndsAt : Service → Option (List ℕ) → ServerEnd → Lent D → Lent D → Option (List ℕ) → Option (List ℕ) → CrewCounts → CrewCounts → Type 0
+  EndsAt asked bytes end doors left old new crew crew_after =
+      ((input : Input) × IsInput bytes input × EndsWith asked input end doors left old new crew crew_after)
+      ⊎ (IsRefusal end × IfSome bytes (λ all. NamesFault end (document_fault all)) × (left ≡ doors) × Keeps old new × (crew_after ≡ crew))

@@ -13,13 +13,18 @@ use Rattle.mum_serve.specs.Joined.{AreJoinedTo}
 use Rattle.mum_serve.specs.Journals.{closing_room}
 use Rattle.mum_serve.specs.Opened.{AreOpened, OwnerBegins}
 
+module _ {D L : Type 0} where
+  -- an owner and workers that are new, joined by their queues
+  pub record HaveBegun (opening : Opening) (door : D) (journal : Bool) (connections workers : ℕ) (owner : OwnerFacts D L) (crew : List (WorkerFacts L)) : Type 0 where
+    pub owner_begins : OwnerBegins opening door journal connections owner
+    pub crew_begins : AreOpened opening (closing_room journal connections workers) workers crew
+    pub joined : AreJoinedTo owner crew
+
 module _ {D L : Type 0} (facts : L → LinkFacts) (door_facts : D → DoorFacts) where
-  -- an owner and workers were opened, joined by their queues, and turns of its own led each of them to what it is
+  -- they were opened so, and turns of its own led each of them to what it is
   pub record HaveTurned (opening : Opening) (door : D) (journal : Bool) (connections workers : ℕ) (owner : OwnerFacts D L) (crew : List (WorkerFacts L)) : Type 0 where
     pub first_owner : OwnerFacts D L
     pub first_crew : List (WorkerFacts L)
-    pub owner_begins : OwnerBegins opening door journal connections first_owner
-    pub crew_begins : AreOpened opening (closing_room journal connections workers) workers first_crew
-    pub joined : AreJoinedTo first_owner first_crew
+    pub begun : HaveBegun opening door journal connections workers first_owner first_crew
     pub owner_turned : TurnsLead (OwnerTurned door_facts) first_owner owner
     pub crew_turned : AllZip (TurnsLead (WorkerTurned facts opening)) first_crew crew

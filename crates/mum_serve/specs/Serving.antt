@@ -1,5 +1,5 @@
 -- How a server comes to its end.
-use Rattle.std.specs.Prelude.{◌≡◌, ℕ, Bool, true, List, map, Option, Some, IfSome}
+use Rattle.std.specs.Prelude.{◌≡◌, ◌⊎◌, ◌||◌, ℕ, true, List, Option, Some, None, IfSome, is_some}
 use Rattle.std.specs.List.{AllByRecursion}
 use Rattle.mum_crew.specs.Crew.{CrewCounts, RunCounts}
 use Rattle.mum_crew.specs.declared.crew.CrewEnd.TheVariants.{Ran, Refused}
@@ -11,14 +11,18 @@ use Rattle.mum_io.specs.Link.{LinkFacts}
 use Rattle.mum_io.specs.Door.{DoorFacts}
 use Rattle.mum_published.specs.Facts.{Opening}
 use Rattle.mum_state.specs.State.{StateValue}
+use Rattle.mum_viewer.specs.Viewer.{ViewerFacts}
 use Rattle.mum_worker.specs.Facts.{WorkerFacts, is_done}
-use Rattle.mum_serve.specs.Roles.{CameTo, worker_opening, worker_openings}
+use Rattle.mum_serve.specs.Asked.{Lent, Service, ViewService, lent}
+use Rattle.mum_serve.specs.Roles.{CameTo, ran_out}
 use Rattle.mum_serve.specs.OneList.{AreWithin}
 use Rattle.mum_serve.specs.Running.{HaveTurned}
+use Rattle.mum_serve.specs.Views.{CameToViews, HasViewed, SeesWithin, viewer_failed, viewer_memory}
+use Rattle.mum_serve.specs.declared.asked.Objects.{Objects}
 use Rattle.mum_serve.specs.declared.entries.Entries.{Entries}
 use Rattle.mum_serve.specs.declared.server.Served.{Served}
 use Rattle.mum_serve.specs.declared.server.Served.TheVariants.{Whole, DoorFault, CrewFault, OutOfMemory}
-use Rattle.mum_serve.specs.declared.totals.Totals.{Totals}
+use Rattle.mum_serve.specs.declared.summary.Summary.{Summary}
 
 -- what a door has counted so far
 abbrev pub opening_at : {D : Type 0} → (D → DoorFacts) → D → DoorOpening
@@ -26,42 +30,27 @@ opening_at door_facts door = record { counts = (door_facts door).counts; given =
 
 -- where all were served, the crew counted a run, and where it did not start, that; nothing else changes its counts
 abbrev pub RunsCounted : Served → CrewCounts → CrewCounts → Type 0
-RunsCounted (Whole totals entries no_memory door_failed) old new = RunCounts Ran old new
+RunsCounted (Whole summary entries) old new = RunCounts Ran old new
 RunsCounted DoorFault old new = new ≡ old
 RunsCounted CrewFault old new = RunCounts Refused old new
 RunsCounted OutOfMemory old new = new ≡ old
 
-module _ {D L : Type 0} (facts : L → LinkFacts) (door_facts : D → DoorFacts) where
-  -- an owner and workers were opened from this state over a door that was open, with a journal or without one; turns led
-  -- each of them to its end, this is what they came to, and what the workers saw begins what was published
-  pub record HasRun (state : StateValue) (opened : D) (journal : Bool) (connections workers : ℕ) (totals : Totals) (entries : Entries) (no_memory door_failed : Bool) (door : D) : Type 0 where
-    pub owner : OwnerFacts D L
-    pub crew : List (WorkerFacts L)
-    pub began : Opening
-    pub began_at : began.state ≡ state
-    pub turned : HaveTurned facts door_facts began opened journal connections workers owner crew
-    pub limit : owner.guests.limit ≡ connections
-    pub journal_is : owner.scribe.is_asked ≡ journal
-    pub numbers : map worker_opening crew ≡ worker_openings journal 0 workers
-    pub owner_ended : owner_has_ended owner ≡ true
-    pub crew_ended : AllByRecursion (λ worker. is_done worker ≡ true) crew
-    pub came : CameTo door_facts state (opening_at door_facts opened) owner crew totals entries no_memory door_failed door
-    pub one_list : AreWithin owner.control.publisher.published crew
-
-  -- where all were served, the roles have run, and else the door is as it was
-  abbrev pub Runs : StateValue → D → Bool → ℕ → ℕ → Served → D → Type 0
-  Runs state opened journal connections workers (Whole totals entries no_memory door_failed) door =
-      HasRun state opened journal connections workers totals entries no_memory door_failed door
-  Runs state opened journal connections workers DoorFault door = ⊥
-  Runs state opened journal connections workers others door = door ≡ opened
-
-  -- the door was opened at this address, and the roles have run over it
-  pub record OpensAndRuns (address : List ℕ) (state : StateValue) (journal : Bool) (connections workers : ℕ) (door : D) (totals : Totals) (entries : Entries) (no_memory door_failed : Bool) (left : D) : Type 0 where
-    pub opened : D
+module _ {D : Type 0} (door_facts : D → DoorFacts) where
+  -- the door was opened at this address
+  pub record OpensAt (address : List ℕ) (door opened : D) : Type 0 where
     pub counted : (door_facts opened).counts ≡ (door_facts door).counts
     pub gave : (door_facts opened).given ≡ (door_facts door).given
     pub at : IfSome (door_facts opened).opened_at (λ known. known ≡ address)
-    pub run : HasRun state opened journal connections workers totals entries no_memory door_failed left
+
+  -- the door of the views was opened where views are asked for, and else it is as it was
+  abbrev pub OpensView : Option ViewService → D → D → Type 0
+  OpensView None door opened = opened ≡ door
+  OpensView (Some view) door opened = OpensAt view.address door opened
+
+  -- the doors were opened
+  pub record Opens (asked : Service) (doors opened : Objects D) : Type 0 where
+    pub door : OpensAt asked.address doors.door opened.door
+    pub view : OpensView asked.view doors.view opened.view
 
   -- the door counted a fault and nothing else, and gave no connection
   pub record StaysShut (door left : D) : Type 0 where
@@ -73,18 +62,57 @@ module _ {D L : Type 0} (facts : L → LinkFacts) (door_facts : D → DoorFacts)
     pub counted : (door_facts left).counts ≡ (door_facts door).counts
     pub gave : (door_facts left).given ≡ (door_facts door).given
 
-  -- where all were served, the door was opened and the roles have run over it; or the door did not open; or nobody asked it
-  -- for a connection
-  abbrev pub Serves : List ℕ → StateValue → Bool → ℕ → ℕ → D → Served → D → Type 0
-  Serves address state journal connections workers door (Whole totals entries no_memory door_failed) left =
-      OpensAndRuns address state journal connections workers door totals entries no_memory door_failed left
-  Serves address state journal connections workers door DoorFault left = StaysShut door left
-  Serves address state journal connections workers door others left = IsUnasked door left
+  -- one of the doors did not open: the first, and then the second is as it was; or the second, where one is asked for, and
+  -- then nobody asked the first for a connection
+  abbrev pub OneStaysShut : Service → Objects D → Objects D → Type 0
+  OneStaysShut asked doors left =
+      (StaysShut doors.door left.door × (left.view ≡ doors.view))
+      ⊎ ((is_some asked.view ≡ true) × IsUnasked doors.door left.door × StaysShut doors.view left.view)
 
-  -- the door is there, before and after
-  pub record ServesOver (address : List ℕ) (state : StateValue) (journal : Bool) (connections workers : ℕ) (old : Option D) (served : Served) (new : Option D) : Type 0 where
-    pub door : D
-    pub left : D
-    pub was : old ≡ Some door
-    pub is : new ≡ Some left
-    pub serves : Serves address state journal connections workers door served left
+module _ {D L : Type 0} (facts : L → LinkFacts) (door_facts : D → DoorFacts) where
+  -- an owner and workers were opened from this state over a door that was open, with a journal or without one, and a viewer
+  -- over a second one where views are asked for; turns led each of them to its end, this is what they came to, and what
+  -- the workers and the viewer saw begins what was published
+  pub record HasRun (state : StateValue) (asked : Service) (workers : ℕ) (opened : Objects D) (summary : Summary) (entries : Entries) (left : Objects D) : Type 0 where
+    pub owner : OwnerFacts D L
+    pub crew : List (WorkerFacts L)
+    pub viewer : Option (ViewerFacts D L)
+    pub began : Opening
+    pub began_at : began.state ≡ state
+    pub turned : HaveTurned facts door_facts began opened.door asked.journal asked.connections workers owner crew
+    pub viewed : HasViewed facts door_facts began asked.view opened.view viewer
+    pub owner_ended : owner_has_ended owner ≡ true
+    pub crew_ended : AllByRecursion (λ worker. is_done worker ≡ true) crew
+    pub came : CameTo door_facts state (opening_at door_facts opened.door) owner crew summary.totals entries left.door
+    pub views_came : CameToViews door_facts (opening_at door_facts opened.view) (Some opened.view) viewer summary.viewed left.view
+    pub memory : summary.no_memory ≡ (ran_out owner crew || viewer_memory viewer)
+    pub failed : summary.door_failed ≡ (owner.doorway.failed || viewer_failed viewer)
+    pub one_list : AreWithin owner.control.publisher.published crew
+    pub views_of_it : SeesWithin owner.control.publisher.published viewer
+
+  -- where all were served, the roles have run, and else the doors are as they were
+  abbrev pub Runs : StateValue → Service → ℕ → Objects D → Served → Objects D → Type 0
+  Runs state asked workers opened (Whole summary entries) left = HasRun state asked workers opened summary entries left
+  Runs state asked workers opened DoorFault left = ⊥
+  Runs state asked workers opened others left = left ≡ opened
+
+  -- the doors were opened, and the roles have run over them
+  pub record OpensAndRuns (state : StateValue) (asked : Service) (workers : ℕ) (doors : Objects D) (summary : Summary) (entries : Entries) (left : Objects D) : Type 0 where
+    pub opened : Objects D
+    pub opens : Opens door_facts asked doors opened
+    pub run : HasRun state asked workers opened summary entries left
+
+  -- where all were served, the doors were opened and the roles have run over them; or one of them did not open; or nobody
+  -- asked them for a connection
+  abbrev pub Serves : StateValue → Service → ℕ → Objects D → Served → Objects D → Type 0
+  Serves state asked workers doors (Whole summary entries) left = OpensAndRuns state asked workers doors summary entries left
+  Serves state asked workers doors DoorFault left = OneStaysShut door_facts asked doors left
+  Serves state asked workers doors others left = IsUnasked door_facts doors.door left.door × IsUnasked door_facts doors.view left.view
+
+  -- the doors are there, before and after
+  pub record ServesOver (state : StateValue) (asked : Service) (workers : ℕ) (old : Lent D) (served : Served) (new : Lent D) : Type 0 where
+    pub doors : Objects D
+    pub left : Objects D
+    pub was : old ≡ lent doors
+    pub is : new ≡ lent left
+    pub serves : Serves state asked workers doors served left

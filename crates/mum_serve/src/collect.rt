@@ -1,127 +1,114 @@
 //! From the roles that have ended back to what they were given, and to what they came to.
 
-ghost use Rattle.std.specs.Prelude.{◌≡◌, ◌+◌, ◌≤◌, ◌∷◌, [], length, map, vec_capacity};
-ghost use Rattle.std.specs.List.{AllByRecursion};
+ghost use Rattle.std.specs.Prelude.{◌≡◌, ◌||◌, false, is_some, length, map, true};
 ghost use Rattle.mum_record.specs.Journal.{Each, IsWritableEntry};
-ghost use Rattle.mum_serve.specs.Joined.{HasDoor};
 ghost use Rattle.mum_serve.specs.Journals.{entries_of};
 ghost use Rattle.mum_serve.specs.OneList.{AreWithin};
-ghost use Rattle.mum_serve.specs.Roles.{AreLed, AreWorkers, Collects, owners_in, with_workers, workers_in};
+ghost use Rattle.mum_serve.specs.Opened.{HasRoom};
+ghost use Rattle.mum_serve.specs.Roles.{CameTo, ran_out, with_workers};
 ghost use Rattle.mum_serve.specs.Totals.{nothing};
-ghost use Rattle.mum_serve.specs.declared.roles.Roles.TheVariants as kinds;
+ghost use Rattle.mum_serve.specs.Views.{CameToViews, SeesWithin, viewer_failed, viewer_memory};
 
+use crate::asked::Objects;
 use crate::entries::Entries;
-use crate::roles::Roles;
+use crate::roles::Parted;
+use crate::summary::Summary;
 use crate::totals::{Totals, WorkerTotals};
+use crate::views::{Viewed, end_viewer};
 use mum_base::Items;
 use mum_crew::Gate;
-use mum_io::Door;
-use mum_owner::{Owner, OwnerEnd, Serving};
+use mum_io::{Door, Link};
+use mum_owner::{Entrance, Owner, OwnerEnd, Serving};
+use mum_published::Naming;
 use mum_record::WorkerEntry;
+use mum_viewer::{Viewer, Viewing};
+use mum_worker::Worker;
 use std::mem::drop;
 use std::sync::Wait;
 
-/// What the roles of a server came to.
+/// What the roles of a server came to, and what they were given.
 #[derive(Drop)]
 pub(crate) struct Collected<D: Drop> {
-    pub(crate) door: D,
-    pub(crate) totals: Totals,
+    pub(crate) summary: Summary,
     pub(crate) entries: Entries,
-    /// Memory ran out in one of them.
-    pub(crate) no_memory: bool,
-    /// The door failed.
-    pub(crate) door_failed: bool,
-}
-
-// Takes the owner from the front.
-fn take_owner<'a, D: Door + Send, G: Gate, N: Serving, R: Wait + Copy + Send>(
-    roles: &mut Vec<Roles<'a, D, G, N, R>>,
-) -> Owner<'a, D, N, R>
-    requires { AreLed roles.old.items }
-    ensures owner { roles.old.items ≡ kinds.Owner result ∷ roles.new.items }
-    ensures workers { AreWorkers roles.new.items }
-{
-    let Roles::Owner(owner) = roles.remove(0) else {
-        unreachable!()
-    };
-    owner
+    pub(crate) objects: Objects<D>,
 }
 
 // Compares what each of these workers saw and learnt with what the owner published, which begins with it.
-fn compare<'a, D: Door + Send, G: Gate, N: Serving, R: Wait + Copy + Send>(
-    owner: &Owner<'a, D, N, R>,
-    crew: &[Roles<'a, D, G, N, R>],
+fn compare<D: Entrance, G: Gate, N: Serving, R: Wait + Copy>(
+    owner: &Owner<'_, D, N, R>,
+    workers: &[Worker<D::Peer, G, N, R>],
 )
-    requires { AreWorkers crew.now }
-    ensures { AreWithin owner.now.control.publisher.published (workers_in crew.now) }
+    ensures { AreWithin owner.now.control.publisher.published workers.now }
 {
-    for role in crew {
-        match role {
-            Roles::Worker(worker) => owner.has_shown(worker.pass()),
-            Roles::Owner(_) => unreachable!(),
-        }
+    for worker in workers {
+        owner.has_shown(worker.pass());
+    }
+}
+
+// The same of the viewer, where there is one.
+fn compare_views<D: Entrance, N: Serving + Viewing, R: Wait + Copy>(
+    owner: &Owner<'_, D, N, R>,
+    viewer: &Option<Viewer<D, N, R>>,
+)
+    ensures { SeesWithin owner.now.control.publisher.published viewer.now }
+{
+    if let Some(viewer) = viewer {
+        owner.has_shown(viewer.pass());
     }
 }
 
 // Ends these workers. What they wrote down goes into the room for it.
-fn end_workers<D: Door + Send, G: Gate, N: Serving, R: Wait + Copy + Send>(
-    workers: Vec<Roles<'_, D, G, N, R>>,
+fn end_workers<L: Link, G: Gate, N: Naming, R: Wait + Copy>(
+    workers: Vec<Worker<L, G, N, R>>,
     room: Vec<Items<WorkerEntry>>,
 ) -> (WorkerTotals, Items<Items<WorkerEntry>>)
-    requires workers { AreWorkers workers.items }
-    requires empty { room.items ≡ [] }
-    requires room { length workers.items ≤ vec_capacity room }
-    ensures totals { result.0 ≡ with_workers (workers_in workers.entry.items) nothing }
-    ensures entries { result.1 ≡ map entries_of (workers_in workers.entry.items) }
+    requires { HasRoom (length workers.items) room }
+    ensures totals { result.0 ≡ with_workers workers.items nothing }
+    ensures entries { result.1 ≡ map entries_of workers.items }
     ensures writable { Each (Each IsWritableEntry) result.1 }
 {
     let mut totals = WorkerTotals::nothing();
     let mut by_worker = room;
-    for role in workers {
-        match role {
-            Roles::Worker(worker) => by_worker.push_reserved(totals.add(worker)),
-            Roles::Owner(_) => unreachable!(),
-        }
+    for worker in workers {
+        by_worker.push_reserved(totals.add(worker));
     }
     (totals, Items::from_vec(by_worker))
 }
 
-/// Takes the door back from the owner of roles that made no turn.
-pub(crate) fn door_of<D: Door + Send, G: Gate, N: Serving, R: Wait + Copy + Send>(
-    roles: Vec<Roles<'_, D, G, N, R>>,
-) -> D
-    requires { AreLed roles.items }
-    ensures { AllByRecursion (HasDoor result) (owners_in roles.entry.items) }
+fn either(one: bool, other: bool) -> bool
+    ensures { result ≡ (one || other) }
 {
-    let mut roles = roles;
-    let owner = take_owner(&mut roles);
-    drop(roles);
-    let OwnerEnd {
-        door,
-        state,
-        entries,
-        ..
-    } = owner.finish();
-    drop(state);
-    drop(entries);
-    door
+    one || other
 }
 
-/// Compares what the workers saw with what the owner published, and ends all roles. There is room for what each worker
-/// wrote down.
-pub(crate) fn collect<D: Door + Send, G: Gate, N: Serving, R: Wait + Copy + Send>(
-    roles: Vec<Roles<'_, D, G, N, R>>,
+/// Compares what the workers and the viewer saw with what the owner published, and ends all. There is room for what
+/// each worker wrote down. Without a viewer its door was not used.
+pub(crate) fn collect<D: Door + Send, G: Gate, N: Serving + Viewing, R: Wait + Copy + Send>(
+    roles: Parted<'_, D, G, N, R>,
+    unused: Option<D>,
     room: Vec<Items<WorkerEntry>>,
 ) -> Collected<D>
-    requires led { AreLed roles.items }
-    requires empty { room.items ≡ [] }
-    requires room { length roles.items ≤ vec_capacity room + 1 }
-    ensures { Collects D.facts N.opening.state N.door
-        roles.entry.items result.totals result.entries result.no_memory result.door_failed result.door }
+    requires room { HasRoom (length roles.workers.items) room }
+    requires unused { is_some roles.viewer ≡ false → is_some unused ≡ true }
+    ensures came { CameTo D.facts N.opening.state N.door roles.entry.owner roles.entry.workers.items
+        result.summary.totals result.entries result.objects.door }
+    ensures views_came { CameToViews D.facts N.view unused roles.entry.viewer result.summary.viewed
+        result.objects.view }
+    ensures memory { result.summary.no_memory ≡ (ran_out roles.entry.owner roles.entry.workers.items || viewer_memory
+        roles.entry.viewer) }
+    ensures failed { result.summary.door_failed ≡ (roles.entry.owner.doorway.failed || viewer_failed
+        roles.entry.viewer) }
+    ensures one_list { AreWithin roles.entry.owner.control.publisher.published roles.entry.workers.items }
+    ensures views_of_it { SeesWithin roles.entry.owner.control.publisher.published roles.entry.viewer }
 {
-    let mut roles = roles;
-    let owner = take_owner(&mut roles);
-    compare(&owner, &roles);
+    let Parted {
+        owner,
+        workers,
+        viewer,
+    } = roles;
+    compare(&owner, &workers);
+    compare_views(&owner, &viewer);
     let OwnerEnd {
         door,
         connections,
@@ -132,15 +119,22 @@ pub(crate) fn collect<D: Door + Send, G: Gate, N: Serving, R: Wait + Copy + Send
         door_failed,
     } = owner.finish();
     drop(state);
-    let (workers, by_worker) = end_workers(roles, room);
+    let (workers, by_worker) = end_workers(workers, room);
+    let views = end_viewer(viewer, unused);
     Collected {
-        door,
-        totals: Totals::of(connections, accepted, workers),
+        summary: Summary {
+            totals: Totals::of(connections, accepted, workers),
+            viewed: views.viewed,
+            no_memory: either(either(no_memory, workers.no_memory), views.no_memory),
+            door_failed: either(door_failed, views.door_failed),
+        },
         entries: Entries {
             controls: Items::from_vec(entries),
             by_worker,
         },
-        no_memory: no_memory || workers.no_memory,
-        door_failed,
+        objects: Objects {
+            door,
+            view: views.door,
+        },
     }
 }

@@ -1,22 +1,29 @@
 //! A run of the program that serves: from the configuration that the input is to the line of the totals.
 
-ghost use Rattle.std.specs.Prelude.{◌≡◌, ◌<◌, ◌≤◌, ◌++◌, ℕ, IfErr, IfOk, IfSome, IsTrue, None, is_some, length, string_bytes, true};
+ghost use Rattle.std.specs.Prelude.{◌≡◌, ◌<◌, ◌≤◌, ◌++◌, ℕ, IfErr, IfOk, IfSome, IsTrue, None, is_some, length};
+ghost use Rattle.std.specs.Prelude.{string_bytes, true};
 ghost use Rattle.mum_audit.specs.Audit.{IsAuditable};
-ghost use Rattle.mum_config.specs.Document.{fault_of};
+ghost use Rattle.mum_config.specs.Limits.{FitAfterLimits};
+ghost use Rattle.mum_opening.specs.Opening.{document_fault};
+ghost use Rattle.mum_serve.specs.Asked.{service};
 ghost use Rattle.mum_serve.specs.Journals.{AreWritable, journal_of, where_asked};
-ghost use Rattle.mum_serve.specs.Opening.{opening_edits};
-ghost use Rattle.mum_serve.specs.Program.{Describes, EndsAt, EndsWith, IsRefusal, ReadsCounted, RunsInCrew, Says, WritesAll, WritesCounted, WritesJournal, WritesText, document_of, refusal, served_line, written};
+ghost use Rattle.mum_serve.specs.Program.{Describes, DescribesConfig, EndsAt, EndsWith, IsRefusal, ReadsCounted};
+ghost use Rattle.mum_serve.specs.Program.{RunsInCrew, Says, WritesAll, WritesCounted, WritesJournal, WritesText};
+ghost use Rattle.mum_serve.specs.Program.{last_lines, refusal, served_line, written};
 ghost use Rattle.mum_state.specs.After.{all_fit};
 ghost use Rattle.mum_state.specs.State.{empty_state};
 
+use crate::asked::Asked;
 use crate::entries::{Entries, journal_of};
 use crate::judge::legal_text;
 use crate::server::{Served, serve};
+use crate::summary::Summary;
 use crate::totals::Totals;
 use mum_base::{Octets, OutOfMemory, Text};
-use mum_config::{BadConfig, Config, DOCUMENT_LIMIT, read_config};
+use mum_config::{BadConfig, Config, DOCUMENT_LIMIT};
 use mum_crew::Crew;
 use mum_io::{Door, ReadFault, Sink, Source, read_up_to, write_all};
+use mum_opening::read_document;
 use mum_record::{Journal, Word, push_line};
 use std::alloc::Global;
 use std::mem::drop;
@@ -25,8 +32,7 @@ use std::sync::Wait;
 /// How a run that serves ends.
 #[derive(Drop)]
 pub enum ServerEnd {
-    /// All connections were served to their ends. The journal, where one was asked for, and the line of the totals
-    /// are written.
+    /// All connections were served to their ends. The journal, where one was asked for, and the last lines are written.
     Finished,
     /// The configuration has this first fault, by its number. Nothing was opened or written.
     BadConfig {
@@ -37,7 +43,7 @@ pub enum ServerEnd {
     ReadFault,
     /// The output failed.
     WriteFault,
-    /// The door did not open; or it failed later, and the line of the totals is written.
+    /// A door did not open; or it failed later, and the last lines are written.
     DoorFault,
     /// The crew did not start.
     CrewFault,
@@ -47,7 +53,7 @@ pub enum ServerEnd {
         given: Text,
         defined: Text,
     },
-    /// Memory ran out: before the run, or on the way, where the line of the totals is written.
+    /// Memory ran out: before the run, or on the way, where the last lines are written.
     OutOfMemory,
 }
 
@@ -57,20 +63,6 @@ pub struct Input {
     pub config: Config,
     /// Its bytes.
     pub document: Octets,
-}
-
-/// The document of a server whose input is empty.
-const EMPTY_DOCUMENT: &str = "{}";
-
-// The document of a server whose input has these bytes.
-fn document_of(bytes: &[u8]) -> &[u8]
-    ensures { result.now ≡ document_of bytes.now }
-{
-    if bytes.is_empty() {
-        EMPTY_DOCUMENT.as_bytes()
-    } else {
-        bytes
-    }
 }
 
 // How a run ends whose document was not read.
@@ -86,12 +78,13 @@ fn refusal(error: BadConfig) -> ServerEnd
 // The configuration that these bytes describe.
 fn described(alloc: Global, bytes: &[u8]) -> Result<Config, ServerEnd>
     ensures describes { Describes bytes.now result }
-    ensures fits { IfOk result (λ config. IsTrue (all_fit empty_state (opening_edits config.edits))) }
+    ensures fit { IfOk result (λ config. IsTrue (all_fit empty_state config.edits)) }
+    ensures limited { IfOk result (λ config. FitAfterLimits config.edits) }
     ensures workers { IfOk result (λ config. (1 ≤ config.workers) × (config.workers ≤ 8)) }
     ensures refuses { IfErr result IsRefusal }
     ensures not_read { (faults : ℕ) → IfErr result (λ end. ReadsCounted end faults faults) }
 {
-    match read_config(alloc, document_of(bytes)) {
+    match read_document(alloc, bytes) {
         Ok(config) => Ok(config),
         Err(error) => Err(refusal(error)),
     }
@@ -100,7 +93,8 @@ fn described(alloc: Global, bytes: &[u8]) -> Result<Config, ServerEnd>
 // The configuration that the input is, and its bytes.
 fn input_in<I: Source>(alloc: Global, input: &mut I) -> Result<Input, ServerEnd>
     ensures says { Says (I.left input.old) result }
-    ensures fits { IfOk result (λ said. IsTrue (all_fit empty_state (opening_edits said.config.edits))) }
+    ensures fit { IfOk result (λ said. IsTrue (all_fit empty_state said.config.edits)) }
+    ensures limited { IfOk result (λ said. FitAfterLimits said.config.edits) }
     ensures workers { IfOk result (λ said. (1 ≤ said.config.workers) × (said.config.workers ≤ 8)) }
     ensures refuses { IfErr result IsRefusal }
     ensures read { IfOk result (λ _. I.faults input.new ≡ I.faults input.old) }
@@ -157,73 +151,67 @@ fn written(no_memory: bool, door_failed: bool) -> ServerEnd
     }
 }
 
-// Writes the line of the totals.
-fn write_totals<O: Sink>(
-    alloc: Global,
-    totals: Totals,
-    no_memory: bool,
-    door_failed: bool,
-    output: &mut O,
-) -> ServerEnd
-    ensures writes { WritesText (served_line totals) no_memory door_failed result (O.written output.old) (O.written output.new) }
-    ensures counts { WritesCounted result (O.faults output.old) (O.faults output.new) }
+// The last lines of a run.
+fn last_lines(alloc: Global, summary: &Summary) -> Result<String, OutOfMemory>
+    ensures { IfOk result (λ lines. string_bytes lines ≡ last_lines summary.now) }
 {
-    let Ok(line) = totals_line(alloc, totals) else {
-        return ServerEnd::OutOfMemory;
-    };
-    if write_all(output, line.as_bytes()).is_err() {
-        return ServerEnd::WriteFault;
+    let mut lines = totals_line(alloc, summary.totals)?;
+    if let Some(views) = summary.viewed {
+        push_line(alloc, &mut lines, "viewed", &[Word::Number(views)])?;
+        lines.push_str("\n")?;
     }
-    written(no_memory, door_failed)
+    Ok(lines)
 }
 
-// Writes a text, and the line of the totals behind it.
-fn write_behind<O: Sink>(
-    text: &[u8],
-    line: &[u8],
-    no_memory: bool,
-    door_failed: bool,
-    output: &mut O,
-) -> ServerEnd
-    ensures writes { WritesText (text.now ++ line.now) no_memory door_failed result (O.written output.old) (O.written output.new) }
+// Writes the last lines of a run.
+fn write_last<O: Sink>(alloc: Global, summary: &Summary, output: &mut O) -> ServerEnd
+    ensures writes { WritesText (last_lines summary.now) summary.now.no_memory summary.now.door_failed result
+        (O.written output.old) (O.written output.new) }
+    ensures counts { WritesCounted result (O.faults output.old) (O.faults output.new) }
+{
+    let Ok(lines) = last_lines(alloc, summary) else {
+        return ServerEnd::OutOfMemory;
+    };
+    if write_all(output, lines.as_bytes()).is_err() {
+        return ServerEnd::WriteFault;
+    }
+    written(summary.no_memory, summary.door_failed)
+}
+
+// Writes a text, and the last lines behind it.
+fn write_behind<O: Sink>(text: &[u8], lines: &[u8], summary: &Summary, output: &mut O) -> ServerEnd
+    ensures writes { WritesText (text.now ++ lines.now) summary.now.no_memory summary.now.door_failed result
+        (O.written output.old) (O.written output.new) }
     ensures counts { WritesCounted result (O.faults output.old) (O.faults output.new) }
 {
     if write_all(output, text).is_err() {
         return ServerEnd::WriteFault;
     }
-    if write_all(output, line).is_err() {
+    if write_all(output, lines).is_err() {
         return ServerEnd::WriteFault;
     }
-    written(no_memory, door_failed)
+    written(summary.no_memory, summary.door_failed)
 }
 
-// Writes a journal that its audit finds legal, and the line of the totals. All text is made before any is written.
-fn write_journal_and_totals<O: Sink>(
+// Writes a journal that its audit finds legal, and the last lines. All text is made before any is written.
+fn write_journal_and_last<O: Sink>(
     alloc: Global,
     journal: &Journal,
-    totals: Totals,
-    no_memory: bool,
-    door_failed: bool,
+    summary: &Summary,
     output: &mut O,
 ) -> ServerEnd
     requires { IsAuditable journal.now }
-    ensures writes { WritesJournal journal.now totals no_memory door_failed result (O.written output.old) (O.written output.new) }
+    ensures writes { WritesJournal journal.now summary.now result (O.written output.old) (O.written output.new) }
     ensures counts { WritesCounted result (O.faults output.old) (O.faults output.new) }
 {
     let text = match legal_text(alloc, journal) {
         Ok(text) => text,
         Err(end) => return end,
     };
-    let Ok(line) = totals_line(alloc, totals) else {
+    let Ok(lines) = last_lines(alloc, summary) else {
         return ServerEnd::OutOfMemory;
     };
-    write_behind(
-        text.as_slice(),
-        line.as_bytes(),
-        no_memory,
-        door_failed,
-        output,
-    )
+    write_behind(text.as_slice(), lines.as_bytes(), summary, output)
 }
 
 // The journal, where one was asked for.
@@ -231,7 +219,7 @@ fn journal_asked(journal: bool, workers: u8, document: Octets, entries: Entries)
     requires workers { (1 ≤ workers) × (workers ≤ 8) }
     requires lists { length entries.by_worker ≡ workers }
     requires writable { AreWritable entries }
-    requires faultless { fault_of (document_of document) ≡ None }
+    requires faultless { document_fault document ≡ None }
     ensures journal { result ≡ where_asked journal (journal_of workers document entries) }
     ensures auditable { IfSome result IsAuditable }
 {
@@ -243,24 +231,20 @@ fn journal_asked(journal: bool, workers: u8, document: Octets, entries: Entries)
     None
 }
 
-// Writes the journal, where one was asked for, and the line of the totals.
+// Writes the journal, where one was asked for, and the last lines.
 fn write_out<O: Sink>(
     alloc: Global,
     journal: Option<Journal>,
-    totals: Totals,
-    no_memory: bool,
-    door_failed: bool,
+    summary: &Summary,
     output: &mut O,
 ) -> ServerEnd
     requires { IfSome journal IsAuditable }
-    ensures writes { WritesAll journal totals no_memory door_failed result (O.written output.old) (O.written output.new) }
+    ensures writes { WritesAll journal summary.now result (O.written output.old) (O.written output.new) }
     ensures counts { WritesCounted result (O.faults output.old) (O.faults output.new) }
 {
     match journal {
-        Some(journal) => {
-            write_journal_and_totals(alloc, &journal, totals, no_memory, door_failed, output)
-        }
-        None => write_totals(alloc, totals, no_memory, door_failed, output),
+        Some(journal) => write_journal_and_last(alloc, &journal, summary, output),
+        None => write_last(alloc, summary, output),
     }
 }
 
@@ -269,43 +253,31 @@ fn serve_input<R: Wait + Copy + Send, O: Sink, D: Door + Send, C: Crew>(
     rt: &R,
     alloc: Global,
     said: Input,
-    address: &str,
-    journal: bool,
-    connections: u32,
+    asked: &Asked<'_>,
     output: &mut O,
     door: &mut Option<D>,
+    view: &mut Option<D>,
     crew: &mut C,
 ) -> ServerEnd
-    requires fits { IsTrue (all_fit empty_state (opening_edits said.config.edits)) }
+    requires fit { IsTrue (all_fit empty_state said.config.edits) }
+    requires limited { FitAfterLimits said.config.edits }
     requires workers { (1 ≤ said.config.workers) × (said.config.workers ≤ 8) }
-    requires faultless { fault_of (document_of said.document) ≡ None }
+    requires described { DescribesConfig said.document said.config }
     requires door { is_some door.old ≡ true }
-    requires connections { 0 < connections }
+    requires view { is_some view.old ≡ true }
+    requires connections { 0 < asked.now.connections }
     ensures ends { EndsWith D.Conn.facts
-        D.facts address.now journal connections said
-        result door.old door.new (O.written output.old) (O.written output.new) (C.counts crew.old) (C.counts crew.new) }
+        D.facts (service asked.now) said result (record { door = door.old; view = view.old })
+        (record { door = door.new; view = view.new })
+        (O.written output.old) (O.written output.new) (C.counts crew.old) (C.counts crew.new) }
     ensures runs { RunsInCrew result (C.counts crew.old) (C.counts crew.new) }
     ensures writes { WritesCounted result (O.faults output.old) (O.faults output.new) }
 {
     let Input { config, document } = said;
-    match serve(
-        rt,
-        alloc,
-        &config,
-        address,
-        journal,
-        connections,
-        door,
-        crew,
-    ) {
-        Served::Whole {
-            totals,
-            entries,
-            no_memory,
-            door_failed,
-        } => {
-            let journal = journal_asked(journal, config.workers, document, entries);
-            write_out(alloc, journal, totals, no_memory, door_failed, output)
+    match serve(rt, alloc, &config, asked, door, view, crew) {
+        Served::Whole { summary, entries } => {
+            let journal = journal_asked(asked.journal, config.workers, document, entries);
+            write_out(alloc, journal, &summary, output)
         }
         Served::DoorFault => ServerEnd::DoorFault,
         Served::CrewFault => ServerEnd::CrewFault,
@@ -313,41 +285,32 @@ fn serve_input<R: Wait + Copy + Send, O: Sink, D: Door + Send, C: Crew>(
     }
 }
 
-/// Serves this many connections at an address, from the configuration that the input is, and writes the journal,
-/// where one is asked for, and the line of the totals. The journal holds each command and each packet, from the
-/// first connection on, in memory until all have closed. The door is back at every return.
+/// Does what a server is asked to do, from the configuration that the input is, and writes the journal, where one is
+/// asked for, the line of the totals, and the line of the views, where they are asked for. The journal holds each command
+/// and each packet, from the first connection on, in memory until all have closed. The doors are back at every return.
 pub fn run_server<R: Wait + Copy + Send, I: Source, O: Sink, D: Door + Send, C: Crew>(
     rt: &R,
     alloc: Global,
-    address: &str,
-    journal: bool,
-    connections: u32,
+    asked: &Asked<'_>,
     input: &mut I,
     output: &mut O,
     door: &mut Option<D>,
+    view: &mut Option<D>,
     crew: &mut C,
 ) -> ServerEnd
     requires door { is_some door.old ≡ true }
-    requires connections { 0 < connections }
+    requires view { is_some view.old ≡ true }
+    requires connections { 0 < asked.now.connections }
     ensures ends { EndsAt D.Conn.facts
-        D.facts address.now journal connections (I.left input.old)
-        result door.old door.new (O.written output.old) (O.written output.new) (C.counts crew.old) (C.counts crew.new) }
+        D.facts (service asked.now) (I.left input.old) result (record { door = door.old; view = view.old })
+        (record { door = door.new; view = view.new })
+        (O.written output.old) (O.written output.new) (C.counts crew.old) (C.counts crew.new) }
     ensures runs { RunsInCrew result (C.counts crew.old) (C.counts crew.new) }
     ensures reads { ReadsCounted result (I.faults input.old) (I.faults input.new) }
     ensures writes { WritesCounted result (O.faults output.old) (O.faults output.new) }
 {
     match input_in(alloc, input) {
-        Ok(said) => serve_input(
-            rt,
-            alloc,
-            said,
-            address,
-            journal,
-            connections,
-            output,
-            door,
-            crew,
-        ),
+        Ok(said) => serve_input(rt, alloc, said, asked, output, door, view, crew),
         Err(end) => end,
     }
 }

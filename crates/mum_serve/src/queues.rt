@@ -96,13 +96,15 @@ fn add_worker<L: Drop, N: Naming>(
     requires voices { length ends.voices.items ≡ SLOTS }
     requires posts { length ends.posts.items ≡ SLOTS }
     requires boxes { All HasBoxes shared.old.items }
-    requires shared { AllByRecursion (SharesQueues (queues_of ends.posts.items) (queues_of ends.voices.items) ends.desk.queue) shared.old.items }
+    requires shared { AllByRecursion (SharesQueues (queues_of ends.posts.items) (queues_of ends.voices.items)
+        ends.desk.queue) shared.old.items }
     requires bells { bells_of shared.old.items ≡ queues_of bells.old.items }
     ensures voices { IfOk result (λ ends. length ends.voices.items ≡ SLOTS) }
     ensures posts { IfOk result (λ ends. length ends.posts.items ≡ SLOTS) }
     ensures boxes { All HasBoxes shared.new.items }
     ensures shared { IfOk result (λ ends.
-        AllByRecursion (SharesQueues (queues_of ends.posts.items) (queues_of ends.voices.items) ends.desk.queue) shared.new.items) }
+        AllByRecursion (SharesQueues (queues_of ends.posts.items) (queues_of ends.voices.items) ends.desk.queue)
+        shared.new.items) }
     ensures bells { OnOk result (bells_of shared.new.items ≡ queues_of bells.new.items) }
     ensures one_bell { OnOk result (length bells.new.items ≡ length bells.old.items + 1) }
     ensures one_more { OnOk result (length shared.new.items ≡ length shared.old.items + 1) }

@@ -1,29 +1,38 @@
 //! What a crew runs for a server.
 
+ghost use Rattle.std.specs.Prelude.{◌≡◌, ◌≤◌, ℕ, ◌+◌, length};
+ghost use Rattle.mum_serve.specs.Opened.{HasRoom};
+ghost use Rattle.mum_serve.specs.Roles.{AreRoles, roles_of};
+
 use mum_crew::{Gate, Role, Turn};
 use mum_owner::{Entrance, Owner, OwnerOpening, Serving};
+use mum_viewer::{Viewer, ViewerOpening, Viewing};
 use mum_worker::{Worker, WorkerOpening};
 use std::sync::Wait;
 
-/// One of the roles of a server: the first is the owner of the connections, and those that follow are its workers.
+/// One of the roles of a server: the first is the owner of the connections, then come its workers, and the viewer is
+/// behind them, where there is one.
 #[derive(Drop)]
-pub enum Roles<'a, D: Entrance, G: Gate, N: Serving, R: Wait + Copy> {
+pub enum Roles<'a, D: Entrance, G: Gate, N: Serving + Viewing, R: Wait + Copy> {
     Owner(Owner<'a, D, N, R>),
     Worker(Worker<D::Peer, G, N, R>),
+    Viewer(Viewer<D, N, R>),
 }
 
 /// With what a role was opened. Contracts alone see it.
 pub enum RoleOpening {
     Owner(OwnerOpening),
     Worker(WorkerOpening),
+    Viewer(ViewerOpening),
 }
 
-impl<'a, D: Entrance, G: Gate, N: Serving, R: Wait + Copy> Role for Roles<'a, D, G, N, R> {
+impl<'a, D: Entrance, G: Gate, N: Serving + Viewing, R: Wait + Copy> Role
+    for Roles<'a, D, G, N, R> {
     ghost use Rattle.mum_serve.specs.Roles.{RoleTurned, has_ended, opening_of};
 
     type Opening = RoleOpening;
 
-    ghost opening = { opening_of N.opening.state N.door };
+    ghost opening = { opening_of N.opening.state N.door N.view };
 
     ghost has_ended = { has_ended };
 
@@ -34,6 +43,65 @@ impl<'a, D: Entrance, G: Gate, N: Serving, R: Wait + Copy> Role for Roles<'a, D,
         match self {
             Roles::Owner(owner) => Role::turn(owner),
             Roles::Worker(worker) => Role::turn(worker),
+            Roles::Viewer(viewer) => Role::turn(viewer),
         }
+    }
+}
+
+/// The roles of a server, apart.
+#[derive(Drop)]
+pub(crate) struct Parted<'a, D: Entrance, G: Gate, N: Serving + Viewing, R: Wait + Copy> {
+    pub(crate) owner: Owner<'a, D, N, R>,
+    pub(crate) workers: Vec<Worker<D::Peer, G, N, R>>,
+    pub(crate) viewer: Option<Viewer<D, N, R>>,
+}
+
+/// All roles of a server as one list, in their order. There is room for them.
+pub(crate) fn together<'a, D: Entrance, G: Gate, N: Serving + Viewing, R: Wait + Copy>(
+    owner: Owner<'a, D, N, R>,
+    workers: Vec<Worker<D::Peer, G, N, R>>,
+    viewer: Option<Viewer<D, N, R>>,
+    room: Vec<Roles<'a, D, G, N, R>>,
+) -> Vec<Roles<'a, D, G, N, R>>
+    requires room { HasRoom (length workers.items + 2) room }
+    ensures { result.items ≡ roles_of owner.entry workers.items viewer }
+{
+    let mut roles = room;
+    roles.push_reserved(Roles::Owner(owner));
+    for worker in workers {
+        roles.push_reserved(Roles::Worker(worker));
+    }
+    if let Some(viewer) = viewer {
+        roles.push_reserved(Roles::Viewer(viewer));
+    }
+    roles
+}
+
+/// The roles of such a list, apart. There is room for the workers.
+pub(crate) fn apart<'a, D: Entrance, G: Gate, N: Serving + Viewing, R: Wait + Copy>(
+    roles: Vec<Roles<'a, D, G, N, R>>,
+    room: Vec<Worker<D::Peer, G, N, R>>,
+) -> Parted<'a, D, G, N, R>
+    requires roles { AreRoles roles.items }
+    requires room { (count : ℕ) × (length roles.items ≤ count + 1) × HasRoom count room }
+    ensures { roles.entry.items ≡ roles_of result.owner result.workers.items result.viewer }
+{
+    let mut roles = roles;
+    let Roles::Owner(owner) = roles.remove(0) else {
+        unreachable!()
+    };
+    let mut workers = room;
+    let mut viewer = None;
+    for role in roles {
+        match role {
+            Roles::Worker(worker) => workers.push_reserved(worker),
+            Roles::Viewer(one) => viewer = Some(one),
+            Roles::Owner(_) => unreachable!(),
+        }
+    }
+    Parted {
+        owner,
+        workers,
+        viewer,
     }
 }

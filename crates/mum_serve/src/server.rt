@@ -1,47 +1,43 @@
-//! A server from its configuration to its totals.
+//! A server from its configuration to what it came to.
 
-ghost use Rattle.std.specs.Prelude.{◌≡◌, ◌<◌, ◌≤◌, [], IfOk, IsTrue, Some, is_some, length, true};
-ghost use Rattle.std.specs.List.{All};
-ghost use Rattle.mum_published.specs.Calls.{IsFresh, appended, latest};
-ghost use Rattle.mum_base.specs.declared.number.TheConstants.{PLACES as places, SLOTS as slots};
-ghost use Rattle.mum_serve.specs.Opening.{opening_edits};
-ghost use Rattle.mum_serve.specs.Serving.{Runs, RunsCounted, Serves, ServesOver};
+ghost use Rattle.std.specs.Prelude.{◌≡◌, ◌+◌, ◌<◌, ◌≤◌, IfOk, IsTrue, false, is_some, true};
+ghost use Rattle.mum_config.specs.Limits.{FitAfterLimits};
+ghost use Rattle.mum_opening.specs.Opening.{served_edits};
+ghost use Rattle.mum_serve.specs.Asked.{service};
+ghost use Rattle.mum_serve.specs.Beginning.{Begins};
+ghost use Rattle.mum_serve.specs.Serving.{opening_at, OneStaysShut, Opens, Runs, RunsCounted, Serves, ServesOver};
+ghost use Rattle.mum_serve.specs.Views.{passes_for};
 ghost use Rattle.mum_state.specs.After.{after, all_fit};
-ghost use Rattle.mum_state.specs.Fits.{fits};
-ghost use Rattle.mum_state.specs.Proper.{IsProper};
 ghost use Rattle.mum_state.specs.State.{empty_state};
-ghost use Rattle.mum_state.specs.declared.edit.Edit.TheVariants.{SetLimits};
 
+use crate::asked::{Asked, Objects};
 use crate::collect::{Collected, collect};
 use crate::entries::Entries;
-use crate::start::{Started, roles};
-use crate::totals::Totals;
-use mum_base::{OutOfMemory, PLACES, SLOTS};
+use crate::roles::{apart, together};
+use crate::start::{Started, start};
+use crate::summary::Summary;
+use crate::views::{ViewDoor, Viewed, end_viewer, open_viewer};
+use mum_base::OutOfMemory;
 use mum_config::Config;
 use mum_crew::{Crew, CrewEnd};
-use mum_history::{state_after, state_from};
 use mum_io::{Door, DoorOpen};
+use mum_opening::opening_state;
 use mum_owner::Serving;
 use mum_published::{Pass, Publisher, open};
+use mum_record::Limits;
 use mum_state::{Edit, State};
+use mum_viewer::Viewing;
 use std::alloc::Global;
 use std::marker::Brand;
 use std::mem::drop;
 use std::sync::Wait;
 
-/// What a server came to.
+/// How a server ended.
 #[derive(Drop)]
 pub enum Served {
-    /// All connections were served to their ends.
-    Whole {
-        totals: Totals,
-        entries: Entries,
-        /// Memory ran out on the way.
-        no_memory: bool,
-        /// The door failed on the way.
-        door_failed: bool,
-    },
-    /// The door did not open.
+    /// All connections were served to their ends, and so were the views.
+    Whole { summary: Summary, entries: Entries },
+    /// A door did not open.
     DoorFault,
     /// The crew did not start.
     CrewFault,
@@ -49,35 +45,56 @@ pub enum Served {
     OutOfMemory,
 }
 
-// Runs all roles, over a door that is open, and takes it back.
-fn run<N: Serving + Send, R: Wait + Copy + Send, D: Door + Send, C: Crew>(
-    rt: &R,
-    alloc: Global,
-    publisher: &mut Publisher,
+/// Where a server begins.
+#[derive(Drop)]
+struct Beginning {
+    /// The state that is published.
     state: State,
     workers: u8,
+    /// One for each worker, and one for the viewer where views are asked for.
     passes: Vec<Pass>,
-    door: D,
+}
+
+// Runs all roles, over doors that are open, and takes the doors back.
+fn run<N: Serving + Viewing + Send, R: Wait + Copy + Send, D: Door + Send, C: Crew>(
+    rt: &R,
+    alloc: Global,
+    asked: &Asked<'_>,
+    publisher: &mut Publisher,
+    beginning: Beginning,
+    objects: Objects<D>,
     crew: &mut C,
-    journal: bool,
-    connections: u32,
-) -> (Served, D)
+) -> (Served, Objects<D>)
     requires opening { publisher.old.opening ≡ N.opening }
-    requires state { state ≡ latest publisher.old }
-    requires fresh { appended publisher.old ≡ [] }
-    requires pending { publisher.old.pending ≡ [] }
-    requires proper { IsProper N.opening.state }
-    requires passes { All (IsFresh N.opening) passes.items }
-    requires one_each { length passes.items ≡ workers }
-    requires some { 0 < workers }
-    requires door { record { counts = (D.facts door).counts; given = (D.facts door).given; opened_at = (D.facts door).opened_at } ≡ N.door }
-    requires connections { 0 < connections }
+    requires begins { Begins publisher.old asked.now beginning }
+    requires door { opening_at D.facts objects.door ≡ N.door }
+    requires view { opening_at D.facts objects.view ≡ N.view }
+    requires connections { 0 < asked.now.connections }
     ensures counts { RunsCounted result.0 (C.counts crew.old) (C.counts crew.new) }
     ensures runs { Runs D.Conn.facts
-        D.facts N.opening.state door journal connections workers
-        result.0 result.1 }
+        D.facts N.opening.state (service asked.now) beginning.workers objects result.0 result.1 }
 {
-    let Started { roles, room } = match roles::<D, N, R>(
+    let Objects { door, view } = objects;
+    let Beginning {
+        state,
+        workers,
+        mut passes,
+    } = beginning;
+    let ViewDoor { viewer, unused } = match open_viewer::<D, N, R>(
+        rt,
+        alloc,
+        asked.view,
+        &mut passes,
+        view,
+    ) {
+        Ok(view) => view,
+        Err(view) => {
+            drop(state);
+            drop(passes);
+            return (Served::OutOfMemory, Objects { door, view });
+        }
+    };
+    let started = match start::<D, N, R>(
         rt,
         alloc,
         publisher,
@@ -85,67 +102,48 @@ fn run<N: Serving + Send, R: Wait + Copy + Send, D: Door + Send, C: Crew>(
         workers,
         passes,
         door,
-        journal,
-        connections,
+        asked.journal,
+        asked.connections,
     ) {
         Ok(started) => started,
-        Err(door) => return (Served::OutOfMemory, door),
-    };
-    let run = crew.run(alloc, roles);
-    let Collected {
-        door,
-        totals,
-        entries,
-        no_memory,
-        door_failed,
-    } = collect(run.roles, room);
-    match run.end {
-        CrewEnd::Ran => {
-            let whole = Served::Whole {
-                totals,
-                entries,
-                no_memory,
-                door_failed,
-            };
-            (whole, door)
+        Err(door) => {
+            let Viewed { door: view, .. } = end_viewer(viewer, unused);
+            return (Served::OutOfMemory, Objects { door, view });
         }
+    };
+    let Started {
+        owner,
+        workers,
+        room,
+    } = started;
+    let run = crew.run(alloc, together(owner, workers, viewer, room.roles));
+    let roles = apart(run.roles, room.workers);
+    let Collected {
+        summary,
+        entries,
+        objects,
+    } = collect(roles, unused, room.entries);
+    match run.end {
+        CrewEnd::Ran => (Served::Whole { summary, entries }, objects),
         CrewEnd::Refused => {
             drop(entries);
-            (Served::CrewFault, door)
+            (Served::CrewFault, objects)
         }
         CrewEnd::NoMemory => {
             drop(entries);
-            (Served::OutOfMemory, door)
+            (Served::OutOfMemory, objects)
         }
     }
-}
-
-// The edit that gives a server room for a session in each slot, and for a channel at each place.
-fn greatest_limits() -> Edit
-    ensures edit { result ≡ SetLimits slots places }
-    ensures fits { IsTrue (fits empty_state (SetLimits slots places)) }
-{
-    Edit::SetLimits {
-        sessions: SLOTS as u16,
-        channels: PLACES as u32,
-    }
-}
-
-// The state at which a server begins.
-fn opening_state(alloc: Global, edits: &[Edit]) -> Result<State, OutOfMemory>
-    requires { IsTrue (all_fit empty_state (opening_edits edits.now)) }
-    ensures { IfOk result (λ state. state ≡ after (opening_edits edits.now)) }
-{
-    let limited = state_after(alloc, &[greatest_limits()])?;
-    state_from(limited, edits)
 }
 
 // The state at which a server begins, twice.
 fn states(alloc: Global, edits: &[Edit]) -> Result<(State, State), OutOfMemory>
-    requires { IsTrue (all_fit empty_state (opening_edits edits.now)) }
-    ensures { IfOk result (λ states. (states.0 ≡ after (opening_edits edits.now)) × (states.1 ≡ after (opening_edits edits.now))) }
+    requires fit { IsTrue (all_fit empty_state edits.now) }
+    requires limited { FitAfterLimits edits.now }
+    ensures { IfOk result (λ states. (states.0 ≡ after (served_edits edits.now))
+        × (states.1 ≡ after (served_edits edits.now))) }
 {
-    let state = opening_state(alloc, edits)?;
+    let state = opening_state(alloc, &Some(Limits::greatest()), edits)?;
     match state.copy(alloc) {
         Ok(copy) => Ok((state, copy)),
         Err(error) => {
@@ -155,175 +153,147 @@ fn states(alloc: Global, edits: &[Edit]) -> Result<(State, State), OutOfMemory>
     }
 }
 
-// Serves over what was opened at a state, and over a door that is open.
+// Serves over what was opened at a state, and over doors that are open.
 fn run_opened<R: Wait + Copy + Send, D: Door + Send, C: Crew>(
     rt: &R,
     alloc: Global,
+    asked: &Asked<'_>,
     publisher: &mut Publisher,
-    state: State,
-    workers: u8,
-    passes: Vec<Pass>,
-    door: D,
+    beginning: Beginning,
+    objects: Objects<D>,
     crew: &mut C,
-    journal: bool,
-    connections: u32,
-) -> (Served, D)
-    requires state { state ≡ latest publisher.old }
-    requires fresh { appended publisher.old ≡ [] }
-    requires pending { publisher.old.pending ≡ [] }
-    requires proper { IsProper publisher.old.opening.state }
-    requires passes { All (IsFresh publisher.old.opening) passes.items }
-    requires one_each { length passes.items ≡ workers }
-    requires some { 0 < workers }
-    requires connections { 0 < connections }
+) -> (Served, Objects<D>)
+    requires begins { Begins publisher.old asked.now beginning }
+    requires connections { 0 < asked.now.connections }
     ensures counts { RunsCounted result.0 (C.counts crew.old) (C.counts crew.new) }
     ensures runs { Runs D.Conn.facts
-        D.facts publisher.old.opening.state door journal connections
-        workers result.0 result.1 }
+        D.facts publisher.old.opening.state (service asked.now) beginning.workers objects result.0 result.1 }
 {
-    run::<Brand, R, D, C>(
-        rt,
-        alloc,
-        publisher,
-        state,
-        workers,
-        passes,
-        door,
-        crew,
-        journal,
-        connections,
-    )
+    run::<Brand, R, D, C>(rt, alloc, asked, publisher, beginning, objects, crew)
 }
 
-// Serves at an address, over what was opened at a state.
+// Opens the doors that are asked for. Answers whether they are open.
+fn open_doors<D: Door + Send>(asked: &Asked<'_>, objects: &mut Objects<D>) -> bool
+    ensures opened { result ≡ true → Opens D.facts (service asked.now) objects.old objects.new }
+    ensures shut { result ≡ false → OneStaysShut D.facts (service asked.now) objects.old objects.new }
+{
+    if objects.door.open(asked.address) == DoorOpen::Failed {
+        return false;
+    }
+    match asked.view {
+        Some(view) => objects.view.open(view.address) != DoorOpen::Failed,
+        None => true,
+    }
+}
+
+// Serves over what was opened at a state, and over doors that are not open yet.
 fn serve_at<R: Wait + Copy + Send, D: Door + Send, C: Crew>(
     rt: &R,
     alloc: Global,
+    asked: &Asked<'_>,
     publisher: &mut Publisher,
-    state: State,
-    workers: u8,
-    passes: Vec<Pass>,
-    address: &str,
-    door: D,
+    beginning: Beginning,
+    objects: Objects<D>,
     crew: &mut C,
-    journal: bool,
-    connections: u32,
-) -> (Served, D)
-    requires state { state ≡ latest publisher.old }
-    requires fresh { appended publisher.old ≡ [] }
-    requires pending { publisher.old.pending ≡ [] }
-    requires proper { IsProper publisher.old.opening.state }
-    requires passes { All (IsFresh publisher.old.opening) passes.items }
-    requires one_each { length passes.items ≡ workers }
-    requires some { 0 < workers }
-    requires connections { 0 < connections }
+) -> (Served, Objects<D>)
+    requires begins { Begins publisher.old asked.now beginning }
+    requires connections { 0 < asked.now.connections }
     ensures counts { RunsCounted result.0 (C.counts crew.old) (C.counts crew.new) }
     ensures serves { Serves D.Conn.facts
-        D.facts address.now publisher.old.opening.state journal
-        connections workers door result.0 result.1 }
+        D.facts publisher.old.opening.state (service asked.now) beginning.workers objects result.0 result.1 }
 {
-    let mut door = door;
-    if door.open(address) == DoorOpen::Failed {
-        drop(state);
-        drop(passes);
-        return (Served::DoorFault, door);
+    let mut objects = objects;
+    if !open_doors(asked, &mut objects) {
+        drop(beginning);
+        return (Served::DoorFault, objects);
     }
-    run_opened(
-        rt,
-        alloc,
-        publisher,
-        state,
-        workers,
-        passes,
-        door,
-        crew,
-        journal,
-        connections,
-    )
+    run_opened(rt, alloc, asked, publisher, beginning, objects, crew)
 }
 
-// Serves over a door that is not open yet.
+// How many passes a server needs: one for each worker, and one for the viewer.
+fn passes_of(workers: u8, asked: &Asked<'_>) -> u8
+    requires { workers ≤ 8 }
+    ensures value { result ≡ workers + passes_for (service asked.now).view }
+    ensures few { result ≤ 9 }
+{
+    match asked.view {
+        Some(_) => workers + 1,
+        None => workers,
+    }
+}
+
+// Serves over doors that are not open yet.
 fn serve_over<R: Wait + Copy + Send, D: Door + Send, C: Crew>(
     rt: &R,
     alloc: Global,
     config: &Config,
-    address: &str,
-    journal: bool,
-    connections: u32,
-    door: D,
+    asked: &Asked<'_>,
+    objects: Objects<D>,
     crew: &mut C,
-) -> (Served, D)
-    requires fits { IsTrue (all_fit empty_state (opening_edits config.now.edits)) }
-    requires workers { (0 < config.now.workers) × (config.now.workers ≤ 10) }
-    requires connections { 0 < connections }
+) -> (Served, Objects<D>)
+    requires fit { IsTrue (all_fit empty_state config.now.edits) }
+    requires limited { FitAfterLimits config.now.edits }
+    requires workers { (0 < config.now.workers) × (config.now.workers ≤ 8) }
+    requires connections { 0 < asked.now.connections }
     ensures counts { RunsCounted result.0 (C.counts crew.old) (C.counts crew.new) }
     ensures serves { Serves D.Conn.facts
-        D.facts address.now (after (opening_edits config.now.edits))
-        journal connections config.now.workers door result.0 result.1 }
+        D.facts (after (served_edits config.now.edits)) (service asked.now) config.now.workers objects result.0
+        result.1 }
 {
     let Ok((state, copy)) = states(alloc, config.edits.as_slice()) else {
-        return (Served::OutOfMemory, door);
+        return (Served::OutOfMemory, objects);
     };
-    let (mut publisher, passes) = match open(rt, alloc, copy, config.workers) {
+    let (mut publisher, passes) = match open(rt, alloc, copy, passes_of(config.workers, asked)) {
         Ok(begun) => begun,
         Err(_) => {
             drop(state);
-            return (Served::OutOfMemory, door);
+            return (Served::OutOfMemory, objects);
         }
     };
-    let served = serve_at(
-        rt,
-        alloc,
-        &mut publisher,
+    let beginning = Beginning {
         state,
-        config.workers,
+        workers: config.workers,
         passes,
-        address,
-        door,
-        crew,
-        journal,
-        connections,
-    );
+    };
+    let served = serve_at(rt, alloc, asked, &mut publisher, beginning, objects, crew);
     publisher.finish(rt);
     served
 }
 
-/// Serves the connections that come to a door: this many, or fewer where the door ends or fails. It returns when
-/// all are closed. The door is back at every return. A server has room for 512 sessions and 2,048 channels; these
-/// limits are set before what the configuration describes. Where a journal is asked for, the roles write down what
-/// they do, and keep it in memory.
+/// Serves the connections that come to a door: as many as are asked for, or fewer where the door ends or fails. It
+/// returns when all are closed. Where views are asked for, a viewer gives them over a second door, until as many were
+/// given as are asked for, or that door ends or fails. The doors are back at every return. A server has room for 512
+/// sessions and 2,048 channels; these limits are set before what the configuration describes. Where a journal is asked
+/// for, the roles write down what they do, and keep it in memory.
 pub fn serve<R: Wait + Copy + Send, D: Door + Send, C: Crew>(
     rt: &R,
     alloc: Global,
     config: &Config,
-    address: &str,
-    journal: bool,
-    connections: u32,
+    asked: &Asked<'_>,
     door: &mut Option<D>,
+    view: &mut Option<D>,
     crew: &mut C,
 ) -> Served
-    requires fits { IsTrue (all_fit empty_state (opening_edits config.now.edits)) }
-    requires workers { (0 < config.now.workers) × (config.now.workers ≤ 10) }
+    requires fit { IsTrue (all_fit empty_state config.now.edits) }
+    requires limited { FitAfterLimits config.now.edits }
+    requires workers { (0 < config.now.workers) × (config.now.workers ≤ 8) }
     requires door { is_some door.old ≡ true }
-    requires connections { 0 < connections }
+    requires view { is_some view.old ≡ true }
+    requires connections { 0 < asked.now.connections }
     ensures counts { RunsCounted result (C.counts crew.old) (C.counts crew.new) }
     ensures serves { ServesOver D.Conn.facts
-        D.facts address.now (after (opening_edits config.now.edits))
-        journal connections config.now.workers door.old result door.new }
+        D.facts (after (served_edits config.now.edits)) (service asked.now) config.now.workers
+        (record { door = door.old; view = view.old }) result (record { door = door.new; view = view.new }) }
 {
-    let Some(taken) = door.take() else {
+    let (Some(lent_door), Some(lent_view)) = (door.take(), view.take()) else {
         unreachable!()
     };
-    let (served, back) = serve_over(
-        rt,
-        alloc,
-        config,
-        address,
-        journal,
-        connections,
-        taken,
-        crew,
-    );
-    *door = Some(back);
+    let objects = Objects {
+        door: lent_door,
+        view: lent_view,
+    };
+    let (served, objects) = serve_over(rt, alloc, config, asked, objects, crew);
+    *door = Some(objects.door);
+    *view = Some(objects.view);
     served
 }

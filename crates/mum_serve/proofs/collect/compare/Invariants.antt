@@ -1,7 +1,7 @@
 use Rattle.std.proofs.Common.{drop}
-use Rattle.mum_serve.proofs.Comparing.{Compared}
+use Rattle.mum_serve.proofs.Ending.{Compared}
 use Rattle.mum_serve.proofs.collect.compare.Given as goal
 
 -- those before this one were compared
-abbrev pub invariant-loop-role : goal.invariant-loop-role
-invariant-loop-role g l = Compared l.fn.owner.control.publisher.published (drop l.role-index l.fn.crew) l.fn.crew
+abbrev pub invariant-loop-worker : goal.invariant-loop-worker
+invariant-loop-worker g l = Compared l.fn.owner.control.publisher.published (drop l.worker-index l.fn.workers) l.fn.workers

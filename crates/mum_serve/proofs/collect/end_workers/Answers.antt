@@ -3,47 +3,42 @@ use Rattle.std.proofs.Common.{◌∙◌, List, [], ◌∷◌, length, length-app
 use Rattle.std.specs.Vec.Iter.{into_iter_items}
 use Rattle.mum_record.specs.declared.journal.WorkerEntry.{WorkerEntry}
 use Rattle.mum_serve.specs.Journals.{entries_of}
-use Rattle.mum_serve.specs.Roles.{with_workers, workers_in}
+use Rattle.mum_serve.specs.Roles.{with_workers}
 use Rattle.mum_serve.specs.Totals.{nothing}
-use Rattle.mum_serve.proofs.Ended.{all_taken, each_more, entries_taken, is_no_owner, took_entries, took_worker}
+use Rattle.mum_serve.proofs.Ending.{all_taken, each_more, entries_taken, took_entries, took_worker}
 use Rattle.mum_serve.proofs.collect.end_workers.Goals as goal
 
-pub loop-role-preserved : goal.loop-role-preserved
-loop-role-preserved g c =
+pub loop-worker-preserved : goal.loop-worker-preserved
+loop-worker-preserved g c =
     let steps = c.in-Some.ensures.steps in
     let short = ap length steps.0 in
-    let was = c.loop-role.invariant.1 in
+    let was = c.loop-worker.invariant.1 in
     let gone = steps.1 in
     let rest = into_iter_items c.next.new.self in
     let pushed = c.push_reserved.ensures.items in
     let longer = ap (λ (xs : List (List WorkerEntry)). length xs) pushed in
-    let one_more = length-append c.loop-role.by_worker.items (c.add.result ∷ []) in
-    let room = c.loop-role.invariant.4 in
+    let one_more = length-append c.loop-worker.by_worker.items (c.add.result ∷ []) in
+    let room = c.loop-worker.invariant.4 in
     let same = c.push_reserved.ensures.capacity in (
-      took_worker _ rest c.in-Some.role c.in-Worker.worker c.loop-role.totals c.add.new.self (with_workers (workers_in c.args.workers.items) nothing)
-          steps.0 c.in-Worker.is c.add.ensures.totals c.loop-role.invariant.0,
+      took_worker _ rest c.in-Some.worker c.loop-worker.totals c.add.new.self (with_workers c.args.workers.items nothing) steps.0 c.add.ensures.totals c.loop-worker.invariant.0,
       omega (arith, was, gone, short),
-      took_entries _ rest c.in-Some.role c.in-Worker.worker c.add.result c.loop-role.by_worker.items c.push_reserved.new.self.items (map entries_of (workers_in c.args.workers.items))
-          steps.0 c.in-Worker.is c.add.ensures.entries pushed c.loop-role.invariant.2,
-      each_more c.loop-role.by_worker.items c.push_reserved.new.self.items c.add.result pushed c.add.ensures.writable c.loop-role.invariant.3,
+      took_entries _ rest c.in-Some.worker c.add.result c.loop-worker.by_worker.items c.push_reserved.new.self.items (map entries_of c.args.workers.items)
+          steps.0 c.add.ensures.entries pushed c.loop-worker.invariant.2,
+      each_more c.loop-worker.by_worker.items c.push_reserved.new.self.items c.add.result pushed c.add.ensures.writable c.loop-worker.invariant.3,
       omega (arith, longer, one_more, short, room, same),
     )
 
-pub unreachable-requires : goal.unreachable-requires
-unreachable-requires g c =
-    is_no_owner _ (into_iter_items c.next.new.self) c.in-Some.role c.in-Owner.field-0 c.in-Some.ensures.steps.0 c.in-Owner.is c.loop-role.invariant.0.0
-
 pub returns-clause-totals : goal.returns-clause-totals
 returns-clause-totals g c =
-    let was = c.loop-role.invariant.1 in
+    let was = c.loop-worker.invariant.1 in
     let none = c.in-None.ensures.steps.0 in
-    all_taken (into_iter_items c.loop-role.role-iterator) c.loop-role.totals _ (omega (arith, was, none)) c.loop-role.invariant.0.1
+    all_taken (into_iter_items c.loop-worker.worker-iterator) c.loop-worker.totals _ (omega (arith, was, none)) c.loop-worker.invariant.0
 
 pub returns-clause-entries : goal.returns-clause-entries
 returns-clause-entries g c =
-    let was = c.loop-role.invariant.1 in
+    let was = c.loop-worker.invariant.1 in
     let none = c.in-None.ensures.steps.0 in
-    c.from_vec.ensures ∙ entries_taken (into_iter_items c.loop-role.role-iterator) c.loop-role.by_worker.items _ (omega (arith, was, none)) c.loop-role.invariant.2
+    c.from_vec.ensures ∙ entries_taken (into_iter_items c.loop-worker.worker-iterator) c.loop-worker.by_worker.items _ (omega (arith, was, none)) c.loop-worker.invariant.2
 
 pub returns-clause-writable : goal.returns-clause-writable
-returns-clause-writable g c = rw c.from_vec.ensures c.loop-role.invariant.3
+returns-clause-writable g c = rw c.from_vec.ensures c.loop-worker.invariant.3

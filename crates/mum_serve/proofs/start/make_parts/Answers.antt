@@ -1,5 +1,5 @@
 -- The control owner has passes of the boxes that the workers share.
-use Rattle.mum_serve.proofs.Joining.{control_begins}
+use Rattle.mum_serve.proofs.Opening.{control_begins}
 use Rattle.mum_serve.proofs.Sharing.{shared_by}
 use Rattle.mum_serve.proofs.start.make_parts.Goals as goal
 

@@ -1,0 +1,137 @@
+-- The roles after their last turn.
+use Rattle.std.proofs.Common.{◌≡◌, ◌∙◌, ℕ, ◌+◌, ◌<◌, ◌≤◌, Bool, true, List, [], ◌∷◌, ◌++◌, append_assoc, append-nil, length, map, get_or, drop, IsTrue, Option, Some, None, sym, ap, subst, arith}
+use Rattle.std.specs.List.{All, AllByRecursion}
+use Rattle.std.proofs.lemmas.List.{drop_all, drop_more, length-map}
+use Rattle.std.proofs.lemmas.List.Elements.{All-head, All-tail}
+use Rattle.std.proofs.lemmas.Slice.Zip.{AllZip-long}
+use Rattle.mum_crew.specs.Turns.{TurnsLead}
+use mathlib.Core.List.{IsPrefix}
+use Rattle.mum_io.specs.Link.{LinkFacts}
+use Rattle.mum_io.specs.Door.{DoorFacts}
+use Rattle.mum_owner.specs.Facts.{OwnerFacts}
+use Rattle.mum_owner.specs.Turned.{has_ended as owner_has_ended}
+use Rattle.mum_published.specs.Facts.{Opening, PassFacts}
+use Rattle.mum_record.specs.Journal.{Each, IsWritableEntry}
+use Rattle.mum_record.specs.declared.journal.WorkerEntry.{WorkerEntry}
+use Rattle.mum_state.specs.declared.edit.Edit.{Edit}
+use Rattle.mum_viewer.specs.Viewer.{ViewerFacts, has_ended as viewer_has_ended}
+use Rattle.mum_worker.specs.Facts.{WorkerFacts, is_done}
+use Rattle.mum_worker.specs.Turning.{WorkerTurned}
+use Rattle.mum_serve.specs.Journals.{entries_of}
+use Rattle.mum_serve.specs.OneList.{AreWithin, IsWithin}
+use Rattle.mum_serve.specs.Roles.{has_ended, roles_of, viewers_of, with_workers}
+use Rattle.mum_serve.specs.Running.{HaveTurned}
+use Rattle.mum_serve.specs.Totals.{with_worker}
+use Rattle.mum_serve.specs.declared.roles.Roles.{Roles}
+use Rattle.mum_serve.specs.declared.roles.Roles.TheVariants as roles
+use Rattle.mum_serve.specs.declared.totals.WorkerTotals.{WorkerTotals}
+
+-- ---- what the workers saw, compared with what was published, one worker after another
+
+-- the pass that a worker lent is its own
+pub is_within : (published : List Edit) (pass lent : PassFacts) → lent ≡ pass → IsPrefix lent.seen published → IsPrefix lent.known published → IsWithin published pass
+is_within published pass lent same seen known = subst (IsWithin published) same (record { seen = seen; known = known })
+
+-- ---- what they wrote down
+
+each_behind : (before : List (List WorkerEntry)) (one : List WorkerEntry) → Each IsWritableEntry one → Each (Each IsWritableEntry) before → Each (Each IsWritableEntry) (before ++ one ∷ [])
+each_behind [] one writable all = (writable, tt)
+each_behind (first ∷ before) one writable all = (all.0, each_behind before one writable all.1)
+
+-- what one worker more wrote down has lines too
+pub each_more : (before after : List (List WorkerEntry)) (one : List WorkerEntry) → after ≡ before ++ one ∷ [] → Each IsWritableEntry one → Each (Each IsWritableEntry) before → Each (Each IsWritableEntry) after
+each_more before after one pushed writable all = subst (Each (Each IsWritableEntry)) (sym pushed) (each_behind before one writable all)
+
+module _ {L : Type 0} where
+  -- these are left of all, and the others were compared
+  abbrev pub Compared : List Edit → List (WorkerFacts L) → List (WorkerFacts L) → Type 0
+  Compared published left all = AreWithin published left → AreWithin published all
+
+  pub compared_one : (published : List Edit) (all : List (WorkerFacts L)) (i : ℕ) (worker : WorkerFacts L) → i < length all → worker ≡ get_or all i worker
+      → IsWithin published worker.common.router.pass → Compared published (drop i all) all → Compared published (drop (i + 1) all) all
+  compared_one published all i worker inside is within before =
+      let left : drop i all ≡ worker ∷ drop (i + 1) all = drop_more all i worker inside ∙ ap (λ (w : WorkerFacts L). w ∷ drop (i + 1) all) (sym is) in
+      let now : Compared published (worker ∷ drop (i + 1) all) all = subst (λ (xs : List (WorkerFacts L)). Compared published xs all) left before in
+      λ rest. now (within, rest)
+
+  pub all_compared : (published : List Edit) (all : List (WorkerFacts L)) (i : ℕ) → length all ≤ i → Compared published (drop i all) all → AreWithin published all
+  all_compared published all i over before =
+      let now : Compared published [] all = subst (λ (left : List (WorkerFacts L)). Compared published left all) (drop_all i all over) before in
+      now tt
+
+  -- ---- their ends, one after another
+
+  -- a worker was ended, and what it came to was added
+  pub took_worker : (left rest : List (WorkerFacts L)) (worker : WorkerFacts L) (totals after goal : WorkerTotals) → left ≡ worker ∷ rest → after ≡ with_worker worker totals
+      → with_workers left totals ≡ goal → with_workers rest after ≡ goal
+  took_worker left rest worker totals after goal is added so =
+      ap (with_workers rest) added ∙ sym (ap (λ (ws : List (WorkerFacts L)). with_workers ws totals) is) ∙ so
+
+  -- and what it wrote down was pushed
+  pub took_entries : (left rest : List (WorkerFacts L)) (worker : WorkerFacts L) (one : List WorkerEntry) (before after goal : List (List WorkerEntry)) → left ≡ worker ∷ rest → one ≡ entries_of worker
+      → after ≡ before ++ one ∷ [] → before ++ map entries_of left ≡ goal → after ++ map entries_of rest ≡ goal
+  took_entries left rest worker one before after goal is wrote pushed so =
+      ap (λ (xs : List (List WorkerEntry)). xs ++ map entries_of rest) (pushed ∙ ap (λ (o : List WorkerEntry). before ++ o ∷ []) wrote)
+      ∙ append_assoc before (entries_of worker ∷ []) (map entries_of rest)
+      ∙ ap (λ (ws : List (WorkerFacts L)). before ++ map entries_of ws) (sym is)
+      ∙ so
+
+  pub entries_taken : (left : List (WorkerFacts L)) (wrote goal : List (List WorkerEntry)) → length left ≡ 0 → wrote ++ map entries_of left ≡ goal → wrote ≡ goal
+  entries_taken [] wrote goal none so = sym (append-nil wrote) ∙ so
+  entries_taken (worker ∷ left) wrote goal none so = absurd (omega (arith, none))
+
+  pub all_taken : (left : List (WorkerFacts L)) (totals goal : WorkerTotals) → length left ≡ 0 → with_workers left totals ≡ goal → totals ≡ goal
+  all_taken [] totals goal none so = so
+  all_taken (worker ∷ left) totals goal none so = absurd (omega (arith, none))
+
+-- ---- all have ended
+
+module _ {D L : Type 0} where
+  -- the viewer has ended, where there is one
+  abbrev ViewerEnded : Option (ViewerFacts D L) → Type 0
+  ViewerEnded viewer = (one : ViewerFacts D L) → viewer ≡ Some one → viewer_has_ended one ≡ true
+
+module _ {D G N R L : Type 0} where
+  abbrev Ended : Roles D G N R L → Type 0
+  Ended role = IsTrue (has_ended role)
+
+  all_done : (crew : List (WorkerFacts L)) (viewer : Option (ViewerFacts D L)) → All Ended (map roles.Worker crew ++ viewers_of viewer)
+      → AllByRecursion (λ worker. is_done worker ≡ true) crew × ViewerEnded viewer
+  all_done [] None ended = (tt, λ one is. absurd (cc is))
+  all_done [] (Some viewer) ended = (
+    tt,
+    λ one is.
+        let same : viewer ≡ one = cc is in
+        subst (λ (v : ViewerFacts D L). viewer_has_ended v ≡ true) {y = one} same (All-head Ended (roles.Viewer viewer) [] ended),
+  )
+  all_done (worker ∷ crew) viewer ended =
+      let rest = all_done crew viewer (All-tail Ended (roles.Worker worker) (map roles.Worker crew ++ viewers_of viewer) ended) in
+      ((All-head Ended (roles.Worker worker) (map roles.Worker crew ++ viewers_of viewer) ended, rest.0), rest.1)
+
+  pub owner_done : (owner : OwnerFacts D L) (crew : List (WorkerFacts L)) (viewer : Option (ViewerFacts D L)) (back : List (Roles D G N R L)) → back ≡ roles_of owner crew viewer → All (λ role. IsTrue (has_ended role)) back
+      → owner_has_ended owner ≡ true
+  owner_done owner crew viewer back are ended =
+      All-head Ended (roles.Owner owner) (map roles.Worker crew ++ viewers_of viewer)
+      (subst (λ (xs : List (Roles D G N R L)). All (λ role. IsTrue (has_ended role)) xs) are ended)
+
+  others_done : (owner : OwnerFacts D L) (crew : List (WorkerFacts L)) (viewer : Option (ViewerFacts D L)) (back : List (Roles D G N R L)) → back ≡ roles_of owner crew viewer → All (λ role. IsTrue (has_ended role)) back
+      → AllByRecursion (λ worker. is_done worker ≡ true) crew × ViewerEnded viewer
+  others_done owner crew viewer back are ended =
+      all_done crew viewer (All-tail Ended (roles.Owner owner) (map roles.Worker crew ++ viewers_of viewer)
+      (subst (λ (xs : List (Roles D G N R L)). All (λ role. IsTrue (has_ended role)) xs) are ended))
+
+  pub crew_done : (owner : OwnerFacts D L) (crew : List (WorkerFacts L)) (viewer : Option (ViewerFacts D L)) (back : List (Roles D G N R L)) → back ≡ roles_of owner crew viewer → All (λ role. IsTrue (has_ended role)) back
+      → AllByRecursion (λ worker. is_done worker ≡ true) crew
+  crew_done owner crew viewer back are ended = (others_done owner crew viewer back are ended).0
+
+  pub viewer_done : (owner : OwnerFacts D L) (crew : List (WorkerFacts L)) (viewer : Option (ViewerFacts D L)) (back : List (Roles D G N R L)) → back ≡ roles_of owner crew viewer → All (λ role. IsTrue (has_ended role)) back
+      → (one : ViewerFacts D L) → viewer ≡ Some one → viewer_has_ended one ≡ true
+  viewer_done owner crew viewer back are ended = (others_done owner crew viewer back are ended).1
+
+-- there is a list of each worker
+pub as_many_lists : {D L : Type 0} (facts : L → LinkFacts) (door_facts : D → DoorFacts) (opening : Opening) (door : D) (journal : Bool) (connections workers : ℕ) (owner : OwnerFacts D L) (crew : List (WorkerFacts L))
+    (lists : List (List WorkerEntry)) → lists ≡ map entries_of crew → HaveTurned facts door_facts opening door journal connections workers owner crew → length lists ≡ workers
+as_many_lists facts door_facts opening door journal connections workers owner crew lists is turned =
+    ap (λ (ls : List (List WorkerEntry)). length ls) is ∙ length-map crew entries_of
+    ∙ AllZip-long (TurnsLead (WorkerTurned facts opening)) turned.first_crew crew turned.crew_turned
+    ∙ turned.begun.crew_begins.many

@@ -1,0 +1,11 @@
+use Rattle.std.proofs.Common.{◌≡◌, ◌≤◌, ◌+◌, ◌++◌, ◌∷◌, length, map}
+use Rattle.std.specs.Vec.{vec_capacity}
+use Rattle.std.specs.Vec.Iter.{into_iter_items, into_iter_len}
+use Rattle.mum_serve.specs.declared.roles.Roles.TheVariants as kinds
+use Rattle.mum_serve.proofs.roles.together.Given as goal
+
+abbrev pub invariant-loop-worker : goal.invariant-loop-worker
+invariant-loop-worker g l =
+    (l.roles.items ++ map kinds.Worker (into_iter_items l.worker-iterator) ≡ kinds.Owner l.fn.owner ∷ map kinds.Worker l.fn.workers.items)
+    × (into_iter_len l.worker-iterator ≡ length (into_iter_items l.worker-iterator))
+    × (length l.roles.items + length (into_iter_items l.worker-iterator) + 1 ≤ vec_capacity l.roles)

@@ -18,3 +18,4 @@ pub mod Takings
 pub mod Turns
 pub mod Alike
 mod ServeWords
+mod StandardFacts

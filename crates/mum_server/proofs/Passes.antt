@@ -7,7 +7,7 @@ use Rattle.mum_record.specs.declared.journal.Journal.{Journal}
 use Rattle.mum_audit.specs.Audit.{answer, audited, findings, first_line, first_wrong}
 use Rattle.mum_audit.specs.Legal.{IsLegal}
 use Rattle.mum_audit.proofs.Law.{from_legal, legal_from}
-use Rattle.mum_server.specs.Audit.{answered, audit_of, found, judged, judged_with}
+use Rattle.mum_server.specs.Audit.{answered, audit_of, found, judged_with}
 use Rattle.mum_server.specs.JournalText.{journal_read}
 use Rattle.mum_server.specs.Replay.{Outcome}
 use Rattle.mum_server.specs.declared.end.End.TheVariants.{Finished}

@@ -1,11 +1,14 @@
 -- What the words of the command line ask for.
-use Rattle.std.specs.Prelude.{◌≡◌, ℕ, ◌^◌, ◌<◌, ◌≤◌, Bool, true, false, List, [], ◌∷◌, Option, Some, None, codes, decimal}
 use Rattle.std.specs.Borrow.{Bor}
-use Rattle.mum_record.specs.Words.{number_within}
+use Rattle.std.specs.Option.{option_map, option_map_or}
+use Rattle.std.specs.Prelude.{◌≡◌, ℕ, ◌^◌, ◌<◌, ◌≤◌, Bool, true, false, List, [], ◌∷◌, ◌++◌, IfSome, Option, Some, None, codes, decimal}
+use Rattle.mum_serve.specs.Asked.{Service, ViewService, service, view_service}
+use Rattle.mum_serve.specs.declared.asked.Asked.{Asked}
+use Rattle.mum_serve.specs.declared.asked.ViewAsked.{ViewAsked}
 use Rattle.mum_server.specs.declared.command.Command.{Command}
-use Rattle.mum_server.specs.declared.command.ServeCommand.{ServeCommand}
+use Rattle.mum_server.specs.declared.command.Tail.{Tail}
 use Rattle.mum_server.specs.declared.command.Command.TheVariants.{Replay, Audit, Exercise}
-use Rattle.mum_server.specs.declared.command.TheConstants.{CONNECTIONS_LIMIT, ROUNDS_LIMIT}
+use Rattle.mum_server.specs.declared.command.TheConstants.{CONNECTIONS_LIMIT, ROUNDS_LIMIT, VIEWS_LIMIT}
 
 abbrev pub replay_words : List (List ℕ)
 replay_words = codes "replay" ∷ []
@@ -32,30 +35,37 @@ abbrev pub journal_words : Bool → List (List ℕ)
 journal_words false = []
 journal_words true = codes "journal" ∷ []
 
--- the words ask for a run that serves this many connections at an address, which is not empty, and that writes a journal
--- or none. The number is in decimal and without leading zeros
-pub record IsServe (words : List (List ℕ)) (address : List ℕ) (connections : ℕ) (journal : Bool) : Type 0 where
-  pub number : List ℕ
-  pub words_are : words ≡ codes "serve" ∷ address ∷ number ∷ journal_words journal
-  pub named : address ≡ [] → ⊥
-  pub counted : number_within 1 CONNECTIONS_LIMIT number ≡ Some connections
+-- the words that ask for a second door, where one is asked for
+abbrev pub view_words : Option ViewService → List (List ℕ)
+view_words None = []
+view_words (Some view) = codes "view" ∷ view.address ∷ decimal view.views ∷ []
 
--- the same of the first three words one by one
-abbrev pub AsksServe : List ℕ → List ℕ → List ℕ → Option (Bor (List ℕ) × ℕ) → Type 0
-AsksServe name address number (Some asked) =
-    (name ≡ codes "serve") × (address ≡ [] → ⊥) × (asked.0.now ≡ address) × (number_within 1 CONNECTIONS_LIMIT number ≡ Some asked.1)
-AsksServe name address number None =
-    (connections : ℕ) → name ≡ codes "serve" → (address ≡ [] → ⊥) → number_within 1 CONNECTIONS_LIMIT number ≡ Some connections → ⊥
+-- the words of a run that serves; numbers are decimal without leading zeros
+abbrev pub serve_words : Service → List (List ℕ)
+serve_words asked = codes "serve" ∷ asked.address ∷ decimal asked.connections ∷ (journal_words asked.journal ++ view_words asked.view)
 
--- the run that three words ask for, with a journal or without one
-abbrev pub RunsAs : List ℕ → List ℕ → List ℕ → Bool → Option ServeCommand → Type 0
-RunsAs name address number journal (Some run) = AsksServe name address number (Some (run.address, run.connections)) × (run.journal ≡ journal)
-RunsAs name address number journal None = AsksServe name address number None
+-- a second door has an address, and gives some views
+pub record IsView (view : ViewService) : Type 0 where
+  pub named : view.address ≡ [] → ⊥
+  pub some : 1 ≤ view.views
+  pub within : view.views ≤ VIEWS_LIMIT
+
+-- the words ask for this run that serves: its door has an address, and gives some connections
+pub record IsServe (words : List (List ℕ)) (asked : Service) : Type 0 where
+  pub words_are : words ≡ serve_words asked
+  pub named : asked.address ≡ [] → ⊥
+  pub some : 1 ≤ asked.connections
+  pub within : asked.connections ≤ CONNECTIONS_LIMIT
+  pub view : IfSome asked.view IsView
 
 -- what a run that serves is asked for; or the words ask for no such run
-abbrev pub AsksRun : List (List ℕ) → Option ServeCommand → Type 0
-AsksRun words (Some run) = IsServe words run.address.now run.connections run.journal
-AsksRun words None = (address : List ℕ) (connections : ℕ) (journal : Bool) → IsServe words address connections journal → ⊥
+abbrev pub AsksRun : List (List ℕ) → Option Asked → Type 0
+AsksRun words (Some asked) = IsServe words (service asked)
+AsksRun words None = (asked : Service) → IsServe words asked → ⊥
+
+-- how many roles follow the workers of such a run
+abbrev pub later_roles : Service → ℕ
+later_roles asked = option_map_or (λ view. 1) asked.view 0
 
 -- the words ask for nothing of what is done without a door
 pub record IsNoCommand (words : List (List ℕ)) : Type 0 where
@@ -68,3 +78,33 @@ Asks words (Some Replay) = words ≡ replay_words
 Asks words (Some Audit) = words ≡ audit_words
 Asks words (Some (Exercise seed rounds)) = IsExercise words seed rounds
 Asks words None = IsNoCommand words
+
+-- ---- in the code
+
+-- three words are this name, an address, and a number from 1 to the limit
+pub record IsDoor (name : List ℕ) (limit : ℕ) (word address number : List ℕ) (count : ℕ) : Type 0 where
+  pub name_is : word ≡ name
+  pub named : address ≡ [] → ⊥
+  pub number_is : number ≡ decimal count
+  pub some : 1 ≤ count
+  pub within : count ≤ limit
+
+-- the address and the number of a door under this name; or three words are no such door
+abbrev pub AsksDoor : List ℕ → ℕ → List ℕ → List ℕ → List ℕ → Option (Bor (List ℕ) × ℕ) → Type 0
+AsksDoor name limit word address number (Some door) = (door.0.now ≡ address) × IsDoor name limit word address number door.1
+AsksDoor name limit word address number None = (count : ℕ) → IsDoor name limit word address number count → ⊥
+
+-- the door for views that words ask for; or they ask for none
+abbrev pub AsksView : List (List ℕ) → Option ViewAsked → Type 0
+AsksView words (Some asked) = (words ≡ view_words (Some (view_service asked))) × IsView (view_service asked)
+AsksView words None = (view : ViewService) → words ≡ view_words (Some view) → IsView view → ⊥
+
+-- words that follow the number of connections ask for this
+pub record IsTail (words : List (List ℕ)) (journal : Bool) (view : Option ViewService) : Type 0 where
+  pub words_are : words ≡ journal_words journal ++ view_words view
+  pub views : IfSome view IsView
+
+-- what they ask for; or they are no such words
+abbrev pub AsksTail : List (List ℕ) → Option Tail → Type 0
+AsksTail words (Some tail) = IsTail words tail.journal (option_map view_service tail.view)
+AsksTail words None = (journal : Bool) (view : Option ViewService) → IsTail words journal view → ⊥

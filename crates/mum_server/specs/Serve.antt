@@ -1,15 +1,15 @@
 -- What a run that serves answers and says.
-use Rattle.std.specs.Prelude.{◌≡◌, ⊤, ℕ, Bool, List, [], ◌∷◌, ◌++◌, codes, Option, Some, None}
+use Rattle.std.specs.Prelude.{◌≡◌, ◌⊎◌, ℕ, List, [], ◌∷◌, ◌++◌, codes, Option, Some}
 use Rattle.mum_crew.specs.Crew.{CrewCounts}
-use Rattle.mum_io.specs.Counts.{Counts, Rose}
+use Rattle.mum_io.specs.Counts.{Rose}
 use Rattle.mum_io.specs.Link.{LinkFacts}
 use Rattle.mum_io.specs.Door.{DoorFacts}
+use Rattle.mum_serve.specs.Asked.{Lent, Service}
 use Rattle.mum_serve.specs.Program.{EndsAt, ReadsCounted, RunsInCrew, WritesCounted}
 use Rattle.mum_serve.specs.declared.program.ServerEnd.{ServerEnd}
 use Rattle.mum_serve.specs.declared.program.ServerEnd.TheVariants as ends
 use Rattle.mum_server.specs.Plain.{InputFacts, SinkFacts}
 use Rattle.mum_server.specs.Program.{Reports, Tells}
-use Rattle.mum_server.specs.declared.end.End.{End}
 use Rattle.mum_server.specs.declared.end.End.TheVariants.{Finished, Faulty, ReadFault, WriteFault, OutOfMemory}
 use Rattle.mum_server.specs.declared.end.LineFault.TheVariants.{BadConfig, AuditWrong}
 
@@ -35,12 +35,15 @@ abbrev pub DoorFailed : {D : Type 0} → (D → DoorFacts) → Option D → Opti
 DoorFailed door_facts (Some door) (Some left) = Rose (door_facts door).counts.faults (door_facts left).counts.faults
 DoorFailed door_facts door left = ⊥
 
+-- those of one of the doors did
+abbrev pub OneFailed : {D : Type 0} → (D → DoorFacts) → Lent D → Lent D → Type 0
+OneFailed door_facts doors left = DoorFailed door_facts doors.door left.door ⊎ DoorFailed door_facts doors.view left.view
+
 module _ {D L : Type 0} (facts : L → LinkFacts) (door_facts : D → DoorFacts) where
-  -- a server was run at this address for this many connections, with a journal or without one: how it ended, and what was
-  -- answered and said of that
-  pub record RunsServer (address : List ℕ) (connections : ℕ) (journal : Bool) (input input_after : InputFacts) (output output_after errors errors_after : SinkFacts) (door left : Option D) (crew crew_after : CrewCounts) (status : ℕ) : Type 0 where
+  -- a server was run that was asked to do this: how it ended, and what was answered and said of that
+  pub record RunsServer (asked : Service) (input input_after : InputFacts) (output output_after errors errors_after : SinkFacts) (doors left : Lent D) (crew crew_after : CrewCounts) (status : ℕ) : Type 0 where
     pub end : ServerEnd
-    pub ends : EndsAt facts door_facts address journal connections input.left end door left output.written output_after.written crew crew_after
+    pub ends : EndsAt facts door_facts asked input.left end doors left output.written output_after.written crew crew_after
     pub runs : RunsInCrew end crew crew_after
     pub reads : ReadsCounted end input.faults input_after.faults
     pub writes : WritesCounted end output.faults output_after.faults

@@ -4,7 +4,9 @@ ghost use Rattle.std.specs.Prelude.{◌≡◌, ◌≤◌, ◌<◌, ◌∷◌, []
 ghost use Rattle.mum_fields.specs.Table.{spelled};
 ghost use Rattle.mum_frame.specs.Frame.{IsOneFrame, spelling_of};
 ghost use Rattle.mum_frame.specs.declared.frame.TheConstants.{PAYLOAD_LIMIT};
-ghost use Rattle.mum_server.specs.Acts.{aiming, blank_channel, blank_user, channel_frame, entering, linking, listening, login, login_frame, packet_bytes, self_muting, target_frame, user_frame, user_name, voice_frame};
+ghost use Rattle.mum_server.specs.Acts.{aiming, blank_channel, blank_user, channel_frame, entering, linking};
+ghost use Rattle.mum_server.specs.Acts.{listening, login, login_frame, packet_bytes, self_muting, target_frame};
+ghost use Rattle.mum_server.specs.Acts.{user_frame, user_name, voice_frame};
 
 use mum_base::{ChannelId, Items, Octets, OutOfMemory, Text};
 use mum_frame::kind::{AUTHENTICATE, CHANNEL_STATE, UDP_TUNNEL, USER_STATE, VOICE_TARGET};

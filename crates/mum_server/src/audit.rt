@@ -28,7 +28,8 @@ fn counts_line(
     copies: u64,
     full: u64,
 ) -> Result<String, OutOfMemory>
-    ensures { IfOk result (λ line. string_bytes line ≡ line_of_words (counts_words controls voices copies full) ++ 10 ∷ []) }
+    ensures { IfOk result (λ line. string_bytes line ≡ line_of_words (counts_words controls voices copies full) ++ 10
+        ∷ []) }
 {
     let words = [
         Word::Name("controls"),
@@ -112,7 +113,8 @@ fn judge(alloc: Global, journal: &Journal) -> Result<String, End>
 
 // Writes the line of a journal.
 fn write_line<O: Sink>(output: &mut O, line: &str) -> End
-    ensures ends { Ends (record { text = line.now; ending = End.Finished }) result (O.written output.old) (O.written output.new) }
+    ensures ends { Ends (record { text = line.now; ending = End.Finished }) result (O.written output.old)
+        (O.written output.new) }
     ensures writes { WritesCounted result (O.faults output.old) (O.faults output.new) }
     ensures no_read { result ≡ End.ReadFault → ⊥ }
 {
@@ -124,7 +126,8 @@ fn write_line<O: Sink>(output: &mut O, line: &str) -> End
 
 /// Reads a journal, and writes the counts of its audit.
 pub(crate) fn audit_input<I: Source, O: Sink>(alloc: Global, input: &mut I, output: &mut O) -> End
-    ensures ends { IfSome (I.left input.old) (λ bytes. Ends (audit_of bytes) result (O.written output.old) (O.written output.new)) }
+    ensures ends { IfSome (I.left input.old) (λ bytes. Ends (audit_of bytes) result (O.written output.old)
+        (O.written output.new)) }
     ensures reads { ReadsCounted result (I.faults input.old) (I.faults input.new) }
     ensures writes { WritesCounted result (O.faults output.old) (O.faults output.new) }
 {

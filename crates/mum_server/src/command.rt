@@ -1,15 +1,21 @@
 //! What the words of the command line ask for.
 
-ghost use Rattle.std.specs.Prelude.{◌≡◌, ◌↔◌, ◌<◌, ℕ, IfSome, IsTrue, List, MatchOption, codes, map, string_bytes};
-ghost use Rattle.mum_server.specs.Command.{Asks, AsksRun, AsksServe, BeginsWithServe, IsExercise, RunsAs, audit_words, replay_words};
+ghost use Rattle.std.specs.Prelude.{◌≡◌, ◌↔◌, ◌<◌, ◌∷◌, ◌^◌, [], ℕ, IfSome, IsTrue, MatchOption, map, string_bytes};
+ghost use Rattle.mum_serve.specs.Asked.{Service};
+ghost use Rattle.mum_server.specs.Command.{Asks, AsksDoor, AsksRun, AsksTail, AsksView, BeginsWithServe, IsExercise};
+ghost use Rattle.mum_server.specs.Command.{IsServe, audit_words, later_roles, replay_words};
 
 use mum_record::number_within;
+use mum_serve::{Asked, ViewAsked};
 
 /// The most rounds of an exercise.
 pub const ROUNDS_LIMIT: u64 = 200_000;
 
 /// The most connections of a run that serves.
 pub const CONNECTIONS_LIMIT: u64 = 1_000_000;
+
+/// The most views of a run that serves.
+pub const VIEWS_LIMIT: u64 = 1_000_000;
 
 /// What the program is to do, where it does not serve.
 #[derive(Clone, Copy)]
@@ -20,16 +26,6 @@ pub enum Command {
     Audit,
     /// Run the exercise of a seed, of so many rounds, and write a line of what came of it.
     Exercise { seed: u64, rounds: u32 },
-}
-
-/// What a run that serves is asked for.
-#[derive(Clone, Copy)]
-pub(crate) struct ServeCommand<'a> {
-    pub(crate) address: &'a str,
-    /// How many connections there are in all.
-    pub(crate) connections: u32,
-    /// Whether a journal is written.
-    pub(crate) journal: bool,
 }
 
 fn is_word(word: &str, name: &str) -> bool
@@ -98,51 +94,114 @@ pub(crate) fn begins_with_serve(words: &[String]) -> bool
     }
 }
 
-// The address and the number of connections that these three words ask for, if they ask to serve.
-fn serve_of<'a>(name: &str, address: &'a str, number: &str) -> Option<(&'a str, u32)>
-    ensures asked { AsksServe name.now address.now number.now result }
-    ensures some { IfSome result (λ asked. 0 < asked.1) }
-    ensures limit { CONNECTIONS_LIMIT ≡ 1000000 }
+// The address and the number that these three words give, if the first is this name, the address is not empty and the
+// number is from 1 to the limit.
+fn door_of<'a>(
+    name: &str,
+    limit: u64,
+    word: &str,
+    address: &'a str,
+    number: &str,
+) -> Option<(&'a str, u32)>
+    requires { limit < 2 ^ 32 }
+    ensures { AsksDoor name.now limit word.now address.now number.now result }
 {
-    if !is_word(name, "serve") {
+    if !is_word(word, name) {
         return None;
     }
     if address.is_empty() {
         return None;
     }
-    let connections = number_within(1, CONNECTIONS_LIMIT, number)?;
-    Some((address, connections as u32))
+    let number = number_within(1, limit, number)?;
+    Some((address, number as u32))
 }
 
-// The run that these words ask for, if they do, with a journal or without one.
-fn run_of<'a>(name: &str, address: &'a str, number: &str, journal: bool) -> Option<ServeCommand<'a>>
-    ensures run { RunsAs name.now address.now number.now journal result }
-    ensures some { IfSome result (λ run. 0 < run.connections) }
+// The door for views that these three words ask for, if they do.
+fn view_of<'a>(word: &str, address: &'a str, number: &str) -> Option<ViewAsked<'a>>
+    ensures { AsksView (word.now ∷ address.now ∷ number.now ∷ []) result }
 {
-    let (address, connections) = serve_of(name, address, number)?;
-    Some(ServeCommand {
-        address,
-        connections,
-        journal,
-    })
+    let (address, views) = door_of("view", VIEWS_LIMIT, word, address, number)?;
+    Some(ViewAsked { address, views })
+}
+
+// What follows the number of connections.
+#[derive(Clone, Copy)]
+struct Tail<'a> {
+    journal: bool,
+    view: Option<ViewAsked<'a>>,
+}
+
+// What the words behind the number of connections ask for.
+fn tail_of(words: &[String]) -> Option<Tail<'_>>
+    ensures { AsksTail (map string_bytes words.now) result }
+{
+    match words {
+        [] => Some(Tail {
+            journal: false,
+            view: None,
+        }),
+        [journal] => {
+            if !is_word(journal.as_str(), "journal") {
+                return None;
+            }
+            Some(Tail {
+                journal: true,
+                view: None,
+            })
+        }
+        [view, address, number] => {
+            let view = view_of(view.as_str(), address.as_str(), number.as_str())?;
+            Some(Tail {
+                journal: false,
+                view: Some(view),
+            })
+        }
+        [journal, view, address, number] => {
+            if !is_word(journal.as_str(), "journal") {
+                return None;
+            }
+            let view = view_of(view.as_str(), address.as_str(), number.as_str())?;
+            Some(Tail {
+                journal: true,
+                view: Some(view),
+            })
+        }
+        _ => None,
+    }
 }
 
 /// What a run that serves is asked for, where the words ask for one.
-pub(crate) fn serve_in(words: &[String]) -> Option<ServeCommand<'_>>
+pub(crate) fn serve_in(words: &[String]) -> Option<Asked<'_>>
     ensures asked { AsksRun (map string_bytes words.now) result }
-    ensures some { IfSome result (λ run. 0 < run.connections) }
+    ensures some { IfSome result (λ asked. 0 < asked.connections) }
+    ensures views { IfSome result (λ asked. IfSome asked.view (λ view. 0 < view.views)) }
 {
-    match words {
-        [name, address, number] => {
-            run_of(name.as_str(), address.as_str(), number.as_str(), false)
-        }
-        [name, address, number, last] => {
-            if is_word(last.as_str(), "journal") {
-                run_of(name.as_str(), address.as_str(), number.as_str(), true)
-            } else {
-                None
-            }
-        }
-        _ => None,
+    let [name, address, number, tail @ ..] = words else {
+        return None;
+    };
+    let (address, connections) = door_of(
+        "serve",
+        CONNECTIONS_LIMIT,
+        name.as_str(),
+        address.as_str(),
+        number.as_str(),
+    )?;
+    let Tail { journal, view } = tail_of(tail)?;
+    Some(Asked {
+        address,
+        connections,
+        journal,
+        view,
+    })
+}
+
+/// How many roles follow the workers of the run that the words ask for: one where it shows views, else none.
+pub fn later_roles(words: &[String]) -> usize
+    ensures served { (asked : Service) → IsServe (map string_bytes words.now) asked → result ≡ later_roles asked }
+    ensures other { ((asked : Service) → IsServe (map string_bytes words.now) asked → ⊥) → result ≡ 0 }
+{
+    match serve_in(words) {
+        Some(Asked { view: Some(_), .. }) => 1,
+        _ => 0,
     }
 }

@@ -164,7 +164,8 @@ impl LineFault {
 
     /// Appends where this fault of line `n` is, and what it is about.
     fn push_details(&self, alloc: Global, text: &mut String, n: u64) -> Result<(), OutOfMemory>
-        ensures { IfOk result (λ _. string_bytes text.new ≡ string_bytes text.old ++ flat_map behind_word (details n self.now)) }
+        ensures { IfOk result (λ _. string_bytes text.new ≡ string_bytes text.old ++ flat_map behind_word
+            (details n self.now)) }
     {
         match self {
             LineFault::TooLong => push_place(alloc, text, n),
@@ -184,7 +185,8 @@ impl LineFault {
 
     /// Appends what is said of this fault of line `n`, with its line feed.
     pub(crate) fn push(&self, alloc: Global, text: &mut String, n: u64) -> Result<(), OutOfMemory>
-        ensures { IfOk result (λ _. string_bytes text.new ≡ string_bytes text.old ++ (line_of_words (fault_words n self.now) ++ 10 ∷ [])) }
+        ensures { IfOk result (λ _. string_bytes text.new ≡ string_bytes text.old
+            ++ (line_of_words (fault_words n self.now) ++ 10 ∷ [])) }
     {
         let words = [
             Word::Number(u64::from(self.status())),

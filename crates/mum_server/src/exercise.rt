@@ -2,7 +2,8 @@
 //! reaches and who is told of an edit is known only once the steps before were taken, so the steps are taken
 //! while they are drawn.
 
-ghost use Rattle.std.specs.Prelude.{◌≡◌, ◌<◌, ◌^◌, ◌++◌, ◌∷◌, [], ℕ, IfOk, IfSome, None, OnOk, length, map, replicate, slice_index, string_bytes};
+ghost use Rattle.std.specs.Prelude.{◌≡◌, ◌<◌, ◌^◌, ◌++◌, ◌∷◌, [], ℕ, IfOk, IfSome, None, OnOk, length, map};
+ghost use Rattle.std.specs.Prelude.{replicate, slice_index, string_bytes};
 ghost use Rattle.std.specs.List.{flat_map};
 ghost use Rattle.mum_frame.specs.Frame.{IsOneFrame};
 ghost use Rattle.mum_record.specs.Grammar.{IsRecordable};
@@ -10,7 +11,9 @@ ghost use Rattle.mum_record.specs.Words.{line_of_words};
 ghost use Rattle.mum_record.specs.declared.head.Version.TheVariants.{One};
 ghost use Rattle.mum_record.specs.declared.step.Step.TheVariants.{Collect, Drain, Frame, Offer, Post};
 ghost use Rattle.mum_core.specs.Core.{start, worker_at};
-ghost use Rattle.mum_server.specs.Exercise.{IsAlike, account, all_taken, answered, begun, commanded, delivered, document, exercised, informed, joined, joins, note, numbers_words, played, progress, spoken, taken, worker_of};
+ghost use Rattle.mum_server.specs.Exercise.{IsAlike, account, all_taken, answered, begun, commanded, delivered};
+ghost use Rattle.mum_server.specs.Exercise.{document, exercised, informed, joined, joins, note, numbers_words};
+ghost use Rattle.mum_server.specs.Exercise.{played, progress, spoken, taken, worker_of};
 ghost use Rattle.mum_opening.specs.Opening.{document_fault, opening};
 ghost use Rattle.mum_server.specs.declared.draws.Act.TheVariants.{Talk};
 
@@ -149,7 +152,8 @@ impl Course {
 
     /// Posts a notice for each of these sessions, and lets it collect.
     fn bring_each(&mut self, recipients: &[SessionId]) -> Result<(), OutOfMemory>
-        ensures { OnOk result (self.new ≡ all_taken self.old (flat_map (λ session. Post ∷ Collect session.0 ∷ []) recipients.now)) }
+        ensures { OnOk result (self.new ≡ all_taken self.old
+            (flat_map (λ session. Post ∷ Collect session.0 ∷ []) recipients.now)) }
     {
         for session in recipients {
             self.bring(session.0)?;
@@ -227,7 +231,8 @@ impl Course {
 
     /// Each of these sessions drains a copy.
     fn drain_each(&mut self, audience: &[SessionId]) -> Result<(), OutOfMemory>
-        ensures { OnOk result (self.new ≡ all_taken self.old (flat_map (λ session. Drain session.0 ∷ []) audience.now)) }
+        ensures { OnOk result (self.new ≡ all_taken self.old
+            (flat_map (λ session. Drain session.0 ∷ []) audience.now)) }
     {
         for session in audience {
             self.drain(session.0)?;
@@ -237,7 +242,8 @@ impl Course {
 
     /// For whom the copies are that a worker has.
     fn audience(&self, worker: u32) -> Result<Vec<SessionId>, OutOfMemory>
-        ensures { IfOk result (λ sessions. sessions.items ≡ map (λ copy. copy.to) (worker_at self.now.core worker).copies) }
+        ensures { IfOk result (λ sessions. sessions.items ≡ map (λ copy. copy.to)
+            (worker_at self.now.core worker).copies) }
     {
         self.core.recipients(worker)
     }
@@ -413,7 +419,8 @@ fn account_of(
     tally: Tally,
     totals: Totals,
 ) -> Result<String, OutOfMemory>
-    ensures { IfOk result (λ line. string_bytes line ≡ line_of_words (numbers_words seed rounds tally totals) ++ 10 ∷ []) }
+    ensures { IfOk result (λ line. string_bytes line ≡ line_of_words (numbers_words seed rounds tally totals) ++ 10
+        ∷ []) }
 {
     let words = [
         Word::Name("seed"),

@@ -16,6 +16,7 @@ mod replay;
 mod tally;
 mod top;
 
+pub use command::later_roles;
 pub use draws::{Act, Draws, Round, USERS};
 pub use exercise::{DOCUMENT, WORKERS, generate};
 pub use mum_record::{INPUT_LIMIT, LINE_LIMIT, text_limits};

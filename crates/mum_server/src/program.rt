@@ -7,7 +7,8 @@ ghost use Rattle.mum_server.specs.Audit.{audit_of};
 ghost use Rattle.mum_server.specs.Command.{IsExercise, IsNoCommand, audit_words, replay_words};
 ghost use Rattle.mum_server.specs.End.{memory_line, read_fault_line, said, said_of, statuses, write_fault_line};
 ghost use Rattle.mum_server.specs.Exercise.{exercise_outcome};
-ghost use Rattle.mum_server.specs.Program.{IsWhole, IsCutShort, Tells, Ends, ReadsCounted, WritesCounted, Reports, outcome_of, usage_line};
+ghost use Rattle.mum_server.specs.Program.{IsWhole, IsCutShort, Tells, Ends, ReadsCounted, WritesCounted, Reports};
+ghost use Rattle.mum_server.specs.Program.{outcome_of, usage_line};
 ghost use Rattle.mum_server.specs.Replay.{replayed};
 ghost use Rattle.mum_server.specs.declared.command.Command.TheVariants.{Exercise};
 ghost use Rattle.mum_server.specs.declared.end.End.TheVariants.{Faulty};
@@ -21,7 +22,7 @@ use mum_io::{Sink, Source, write_all};
 use std::alloc::Global;
 
 pub(crate) const USAGE_LINE: &str =
-    "usage: murmur replay | audit | exercise SEED STEPS | serve ADDRESS SESSIONS [journal]\n";
+    "usage: murmur replay | audit | exercise SEED STEPS | serve ADDRESS SESSIONS [journal] [view ADDRESS VIEWS]\n";
 
 /// Runs an exercise, and writes the line of what came of it.
 fn run_exercise<O: Sink>(alloc: Global, seed: u64, rounds: u32, output: &mut O) -> End
@@ -40,10 +41,12 @@ fn run_exercise<O: Sink>(alloc: Global, seed: u64, rounds: u32, output: &mut O) 
 
 /// Runs what a command asks for. An exercise leaves the input alone.
 fn run<I: Source, O: Sink>(alloc: Global, command: Command, input: &mut I, output: &mut O) -> End
-    ensures ends { IfSome (outcome_of command (I.left input.old)) (λ outcome. Ends outcome result (O.written output.old) (O.written output.new)) }
+    ensures ends { IfSome (outcome_of command (I.left input.old))
+        (λ outcome. Ends outcome result (O.written output.old) (O.written output.new)) }
     ensures reads { ReadsCounted result (I.faults input.old) (I.faults input.new) }
     ensures writes { WritesCounted result (O.faults output.old) (O.faults output.new) }
-    ensures untouched { (seed rounds : ℕ) → command ≡ Exercise seed rounds → (input.new ≡ input.old) × (result ≡ End.ReadFault → ⊥) }
+    ensures untouched { (seed rounds : ℕ) → command ≡ Exercise seed rounds → (input.new ≡ input.old)
+        × (result ≡ End.ReadFault → ⊥) }
 {
     match command {
         Command::Replay => replay(alloc, input, output),
@@ -54,7 +57,8 @@ fn run<I: Source, O: Sink>(alloc: Global, command: Command, input: &mut I, outpu
 
 /// Writes a line to the error stream, as far as that takes it.
 pub(crate) fn say<E: Sink>(errors: &mut E, line: &str)
-    ensures { Tells line.now (E.written errors.old) (E.written errors.new) (Rose (E.faults errors.old) (E.faults errors.new)) }
+    ensures { Tells line.now (E.written errors.old) (E.written errors.new)
+        (Rose (E.faults errors.old) (E.faults errors.new)) }
 {
     let _ = write_all(errors, line.as_bytes());
 }
@@ -62,7 +66,8 @@ pub(crate) fn say<E: Sink>(errors: &mut E, line: &str)
 /// Says that memory ran out, and gives the status of it. It takes no memory.
 pub fn out_of_memory<E: Sink>(errors: &mut E) -> u8
     ensures status { result ≡ 70 }
-    ensures says { Tells memory_line (E.written errors.old) (E.written errors.new) (Rose (E.faults errors.old) (E.faults errors.new)) }
+    ensures says { Tells memory_line (E.written errors.old) (E.written errors.new)
+        (Rose (E.faults errors.old) (E.faults errors.new)) }
 {
     say(errors, MEMORY_LINE);
     70
@@ -70,7 +75,8 @@ pub fn out_of_memory<E: Sink>(errors: &mut E) -> u8
 
 /// Says what is wrong with a line, and gives the status of it, or that of want of memory.
 fn report_fault<E: Sink>(alloc: Global, n: u64, fault: &LineFault, errors: &mut E) -> u8
-    ensures { Reports (Faulty n fault.now) result (E.written errors.old) (E.written errors.new) (Rose (E.faults errors.old) (E.faults errors.new)) }
+    ensures { Reports (Faulty n fault.now) result (E.written errors.old) (E.written errors.new)
+        (Rose (E.faults errors.old) (E.faults errors.new)) }
 {
     let mut text = String::new(alloc);
     if fault.push(alloc, &mut text, n).is_err() {
@@ -82,7 +88,8 @@ fn report_fault<E: Sink>(alloc: Global, n: u64, fault: &LineFault, errors: &mut 
 
 /// Says how the run ended, and gives its status. Only the line of a fault takes memory.
 pub(crate) fn report<E: Sink>(alloc: Global, end: &End, errors: &mut E) -> u8
-    ensures { Reports end.now result (E.written errors.old) (E.written errors.new) (Rose (E.faults errors.old) (E.faults errors.new)) }
+    ensures { Reports end.now result (E.written errors.old) (E.written errors.new)
+        (Rose (E.faults errors.old) (E.faults errors.new)) }
 {
     match end {
         End::Finished => {
@@ -102,10 +109,10 @@ pub(crate) fn report<E: Sink>(alloc: Global, end: &End, errors: &mut E) -> u8
     }
 }
 
-/// The program without `serve`. `replay` reads a recording from the input and writes its transcript to the
-/// output; `audit` reads a journal and writes one line of counts where it is legal; `exercise SEED STEPS` runs a session that is drawn from a seed, and writes one line of what came of
-/// it. What goes wrong is said in one line on the error stream, and the exit status tells it. Other words are
-/// answered by the usage line.
+/// The program without `serve`. `replay` reads a recording from the input and writes its transcript to the output;
+/// `audit` reads a journal and writes one line of counts where it is legal; `exercise SEED STEPS` runs a session that is
+/// drawn from a seed, and writes one line of what came of it. What goes wrong is said in one line on the error stream,
+/// and the exit status says it. Other words are answered by the usage line.
 pub fn run_plain<I: Source, O: Sink, E: Sink>(
     alloc: Global,
     words: &[String],
@@ -118,17 +125,21 @@ pub fn run_plain<I: Source, O: Sink, E: Sink>(
     ensures replay { map string_bytes words.now ≡ replay_words → IfSome (I.left input.old) (λ bytes.
         IsWhole (replayed bytes) result (O.written output.old) (O.written output.new)
         ⊎ (AppendsFront (O.written output.old) (O.written output.new) (replayed bytes).text
-        × IsCutShort result (Rose (I.faults input.old) (I.faults input.new)) (Rose (O.faults output.old) (O.faults output.new)))) }
+        × IsCutShort result (Rose (I.faults input.old) (I.faults input.new))
+        (Rose (O.faults output.old) (O.faults output.new)))) }
     // The line of that status is said.
     ensures says { map string_bytes words.now ≡ replay_words → IfSome (I.left input.old) (λ bytes.
-        Tells (said result (replayed bytes).ending) (E.written errors.old) (E.written errors.new) (Rose (E.faults errors.old) (E.faults errors.new))) }
+        Tells (said result (replayed bytes).ending) (E.written errors.old) (E.written errors.new)
+        (Rose (E.faults errors.old) (E.faults errors.new))) }
     // The counts of a legal journal are written, or the status is that of its first fault, or the run is cut short.
     ensures audit { map string_bytes words.now ≡ audit_words → IfSome (I.left input.old) (λ bytes.
         IsWhole (audit_of bytes) result (O.written output.old) (O.written output.new)
         ⊎ (AppendsFront (O.written output.old) (O.written output.new) (audit_of bytes).text
-        × IsCutShort result (Rose (I.faults input.old) (I.faults input.new)) (Rose (O.faults output.old) (O.faults output.new)))) }
+        × IsCutShort result (Rose (I.faults input.old) (I.faults input.new))
+        (Rose (O.faults output.old) (O.faults output.new)))) }
     ensures audit_says { map string_bytes words.now ≡ audit_words → IfSome (I.left input.old) (λ bytes.
-        Tells (said result (audit_of bytes).ending) (E.written errors.old) (E.written errors.new) (Rose (E.faults errors.old) (E.faults errors.new))) }
+        Tells (said result (audit_of bytes).ending) (E.written errors.old) (E.written errors.new)
+        (Rose (E.faults errors.old) (E.faults errors.new))) }
     // An exercise reads nothing. Its line is written and the status is 0, or it is cut short by a write
     // that failed or by want of memory.
     ensures exercise { (seed rounds : ℕ) → IsExercise (map string_bytes words.now) seed rounds →
@@ -143,8 +154,10 @@ pub fn run_plain<I: Source, O: Sink, E: Sink>(
     ensures read_fault { result ≡ 3 → Rose (I.faults input.old) (I.faults input.new) }
     ensures write_fault { result ≡ 4 → Rose (O.faults output.old) (O.faults output.new) }
     // Other words are no command: nothing is read, and nothing but the usage is written.
-    ensures usage { IsNoCommand (map string_bytes words.now) → (result ≡ 1) × (input.new ≡ input.old) × (output.new ≡ output.old)
-        × Tells usage_line (E.written errors.old) (E.written errors.new) (Rose (E.faults errors.old) (E.faults errors.new)) }
+    ensures usage { IsNoCommand (map string_bytes words.now) → (result ≡ 1) × (input.new ≡ input.old)
+        × (output.new ≡ output.old)
+        × Tells usage_line (E.written errors.old) (E.written errors.new)
+        (Rose (E.faults errors.old) (E.faults errors.new)) }
     // And the usage is for other words alone.
     ensures usage_alone { result ≡ 1 → IsNoCommand (map string_bytes words.now) }
     // A read or a write that failed is told as such.
@@ -152,9 +165,12 @@ pub fn run_plain<I: Source, O: Sink, E: Sink>(
     ensures no_other_write { (result ≡ 4 → ⊥) → O.faults output.new ≡ O.faults output.old }
     // There is no other status, and these three have one line each.
     ensures status { IsTrue (list_any (λ status. status == result) statuses) }
-    ensures read_line { result ≡ 3 → Tells read_fault_line (E.written errors.old) (E.written errors.new) (Rose (E.faults errors.old) (E.faults errors.new)) }
-    ensures write_line { result ≡ 4 → Tells write_fault_line (E.written errors.old) (E.written errors.new) (Rose (E.faults errors.old) (E.faults errors.new)) }
-    ensures memory_line { result ≡ 70 → Tells memory_line (E.written errors.old) (E.written errors.new) (Rose (E.faults errors.old) (E.faults errors.new)) }
+    ensures read_line { result ≡ 3 → Tells read_fault_line (E.written errors.old) (E.written errors.new)
+        (Rose (E.faults errors.old) (E.faults errors.new)) }
+    ensures write_line { result ≡ 4 → Tells write_fault_line (E.written errors.old) (E.written errors.new)
+        (Rose (E.faults errors.old) (E.faults errors.new)) }
+    ensures memory_line { result ≡ 70 → Tells memory_line (E.written errors.old) (E.written errors.new)
+        (Rose (E.faults errors.old) (E.faults errors.new)) }
 {
     let Some(command) = command_of(words) else {
         say(errors, USAGE_LINE);

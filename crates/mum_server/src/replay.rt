@@ -7,7 +7,8 @@ ghost use Rattle.mum_record.specs.Grammar.{IsRecordable};
 ghost use Rattle.mum_record.specs.Head.{config_of, limits_of, recording_version, workers_of};
 ghost use Rattle.mum_record.specs.Reading.{step_of};
 ghost use Rattle.mum_server.specs.Program.{Ends, ReadsCounted, WritesCounted};
-ghost use Rattle.mum_server.specs.Replay.{config_answer, end_of, limits_answer, phase_behind_workers, replayed, version_answer, workers_answer};
+ghost use Rattle.mum_server.specs.Replay.{config_answer, end_of, limits_answer, phase_behind_workers, replayed};
+ghost use Rattle.mum_server.specs.Replay.{version_answer, workers_answer};
 ghost use Rattle.mum_server.specs.Runs.{Advances, Answers, LineAnswers, Moves, Says, StepAnswers, is_end};
 
 use crate::end::{End, LineFault};
@@ -242,8 +243,10 @@ impl Run {
 
 /// Writes what a line told. Whether all of it was written.
 fn wrote<O: Sink>(output: &mut O, text: &str) -> bool
-    ensures whole { result ≡ true → Appends (O.written output.old) (O.written output.new) text.now × (O.faults output.new ≡ O.faults output.old) }
-    ensures front { result ≡ false → AppendsFront (O.written output.old) (O.written output.new) text.now × Rose (O.faults output.old) (O.faults output.new) }
+    ensures whole { result ≡ true → Appends (O.written output.old) (O.written output.new) text.now
+        × (O.faults output.new ≡ O.faults output.old) }
+    ensures front { result ≡ false → AppendsFront (O.written output.old) (O.written output.new) text.now × Rose
+        (O.faults output.old) (O.faults output.new) }
 {
     write_all(output, text.as_bytes()).is_ok()
 }
@@ -260,7 +263,8 @@ fn replay_lines<I: Source, O: Sink>(
     requires reader { reader.old ≡ at_start }
     requires phase { run.old.phase ≡ Phase.Head }
     requires line { run.old.line ≡ 1 }
-    ensures ends { IfSome (I.left input.old) (λ bytes. Ends (replayed bytes) result (O.written output.old) (O.written output.new)) }
+    ensures ends { IfSome (I.left input.old) (λ bytes. Ends (replayed bytes) result (O.written output.old)
+        (O.written output.new)) }
     ensures reads { ReadsCounted result (I.faults input.old) (I.faults input.new) }
     ensures writes { WritesCounted result (O.faults output.old) (O.faults output.new) }
 {
@@ -284,7 +288,8 @@ fn replay_lines<I: Source, O: Sink>(
 
 /// Reads a recording and writes its transcript, line by line, and tells how the run over it ended.
 pub(crate) fn replay<I: Source, O: Sink>(alloc: Global, input: &mut I, output: &mut O) -> End
-    ensures ends { IfSome (I.left input.old) (λ bytes. Ends (replayed bytes) result (O.written output.old) (O.written output.new)) }
+    ensures ends { IfSome (I.left input.old) (λ bytes. Ends (replayed bytes) result (O.written output.old)
+        (O.written output.new)) }
     ensures reads { ReadsCounted result (I.faults input.old) (I.faults input.new) }
     ensures writes { WritesCounted result (O.faults output.old) (O.faults output.new) }
 {

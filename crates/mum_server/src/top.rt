@@ -1,13 +1,14 @@
 //! The program's call with all its words.
 
-ghost use Rattle.std.specs.Prelude.{◌≡◌, ◌⊎◌, ℕ, Bool, List, is_some, map, string_bytes, true};
+ghost use Rattle.std.specs.Prelude.{◌≡◌, ◌⊎◌, is_some, map, string_bytes, true};
 ghost use Rattle.mum_io.specs.Outside.{Keeps, Rose};
+ghost use Rattle.mum_serve.specs.Asked.{Service};
 ghost use Rattle.mum_server.specs.Command.{BeginsWithServe, IsServe};
 ghost use Rattle.mum_server.specs.Plain.{RunsPlainly};
 ghost use Rattle.mum_server.specs.Program.{Reports, Tells, usage_line};
-ghost use Rattle.mum_server.specs.Serve.{DoorFailed, RunsServer, ServerReports};
+ghost use Rattle.mum_server.specs.Serve.{OneFailed, RunsServer, ServerReports};
 
-use crate::command::{ServeCommand, begins_with_serve, serve_in};
+use crate::command::{begins_with_serve, serve_in};
 use crate::end::{End, LineFault};
 use crate::program::{USAGE_LINE, report, run_plain, say};
 use mum_crew::Crew;
@@ -26,7 +27,8 @@ const CONFIG_LINE: u64 = 1;
 // Says this line, and gives this status.
 fn say_status<E: Sink>(errors: &mut E, line: &str, status: u8) -> u8
     ensures status { result ≡ status }
-    ensures says { Tells line.now (E.written errors.old) (E.written errors.new) (Rose (E.faults errors.old) (E.faults errors.new)) }
+    ensures says { Tells line.now (E.written errors.old) (E.written errors.new)
+        (Rose (E.faults errors.old) (E.faults errors.new)) }
 {
     say(errors, line);
     status
@@ -34,7 +36,8 @@ fn say_status<E: Sink>(errors: &mut E, line: &str, status: u8) -> u8
 
 // Says how a run that served ended, and gives its status.
 fn report_server<E: Sink>(alloc: Global, end: ServerEnd, errors: &mut E) -> u8
-    ensures { ServerReports end result (E.written errors.old) (E.written errors.new) (Rose (E.faults errors.old) (E.faults errors.new)) }
+    ensures { ServerReports end result (E.written errors.old) (E.written errors.new)
+        (Rose (E.faults errors.old) (E.faults errors.new)) }
 {
     match end {
         ServerEnd::Finished => report(alloc, &End::Finished, errors),
@@ -59,9 +62,10 @@ fn report_server<E: Sink>(alloc: Global, end: ServerEnd, errors: &mut E) -> u8
 }
 
 /// The program. `serve ADDRESS SESSIONS` reads a configuration from the input, opens the door at the address,
-/// serves that many connections, and writes a line of totals when all are closed. `serve ADDRESS SESSIONS journal`
-/// writes a journal before it, if its audit finds it legal. Other words are those of `run_plain`. The door is back
-/// at every return.
+/// serves that many connections, and writes a line of totals when all are closed. With `journal` behind these words it
+/// writes a journal before it, if its audit finds it legal. With `view ADDRESS VIEWS` behind them it also opens the
+/// second door, gives each connection of that one the view of the state, at most so many, and writes a line of the views
+/// behind the totals. Other words are those of `run_plain`. The doors are back at every return.
 pub fn murmur<R: Wait + Copy + Send, I: Source, O: Sink, E: Sink, D: Door + Send, C: Crew>(
     rt: &R,
     alloc: Global,
@@ -70,9 +74,11 @@ pub fn murmur<R: Wait + Copy + Send, I: Source, O: Sink, E: Sink, D: Door + Send
     output: &mut O,
     errors: &mut E,
     door: &mut Option<D>,
+    view: &mut Option<D>,
     crew: &mut C,
 ) -> u8
-    requires { is_some door.old ≡ true }
+    requires door { is_some door.old ≡ true }
+    requires view { is_some view.old ≡ true }
     // Words without `serve` are run without the door and the crew.
     ensures plain { (BeginsWithServe (map string_bytes words.now) → ⊥) → RunsPlainly (map string_bytes words.now)
         (record { left = I.left input.old; faults = I.faults input.old })
@@ -81,35 +87,41 @@ pub fn murmur<R: Wait + Copy + Send, I: Source, O: Sink, E: Sink, D: Door + Send
         (record { written = O.written output.new; faults = O.faults output.new })
         (record { written = E.written errors.old; faults = E.faults errors.old })
         (record { written = E.written errors.new; faults = E.faults errors.new })
-        (input.new ≡ input.old) (output.new ≡ output.old) result × (door.new ≡ door.old) × (crew.new ≡ crew.old) }
-    // `serve` with an address and a number of connections runs a server, which keeps a journal where that is asked for.
-    ensures serves { (address : List ℕ) → (connections : ℕ) → (journal : Bool) →
-        IsServe (map string_bytes words.now) address connections journal →
+        (input.new ≡ input.old) (output.new ≡ output.old) result × (door.new ≡ door.old) × (view.new ≡ view.old)
+        × (crew.new ≡ crew.old) }
+    // `serve` runs a server that is asked to do what the words say.
+    ensures serves { (asked : Service) → IsServe (map string_bytes words.now) asked →
         RunsServer D.Conn.facts
-        D.facts address connections journal
+        D.facts asked
         (record { left = I.left input.old; faults = I.faults input.old })
         (record { left = I.left input.new; faults = I.faults input.new })
         (record { written = O.written output.old; faults = O.faults output.old })
         (record { written = O.written output.new; faults = O.faults output.new })
         (record { written = E.written errors.old; faults = E.faults errors.old })
         (record { written = E.written errors.new; faults = E.faults errors.new })
-        door.old door.new (C.counts crew.old) (C.counts crew.new) result }
+        (record { door = door.old; view = view.old }) (record { door = door.new; view = view.new })
+        (C.counts crew.old) (C.counts crew.new) result }
     // Other words that begin with `serve` are no command.
     ensures usage { BeginsWithServe (map string_bytes words.now) →
-        ((address : List ℕ) → (connections : ℕ) → (journal : Bool) →
-        IsServe (map string_bytes words.now) address connections journal → ⊥) →
-        (result ≡ 1) × (input.new ≡ input.old) × (output.new ≡ output.old) × (door.new ≡ door.old) × (crew.new ≡ crew.old)
-        × Tells usage_line (E.written errors.old) (E.written errors.new) (Rose (E.faults errors.old) (E.faults errors.new)) }
-    // The door is back.
+        ((asked : Service) → IsServe (map string_bytes words.now) asked → ⊥) →
+        (result ≡ 1) × (input.new ≡ input.old) × (output.new ≡ output.old) × (door.new ≡ door.old)
+        × (view.new ≡ view.old)
+        × (crew.new ≡ crew.old)
+        × Tells usage_line (E.written errors.old) (E.written errors.new)
+        (Rose (E.faults errors.old) (E.faults errors.new)) }
+    // The doors are back.
     ensures door { is_some door.new ≡ true }
+    ensures view { is_some view.new ≡ true }
     // Each fault has its cause in this call.
     ensures read_fault { result ≡ 3 → Rose (I.faults input.old) (I.faults input.new) }
     ensures write_fault { result ≡ 4 → Rose (O.faults output.old) (O.faults output.new) }
-    ensures door_fault { result ≡ 8 → DoorFailed D.facts door.old door.new }
+    ensures door_fault { result ≡ 8 → OneFailed D.facts
+        (record { door = door.old; view = view.old }) (record { door = door.new; view = view.new }) }
     ensures crew_fault { result ≡ 9 → Rose (C.counts crew.old).refused (C.counts crew.new).refused }
     // A journal that is named wrong is that of a server that the crew ran, and nothing is written.
     ensures audit_fault { result ≡ 5 → (BeginsWithServe (map string_bytes words.now) → ⊥)
-        ⊎ (Rose (C.counts crew.old).runs (C.counts crew.new).runs × Keeps (O.written output.old) (O.written output.new)) }
+        ⊎ (Rose (C.counts crew.old).runs (C.counts crew.new).runs × Keeps (O.written output.old)
+        (O.written output.new)) }
     // A server that ended well was run by the crew.
     ensures served { result ≡ 0 → (BeginsWithServe (map string_bytes words.now) → ⊥)
         ⊎ Rose (C.counts crew.old).runs (C.counts crew.new).runs }
@@ -117,27 +129,10 @@ pub fn murmur<R: Wait + Copy + Send, I: Source, O: Sink, E: Sink, D: Door + Send
     if !begins_with_serve(words) {
         return run_plain(alloc, words, input, output, errors);
     }
-    let Some(
-        ServeCommand {
-            address,
-            connections,
-            journal,
-        },
-    ) = serve_in(words)
-    else {
+    let Some(asked) = serve_in(words) else {
         say(errors, USAGE_LINE);
         return 1;
     };
-    let end = run_server(
-        rt,
-        alloc,
-        address,
-        journal,
-        connections,
-        input,
-        output,
-        door,
-        crew,
-    );
+    let end = run_server(rt, alloc, &asked, input, output, door, view, crew);
     report_server(alloc, end, errors)
 }

@@ -1,5 +1,6 @@
 -- What is answered of a run without `serve` is what such a run answers.
-use Rattle.std.proofs.Common.{refl}
+use Rattle.std.proofs.Common.{map, refl, string_bytes}
+use Rattle.mum_serve.specs.Asked.{service}
 use Rattle.mum_server.proofs.ServeWords.{asked_once}
 use Rattle.mum_server.proofs.top.murmur.Goals as goal
 
@@ -26,16 +27,16 @@ returns-then-not-begins_with_serve-clause-plain g c = λ never.
       },
       refl,
       refl,
+      refl,
     )
 
 pub returns-in_default-clause-serves : goal.returns-in_default-clause-serves
-returns-in_default-clause-serves g c = λ address connections journal asks. absurd (c.in_default.ensures.asked address connections journal asks)
+returns-in_default-clause-serves g c = λ asked asks. absurd (c.in_default.ensures.asked asked asks)
 
 pub returns-clause-serves : goal.returns-clause-serves
-returns-clause-serves g c = λ address connections journal asks.
-    let asked = c.in-Some.field-0 in
-    let same = asked_once _ address asked.address.now connections asked.connections journal asked.journal asks c.in-Some.ensures.asked in
-    rw (same.0, same.1, same.2) (record {
+returns-clause-serves g c = λ asked asks.
+    let same = asked_once (map string_bytes c.args.words.now) asked (service c.in-Some.asked) asks c.in-Some.ensures.asked in
+    rw same (record {
       end = c.run_server-end.result;
       ends = c.run_server-end.ensures.ends;
       runs = c.run_server-end.ensures.runs;
@@ -43,3 +44,7 @@ returns-clause-serves g c = λ address connections journal asks.
       writes = c.run_server-end.ensures.writes;
       reports = c.report_server.ensures;
     })
+
+-- the words ask for a run, so they are no other words
+pub returns-clause-usage : goal.returns-clause-usage
+returns-clause-usage g c = λ begins never. absurd (never (service c.in-Some.asked) c.in-Some.ensures.asked)

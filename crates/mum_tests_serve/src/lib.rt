@@ -28,3 +28,5 @@ mod run;
 mod strays;
 #[cfg(test)]
 mod talk;
+#[cfg(test)]
+mod views;

@@ -5,6 +5,7 @@ ghost use Rattle.std.specs.Prelude.{None};
 use crate::client::{Act, Client};
 use crate::ear::Heard;
 use crate::room::Room;
+use crate::run::TestDoor;
 use mum_io::{Accept, Door, DoorOpen, Tally};
 use std::alloc::Global;
 use std::collections::VecDeque;
@@ -80,6 +81,12 @@ impl Lobby {
             }
         }
         sum
+    }
+}
+
+impl TestDoor for Lobby {
+    fn empty(rt: &impl Abort, alloc: Global) -> Lobby {
+        Lobby::new(rt, alloc)
     }
 }
 

@@ -13,13 +13,26 @@ use std::sync::Wait;
 use std::thread::Threads;
 use std::time::Clock;
 
-/// What a run came to: its status, its output and its errors, and the door.
+/// A door that tests can make.
+pub trait TestDoor: Door + Send {
+    /// One that gives nobody.
+    fn empty(rt: &impl Abort, alloc: Global) -> Self;
+}
+
+impl TestDoor for MemDoor {
+    fn empty(rt: &impl Abort, alloc: Global) -> MemDoor {
+        MemDoor::new(alloc, Vec::new(alloc), true).expect(rt, "memory")
+    }
+}
+
+/// What a run came to: its status, its output and its errors, and the doors.
 #[derive(Drop)]
 pub struct Outcome<D: Drop> {
     pub status: u8,
     output: MemSink,
     errors: MemSink,
     door: Option<D>,
+    view: Option<D>,
 }
 
 fn text(bytes: &[u8]) -> &str {
@@ -42,6 +55,11 @@ impl<D: Drop> Outcome<D> {
     pub fn door<'a>(&'a self, rt: &impl Abort) -> &'a D {
         self.door.as_ref().expect(rt, "no door")
     }
+
+    /// The door of the views, which a run hands back too.
+    pub fn view<'a>(&'a self, rt: &impl Abort) -> &'a D {
+        self.view.as_ref().expect(rt, "no door")
+    }
 }
 
 /// A list of words.
@@ -54,8 +72,9 @@ fn owned(rt: &impl Abort, alloc: Global, words: &[&str]) -> Vec<String> {
     list
 }
 
-/// Runs these words with this input and a door. The writes of these numbers fail.
-pub fn ran_with<R: Abort + Copy + Send + Wait, D: Door + Send, C: Crew>(
+/// Runs these words with this input and a door, and with one for views that gives nobody. The writes of these numbers
+/// fail.
+pub fn ran_with<R: Abort + Copy + Send + Wait, D: TestDoor, C: Crew>(
     rt: &R,
     alloc: Global,
     words: &[&str],
@@ -64,13 +83,28 @@ pub fn ran_with<R: Abort + Copy + Send + Wait, D: Door + Send, C: Crew>(
     door: D,
     crew: &mut C,
 ) -> Outcome<D> {
+    let doors = (door, D::empty(rt, alloc));
+    ran_over(rt, alloc, words, input, failing, doors, crew)
+}
+
+/// The same with a door and one for views.
+pub fn ran_over<R: Abort + Copy + Send + Wait, D: Door + Send, C: Crew>(
+    rt: &R,
+    alloc: Global,
+    words: &[&str],
+    input: &str,
+    failing: &[u64],
+    doors: (D, D),
+    crew: &mut C,
+) -> Outcome<D> {
     let words = owned(rt, alloc, words);
     let bytes = Octets::of(alloc, input.as_bytes()).expect(rt, "memory");
     let failing = Vec::from_slice(alloc, failing).expect(rt, "memory");
     let mut input = MemSource::new(bytes, Vec::new(alloc));
     let mut output = MemSink::new(alloc, failing);
     let mut errors = MemSink::new(alloc, Vec::new(alloc));
-    let mut door = Some(door);
+    let (door, view) = doors;
+    let (mut door, mut view) = (Some(door), Some(view));
     let status = murmur(
         rt,
         alloc,
@@ -79,6 +113,7 @@ pub fn ran_with<R: Abort + Copy + Send + Wait, D: Door + Send, C: Crew>(
         &mut output,
         &mut errors,
         &mut door,
+        &mut view,
         crew,
     );
     drop(words);
@@ -88,11 +123,12 @@ pub fn ran_with<R: Abort + Copy + Send + Wait, D: Door + Send, C: Crew>(
         output,
         errors,
         door,
+        view,
     }
 }
 
 /// Serves this many connections that come to a door, with this configuration.
-pub fn ran<R: Abort + Copy + Send + Wait, D: Door + Send, C: Crew>(
+pub fn ran<R: Abort + Copy + Send + Wait, D: TestDoor, C: Crew>(
     rt: &R,
     alloc: Global,
     connections: &str,
@@ -105,7 +141,7 @@ pub fn ran<R: Abort + Copy + Send + Wait, D: Door + Send, C: Crew>(
 }
 
 /// The same on the calling thread, whose roles have their turns in the order of this list.
-pub fn ran_by_turns<X, D: Door + Send>(
+pub fn ran_by_turns<X, D: TestDoor>(
     rt: X,
     alloc: Global,
     connections: &str,

@@ -4,14 +4,11 @@
 
 use mum_edge::Machine;
 use mum_io::{Input, Output};
-use mum_server::{murmur, out_of_memory};
+use mum_server::{later_roles, murmur, out_of_memory};
 use std::io::{ErrorKind, IsTerminal};
 use std::process::ExitCode;
 use std::rt::Env;
 use std::{env, io};
-
-/// How many roles follow the workers.
-const LATER_ROLES: usize = 0;
 
 /// The words of the command line, without the program's name. A word that is not UTF-8 is an error of
 /// the kind `InvalidData`.
@@ -36,10 +33,17 @@ fn main(rt: HostRuntime) -> ExitCode {
         let _unheard = eprintln!(rt; "murmur: reads the configuration from standard input");
     }
     // without memory there is no door and no crew
-    let Ok(Machine { mut crew, door, .. }) = Machine::open(rt, rt.alloc(), LATER_ROLES) else {
+    let Ok(machine) = Machine::open(rt, rt.alloc(), later_roles(&words)) else {
         return ExitCode::from(out_of_memory(&mut errors));
     };
+    let Machine {
+        mut crew,
+        door,
+        view,
+        ..
+    } = machine;
     let mut door = Some(door);
+    let mut view = Some(view);
     let status = murmur(
         &rt,
         rt.alloc(),
@@ -48,10 +52,13 @@ fn main(rt: HostRuntime) -> ExitCode {
         &mut Output::new(rt.stdout()),
         &mut errors,
         &mut door,
+        &mut view,
         &mut crew,
     );
-    if let Some(door) = &door {
-        door.listener().close();
+    for door in [&door, &view] {
+        if let Some(door) = door {
+            door.listener().close();
+        }
     }
     ExitCode::from(status)
 }

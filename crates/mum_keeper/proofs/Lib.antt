@@ -1,0 +1,8 @@
+pub mod Changing
+pub mod Comparing
+pub mod Keptness
+pub mod Merging
+pub mod Observing
+pub mod Ordering
+pub mod Turning
+pub mod Walking

@@ -1,0 +1,11 @@
+use Rattle.mum_keeper.proofs.Keptness.{kept_in_order}
+use Rattle.std.proofs.Common.{subst, sym}
+use Rattle.mum_kept.specs.declared.rows.KeptRows.{KeptRows}
+use Rattle.mum_keeper.specs.Changes.{AreInOrder}
+use Rattle.mum_keeper.proofs.look.ordered_rows.Goals as goal
+
+pub returns : goal.returns
+returns c = (
+  c.in_ok-rows.ensures,
+  subst (λ (rows : KeptRows). AreInOrder rows) (sym c.in_ok-rows.ensures) (kept_in_order c.args.state.now c.tree-tree.ensures.proper),
+)

@@ -1,0 +1,4 @@
+use Rattle.mum_keeper.proofs.map_keeper.MapKeeperKeeper.open.Goals as goal
+
+pub returns-then-begin-clause-counts : goal.returns-then-begin-clause-counts
+returns-then-begin-clause-counts c = c.begin.ensures.rose c.if-begin.true

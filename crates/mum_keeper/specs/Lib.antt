@@ -1,0 +1,9 @@
+pub mod Order
+pub mod Changes
+pub mod Keeping
+pub mod MapKeeper
+pub mod Bell
+pub mod Mirror
+pub mod Look
+pub mod Store
+pub mod Turns

@@ -1,0 +1,469 @@
+-- What turns of an owner append and write down, beside the commands that they decide.
+use Rattle.std.proofs.Common.{◌≡◌, ◌∙◌, ℕ, ◌+◌, Bool, true, false, cond, List, [], ◌∷◌, ◌++◌, append_assoc, append-nil, length, Option, Some, None, refl, ap, sym, subst, inl, inr, arith, length-append}
+use Rattle.std.specs.Prelude.{◌&&◌, ◌||◌, ◌==◌, is_none, is_some, nat_lt}
+use Rattle.atomic_table.specs.Seated.{TableId}
+use Rattle.mum_base.specs.declared.number.SessionId.{SessionId}
+use Rattle.mum_base.specs.declared.number.Slot.{Slot}
+use Rattle.mum_base.specs.declared.number.TheConstants.{CONNECTION_LIMIT}
+use Rattle.mum_base.specs.declared.reply.Mark.{Mark}
+use Rattle.mum_base.specs.declared.reply.ReplyEnd.{ReplyEnd}
+use Rattle.mum_base.specs.declared.reply.ReplyEnd.TheVariants as ends
+use Rattle.mum_control.specs.Commanded.{Commanded, Decides, Publishes, current, next_revision, with_edit}
+use Rattle.mum_control.specs.Facts.{ControlFacts}
+use Rattle.mum_control.specs.Kept.{slot_of}
+use Rattle.mum_control.specs.Posting.{EmptiesPost, PostsNext}
+use Rattle.mum_control.specs.declared.posted.Posted.{Posted}
+use Rattle.mum_control.specs.declared.posted.Posted.TheVariants as posted
+use Rattle.mum_crew.specs.Turns.{TurnsTo}
+use Rattle.mum_crew.specs.declared.role.Turn.{Turn}
+use Rattle.mum_io.specs.Door.{DoorFacts}
+use Rattle.mum_io.specs.declared.door.Accept.{Accept}
+use Rattle.mum_io.specs.declared.door.Accept.TheVariants as accepted
+use Rattle.mum_notify.specs.declared.notice.Notice.{Notice}
+use Rattle.mum_owner.specs.Decided.{with_command}
+use Rattle.mum_owner.specs.Facts.{GuestsFacts, OwnerFacts, ScribeFacts}
+use Rattle.mum_owner.specs.Guests.{joined_by, lagging, left, owned, session_of}
+use Rattle.mum_owner.specs.Laws.{came_by, came_where, connections_given, settled}
+use Rattle.mum_owner.specs.Opened.{IsOpened}
+use Rattle.mum_owner.specs.Serving.{EmptiesFor, GivesOwned, GoesWhere, IsGiven, LeaveIsGiven, LeavesWhere, PendsWhere, ReceivesBy, ReceivesItem, ReceivesOwned, ServesDesk, ServesWhere, TakesWhere, blocker, leave_of, may_go, must_wait, with_pass}
+use Rattle.mum_owner.specs.Turned.{AsksWhere, LagsFor, LagsOnce, OwnerTurned, PostsWhere, PressesWhere, PublishesWhere, guests_by, is_not_to_ask, is_over, lagged_by, lagged_for}
+use Rattle.mum_owner.specs.Waiting.{are_none}
+use Rattle.mum_owner.specs.Written.{entries_by, is_leave, is_login, prepared, recorded}
+use Rattle.mum_owner.specs.declared.desk.TheConstants.{PENDING_LIMIT}
+use Rattle.mum_owner.specs.declared.guests.Guest.{Guest}
+use Rattle.mum_owner.specs.declared.kept.Coming.{Coming}
+use Rattle.mum_port.specs.declared.item.DeskItem.{DeskItem}
+use Rattle.mum_port.specs.declared.item.DeskItem.TheVariants as items
+use Rattle.mum_published.specs.Calls.{all_published, appended}
+use Rattle.mum_published.specs.Facts.{NoteFacts, Opening, PublisherFacts, ReplyFacts}
+use Rattle.mum_record.specs.declared.journal.ControlEntry.{ControlEntry}
+use Rattle.mum_session.specs.Reply.{mark}
+use Rattle.mum_session.specs.Verdict.{edits_of, verdict}
+use Rattle.mum_session.specs.declared.command.Command.{Command}
+use Rattle.mum_state.specs.declared.edit.Edit.{Edit}
+use Rattle.mum_state.specs.declared.verdict.Verdict.{Verdict}
+use Rattle.mum_state.specs.declared.verdict.Verdict.TheVariants.{Accepted, Lacks, Refused, Rejected, Answer, Ignored}
+use Rattle.mum_step_laws.specs.OwnerTurns.{Decision, decided_by, decided_given, decided_going, decided_in, decided_item, decided_leave, decided_leaving, decided_owned, decided_pending, decided_receiving, decided_taking, decided_waiting, decided_where, decisions_of}
+use Rattle.mum_serve_laws.specs.Decisions.{decisions, edits_after, entries_after, entry_of}
+
+-- ---- lists of decisions
+
+edits_join : (opening : Opening) (edits : List Edit) (first later : List Decision) → edits_after opening edits (first ++ later) ≡ edits_after opening (edits_after opening edits first) later
+edits_join opening edits [] later = refl
+edits_join opening edits (decision ∷ first) later = edits_join opening (with_command opening edits decision.command) first later
+
+entries_join : (opening : Opening) (edits : List Edit) (first later : List Decision)
+    → entries_after opening edits (first ++ later) ≡ entries_after opening edits first ++ entries_after opening (edits_after opening edits first) later
+entries_join opening edits [] later = refl
+entries_join opening edits (decision ∷ first) later =
+    ap (λ (entries : List ControlEntry). entry_of opening edits decision.command ∷ entries) (entries_join opening (with_command opening edits decision.command) first later)
+
+-- ---- what a verdict appends
+
+-- the opening stays, and these edits are appended
+pub record Grows (old : PublisherFacts) (edits : List Edit) (new : PublisherFacts) : Type 0 where
+  opening : new.opening ≡ old.opening
+  all : appended new ≡ appended old ++ edits
+
+published_same : (publisher : PublisherFacts) → appended (all_published publisher) ≡ appended publisher
+published_same publisher = append-nil (appended publisher)
+
+grown_by : (publisher : PublisherFacts) (edit : Edit) (note : Option NoteFacts) (after : PublisherFacts) → Publishes (with_edit publisher edit) note after → Grows publisher (edit ∷ []) after
+grown_by publisher edit (Some note) after publishes = record {
+  opening = ap (λ (p : PublisherFacts). p.opening) publishes.1;
+  all =
+      ap (λ (p : PublisherFacts). appended p) publishes.1 ∙ published_same (with_edit publisher edit)
+      ∙ sym (append_assoc publisher.published publisher.pending (edit ∷ []));
+}
+grown_by publisher edit None after publishes = record {
+  opening = ap (λ (p : PublisherFacts). p.opening) publishes;
+  all = ap (λ (p : PublisherFacts). appended p) publishes ∙ sym (append_assoc publisher.published publisher.pending (edit ∷ []));
+}
+
+not_grown : (old : ControlFacts) (outcome : Option Mark) (new : ControlFacts) → new ≡ record old { mark = outcome } → Grows old.publisher [] new.publisher
+not_grown old outcome new is = record {
+  opening = ap (λ (c : ControlFacts). c.publisher.opening) is;
+  all = ap (λ (c : ControlFacts). appended c.publisher) is ∙ sym (append-nil (appended old.publisher));
+}
+
+pub decided_grows : (old : ControlFacts) (connection : ℕ) (session : Option SessionId) (decided : Verdict) (reply : ReplyFacts) (new : ControlFacts)
+    → Decides old connection session decided reply new → Grows old.publisher (edits_of decided) new.publisher × (new.mark ≡ Some (mark (next_revision old) decided))
+decided_grows old connection session (Accepted edit) reply new accepts =
+    (grown_by old.publisher edit reply.note new.publisher accepts.published, ap (λ (c : ControlFacts). c.mark) accepts.others)
+decided_grows old connection session (Lacks perm channel) reply new denies = (not_grown old _ new denies.0, ap (λ (c : ControlFacts). c.mark) denies.0)
+decided_grows old connection session (Refused kind) reply new denies = (not_grown old _ new denies.0, ap (λ (c : ControlFacts). c.mark) denies.0)
+decided_grows old connection session (Rejected kind) reply new denies = (not_grown old _ new denies.0, ap (λ (c : ControlFacts). c.mark) denies.0)
+decided_grows old connection session (Answer frame) reply new denies = (not_grown old _ new denies.0, ap (λ (c : ControlFacts). c.mark) denies.0)
+decided_grows old connection session (Ignored why) reply new denies = (not_grown old _ new denies.0, ap (λ (c : ControlFacts). c.mark) denies.0)
+
+-- ---- what decisions leave
+
+-- these decisions lead from the one to the other: what was appended, and what was written down
+pub record Leads (old new : ControlFacts) (before after : ScribeFacts) (made : List Decision) : Type 0 where
+  pub opening : new.publisher.opening ≡ old.publisher.opening
+  pub all : appended new.publisher ≡ edits_after old.publisher.opening (appended old.publisher) made
+  pub asked : after.is_asked ≡ before.is_asked
+  pub entries : before.is_asked ≡ true → after.entries ≡ before.entries ++ entries_after old.publisher.opening (appended old.publisher) made
+  pub unasked : before.is_asked ≡ false → after.entries ≡ before.entries
+
+silent : (old new : ControlFacts) (before after : ScribeFacts) → new.publisher.opening ≡ old.publisher.opening → appended new.publisher ≡ appended old.publisher
+    → after.is_asked ≡ before.is_asked → after.entries ≡ before.entries → Leads old new before after []
+silent old new before after opening all asked entries = record {
+  opening = opening;
+  all = all;
+  asked = asked;
+  entries = λ is. entries ∙ sym (append-nil before.entries);
+  unasked = λ is. entries;
+}
+
+then_leads : (old mid new : ControlFacts) (before between after : ScribeFacts) (first later : List Decision)
+    → Leads old mid before between first → Leads mid new between after later → Leads old new before after (first ++ later)
+then_leads old mid new before between after first later one other =
+    let opening = old.publisher.opening in
+    let edits = appended old.publisher in
+    let so : (f : Opening → List Edit → List ControlEntry) → f mid.publisher.opening (appended mid.publisher) ≡ f opening (edits_after opening edits first) =
+    λ f. ap (λ (o : Opening). f o (appended mid.publisher)) one.opening ∙ ap (λ (es : List Edit). f opening es) one.all in record {
+      opening = other.opening ∙ one.opening;
+      all = other.all
+          ∙ ap (λ (o : Opening). edits_after o (appended mid.publisher) later) one.opening
+          ∙ ap (λ (es : List Edit). edits_after opening es later) one.all
+          ∙ sym (edits_join opening edits first later);
+      asked = other.asked ∙ one.asked;
+      entries = λ is.
+          other.entries (one.asked ∙ is)
+          ∙ ap (λ (es : List ControlEntry). between.entries ++ es) (so (λ o es. entries_after o es later))
+          ∙ ap (λ (es : List ControlEntry). es ++ entries_after opening (edits_after opening edits first) later) (one.entries is)
+          ∙ append_assoc before.entries (entries_after opening edits first) (entries_after opening (edits_after opening edits first) later)
+          ∙ ap (λ (es : List ControlEntry). before.entries ++ es) (sym (entries_join opening edits first later));
+      unasked = λ is. other.unasked (one.asked ∙ is) ∙ one.unasked is;
+    }
+
+-- ---- a command
+
+-- of the control owner only what was appended is seen
+record KeepsList (old new : ControlFacts) : Type 0 where
+  opening : new.publisher.opening ≡ old.publisher.opening
+  all : appended new.publisher ≡ appended old.publisher
+
+same_list : (old new : ControlFacts) → new ≡ old → KeepsList old new
+same_list old new same = record { opening = ap (λ (k : ControlFacts). k.publisher.opening) same; all = ap (λ (k : ControlFacts). appended k.publisher) same }
+
+none_written : (asked : Bool) (command : Command) (connection : ℕ) → entries_by connection (prepared asked command) None ≡ []
+none_written true command connection = refl
+none_written false command connection = refl
+
+dropped : (old new : ControlFacts) (command : Command) (scribe settled : ScribeFacts) (no_memory : Bool) → new ≡ record old { mark = None }
+    → settled ≡ recorded command.connection new.mark no_memory (record scribe { draft = prepared scribe.is_asked command }) → Leads old new scribe settled []
+dropped old new command scribe settled no_memory is settles =
+    silent old new scribe settled (ap (λ (c : ControlFacts). c.publisher.opening) is) (ap (λ (c : ControlFacts). appended c.publisher) is)
+    (ap (λ (s : ScribeFacts). s.is_asked) settles)
+    (ap (λ (s : ScribeFacts). s.entries) settles
+    ∙ ap (λ (c : ControlFacts). scribe.entries ++ entries_by command.connection (prepared scribe.is_asked command) c.mark) is
+    ∙ ap (λ (es : List ControlEntry). scribe.entries ++ es) (none_written scribe.is_asked command command.connection)
+    ∙ append-nil scribe.entries)
+
+decided : (old new : ControlFacts) (command : Command) (reply : ReplyFacts) (scribe settled : ScribeFacts) (no_memory : Bool)
+    → Decides old command.connection command.session (verdict (current old) command.session command.what) reply new
+    → settled ≡ recorded command.connection new.mark no_memory (record scribe { draft = prepared scribe.is_asked command })
+    → Leads old new scribe settled (record { command = command; reply = reply } ∷ [])
+decided old new command reply scribe settled no_memory decides settles =
+    let grown = decided_grows old command.connection command.session (verdict (current old) command.session command.what) reply new decides in record {
+      opening = grown.0.opening;
+      all = grown.0.all;
+      asked = ap (λ (s : ScribeFacts). s.is_asked) settles;
+      entries = λ is.
+          ap (λ (s : ScribeFacts). s.entries) settles
+          ∙ ap (λ (b : Bool). scribe.entries ++ entries_by command.connection (prepared b command) new.mark) is
+          ∙ ap (λ (m : Option Mark). scribe.entries ++ entries_by command.connection (prepared true command) m) grown.1;
+      unasked = λ is.
+          ap (λ (s : ScribeFacts). s.entries) settles
+          ∙ ap (λ (b : Bool). scribe.entries ++ entries_by command.connection (prepared b command) new.mark) is
+          ∙ append-nil scribe.entries;
+    }
+
+commanded : (old emptied new : ControlFacts) (command : Command) (reply : ReplyFacts) (scribe settled : ScribeFacts) → KeepsList old emptied
+    → settled ≡ recorded command.connection new.mark reply.no_memory (record scribe { draft = prepared scribe.is_asked command })
+    → (given : Commanded emptied command reply new) → Leads old new scribe settled (decided_by emptied command reply new given)
+commanded old emptied new command reply scribe settled keeps settles (inl drops) =
+    then_leads old emptied new scribe scribe settled [] [] (silent old emptied scribe scribe keeps.opening keeps.all refl refl)
+    (dropped emptied new command scribe settled reply.no_memory drops.0 settles)
+commanded old emptied new command reply scribe settled keeps settles (inr decides) =
+    then_leads old emptied new scribe scribe settled [] (record { command = command; reply = reply } ∷ []) (silent old emptied scribe scribe keeps.opening keeps.all refl refl)
+    (decided emptied new command reply scribe settled reply.no_memory decides settles)
+
+emptied_slot : (old : ControlFacts) (slot : Option Slot) (after : ControlFacts) → EmptiesPost old slot after → KeepsList old after
+emptied_slot old None after same = same_list old after same
+emptied_slot old (Some slot) after empties = record { opening = ap (λ (k : ControlFacts). k.publisher.opening) empties.1; all = ap (λ (k : ControlFacts). appended k.publisher) empties.1 }
+
+emptied_kept : (old : ControlFacts) (session : Option SessionId) (after : ControlFacts) → EmptiesFor old session after → KeepsList old after
+emptied_kept old None after same = same_list old after same
+emptied_kept old (Some session) after empties = emptied_slot old (slot_of (current old) session) after empties
+
+posted_kept : (old : ControlFacts) (pending : List Notice) (answer : Posted) (after : ControlFacts) → PostsNext old pending answer after → KeepsList old after
+posted_kept old [] answer after posts = record { opening = ap (λ (k : ControlFacts). k.publisher.opening) posts.1; all = ap (λ (k : ControlFacts). appended k.publisher) posts.1 }
+posted_kept old (notice ∷ rest) answer after posts = record { opening = ap (λ (k : ControlFacts). k.publisher.opening) posts.others; all = ap (λ (k : ControlFacts). appended k.publisher) posts.others }
+
+-- ---- the desk
+
+joined_given : (end : ReplyEnd) (connection : ℕ) (guests : GuestsFacts) → (joined_by end connection guests).given ≡ guests.given
+joined_given ends.Decided connection guests = refl
+joined_given (ends.Joined session slot) connection guests = refl
+joined_given ends.Rejected connection guests = refl
+
+left_given : (b : Bool) (guests gone : GuestsFacts) → gone.given ≡ guests.given → (cond b gone guests).given ≡ guests.given
+left_given true guests gone same = same
+left_given false guests gone same = refl
+
+module _ {D L : Type 0} where
+  -- a part of a turn that made these decisions and no connection
+  record Moves (old new : OwnerFacts D L) (made : List Decision) : Type 0 where
+    leads : Leads old.control new.control old.scribe new.scribe made
+    given : new.guests.given ≡ old.guests.given
+
+  still : (old new : OwnerFacts D L) → KeepsList old.control new.control → new.scribe ≡ old.scribe → new.guests.given ≡ old.guests.given → Moves old new []
+  still old new keeps same given = record {
+    leads = silent old.control new.control old.scribe new.scribe keeps.opening keeps.all (ap (λ (s : ScribeFacts). s.is_asked) same) (ap (λ (s : ScribeFacts). s.entries) same);
+    given = given;
+  }
+
+  rests : (old new : OwnerFacts D L) → new ≡ old → Moves old new []
+  rests old new same =
+      still old new (same_list old.control new.control (ap (λ (o : OwnerFacts D L). o.control) same)) (ap (λ (o : OwnerFacts D L). o.scribe) same)
+      (ap (λ (o : OwnerFacts D L). o.guests.given) same)
+
+  then_moves : (old mid new : OwnerFacts D L) (first later : List Decision) → Moves old mid first → Moves mid new later → Moves old new (first ++ later)
+  then_moves old mid new first later one other = record {
+    leads = then_leads old.control mid.control new.control old.scribe mid.scribe new.scribe first later one.leads other.leads;
+    given = other.given ∙ one.given;
+  }
+
+  given_moves : (old : OwnerFacts D L) (command : Command) (new : OwnerFacts D L) (given : IsGiven old command new) → Moves old new (decided_given old command new given)
+  given_moves old command new (inl gives) = record {
+    leads = commanded old.control old.control new.control command gives.reply old.scribe new.scribe (same_list old.control old.control refl)
+        (ap (λ (o : OwnerFacts D L). o.scribe) gives.others) gives.commanded;
+    given = ap (λ (o : OwnerFacts D L). o.guests.given) gives.others ∙ joined_given gives.reply.end command.connection old.guests;
+  }
+  given_moves old command new (inr drops) = record {
+    leads = silent old.control new.control old.scribe new.scribe
+        (ap (λ (o : OwnerFacts D L). o.control.publisher.opening) drops.others) (ap (λ (o : OwnerFacts D L). appended o.control.publisher) drops.others)
+        (ap (λ (o : OwnerFacts D L). o.scribe.is_asked) drops.others) (ap (λ (o : OwnerFacts D L). o.scribe.entries) drops.others);
+    given = ap (λ (o : OwnerFacts D L). o.guests.given) drops.others;
+  }
+
+  leave_moves : (old : OwnerFacts D L) (connection : ℕ) (was : Bool) (new : OwnerFacts D L) (given : LeaveIsGiven old connection was new) → Moves old new (decided_leave old connection was new given)
+  leave_moves old connection was new (inl gives) = record {
+    leads = commanded old.control gives.emptied new.control (leave_of connection (session_of connection old.guests.rows)) gives.reply old.scribe new.scribe
+        (emptied_kept old.control (session_of connection old.guests.rows) gives.emptied gives.empties)
+        (ap (λ (o : OwnerFacts D L). o.scribe) gives.others) gives.commanded;
+    given = ap (λ (o : OwnerFacts D L). o.guests.given) gives.others;
+  }
+  leave_moves old connection was new (inr drops) = record {
+    leads = silent old.control new.control old.scribe new.scribe
+        (ap (λ (o : OwnerFacts D L). o.control.publisher.opening) drops.others) (ap (λ (o : OwnerFacts D L). appended o.control.publisher) drops.others)
+        (ap (λ (o : OwnerFacts D L). o.scribe.is_asked) drops.others) (ap (λ (o : OwnerFacts D L). o.scribe.entries) drops.others);
+    given = ap (λ (o : OwnerFacts D L). o.guests.given) drops.others;
+  }
+
+  -- what changes neither the control owner nor the scribe nor the number of connections
+  unseen : (old seen new : OwnerFacts D L) → seen.control ≡ old.control → seen.scribe ≡ old.scribe → seen.guests.given ≡ old.guests.given → new ≡ seen → Moves old new []
+  unseen old seen new control scribe given is =
+      still old new (same_list old.control new.control (ap (λ (o : OwnerFacts D L). o.control) is ∙ control)) (ap (λ (o : OwnerFacts D L). o.scribe) is ∙ scribe)
+      (ap (λ (o : OwnerFacts D L). o.guests.given) is ∙ given)
+
+  receiving_moves : (leave waits : Bool) (old : OwnerFacts D L) (command : Command) (new : OwnerFacts D L) (received : ReceivesBy leave waits old command new)
+      → Moves old new (decided_receiving leave waits old command new received)
+  receiving_moves true waits old command new received = leave_moves old command.connection received.0 new received.1
+  receiving_moves false true old command new received = unseen old (record old { logins = old.logins ++ command ∷ [] }) new refl refl refl received
+  receiving_moves false false old command new received = given_moves old command new received
+
+  owned_moves : (own : Option Command) (old new : OwnerFacts D L) (received : ReceivesOwned old own new) → Moves old new (decided_owned own old new received)
+  owned_moves None old new received = rests old new received
+  owned_moves (Some command) old new received = receiving_moves (is_leave command.what) (is_login command && must_wait old) old command new received
+
+  -- the same behind another owner of the same control owner, scribe and number
+  from_seen : (old seen new : OwnerFacts D L) (made : List Decision) → seen.control ≡ old.control → seen.scribe ≡ old.scribe → seen.guests.given ≡ old.guests.given → Moves seen new made → Moves old new made
+  from_seen old seen new made control scribe given moves = then_moves old seen new [] made (unseen old seen seen control scribe given refl) moves
+
+  item_moves : (old : OwnerFacts D L) (item : Option DeskItem) (worked : Bool) (new : OwnerFacts D L) (received : ReceivesItem old item worked new) → Moves old new (decided_item old item worked new received)
+  item_moves old None worked new received = rests old new received.1
+  item_moves old (Some (items.Closed connection)) worked new received =
+      unseen old (record old { guests = left connection old.guests }) new refl refl (left_given _ old.guests _ refl) received.1
+  item_moves old (Some (items.Command command)) worked new received = owned_moves (owned old.guests.rows command) old new received.1
+
+  taking_moves : (b : Bool) (old : OwnerFacts D L) (worked : Bool) (new : OwnerFacts D L) (takes : TakesWhere b old worked new) → Moves old new (decided_taking b old worked new takes)
+  taking_moves true old worked new takes =
+      from_seen old (with_pass takes.pass old) new (decided_item (with_pass takes.pass old) takes.item worked new takes.received) refl refl refl
+      (item_moves (with_pass takes.pass old) takes.item worked new takes.received)
+  taking_moves false old worked new (so, same) = rests old new same
+
+  waiting_moves : (own : Option Command) (old new : OwnerFacts D L) (given : GivesOwned old own new) → Moves old new (decided_waiting own old new given)
+  waiting_moves None old new given = rests old new given
+  waiting_moves (Some command) old new given = given_moves old command new given
+
+  going_moves : (b : Bool) (old : OwnerFacts D L) (worked : Bool) (new : OwnerFacts D L) (goes : GoesWhere b old worked new) → Moves old new (decided_going b old worked new goes)
+  going_moves true old worked new gives =
+      from_seen old (record old { logins = gives.rest }) new (decided_waiting (owned old.guests.rows gives.login) (record old { logins = gives.rest }) new gives.given) refl refl refl
+      (waiting_moves (owned old.guests.rows gives.login) (record old { logins = gives.rest }) new gives.given)
+  going_moves false old worked new takes = taking_moves (nat_lt (length old.logins) CONNECTION_LIMIT) old worked new takes
+
+  pending_moves : (b : Bool) (old : OwnerFacts D L) (worked : Bool) (new : OwnerFacts D L) (pends : PendsWhere b old worked new) → Moves old new (decided_pending b old worked new pends)
+  pending_moves true old worked new (so, same) = rests old new same
+  pending_moves false old worked new goes = going_moves (may_go old) old worked new goes
+
+  leaving_moves : (leave : Option ℕ) (old : OwnerFacts D L) (worked : Bool) (new : OwnerFacts D L) (leaves : LeavesWhere leave old worked new) → Moves old new (decided_leaving leave old worked new leaves)
+  leaving_moves (Some connection) old worked new given = leave_moves old connection worked new given
+  leaving_moves None old worked new pends = pending_moves (nat_lt PENDING_LIMIT (length old.control.pending)) old worked new pends
+
+  where_moves : (b : Bool) (old : OwnerFacts D L) (worked : Bool) (new : OwnerFacts D L) (serves : ServesWhere b old worked new) → Moves old new (decided_where b old worked new serves)
+  where_moves true old worked new (so, same) = rests old new same
+  where_moves false old worked new leaves = leaving_moves old.desk.leave old worked new leaves
+
+  desk_moves : (old : OwnerFacts D L) (worked : Bool) (new : OwnerFacts D L) (serves : ServesDesk old worked new) → Moves old new (decided_in old worked new serves)
+  desk_moves old worked new serves = where_moves (is_some old.kept.reply) old worked new serves
+
+  -- ---- lag items
+
+  lags_once : (old : OwnerFacts D L) (connection : ℕ) (session : Option SessionId) (lagged worked : Bool) (new : OwnerFacts D L) → LagsOnce old connection session lagged worked new → Moves old new []
+  lags_once old connection None lagged worked new lags = rests old new lags.1
+  lags_once old connection (Some session) true worked new lags = rests old new lags.1
+  lags_once old connection (Some session) false worked new lags = unseen old _ new refl refl refl lags.1
+
+  lags_for : (old : OwnerFacts D L) (guest : Option Guest) (worked : Bool) (new : OwnerFacts D L) → LagsFor old guest worked new → Moves old new []
+  lags_for old None worked new lags = rests old new lags.1
+  lags_for old (Some guest) worked new lags = lags_once old guest.connection guest.session guest.lagged worked new lags
+
+  presses_where : (b : Bool) (old : OwnerFacts D L) (worked : Bool) (new : OwnerFacts D L) → PressesWhere b old worked new → Moves old new []
+  presses_where true old worked new presses = rests old new presses.1
+  presses_where false old worked new presses = lags_for old (blocker old) worked new presses
+
+  lag_moves : (connection : Option ℕ) (session : SessionId) (owner : OwnerFacts D L) → Moves owner (lagged_for connection session owner) []
+  lag_moves None session owner = rests owner owner refl
+  lag_moves (Some connection) session owner = unseen owner _ _ refl refl refl refl
+
+  answer_moves : (answer : Posted) (owner : OwnerFacts D L) → Moves owner (lagged_by answer owner) []
+  answer_moves posted.None owner = rests owner owner refl
+  answer_moves (posted.Posted session) owner = rests owner owner refl
+  answer_moves (posted.Lagged session) owner = lag_moves (lagging session owner.guests.rows) session owner
+
+  -- ---- publishing and posting
+
+  published_moves : (b : Bool) (old : OwnerFacts D L) (worked : Bool) (new : OwnerFacts D L) → PublishesWhere b old worked new → Moves old new []
+  published_moves true old worked new (so, same) = rests old new same
+  published_moves false old true new done =
+      still old new (record {
+        opening = ap (λ (o : OwnerFacts D L). o.control.publisher.opening) done;
+        all = ap (λ (o : OwnerFacts D L). appended o.control.publisher) done ∙ published_same old.control.publisher;
+      }) (ap (λ (o : OwnerFacts D L). o.scribe) done) (ap (λ (o : OwnerFacts D L). o.guests.given) done)
+  published_moves false old false new same = rests old new same
+
+  posted_moves : (b : Bool) (old : OwnerFacts D L) (worked : Bool) (new : OwnerFacts D L) → PostsWhere b old worked new → Moves old new []
+  posted_moves true old worked new (so, same) = rests old new same
+  posted_moves false old worked new one =
+      let mid : OwnerFacts D L = record old { control = one.after } in
+      subst (λ (o : OwnerFacts D L). Moves old o []) (sym one.others)
+      (then_moves old mid (lagged_by one.answer mid) [] [] (still old mid (posted_kept old.control old.control.pending one.answer one.after one.posts) refl refl) (answer_moves one.answer mid))
+
+  -- ---- the end of a turn
+
+  ended_moves : (b : Bool) (owner new : OwnerFacts D L) → new ≡ cond b (record owner { is_ending = true }) owner → Moves owner new []
+  ended_moves true owner new is = unseen owner (record owner { is_ending = true }) new refl refl refl is
+  ended_moves false owner new is = rests owner new is
+
+-- ---- the door
+
+came_on : (before mid after came now : ℕ) → mid ≡ before → after ≡ mid + came → now ≡ after → now ≡ before + came
+came_on before mid after came now was more is = omega (arith, was, more, is)
+
+came_more : (before mid after first later both : ℕ) → mid ≡ before + first → after ≡ mid + later → both ≡ first + later → after ≡ before + both
+came_more before mid after first later both was is so = omega (arith, was, is, so)
+
+from_none : (now before came : ℕ) → now ≡ before + came → before ≡ 0 → now ≡ came
+from_none now before came is none = omega (arith, is, none)
+
+given_by : {L : Type 0} (answer : Accept L) (guests : GuestsFacts) → (guests_by answer guests).given ≡ guests.given + length (came_by answer (guests.given + 1))
+given_by accepted.NotYet guests = omega arith
+given_by (accepted.Conn link) guests = omega arith
+given_by accepted.End guests = omega arith
+given_by accepted.Failed guests = omega arith
+
+module _ {D L : Type 0} (door_facts : D → DoorFacts) where
+  asks_lead : (b : Bool) (old : OwnerFacts D L) (worked : Bool) (new : OwnerFacts D L) → AsksWhere door_facts b old worked new → Leads old.control new.control old.scribe new.scribe []
+  asks_lead true old worked new stays = (rests old new stays.1).leads
+  asks_lead false old worked new asks = silent old.control new.control old.scribe new.scribe
+      (ap (λ (o : OwnerFacts D L). o.control.publisher.opening) asks.others) (ap (λ (o : OwnerFacts D L). appended o.control.publisher) asks.others)
+      (ap (λ (o : OwnerFacts D L). o.scribe.is_asked) asks.others) (ap (λ (o : OwnerFacts D L). o.scribe.entries) asks.others)
+
+  asks_given : (b : Bool) (old : OwnerFacts D L) (worked : Bool) (new : OwnerFacts D L) (asks : AsksWhere door_facts b old worked new)
+      → new.guests.given ≡ old.guests.given + length (came_where door_facts b old worked new asks)
+  asks_given true old worked new stays = let same : new.guests.given ≡ old.guests.given = ap (λ (o : OwnerFacts D L). o.guests.given) stays.1 in omega (arith, same)
+  asks_given false old worked new asks = ap (λ (o : OwnerFacts D L). o.guests.given) asks.others ∙ given_by asks.answer old.guests
+
+  -- ---- the turns
+
+  -- these decisions and so many connections lead from the one to the other
+  pub record Turns (old new : OwnerFacts D L) (made : List Decision) (came : ℕ) : Type 0 where
+    pub leads : Leads old.control new.control old.scribe new.scribe made
+    pub given : new.guests.given ≡ old.guests.given + came
+
+  turn_leads : (old : OwnerFacts D L) (turn : Turn) (new : OwnerFacts D L) (turned : OwnerTurned door_facts old turn new)
+      → Turns old new (decisions_of door_facts old turn new turned) (length (came_where door_facts (is_not_to_ask turned.after_post) turned.after_post turned.came turned.after_door turned.asks))
+  turn_leads old turn new turned =
+      let made = decisions_of door_facts old turn new turned in
+      let offered : Moves old turned.after_offers [] = unseen old (record old { bells = turned.after_offers.bells; kept = turned.after_offers.kept }) turned.after_offers refl refl refl turned.offers.others in
+      let desk : Moves turned.after_offers turned.after_desk made = desk_moves turned.after_offers turned.served turned.after_desk turned.serves in
+      let pressed : Moves turned.after_desk turned.after_press [] =
+      presses_where (are_none turned.after_desk.logins || is_some turned.after_desk.kept.lag) turned.after_desk turned.pressed turned.after_press turned.presses in
+      let shown : Moves turned.after_press turned.after_publish [] =
+      published_moves (length turned.after_press.control.publisher.pending == 0) turned.after_press turned.published turned.after_publish turned.publishes in
+      let sent : Moves turned.after_publish turned.after_post [] =
+      posted_moves (is_some turned.after_publish.kept.lag) turned.after_publish turned.posted turned.after_post turned.posts in
+      let behind : Moves turned.after_desk turned.after_post [] =
+      then_moves turned.after_desk turned.after_press turned.after_post [] [] pressed (then_moves turned.after_press turned.after_publish turned.after_post [] [] shown sent) in
+      let front : Moves old turned.after_desk made = then_moves old turned.after_offers turned.after_desk [] made offered desk in
+      let ends : Moves turned.after_door new [] = ended_moves (is_over turned.after_door && is_none turned.after_door.kept.coming) turned.after_door new turned.ends in
+      let door : Leads turned.after_post.control turned.after_door.control turned.after_post.scribe turned.after_door.scribe [] =
+      asks_lead (is_not_to_ask turned.after_post) turned.after_post turned.came turned.after_door turned.asks in
+      let rest : Leads turned.after_desk.control new.control turned.after_desk.scribe new.scribe [] =
+      then_leads turned.after_desk.control turned.after_post.control new.control turned.after_desk.scribe turned.after_post.scribe new.scribe [] [] behind.leads
+      (then_leads turned.after_post.control turned.after_door.control new.control turned.after_post.scribe turned.after_door.scribe new.scribe [] [] door ends.leads) in record {
+        leads = subst (λ (all : List Decision). Leads old.control new.control old.scribe new.scribe all) (append-nil made)
+            (then_leads old.control turned.after_desk.control new.control old.scribe turned.after_desk.scribe new.scribe made [] front.leads rest);
+        given = came_on old.guests.given turned.after_post.guests.given turned.after_door.guests.given _ new.guests.given (behind.given ∙ front.given)
+            (asks_given (is_not_to_ask turned.after_post) turned.after_post turned.came turned.after_door turned.asks) ends.given;
+      }
+
+  pub turns_lead : (old : OwnerFacts D L) (turns : List Turn) (new : OwnerFacts D L) (all : TurnsTo (OwnerTurned door_facts) old turns new)
+      → Turns old new (decisions door_facts old turns new all) (length (connections_given door_facts old turns new all))
+  turns_lead old [] new same = record {
+    leads = (rests old new same).leads;
+    given = let is : new.guests.given ≡ old.guests.given = ap (λ (o : OwnerFacts D L). o.guests.given) same in omega (arith, is);
+  }
+  turns_lead old (turn ∷ turns) new (mid, turned, rest) =
+      let one = turn_leads old turn mid turned in
+      let others = turns_lead mid turns new rest in
+      let came : List (Coming L) = came_where door_facts (is_not_to_ask turned.after_post) turned.after_post turned.came turned.after_door turned.asks in
+      let later : List (Coming L) = connections_given door_facts mid turns new rest in record {
+        leads = then_leads old.control mid.control new.control old.scribe mid.scribe new.scribe
+            (decisions_of door_facts old turn mid turned) (decisions door_facts mid turns new rest) one.leads others.leads;
+        given = came_more old.guests.given mid.guests.given new.guests.given (length came) (length later) (length (came ++ later)) one.given others.given (length-append came later);
+      }
+
+  -- ---- as the laws say it
+
+  pub edits_decided : (old : OwnerFacts D L) (turns : List Turn) (new : OwnerFacts D L) (all : TurnsTo (OwnerTurned door_facts) old turns new)
+      → appended new.control.publisher ≡ edits_after old.control.publisher.opening (appended old.control.publisher) (decisions door_facts old turns new all)
+  edits_decided old turns new all = (turns_lead old turns new all).leads.all
+
+  pub entries_decided : (old : OwnerFacts D L) (turns : List Turn) (new : OwnerFacts D L) (all : TurnsTo (OwnerTurned door_facts) old turns new) → old.scribe.is_asked ≡ true
+      → new.scribe.entries ≡ old.scribe.entries ++ entries_after old.control.publisher.opening (appended old.control.publisher) (decisions door_facts old turns new all)
+  entries_decided old turns new all asked = (turns_lead old turns new all).leads.entries asked
+
+  pub none_unasked : (old : OwnerFacts D L) (turns : List Turn) (new : OwnerFacts D L) (all : TurnsTo (OwnerTurned door_facts) old turns new) → old.scribe.is_asked ≡ false → new.scribe.entries ≡ old.scribe.entries
+  none_unasked old turns new all unasked = (turns_lead old turns new all).leads.unasked unasked
+
+  pub connections_counted : (control : ControlFacts) (door : D) (connections : ℕ) (journal : Bool) (queues : List TableId) (opened owner : OwnerFacts D L) (turns : List Turn)
+      → IsOpened control door connections journal queues opened → (all : TurnsTo (OwnerTurned door_facts) opened turns owner)
+      → owner.guests.given ≡ length (connections_given door_facts opened turns owner all)
+  connections_counted control door connections journal queues opened owner turns new all =
+      from_none owner.guests.given opened.guests.given (length (connections_given door_facts opened turns owner all)) (turns_lead opened turns owner all).given
+      (ap (λ (o : OwnerFacts D L). o.guests.given) new)

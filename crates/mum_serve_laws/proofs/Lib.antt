@@ -1,0 +1,7 @@
+mod Handled
+mod Counting
+mod Noting
+mod Deciding
+mod Settling
+mod Running
+mod Owning

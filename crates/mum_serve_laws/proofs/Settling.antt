@@ -1,0 +1,137 @@
+-- What turns of an owner decide, beside what they settle.
+use Rattle.std.proofs.Common.{◌≡◌, ◌∙◌, ℕ, Bool, true, false, List, [], ◌∷◌, ◌++◌, length, Option, Some, None, refl, ap, sym, subst, inl, inr}
+use Rattle.std.specs.Option.{option_map}
+use Rattle.std.specs.Prelude.{◌&&◌, find, is_some, nat_lt}
+use Rattle.mum_base.specs.declared.number.TheConstants.{CONNECTION_LIMIT}
+use Rattle.mum_base.specs.declared.reply.Mark.{Mark}
+use Rattle.mum_control.specs.Commanded.{Commanded, current}
+use Rattle.mum_control.specs.Facts.{ControlFacts}
+use Rattle.mum_core.proofs.Subsequences.{skip}
+use Rattle.mum_core.specs.Laws.{IsSubsequenceBy}
+use Rattle.mum_crew.specs.Turns.{TurnsTo}
+use Rattle.mum_crew.specs.declared.role.Turn.{Turn}
+use Rattle.mum_io.specs.Door.{DoorFacts}
+use Rattle.mum_owner.specs.Facts.{OwnerFacts}
+use Rattle.mum_owner.specs.Guests.{is_of, owned, session_of}
+use Rattle.mum_owner.specs.Laws.{one_leave, one_login, settled, settled_by, settled_going, settled_leaving, settled_of, settled_owned, settled_pending, settled_taking, settled_where}
+use Rattle.mum_owner.specs.Serving.{GivesOwned, GoesWhere, IsGiven, LeaveIsGiven, LeavesWhere, PendsWhere, ReceivesBy, ReceivesItem, ReceivesOwned, ServesWhere, TakesWhere, leave_of, may_go, must_wait, with_pass}
+use Rattle.mum_owner.specs.Turned.{OwnerTurned}
+use Rattle.mum_owner.specs.Written.{is_leave, is_login}
+use Rattle.mum_owner.specs.declared.desk.TheConstants.{PENDING_LIMIT}
+use Rattle.mum_owner.specs.declared.guests.Guest.{Guest}
+use Rattle.mum_port.specs.declared.item.DeskItem.{DeskItem}
+use Rattle.mum_port.specs.declared.item.DeskItem.TheVariants as items
+use Rattle.mum_published.specs.Facts.{ReplyFacts}
+use Rattle.mum_session.specs.Verdict.{verdict}
+use Rattle.mum_session.specs.declared.command.Command.{Command}
+use Rattle.mum_step_laws.specs.OwnerTurns.{Decision, decided_by, decided_given, decided_going, decided_item, decided_leave, decided_leaving, decided_owned, decided_pending, decided_receiving, decided_taking, decided_waiting, decided_where, decisions_of}
+use Rattle.mum_serve_laws.specs.Decisions.{Gave, IsOn, Work, decisions, work_done, work_of}
+use Rattle.mum_serve_laws.proofs.Deciding.{decided_grows}
+
+-- ---- lists
+
+joined : {A B : Type 0} (R : A → B → Type 0) (xs us : List A) (ys vs : List B) → IsSubsequenceBy R xs ys → IsSubsequenceBy R us vs → IsSubsequenceBy R (xs ++ us) (ys ++ vs)
+joined R [] us [] vs one other = other
+joined R [] us (y ∷ ys) vs one other = skip R y us (ys ++ vs) (joined R [] us ys vs tt other)
+joined R (x ∷ xs) us [] vs one other = absurd one
+joined R (x ∷ xs) us (y ∷ ys) vs (inl (is, rest)) other = inl (is, joined R xs us ys vs rest other)
+joined R (x ∷ xs) us (y ∷ ys) vs (inr rest) other = inr (joined R (x ∷ xs) us ys vs rest other)
+
+-- ---- a turn
+
+abbrev Stands : List Decision → List Work → Type 0
+Stands made work = IsSubsequenceBy IsOn made work
+
+-- the same command, but for its session
+abbrev IsSame : Command → Command → Type 0
+IsSame command login = command ≡ record login { session = command.session }
+
+from_guest : (found : Option Guest) (login command : Command) → option_map (λ (guest : Guest). record login { session = guest.session }) found ≡ Some command → IsSame command login
+from_guest None login command is = absurd (cc is)
+from_guest (Some guest) login command is =
+    let same : record login { session = guest.session } ≡ command = cc is in
+    subst (λ (c : Command). IsSame c login) same refl
+
+of_command : (old : ControlFacts) (command login : Command) (reply : ReplyFacts) (new : ControlFacts) → IsSame command login → (given : Commanded old command reply new)
+    → Stands (decided_by old command reply new given) (Gave login ∷ [])
+of_command old command login reply new same (inl drops) = tt
+of_command old command login reply new same (inr decides) = inl (same, tt)
+
+of_a_leave : (old : ControlFacts) (command : Command) (reply : ReplyFacts) (new : ControlFacts) (connection : ℕ) (was : Bool)
+    → was ≡ is_some new.mark → command.connection ≡ connection → is_leave command.what ≡ true → (given : Commanded old command reply new)
+    → Stands (decided_by old command reply new given) (work_of (one_leave was connection))
+of_a_leave old command reply new connection was so its leaves (inl drops) = tt
+of_a_leave old command reply new connection was so its leaves (inr decides) =
+    let known : was ≡ true = so ∙ ap (λ (m : Option Mark). is_some m) (decided_grows old command.connection command.session (verdict (current old) command.session command.what) reply new decides).1 in
+    subst (λ (b : Bool). Stands (record { command = command; reply = reply } ∷ []) (work_of (one_leave b connection))) (sym known) (inl ((its, leaves), tt))
+
+module _ {D L : Type 0} where
+  of_given : (old : OwnerFacts D L) (command login : Command) (new : OwnerFacts D L) → IsSame command login → (given : IsGiven old command new) → Stands (decided_given old command new given) (Gave login ∷ [])
+  of_given old command login new same (inl gives) = of_command old.control command login gives.reply new.control same gives.commanded
+  of_given old command login new same (inr drops) = tt
+
+  of_leave : (old : OwnerFacts D L) (connection : ℕ) (was : Bool) (new : OwnerFacts D L) (given : LeaveIsGiven old connection was new)
+      → Stands (decided_leave old connection was new given) (work_of (one_leave was connection))
+  of_leave old connection was new (inl gives) =
+      of_a_leave gives.emptied (leave_of connection (session_of connection old.guests.rows)) gives.reply new.control connection was gives.so refl refl gives.commanded
+  of_leave old connection was new (inr drops) = tt
+
+  of_receiving : (leave waits : Bool) (old : OwnerFacts D L) (command : Command) (new : OwnerFacts D L) (received : ReceivesBy leave waits old command new)
+      → Stands (decided_receiving leave waits old command new received) (work_of (settled_by leave waits old command new received))
+  of_receiving true waits old command new received = of_leave old command.connection received.0 new received.1
+  of_receiving false true old command new received = tt
+  of_receiving false false old command new received = of_given old command command new refl received
+
+  of_owned : (own : Option Command) (old new : OwnerFacts D L) (received : ReceivesOwned old own new)
+      → Stands (decided_owned own old new received) (work_of (settled_owned own old new received))
+  of_owned None old new received = tt
+  of_owned (Some command) old new received = of_receiving (is_leave command.what) (is_login command && must_wait old) old command new received
+
+  of_item : (old : OwnerFacts D L) (item : Option DeskItem) (worked : Bool) (new : OwnerFacts D L) (received : ReceivesItem old item worked new)
+      → Stands (decided_item old item worked new received) (work_of (settled_of old item worked new received))
+  of_item old None worked new received = tt
+  of_item old (Some (items.Closed connection)) worked new received = tt
+  of_item old (Some (items.Command command)) worked new received = of_owned (owned old.guests.rows command) old new received.1
+
+  of_taking : (b : Bool) (old : OwnerFacts D L) (worked : Bool) (new : OwnerFacts D L) (takes : TakesWhere b old worked new)
+      → Stands (decided_taking b old worked new takes) (work_of (settled_taking b old worked new takes))
+  of_taking true old worked new takes = of_item (with_pass takes.pass old) takes.item worked new takes.received
+  of_taking false old worked new rests = tt
+
+  of_waiting : (own : Option Command) (login : Command) (old new : OwnerFacts D L) → ((command : Command) → own ≡ Some command → IsSame command login) → (given : GivesOwned old own new)
+      → Stands (decided_waiting own old new given) (work_of (one_login own login))
+  of_waiting None login old new same given = tt
+  of_waiting (Some command) login old new same given = of_given old command login new (same command refl) given
+
+  of_going : (b : Bool) (old : OwnerFacts D L) (worked : Bool) (new : OwnerFacts D L) (goes : GoesWhere b old worked new)
+      → Stands (decided_going b old worked new goes) (work_of (settled_going b old worked new goes))
+  of_going true old worked new gives = of_waiting (owned old.guests.rows gives.login) gives.login (record old { logins = gives.rest }) new
+      (λ command is. from_guest (find (is_of gives.login.connection) old.guests.rows) gives.login command is) gives.given
+  of_going false old worked new takes = of_taking (nat_lt (length old.logins) CONNECTION_LIMIT) old worked new takes
+
+  of_pending : (b : Bool) (old : OwnerFacts D L) (worked : Bool) (new : OwnerFacts D L) (pends : PendsWhere b old worked new)
+      → Stands (decided_pending b old worked new pends) (work_of (settled_pending b old worked new pends))
+  of_pending true old worked new rests = tt
+  of_pending false old worked new goes = of_going (may_go old) old worked new goes
+
+  of_leaving : (leave : Option ℕ) (old : OwnerFacts D L) (worked : Bool) (new : OwnerFacts D L) (leaves : LeavesWhere leave old worked new)
+      → Stands (decided_leaving leave old worked new leaves) (work_of (settled_leaving leave old worked new leaves))
+  of_leaving (Some connection) old worked new given = of_leave old connection worked new given
+  of_leaving None old worked new pends = of_pending (nat_lt PENDING_LIMIT (length old.control.pending)) old worked new pends
+
+  of_where : (b : Bool) (old : OwnerFacts D L) (worked : Bool) (new : OwnerFacts D L) (serves : ServesWhere b old worked new)
+      → Stands (decided_where b old worked new serves) (work_of (settled_where b old worked new serves))
+  of_where true old worked new rests = tt
+  of_where false old worked new leaves = of_leaving old.desk.leave old worked new leaves
+
+-- ---- the turns
+
+module _ {D L : Type 0} (door_facts : D → DoorFacts) where
+  pub of_the_desk : (old : OwnerFacts D L) (turns : List Turn) (new : OwnerFacts D L) (all : TurnsTo (OwnerTurned door_facts) old turns new)
+      → IsSubsequenceBy IsOn (decisions door_facts old turns new all) (work_done door_facts old turns new all)
+  of_the_desk old [] new same = tt
+  of_the_desk old (turn ∷ turns) new (mid, turned, rest) =
+      joined IsOn (decisions_of door_facts old turn mid turned) (decisions door_facts mid turns new rest)
+      (work_of (settled turned.after_offers turned.served turned.after_desk turned.serves)) (work_done door_facts mid turns new rest)
+      (of_where (is_some turned.after_offers.kept.reply) turned.after_offers turned.served turned.after_desk turned.serves)
+      (of_the_desk mid turns new rest)

@@ -8,10 +8,10 @@ import time
 from .server import connect
 from .talkers import CHANNEL, login
 
-from client import AUTHENTICATE, PING, SERVER_SYNC, TEXT_MESSAGE, USER_STATE, VOICE
+from reader.mumble import (ACL, AUTHENTICATE, CHANNEL_STATE, PERMISSION_QUERY, PING, SERVER_SYNC, TEXT_MESSAGE,
+                           USER_STATE, VOICE, VOICE_TARGET)
 from reader.wire import HEADER, field, frame, message, read_frames, read_varint, varint
 
-ACL, QUERY, TARGET, CHANNEL_STATE = 13, 20, 19, 7
 GREATEST_PAYLOAD, COMMAND_LIMIT, TEXT_LIMIT = 8_388_607, 65_000, 20_000
 # How many bytes wait at most for an enemy's line, and how often a second each has a turn.
 WAITING_LIMIT, TURNS_A_SECOND = 1 << 18, 50
@@ -131,9 +131,9 @@ class RandomBytes(Enemy):
 
 class RandomPayloads(LoggedIn):
     label, hears = "frames of random bytes, and of messages with bytes changed", True
-    MESSAGES = [frame(USER_STATE, message((9, 1), (10, 0))), frame(QUERY, message((1, 1))),
+    MESSAGES = [frame(USER_STATE, message((9, 1), (10, 0))), frame(PERMISSION_QUERY, message((1, 1))),
                 frame(TEXT_MESSAGE, message((3, 1), (5, "text"))),
-                frame(TARGET, message((1, 3), (2, message((1, 1), (2, 0), (3, "group"))))),
+                frame(VOICE_TARGET, message((1, 3), (2, message((1, 1), (2, 0), (3, "group"))))),
                 frame(ACL, message((1, 0), (2, 1), (4, message((1, 1), (2, 1), (5, "all"), (6, 7))))),
                 frame(CHANNEL_STATE, message((1, 1), (3, "name"), (5, "description")))]
 
@@ -193,7 +193,8 @@ class LyingLengths(LoggedIn):
                 b"\x12\x03\x08\xff\xff", b"\x5a\x05\xff\xff\xff\xff\xff", b"\x09\x00", b"\x0d\x00", b"\x1a\x02\xc3\x28"]
 
     def deed(self):
-        kind = self.draws.choice([0, 2, 3, USER_STATE, CHANNEL_STATE, TEXT_MESSAGE, ACL, TARGET, QUERY, 8, 6])
+        kind = self.draws.choice([0, 2, 3, USER_STATE, CHANNEL_STATE, TEXT_MESSAGE, ACL, VOICE_TARGET, PERMISSION_QUERY,
+                                  8, 6])
         payload = self.draws.choice(self.PAYLOADS)
         if self.draws.random() < 0.01:
             # what follows is taken for the rest of this frame, or for the header of the next
@@ -213,7 +214,7 @@ GREAT_COMMANDS = [
     # texts that name one channel or tree again and again, a target, entries of a list, tokens, a listen again and again
     frame(TEXT_MESSAGE, field(3, 2) * 32_490 + field(5, "x")),
     frame(TEXT_MESSAGE, field(4, 2) * 32_490 + field(5, "x")),
-    frame(TARGET, message((1, 1)) + field(2, field(1, 1) * 60 + field(2, 2)) * 500),
+    frame(VOICE_TARGET, message((1, 1)) + field(2, field(1, 1) * 60 + field(2, 2)) * 500),
     frame(ACL, message((1, 0)) + field(4, message((1, 1), (2, 1), (5, "all"), (6, 8))) * 4_000),
     frame(AUTHENTICATE, message((1, "another")) + field(3, "t" * 120) * 530),
     frame(USER_STATE, b"".join(varint(21 << 3) + varint(1) for _ in range(21_000))),
@@ -283,7 +284,7 @@ class Deaf(Enemy):
 
 class Unanswered(LoggedIn):
     label, allowance, receive_room = "who ask, and never read what they are answered", 768, 4096
-    QUESTIONS = [frame(PING, message((1, 1))) * 40, frame(QUERY, message((1, 1))),
+    QUESTIONS = [frame(PING, message((1, 1))) * 40, frame(PERMISSION_QUERY, message((1, 1))),
                  frame(USER_STATE, message((1, 1), (7, 1))), frame(CHANNEL_STATE, message((5, 0), (3, "name")))]
 
     def deed(self):

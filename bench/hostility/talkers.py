@@ -7,8 +7,9 @@ import time
 
 from .server import TOP, connect
 
-sys.path.insert(0, os.path.join(TOP, "relay/tests"))
-from client import AUTHENTICATE, PERMISSION_DENIED, PING, REJECT, SERVER_SYNC, USER_STATE, VERSION, VOICE  # noqa: E402
+sys.path.insert(0, os.path.join(TOP, "cases"))
+from reader.mumble import (AUTHENTICATE, PERMISSION_DENIED, PING, REJECT, SERVER_SYNC, USER_STATE,  # noqa: E402
+                           VERSION, VOICE)
 from reader.wire import frame, message, read_frames, read_varint  # noqa: E402
 
 TALKERS = 20

@@ -99,7 +99,7 @@ def frames_of(scene, words):
     """The frames of a message: one, or a login behind the Version that is said with it."""
     kind, message = message_of(words)
     frames = [mumble.frame_of(kind, scene.outgoing(kind, message))]
-    version = version_of(head_of(words)[1]) if kind == mumble.LOGIN else None
+    version = version_of(head_of(words)[1]) if kind == mumble.AUTHENTICATE else None
     if version is not None:
         frames.insert(0, mumble.frame_of(mumble.VERSION, {"version": version}))
     return frames

@@ -7,7 +7,7 @@ from .script import login_frame, refusal_of
 from .table import NoCase
 
 FOLDER = Path(__file__).resolve().parents[1] / "conversations"
-COMMANDS = (mumble.LOGIN, mumble.CHANNEL_REMOVE, mumble.CHANNEL_STATE, mumble.USER_REMOVE, mumble.USER_STATE,
+COMMANDS = (mumble.AUTHENTICATE, mumble.CHANNEL_REMOVE, mumble.CHANNEL_STATE, mumble.USER_REMOVE, mumble.USER_STATE,
             mumble.TEXT_MESSAGE, mumble.ACL, mumble.VOICE_TARGET, mumble.PERMISSION_QUERY)
 BEFORE = 127
 CLIENT, LISTENER = BEFORE + 1, BEFORE + 2

@@ -70,7 +70,7 @@ def login(connection, name, password, document_steps, tokens=()):
     """Adds the steps of a login."""
     message = {"username": name, "password": password, "tokens": tokens}
     document_steps.append(f"open {connection} 0")
-    document_steps += program.command_steps(connection, mumble.frame_of(mumble.LOGIN, message))
+    document_steps += program.command_steps(connection, mumble.frame_of(mumble.AUTHENTICATE, message))
 
 
 def told_first(document, name, password):
@@ -141,7 +141,7 @@ def seen(question):
     if isinstance(told, str):
         return f"rejected {told}"
     words = [message_text(kind, fields) for kind, fields in told if kind == mumble.CHANNEL_STATE]
-    words += [settings_text(fields) for kind, fields in told if kind == mumble.SYNC]
+    words += [settings_text(fields) for kind, fields in told if kind == mumble.SERVER_SYNC]
     words += lists_text(document, ADMINISTRATOR, SECRET, channels_of(told))
     if told_first(document, GUEST, "no password of anybody") == "4":
         words.append("password")
@@ -196,5 +196,5 @@ def example_words(told, word, channel):
                 yield message_text(kind, fields)
         elif kind == mumble.USER_STATE and word == "itself":
             yield message_text(kind, fields)
-        elif kind == mumble.SYNC and word == "server":
+        elif kind == mumble.SERVER_SYNC and word == "server":
             yield settings_text(fields)

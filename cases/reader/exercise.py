@@ -88,7 +88,7 @@ class Exercise:
         self.steps.append(f"open {who} {(who - 1) % WORKERS}")
         told = [who] * (BLOCK + who) + self.everybody()
         self.here += 1
-        self.command(who, mumble.LOGIN, {"username": f"u{who}"}, told)
+        self.command(who, mumble.AUTHENTICATE, {"username": f"u{who}"}, told)
 
     def changed(self, is_changed):
         """Who is told of a change: everybody, or nobody where there is none."""

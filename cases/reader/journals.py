@@ -15,7 +15,7 @@ def secret_journal():
                             "acls": [{"group": "all", "deny": 4}, {"group": "#KEY", "grant": 4}]}]}
 
     def login(**fields):
-        return mumble.frame_of(mumble.LOGIN, fields)
+        return mumble.frame_of(mumble.AUTHENTICATE, fields)
 
     def move(session):
         return mumble.frame_of(mumble.USER_STATE, {"session": session, "channel_id": 1})

@@ -53,7 +53,7 @@ def acl(rest):
 def login(rest):
     """`ann, password abc, tokens one two`; no name at all where it is `-`."""
     name, parts = head_of(rest)
-    return mumble.LOGIN, {"username": text_of(said(name)), "password": text_of(part(parts, "password")),
+    return mumble.AUTHENTICATE, {"username": text_of(said(name)), "password": text_of(part(parts, "password")),
                           "tokens": pieces_of_texts(part(parts, "tokens"))}
 
 

@@ -4,9 +4,10 @@ from dataclasses import dataclass, field
 
 from . import wire
 
-VERSION, VOICE, LOGIN, PING, REJECT, SYNC = 0, 1, 2, 3, 4, 5
+VERSION, VOICE, AUTHENTICATE, PING, REJECT, SERVER_SYNC = 0, 1, 2, 3, 4, 5
 CHANNEL_REMOVE, CHANNEL_STATE, USER_REMOVE, USER_STATE = 6, 7, 8, 9
-TEXT_MESSAGE, DENIED, ACL, VOICE_TARGET, PERMISSION_QUERY, CODECS = 11, 12, 13, 19, 20, 21
+TEXT_MESSAGE, PERMISSION_DENIED, ACL, CRYPT_SETUP = 11, 12, 13, 15
+VOICE_TARGET, PERMISSION_QUERY, CODEC_VERSION = 19, 20, 21
 
 # the permission bits of the Murmur manual, ACL
 PERMISSIONS = {
@@ -59,12 +60,12 @@ TARGET_ITEM = fields_of(session="1 number*", channel_id="2 number", group="3 tex
 
 FIELDS = {
     VERSION: fields_of(version="1 number", release="2 text", os="3 text", os_version="4 text"),
-    LOGIN: fields_of(username="1 text", password="2 text", tokens="3 text*", celt_versions="4 signed*",
+    AUTHENTICATE: fields_of(username="1 text", password="2 text", tokens="3 text*", celt_versions="4 signed*",
                      opus="5 flag"),
     PING: fields_of(timestamp="1 number", good="2 number", late="3 number", lost="4 number", resync="5 number",
                     udp_packets="6 number", tcp_packets="7 number"),
     REJECT: fields_of(type="1 number", reason="2 text"),
-    SYNC: fields_of(session="1 number", max_bandwidth="2 number", welcome_text="3 text", permissions="4 number"),
+    SERVER_SYNC: fields_of(session="1 number", max_bandwidth="2 number", welcome_text="3 text", permissions="4 number"),
     CHANNEL_REMOVE: fields_of(channel_id="1 number"),
     CHANNEL_STATE: fields_of(channel_id="1 number", parent="2 number", name="3 text", links="4 number*",
                              description="5 text", links_add="6 number*", links_remove="7 number*",
@@ -80,13 +81,13 @@ FIELDS = {
                           listening_channel_remove="22 number*"),
     TEXT_MESSAGE: fields_of(actor="1 number", session="2 number*", channel_id="3 number*", tree_id="4 number*",
                             message="5 text"),
-    DENIED: fields_of(permission="1 number", channel_id="2 number", session="3 number", reason="4 text",
+    PERMISSION_DENIED: fields_of(permission="1 number", channel_id="2 number", session="3 number", reason="4 text",
                       type="5 number", name="6 text"),
     ACL: with_blocks(fields_of(channel_id="1 number", inherit_acls="2 flag", query="5 flag"),
                      groups=(3, ACL_GROUP), acls=(4, ACL_ENTRY)),
     VOICE_TARGET: with_blocks(fields_of(id="1 number"), targets=(2, TARGET_ITEM)),
     PERMISSION_QUERY: fields_of(channel_id="1 number", permissions="2 number", flush="3 flag"),
-    CODECS: fields_of(alpha="1 signed", beta="2 signed", prefer_alpha="3 flag", opus="4 flag"),
+    CODEC_VERSION: fields_of(alpha="1 signed", beta="2 signed", prefer_alpha="3 flag", opus="4 flag"),
 }
 NAMES = {
     0: "Version", 1: "UDPTunnel", 2: "Authenticate", 3: "Ping", 4: "Reject", 5: "ServerSync", 6: "ChannelRemove",

@@ -16,7 +16,7 @@ WORKERS = 2
 def login(draw, connection):
     """A user comes, or tries to."""
     version = mumble.frame_of(mumble.VERSION, {"version": draw.choice([0x10203, 0x10400])})
-    frame = mumble.frame_of(mumble.LOGIN, {"username": draw.choice(NAMES)})
+    frame = mumble.frame_of(mumble.AUTHENTICATE, {"username": draw.choice(NAMES)})
     greeting = [f"frame {connection} {version}"] if draw.random() < 0.5 else []
     return [f"open {connection} {draw.randrange(WORKERS)}", *greeting, *program.command_steps(connection, frame)]
 

@@ -15,7 +15,7 @@ TEXTS = {
     mumble.USER_STATE: ("comment", "texture", "plugin_identity", "plugin_context", "hash", "comment_hash",
                         "texture_hash"),
 }
-TOKENS = {mumble.LOGIN: "tokens", mumble.USER_STATE: "temporary_access_tokens"}
+TOKENS = {mumble.AUTHENTICATE: "tokens", mumble.USER_STATE: "temporary_access_tokens"}
 TOKEN_OF_GROUP = re.compile(rb"([!~]*#)(.*)", re.DOTALL)
 DIGEST_KEYS = ("password_sha256", "server_password_sha256")
 NO_DIGEST = "0" * 64
@@ -102,7 +102,7 @@ class Redaction:
 
     def block(self, kind, known, block):
         """What stands for the block of a field of a message of this type."""
-        if kind == mumble.LOGIN and known.name == "password":
+        if kind == mumble.AUTHENTICATE and known.name == "password":
             return self.passwords.of(block)
         if known.name == TOKENS.get(kind):
             return self.token(block)

@@ -94,7 +94,7 @@ class Scene:
         """A session joins, and gets the least slot; its connection, number and slot."""
         password = self.configuration.passwords.get(account, self.configuration.server_password)
         connection = self.connect()
-        self.command(connection, mumble.LOGIN, {"username": name, "password": password, "tokens": tokens}, call)
+        self.command(connection, mumble.AUTHENTICATE, {"username": name, "password": password, "tokens": tokens}, call)
         self.sessions += 1
         slot = self.free_slot()
         self.slots[slot] = self.sessions
@@ -239,7 +239,7 @@ class Scene:
 
     def show_tokens(self, user, tokens, call):
         """A user logs in again with other tokens."""
-        self.command(user.connection, mumble.LOGIN, {"tokens": tokens}, call)
+        self.command(user.connection, mumble.AUTHENTICATE, {"tokens": tokens}, call)
 
     def join(self, rest, call):
         """`ann, account 7, tokens one two`"""

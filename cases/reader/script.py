@@ -9,7 +9,7 @@ from .words import bytes_of, calls_of, number
 
 def login_frame(name):
     """The digits of a login under a name alone."""
-    return mumble.frame_of(mumble.LOGIN, {"username": name})
+    return mumble.frame_of(mumble.AUTHENTICATE, {"username": name})
 
 
 NAMES = {"ANN": login_frame("ann"), "BOB": login_frame("bob"), "CAT": login_frame("cat"),

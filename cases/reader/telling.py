@@ -87,14 +87,14 @@ def may_text(told):
     return parts_text(head, told, {"flush": "flush"})
 
 
-TEXTS = {mumble.VERSION: version_text, mumble.CODECS: codecs_text, mumble.CHANNEL_STATE: channel_text,
+TEXTS = {mumble.VERSION: version_text, mumble.CODEC_VERSION: codecs_text, mumble.CHANNEL_STATE: channel_text,
          mumble.CHANNEL_REMOVE: gone_text, mumble.USER_STATE: user_text, mumble.USER_REMOVE: left_text,
-         mumble.SYNC: sync_text, mumble.TEXT_MESSAGE: said_text, mumble.PERMISSION_QUERY: may_text}
+         mumble.SERVER_SYNC: sync_text, mumble.TEXT_MESSAGE: said_text, mumble.PERMISSION_QUERY: may_text}
 
 # the fields that name sessions
-SESSIONS = {mumble.SYNC: ("session",), mumble.USER_STATE: ("session", "actor"),
+SESSIONS = {mumble.SERVER_SYNC: ("session",), mumble.USER_STATE: ("session", "actor"),
             mumble.USER_REMOVE: ("session", "actor"), mumble.TEXT_MESSAGE: ("session", "actor"),
-            mumble.DENIED: ("session",)}
+            mumble.PERMISSION_DENIED: ("session",)}
 
 
 def renamed(kind, message, number_of):

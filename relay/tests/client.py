@@ -8,10 +8,9 @@ from pathlib import Path
 
 sys.path.insert(0, str(Path(__file__).resolve().parent.parent.parent / "cases"))
 
+from reader.mumble import (AUTHENTICATE, CHANNEL_STATE, PING, SERVER_SYNC, USER_REMOVE, USER_STATE,  # noqa: E402
+                           VERSION, VOICE)
 from reader.wire import BLOCK, NUMBER, frame, message, read_fields, read_frames  # noqa: E402
-
-VERSION, VOICE, AUTHENTICATE, PING, REJECT, SERVER_SYNC = 0, 1, 2, 3, 4, 5
-CHANNEL_STATE, USER_REMOVE, USER_STATE, TEXT_MESSAGE, PERMISSION_DENIED, ACL, CRYPT_SETUP = 7, 8, 9, 11, 12, 13, 15
 
 ENTER, KICK = 0x4, 0x10000
 # How long a client waits for what is to come, in seconds.

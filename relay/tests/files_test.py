@@ -39,7 +39,7 @@ def haproxy_takes_the_installed_configuration():
     with tempfile.TemporaryDirectory() as folder:
         passed(run("openssl", "req", "-x509", "-newkey", "ec", "-pkeyopt", "ec_paramgen_curve:prime256v1", "-nodes", "-subj",
                    "/CN=test", "-keyout", f"{folder}/server.pem", "-out", f"{folder}/server.pem"))
-        for name in ("cryptsetup.lua", "login.lua", "kept-out"):
+        for name in ("cryptsetup.lua", "login.lua", "view.lua", "view.html", "kept-out"):
             shutil.copy(path(name), folder)
         with open(f"{folder}/haproxy.cfg", "w") as configuration:
             configuration.write(text("haproxy.cfg").replace("/etc/murmur", folder).replace("/usr/share/murmur", folder))
@@ -74,8 +74,9 @@ def the_unit_is_right_and_hardened():
 
 
 def the_unit_serves_as_many_connections_as_there_may_be():
-    """The program takes the words of the unit, and no greater number."""
-    words = re.search(r"^ExecStart=\S+ (.*)$", text("murmur.service"), re.M).group(1).split()
+    """The program takes the words of the unit, and no greater numbers."""
+    unit = text("murmur.service").replace("\\\n", "")
+    words = re.search(r"^ExecStart=\S+ (.*)$", unit, re.M).group(1).split()
     with tempfile.TemporaryDirectory() as folder:
         sockets = [word.replace("/var/lib/haproxy/murmur", folder) for word in words]
         with subprocess.Popen([PROGRAM, *sockets], stdin=subprocess.PIPE, stderr=subprocess.PIPE, text=True) as server:
@@ -84,8 +85,12 @@ def the_unit_serves_as_many_connections_as_there_may_be():
             line = server.stderr.readline()
             server.kill()
         assert line == f"murmur: listening on {sockets[1]}\n", line
-        done = run(PROGRAM, *sockets[:-1], str(int(sockets[-1]) + 1), input="{}")
-        assert done.returncode == 1, done
+        numbers = [place for place, word in enumerate(sockets) if word.isdigit()]
+        for place in numbers:
+            more = str(int(sockets[place]) + 1)
+            done = run(PROGRAM, *sockets[:place], more, *sockets[place + 1:], input="{}")
+            assert done.returncode == 1, done
+        assert len(numbers) == 2, sockets
 
 
 def the_timer_restarts_it_at_night():
@@ -126,7 +131,11 @@ def completion_knows_the_words():
         "murmur serve proxy:u": "unix:",
         "murmur serve proxy:unix:/et": "/etc/",
         "murmur serve 127.0.0.1:64738 1": "1000 1000000",
-        "murmur serve 127.0.0.1:64738 1 ": "journal",
+        "murmur serve 127.0.0.1:64738 1 ": "journal view",
+        "murmur serve 127.0.0.1:64738 1 journal ": "view",
+        "murmur serve 127.0.0.1:64738 1 journal view unix:/et": "/etc/",
+        "murmur serve 127.0.0.1:64738 1 view [::1]:5 1": "1000 1000000",
+        "murmur serve 127.0.0.1:64738 1 view [::1]:5 1 ": "",
         "murmur replay ": "",
     }
     for line, wanted in asked.items():

@@ -7,14 +7,14 @@ import os
 import re
 import socket
 import ssl
-import struct
 import subprocess
 import tempfile
 import threading
 import time
 
-from client import AUTHENTICATE, REJECT, USER_REMOVE, VERSION, Client, Ended, parse, trusting_context
-from reader.wire import frame, message
+from client import Client, Ended, parse, trusting_context
+from reader.mumble import AUTHENTICATE, REJECT, USER_REMOVE, VERSION
+from reader.wire import HEADER, frame, message
 from trial import PASSWORD, PROGRAM, RELAY, free_port, said_by, wait
 
 # The limits of haproxy.cfg: connections at once, logins in two minutes, wrong passwords in five, tries in ten seconds.
@@ -100,7 +100,7 @@ def only_a_whole_login_uses_up_a_connection(at):
     client.wait_until(lambda: client.session)
     client.close()
     # a Version in the packet of the login, alone before it, and none
-    for first in (len(whole), 6 + struct.unpack(">I", whole[2:6])[0]):
+    for first in (len(whole), HEADER.size + HEADER.unpack_from(whole)[1]):
         client = Client(at.port, "127.0.4.2")
         client.stream.sendall(whole[:first])
         time.sleep(0.2)
@@ -246,7 +246,7 @@ class FastRelay:
     def __init__(self, at):
         self.folder, self.port = tempfile.mkdtemp(dir=at.folder), free_port()
         with open(at.path("haproxy.cfg")) as configuration:
-            text = re.sub(r"^( *bind) \S+", rf"\1 127.0.0.1:{self.port}", configuration.read(), flags=re.M)
+            text = re.sub(r"^( *bind) \S+(?= .*ssl)", rf"\1 127.0.0.1:{self.port}", configuration.read(), flags=re.M)
         text = re.sub(r"(_rate)\((\d+)m\)", lambda rate: f"{rate[1]}({6 * int(rate[2])}s)", text)
         text = text.replace("_rate(10s)", "_rate(1s)")
         text = text.replace("timeout connect 5s", "timeout connect 5s\n    retries 0")
@@ -353,7 +353,7 @@ def only_certificates_of_a_firm_get_in(at):
     serial = subprocess.run(["openssl", "x509", "-in", f"{firm}/bob.pem", "-noout", "-serial"], check=True, text=True,
                             capture_output=True).stdout.strip().removeprefix("serial=")
     with open(at.path("haproxy.cfg")) as configuration, open(f"{firm}/revoked", "w") as file:
-        text = re.sub(r"^( *bind) \S+ (.*)$", lambda line: f"{line[1]} 127.0.0.1:{port} {line[2]} {bind.strip()}",
+        text = re.sub(r"^( *bind) \S+ (.*ssl.*)$", lambda line: f"{line[1]} 127.0.0.1:{port} {line[2]} {bind.strip()}",
                       configuration.read(), flags=re.M)
         file.write(f"{serial}\n")
     login = "    tcp-request content lua.login\n"

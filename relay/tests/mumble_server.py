@@ -6,12 +6,13 @@ import signal
 import sqlite3
 import subprocess
 
-from client import AUTHENTICATE, PING, SERVER_SYNC, USER_STATE, VERSION, Client
+from client import Client
+from reader.mumble import AUTHENTICATE, PERMISSION_QUERY, PING, SERVER_SYNC, USER_STATE, VERSION
 from reader.wire import message, read_fields
 from trial import free_port, wait
 
 PROGRAM, USER = "/usr/sbin/murmurd", "mumble-server"
-BAN_LIST, PERMISSION_QUERY = 10, 20
+BAN_LIST = 10
 # How long it may take to start, in seconds; the first time it makes a certificate.
 PATIENCE = 120
 # Settings under which nothing leaves the machine, nobody is kept out, and everybody arrives in the root.

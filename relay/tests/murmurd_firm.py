@@ -6,9 +6,8 @@ import hashlib
 import os
 import re
 
-from client import AUTHENTICATE
 from mumble_server import enter, log_in, permissions_of
-from reader.mumble import PERMISSIONS
+from reader.mumble import AUTHENTICATE, PERMISSIONS
 from reader.question import answer_to
 from reader.wire import message
 

@@ -19,8 +19,9 @@ import time
 import warnings
 
 import limits_test
-from client import (AUTHENTICATE, CRYPT_SETUP, ENTER, PERMISSION_DENIED, PING, REJECT, TEXT_MESSAGE, USER_REMOVE,
-                    VERSION, VOICE, Client, Ended, parse, trusting_context)
+from client import ENTER, Client, Ended, parse, trusting_context
+from reader.mumble import (AUTHENTICATE, CRYPT_SETUP, PERMISSION_DENIED, PING, REJECT, TEXT_MESSAGE, USER_REMOVE,
+                           VERSION, VOICE)
 from limits_test import comes_in, is_reported
 from reader.wire import message
 from trial import PASSWORD, PROGRAM, RELAY, UNPROVED, Installation, free_port, run_checks, said_by, wait
@@ -273,7 +274,7 @@ def a_trial_takes_as_many_descriptors_as_it_may_need(_at):
 def drain_closes_the_clients_of_workers_that_a_reload_left(at):
     port = free_port()
     with open(at.path("haproxy.cfg")) as configuration, open(at.path("master.cfg"), "w") as other:
-        text = re.sub(r"^( *bind) \S+", rf"\1 127.0.0.1:{port}", configuration.read(), flags=re.M)
+        text = re.sub(r"^( *bind) \S+(?= .*ssl)", rf"\1 127.0.0.1:{port}", configuration.read(), flags=re.M)
         other.write(text.replace("admin.sock", "worker.sock").replace("murmur.sock", "second.sock"))
     with open(at.path("murmur.json")) as configuration:
         server = subprocess.Popen([PROGRAM, "serve", "proxy:unix:second.sock", "200"], cwd=at.folder, stdin=configuration,

@@ -15,8 +15,8 @@ import sys
 import tempfile
 import time
 
-from client import (ACL, AUTHENTICATE, CHANNEL_STATE, ENTER, PATIENCE, REJECT, TEXT_MESSAGE, USER_STATE, VERSION, VOICE,
-                    Ended, PlainClient, parse)
+from client import ENTER, PATIENCE, Ended, PlainClient, parse
+from reader.mumble import ACL, AUTHENTICATE, CHANNEL_STATE, REJECT, TEXT_MESSAGE, USER_STATE, VERSION, VOICE
 from reader.wire import HEADER, frame, message
 from server import HEADER_PATIENCE, LONGEST_HEADER, SIGNATURE, TCP_OVER_IPV6, Server, Tests, header, is_closed, reset
 from trial import RELAY, free_port, wait

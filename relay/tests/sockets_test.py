@@ -15,9 +15,11 @@ import sys
 import termios
 import time
 
-from client import AUTHENTICATE, PATIENCE, PING, REJECT, TEXT_MESSAGE, USER_STATE, VOICE, parse
+from client import PATIENCE, parse
+from reader.mumble import AUTHENTICATE, PING, REJECT, TEXT_MESSAGE, USER_STATE, VOICE
 from reader.wire import HEADER, frame, message
-from server import HEADER_PATIENCE, SIGNATURE, TCP_OVER_IPV4, TCP_OVER_IPV6, Server, Tests, header, is_closed, reset
+from server import (HEADER_PATIENCE, SIGNATURE, TCP_OVER_IPV4, TCP_OVER_IPV6, Server, Tests, header, is_closed,
+                    read_to_the_end, reset)
 from trial import free_port, wait
 
 # More connections than may be open at once.
@@ -59,13 +61,6 @@ def read_exactly(stream, count):
     while len(back) < count:
         piece = stream.recv(count - len(back))
         assert piece, "it was closed"
-        back += piece
-    return bytes(back)
-
-
-def read_to_the_end(stream):
-    back = bytearray()
-    while piece := stream.recv(65536):
         back += piece
     return bytes(back)
 

@@ -22,7 +22,8 @@ import sys
 import tempfile
 from concurrent.futures import ThreadPoolExecutor
 
-from client import VOICE, Client
+from client import Client
+from reader.mumble import VOICE
 from trial import PASSWORD, RELAY, Installation, run_checks, wait
 
 # Samples a second of a recording.

@@ -13,7 +13,8 @@ import sys
 import threading
 import time
 
-from client import AUTHENTICATE, TEXT_MESSAGE, USER_STATE, VERSION, VOICE, Ended, PlainClient
+from client import Ended, PlainClient
+from reader.mumble import AUTHENTICATE, TEXT_MESSAGE, VERSION, VOICE
 from reader.wire import message
 from server import Server, Tests, header, is_closed
 from trial import PROGRAM, RELAY, free_port, wait

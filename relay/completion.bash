@@ -10,10 +10,14 @@ _murmur() {
     local count=${#words[@]}
     local word=${words[count - 1]}
     local -a answers=()
+    # an address and a number come behind `view`, as behind `serve`
+    local place=$count
+    if [ "$count" -gt 5 ] && [ "${words[count - 2]}" = view ]; then place=3; fi
+    if [ "$count" -gt 6 ] && [ "${words[count - 3]}" = view ]; then place=4; fi
 
     if [ "$count" = 2 ]; then
         mapfile -t answers < <(compgen -W "replay audit exercise serve" -- "$word")
-    elif [ "$count" = 3 ] && [ "${words[1]}" = serve ]; then
+    elif [ "$place" = 3 ] && [ "${words[1]}" = serve ]; then
         case $word in
         unix:* | proxy:unix:*)
             local prefix=${word%%unix:*}unix: path
@@ -27,10 +31,12 @@ _murmur() {
         esac
         # no space after what goes on
         case ${answers[*]} in *: | */) compopt -o nospace 2> /dev/null ;; esac
-    elif [ "$count" = 4 ] && [ "${words[1]}" = serve ]; then
+    elif [ "$place" = 4 ] && [ "${words[1]}" = serve ]; then
         mapfile -t answers < <(compgen -W "1000 1000000" -- "$word")
-    elif [ "$count" = 5 ] && [ "${words[1]}" = serve ]; then
-        mapfile -t answers < <(compgen -W "journal" -- "$word")
+    elif [ "$place" = 5 ] && [ "${words[1]}" = serve ]; then
+        mapfile -t answers < <(compgen -W "journal view" -- "$word")
+    elif [ "$place" = 6 ] && [ "${words[1]}" = serve ] && [ "${words[4]}" = journal ]; then
+        mapfile -t answers < <(compgen -W "view" -- "$word")
     fi
 
     # bash replaces only what stands behind the last ':'

@@ -1,13 +1,15 @@
-"""The names in code type of three pages, looked for in the sources."""
+"""The names in code type of some pages, looked for in the sources, and the values of the constants among them."""
 import re
 from functools import cache
 
-from .calls import CLAUSE, blocks_of, name_of, types_of
+from .calls import CLAUSE, blocks_of, calls_of, name_of, types_of
 from .crates import ROOT, brought, crates, files_of, text_of
+from .page import libraries
 
-PAGES = ("docs/PROMISES.md", "docs/ARCHITECTURE.md", "docs/TRUST.md")
+PAGES = tuple(f"docs/{page}.md" for page in ("PROMISES", "ARCHITECTURE", "TRUST", "LIMITS", "DECISIONS", "READING"))
 CODE = re.compile(r"`(\w+(?:(?:::|/)[\w.]+)*)`")
-ROW = re.compile(r"\| `(mum_\w+)` \|.*\| *(.*) *\|$")
+OF_CRATE = re.compile(r"`(\w+)` of `(mum_\w+)`")
+CONSTANT = re.compile(r"\bconst ([A-Z][A-Z_]+): \w+ = (\w+);")
 DECLARED = re.compile(
     r"\b(?:fn|struct|enum|trait|type|mod|const|static|ghost|pub(?: \w+)*?) ([\w']+)\b(?= *(?:[:(;={<]|$))", re.MULTILINE
 )
@@ -47,12 +49,52 @@ def is_known(code, known):
 
 
 def unknown_names():
-    """The names that no source has; in the row of a crate, those that neither this crate has nor one that it uses."""
+    """The names that no source has, or not the crate of which a page says that it has them."""
     every = set(re.findall(r"\w+", (ROOT / "crates.txt").read_text(encoding="utf-8"))).union(*map(declared, crates()))
     for page in PAGES:
         for number, line in enumerate((ROOT / page).read_text(encoding="utf-8").splitlines(), 1):
-            row = ROW.match(line)
-            known = set().union(*map(declared, [row.group(1), *crates()[row.group(1)]])) if row else every
-            for code in CODE.findall(row.group(2) if row else line):
-                if not (ROOT / code).exists() and not is_known(code, known):
+            for code in CODE.findall(line):
+                if not (ROOT / code).exists() and not is_known(code, every):
                     yield f"{page}:{number}: no source has {code}"
+            for name, crate in OF_CRATE.findall(line):
+                if name not in declared(crate):
+                    yield f"{page}:{number}: {crate} has no {name}"
+
+
+def unnamed_laws():
+    """The laws that docs/PROMISES.md does not name; what shows that a type may go to another thread is none."""
+    named = set(CODE.findall((ROOT / "docs/PROMISES.md").read_text(encoding="utf-8")))
+    for crate in libraries():
+        for call in calls_of(crate):
+            if call.shows and call.file.stem != "crossing" and call.name not in named:
+                yield f"docs/PROMISES.md: it does not name {call.name} of {crate}"
+
+
+@cache
+def constants():
+    """The numbers that the constants of the crates have, by the names of these."""
+    found = {}
+    for crate in crates():
+        for path in files_of(crate) if "tests" not in crate else ():
+            for name, value in CONSTANT.findall(text_of(path)):
+                if re.fullmatch(r"\d[\da-fA-FxX_]*", value):
+                    found.setdefault(name, set()).add(int(value, 0))
+    return found
+
+
+def forms_of(number):
+    """How a page may write a number."""
+    forms = {f"{number:,}", str(number)}
+    for unit, size in (("seconds", 1000), ("KiB", 1 << 10), ("kB", 1 << 10), ("MiB", 1 << 20)):
+        if number % size == 0:
+            forms.add(f"{number // size} {unit}")
+    return forms
+
+
+def wrong_values():
+    """The constants that a line of docs/LIMITS.md names without their numbers."""
+    for number, line in enumerate((ROOT / "docs/LIMITS.md").read_text(encoding="utf-8").splitlines(), 1):
+        for name in re.findall(r"`([A-Z][A-Z_]+)`", line):
+            forms = [form for value in constants().get(name, ()) for form in forms_of(value)]
+            if forms and not any(re.search(rf"(?<![\d,]){form}(?![\d,]*\d)", line) for form in forms):
+                yield f"docs/LIMITS.md:{number}: {name} is {' or '.join(sorted(forms))}"

@@ -193,7 +193,7 @@ def may_bring(edit, notice):
         return notice.get("actor") == actor and notice.get("session") == message.get("session", actor)
     if kind in (mumble.ACL, mumble.CHANNEL_REMOVE):
         return notice.get("actor") == actor
-    return kind in (mumble.LOGIN, mumble.CHANNEL_STATE) and notice.get("session") == actor
+    return kind in (mumble.AUTHENTICATE, mumble.CHANNEL_STATE) and notice.get("session") == actor
 
 
 def bears_on(edit, session):
@@ -201,7 +201,8 @@ def bears_on(edit, session):
     actor, kind, message = edit
     if kind == mumble.USER_STATE:
         return "channel_id" in message and message.get("session", actor) == session
-    return kind in (mumble.CHANNEL_STATE, mumble.CHANNEL_REMOVE, mumble.ACL) or kind == mumble.LOGIN and actor == session
+    of_channels = kind in (mumble.CHANNEL_STATE, mumble.CHANNEL_REMOVE, mumble.ACL)
+    return of_channels or kind == mumble.AUTHENTICATE and actor == session
 
 
 def change(state, message):

@@ -12,9 +12,10 @@ REASONS = {1: "type not read", 2: "malformed", 3: "not logged in", 4: "names wha
 MOST_TEXT = 30
 
 # the fields that a row names, of each type of message; all of them where a type is not here
-NAMED = {mumble.VERSION: ("release",), mumble.LOGIN: ("username", "tokens"), mumble.PING: (), mumble.CODECS: (),
-         mumble.REJECT: ("type",), mumble.SYNC: ("session", "permissions"), mumble.ACL: ("channel_id", "query"),
-         mumble.VOICE_TARGET: ("id",), mumble.DENIED: ("permission", "channel_id", "type")}
+NAMED = {mumble.VERSION: ("release",), mumble.AUTHENTICATE: ("username", "tokens"), mumble.PING: (),
+         mumble.CODEC_VERSION: (),
+         mumble.REJECT: ("type",), mumble.SERVER_SYNC: ("session", "permissions"), mumble.ACL: ("channel_id", "query"),
+         mumble.VOICE_TARGET: ("id",), mumble.PERMISSION_DENIED: ("permission", "channel_id", "type")}
 UNNAMED = ("plugin_identity", "texture", "hash", "comment_hash", "texture_hash", "temporary_access_tokens",
            "description_hash", "user_id")
 
@@ -95,7 +96,7 @@ class Story:
         session = self.session_of.get(connection)
         if kind is None:
             self.known.leaves(session, revision)
-        elif kind == mumble.LOGIN and session is None:
+        elif kind == mumble.AUTHENTICATE and session is None:
             self.names[connection - 1] = message.get("username", "")
             session = self.session_of[connection] = self.known.joins(self.names[connection - 1], revision)
         self.known.accepted(session, kind, message, revision)
@@ -118,7 +119,8 @@ class Story:
         if last.source == SERVER and last.text == text and connection not in last.targets:
             last.targets.append(connection)
         else:
-            look = "voice" if kind == mumble.VOICE else "denied" if kind in (mumble.REJECT, mumble.DENIED) else "said"
+            is_denied = kind in (mumble.REJECT, mumble.PERMISSION_DENIED)
+            look = "voice" if kind == mumble.VOICE else "denied" if is_denied else "said"
             self.add(line, SERVER, [connection], text, look=look)
 
     def copy_text(self, copy):
@@ -148,7 +150,7 @@ def is_named(kind, name):
 def number_text(kind, name, value):
     """The name of what a number of a denial, a rejection or a set of permissions means, or the number."""
     if name == "type":
-        return (mumble.DENIALS if kind == mumble.DENIED else mumble.REJECTIONS).get(value, str(value))
+        return (mumble.DENIALS if kind == mumble.PERMISSION_DENIED else mumble.REJECTIONS).get(value, str(value))
     if name == "permission":
         return mumble.PERMISSION_OF_BIT.get(value, str(value))
     return mumble.permissions_text(value) if name == "permissions" else str(value)

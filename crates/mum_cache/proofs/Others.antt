@@ -21,7 +21,7 @@ use Rattle.mum_state.specs.State.{StateValue}
 use Rattle.mum_state.proofs.Each.{found_passes}
 use Rattle.mum_route.proofs.Known.{one_row, row_at}
 use Rattle.mum_route.proofs.Slots.{slot_below}
-use Rattle.mum_cache.specs.Laws.{AnswersWhereItStands, OtherPermsStay, OtherRoutesStay}
+use Rattle.mum_cache.specs.Laws.{AnswersWhereItStands, OtherPermsStay, OtherRoutesStay, RoutesAnswerWhereTheyStand}
 use Rattle.mum_cache.specs.Perms.{index_of, no_perm, perm_at, perm_index}
 use Rattle.mum_cache.specs.Places.{place_of, slot_of}
 use Rattle.mum_cache.specs.Routes.{no_route, route_entry_at, route_index, route_index_of}
@@ -154,4 +154,13 @@ answers_where_it_stands_lem state entry used there =
             count = eqb-true _ _ count;
           },
       λ stands. λ i. all_of (used i) (eq-eqb entry.session.0 entry.session.0 refl i) (eq-eqb entry.channel.0 entry.channel.0 refl i) (eq-eqb _ _ stands.policy i) (eq-eqb _ _ stands.count i),
+    )
+
+pub routes_answer_where_they_stand_lem : RoutesAnswerWhereTheyStand
+routes_answer_where_they_stand_lem state speaker target entries there aimed used is =
+    let (user, found) = one_of (session_of state.roster speaker) there in
+    let seat : IsInSlot state speaker (slot_at (slot_of state speaker)) =
+    is_seated state speaker user found ∙ ap (λ (n : ℕ). Some (slot_at n)) (sym (slot_is state speaker user found)) in (
+      (λ answers. record { seated = subst (λ (s : SessionId). IsInSlot state s (slot_at (slot_of state speaker))) (sym is) seat; routing = answers.routing }),
+      (λ stands. record { there = there; aimed = aimed; used = used; speaker_is = is; routing = stands.routing }),
     )

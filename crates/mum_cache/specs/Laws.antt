@@ -16,7 +16,7 @@ use Rattle.mum_cache.specs.declared.caches.Caches.{Caches}
 use Rattle.mum_cache.specs.Caches.{AreSound, no_caches}
 use Rattle.mum_cache.specs.Perms.{ArePermsSound, IsThere, PermStands, answers, index_of, perm_at}
 use Rattle.mum_cache.specs.Places.{slot_of}
-use Rattle.mum_cache.specs.Routes.{AreRoutesSound, route_entry_at, route_index_of}
+use Rattle.mum_cache.specs.Routes.{AreRoutesSound, RouteAnswers, RouteStands, route_entry_at, route_index_of, route_kept_at}
 
 -- ---- soundness
 
@@ -37,6 +37,13 @@ abbrev pub AnswersWhereItStands : Type 0
 AnswersWhereItStands =
     (state : StateValue) (entry : PermEntry) → IsTrue entry.used → IsThere state entry.session entry.channel
     → IsTrue (answers state entry.session entry.channel entry) ↔ PermStands state (slot_of state entry.session) entry
+
+-- and so does a kept route of a speaker that is there, for a target that is not loopback
+abbrev pub RoutesAnswerWhereTheyStand : Type 0
+RoutesAnswerWhereTheyStand =
+    (state : StateValue) (speaker : SessionId) (target : ℕ) (entries : List RouteEntry) → IsSome (session_of state.roster speaker)
+    → target < LOOPBACK → IsTrue (route_kept_at state speaker target entries).used → (route_kept_at state speaker target entries).speaker ≡ speaker
+    → RouteAnswers state speaker target entries ↔ RouteStands state (slot_of state speaker) (route_kept_at state speaker target entries)
 
 -- ---- the others
 

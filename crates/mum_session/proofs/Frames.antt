@@ -6,8 +6,6 @@ use Rattle.mum_fields.specs.Table.{decoded}
 use Rattle.mum_frame.specs.declared.kind.TheConstants.{UDP_TUNNEL, VERSION, PING, AUTHENTICATE}
 use Rattle.mum_msg_state.specs.Messages.{ping, version}
 use Rattle.mum_session.specs.declared.action.Action.{Action}
-use Rattle.mum_session.specs.declared.action.Action.TheVariants.{Ask, Voice, Echo, Keep, Ignore}
-use Rattle.mum_session.specs.declared.command.Command.{Command}
 use Rattle.mum_session.specs.Action.{Decoded, action, after_frame, asks, kept_version, other_action, ping_action, version_action, version_after, voice_action}
 use Rattle.mum_session.specs.Machine.{Machine, is_rejected}
 
@@ -71,13 +69,3 @@ other-asks machine kind payload stays tunnel version ping login =
 pub version-asks : (machine : Machine) (kind : ℕ) (payload : List ℕ) → is_rejected machine.stage ≡ false → kind ≡ VERSION → version_action (decoded version payload) ≡ action machine kind payload
 unfolding action
 version-asks machine kind payload stays is = rw (stays, is) refl
-
-pub ask-asks : (command : Command) (a : Action) → a ≡ Ask command → asks a ≡ true
-ask-asks command a is = ap asks is
-
-pub other-quiet : (a : Action) → ((command : Command) → a ≡ Ask command → ⊥) → asks a ≡ false
-other-quiet (Ask command) never = absurd (never command refl)
-other-quiet (Voice payload) never = refl
-other-quiet (Echo frame) never = refl
-other-quiet Keep never = refl
-other-quiet (Ignore why) never = refl

@@ -1,6 +1,7 @@
 pub mod Tables
 pub mod Echoes
 pub mod Strangers
+pub mod Lists
 pub mod Frames
 pub mod Replies
 pub mod Denials

@@ -1,5 +1,5 @@
 -- What a frame asks for, by its type.
-use Rattle.std.specs.Prelude.{ℕ, ◌==◌, Bool, true, false, List, [], ◌∷◌, Option, Some, None, Result, Ok, Err, if◌then◌else◌}
+use Rattle.std.specs.Prelude.{ℕ, ◌==◌, ◌&&◌, Bool, true, false, List, [], ◌∷◌, Option, Some, None, Result, Ok, Err, if◌then◌else◌}
 use Rattle.std.specs.List.{list_any}
 use Rattle.mum_base.specs.declared.number.SessionId.{SessionId}
 use Rattle.mum_fields.specs.declared.message.MessageFault.{MessageFault}
@@ -14,7 +14,8 @@ use Rattle.mum_base.specs.declared.outcome.Reason.{Reason}
 use Rattle.mum_base.specs.declared.outcome.Reason.TheVariants.{Gone, Malformed, NotLoggedIn, NotRead}
 use Rattle.mum_base.specs.declared.outcome.Reason.TheVariants as reasons
 use Rattle.mum_session.specs.declared.action.Action.{Action}
-use Rattle.mum_session.specs.declared.action.Action.TheVariants.{Ask, Voice, Echo, Keep, Ignore}
+use Rattle.mum_session.specs.declared.action.TheConstants.{BAN_LIST}
+use Rattle.mum_session.specs.declared.action.Action.TheVariants.{Ask, Voice, Echo, Keep, Ignore, Bans}
 use Rattle.mum_session.specs.declared.command.Asked.{Asked}
 use Rattle.mum_session.specs.declared.heard.Heard.{Heard}
 use Rattle.mum_session.specs.declared.heard.Heard.TheVariants as heard
@@ -71,11 +72,18 @@ commands_after_login = CHANNEL_REMOVE ∷ CHANNEL_STATE ∷ USER_REMOVE ∷ USER
 abbrev pub taken_before_login : List ℕ
 taken_before_login = VERSION ∷ PING ∷ AUTHENTICATE ∷ []
 
+-- a list of bans asks to be settled where such lists are taken from the connection and it is logged in; it is not looked
+-- into. No other type is read
+abbrev pub bans_action : Machine → ℕ → List ℕ → Action
+bans_action machine kind payload =
+    if machine.bans && kind == BAN_LIST then after_login (session_of machine.stage) (Bans payload)
+    else ignore NotRead
+
 -- what a type asks for that is read of who is logged in alone, or of nobody
 abbrev pub other_action : Machine → ℕ → List ℕ → Action
 other_action machine kind payload =
     if list_any (λ known. known == kind) commands_after_login then after_login (session_of machine.stage) (tree_or_user_action machine kind payload)
-    else ignore NotRead
+    else bans_action machine kind payload
 
 -- what a frame of this type and payload asks for; after a rejected login none asks for anything
 unfoldable pub action : Machine → ℕ → List ℕ → Action
@@ -89,8 +97,10 @@ action machine kind payload =
 
 -- ---- the machine after a frame
 
+-- whether a reply is awaited behind it
 abbrev pub asks : Action → Bool
 asks (Ask command) = true
+asks (Bans payload) = true
 asks others = false
 
 -- the number of the last Version that has one
@@ -104,6 +114,6 @@ kept_version machine kind payload =
     else if kind == VERSION then version_after machine.version (decoded version payload)
     else machine.version
 
--- a reply is awaited behind a command
+-- a reply is awaited behind a command, and behind a list of bans
 unfoldable pub after_frame : Machine → ℕ → List ℕ → Machine
 after_frame machine kind payload = record machine { version = kept_version machine kind payload; awaits = asks (action machine kind payload) }

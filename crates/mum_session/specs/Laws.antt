@@ -1,4 +1,4 @@
--- What holds of every command, whichever rules decide it.
+-- What holds of every command, whichever rules decide it, and of lists of bans.
 use Rattle.std.specs.Prelude.{◌≡◌, ◌⊎◌, ℕ, ◌&&◌, ◌||◌, Bool, true, false, List, Some, IsTrue}
 use Rattle.std.specs.List.{list_any}
 use Rattle.mum_base.specs.declared.number.ChannelId.{ChannelId}
@@ -19,7 +19,17 @@ use Rattle.mum_rules_tree.specs.Verdict.{actor_named}
 use Rattle.mum_rules_user.specs.Verdict.{actor_for}
 use Rattle.mum_session.specs.declared.command.Asked.{Asked}
 use Rattle.mum_session.specs.declared.command.Asked.TheVariants.{Tree, User}
+use Rattle.mum_session.specs.declared.action.TheConstants.{BAN_LIST}
+use Rattle.mum_session.specs.Machine.{Machine, session_of}
 use Rattle.mum_session.specs.Verdict.{verdict}
+
+-- a frame brings a list of bans of a connection that is logged in and may send one, with this payload
+pub record SendsBans (machine : Machine) (kind : ℕ) (payload sent : List ℕ) : Type 0 where
+  pub may_send : machine.bans ≡ true
+  pub session : SessionId
+  pub logged_in : session_of machine.stage ≡ Some session
+  pub kind_is : kind ≡ BAN_LIST
+  pub payload_is : sent ≡ payload
 
 -- the session is in the channel
 abbrev pub is_member : StateValue → SessionId → ChannelId → Bool

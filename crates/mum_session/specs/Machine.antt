@@ -14,6 +14,8 @@ pub record Machine : Type 0 where
   pub stage : Stage
   -- whether a reply is awaited
   pub awaits : Bool
+  -- whether a list of bans is taken from it
+  pub bans : Bool
 
 abbrev pub session_of : Stage → Option SessionId
 session_of stages.BeforeLogin = None
@@ -25,13 +27,17 @@ is_rejected stages.BeforeLogin = false
 is_rejected (stages.LoggedIn session) = false
 is_rejected stages.Rejected = true
 
--- a connection that told this much and waits for no reply
+-- a connection that told this much and waits for no reply; no list of bans is taken from it
 abbrev pub resumed : ℕ → ℕ → Option ℕ → Stage → Machine
-resumed connection worker version stage = record { connection = connection; worker = worker; version = version; stage = stage; awaits = false }
+resumed connection worker version stage = record { connection = connection; worker = worker; version = version; stage = stage; awaits = false; bans = false }
 
 -- a connection that told nothing yet
 abbrev pub fresh : ℕ → ℕ → Machine
 fresh connection worker = resumed connection worker None stages.BeforeLogin
+
+-- the same, but that lists of bans are taken from it
+abbrev pub fresh_with_bans : ℕ → ℕ → Machine
+fresh_with_bans connection worker = record (fresh connection worker) { bans = true }
 
 -- an accepted login gives a session, and a rejected one is the end
 abbrev pub stage_after : ReplyEnd → Stage → Stage

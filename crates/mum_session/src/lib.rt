@@ -12,12 +12,12 @@ pub mod laws;
 mod reply;
 mod session;
 
-pub use action::Action;
+pub use action::{Action, BAN_LIST};
 pub use command::{Asked, Command};
 pub use decision::decide;
 pub use laws::{
-    denials_are_sent, enters_where_permitted, payloads_wait_for_a_login, replies_end,
-    silent_verdicts,
+    bans_come_of_lists, denials_are_sent, enters_where_permitted, payloads_wait_for_a_login,
+    replies_end, silent_verdicts,
 };
 pub use reply::{end_of, mark_of, wire_of};
 pub use session::{Session, Stage};

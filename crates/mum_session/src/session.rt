@@ -5,10 +5,10 @@ ghost use Rattle.std.specs.List.{list_any};
 ghost use Rattle.mum_fields.specs.Table.{decoded};
 ghost use Rattle.mum_frame.specs.declared.kind.TheConstants.{VERSION};
 ghost use Rattle.mum_msg_state.specs.Messages.{ping, version};
-ghost use Rattle.mum_session.specs.Action.{action, after_frame, command_action, commands_after_login, ignore, login_action, other_action, ping_action, version_action, version_after, voice_action};
-ghost use Rattle.mum_session.specs.Machine.{answered, fresh, is_rejected, resumed, session_of, stage_after};
+ghost use Rattle.mum_session.specs.Action.{action, after_frame, after_login, bans_action, command_action, commands_after_login, ignore, login_action, other_action, ping_action, tree_or_user_action, version_action, version_after, voice_action};
+ghost use Rattle.mum_session.specs.Machine.{answered, fresh, fresh_with_bans, is_rejected, resumed, session_of, stage_after};
 
-use crate::action::Action;
+use crate::action::{Action, BAN_LIST};
 use crate::command::{Asked, Command};
 use crate::heard::{Heard, command, login, message_in};
 use mum_base::{Octets, OutOfMemory, Reason, ReplyEnd, SessionId};
@@ -65,6 +65,8 @@ pub struct Session {
     version: Option<u32>,
     stage: Stage,
     awaits: bool,
+    /// Whether lists of bans are taken from it.
+    bans: bool,
 }
 
 impl Model for Session {
@@ -72,7 +74,7 @@ impl Model for Session {
 
     ghost Value = { Machine };
 
-    ghost view = { λ s. record { connection = s.connection; worker = s.worker; version = s.version; stage = s.stage; awaits = s.awaits } };
+    ghost view = { λ s. record { connection = s.connection; worker = s.worker; version = s.version; stage = s.stage; awaits = s.awaits; bans = s.bans } };
 }
 
 fn ignored(reason: Reason) -> Action
@@ -118,6 +120,16 @@ impl Session {
         Session::resumed(connection, worker, None, Stage::BeforeLogin)
     }
 
+    /// A connection that told nothing yet, as [`Session::new`] makes it, but that its lists of bans (BanList) are
+    /// taken once it is logged in: each asks for a reply. Without that, a BanList is not read.
+    pub fn with_bans(connection: u32, worker: u8) -> Session
+        ensures { result ≡ fresh_with_bans connection worker }
+    {
+        let mut session = Session::new(connection, worker);
+        session.bans = true;
+        session
+    }
+
     /// A connection of which the version and the stage are known already, and which waits for no reply.
     pub fn resumed(connection: u32, worker: u8, version: Option<u32>, stage: Stage) -> Session
         ensures { result ≡ resumed connection worker version stage }
@@ -128,6 +140,7 @@ impl Session {
             version,
             stage,
             awaits: false,
+            bans: false,
         }
     }
 
@@ -169,7 +182,7 @@ impl Session {
             return self.keep(alloc, payload.as_slice());
         }
         let action = self.action_of(alloc, kind, payload)?;
-        self.awaits = matches!(action, Action::Ask(_));
+        self.awaits = action.asks();
         Ok(action)
     }
 
@@ -199,7 +212,7 @@ impl Session {
             UDP_TUNNEL => Ok(self.voice(payload)),
             PING => echo(alloc, payload.as_slice()),
             AUTHENTICATE => self.log_in(alloc, payload.as_slice()),
-            _ => self.other(alloc, kind, payload.as_slice()),
+            _ => self.other(alloc, kind, payload),
         }
     }
 
@@ -222,17 +235,39 @@ impl Session {
     }
 
     /// A type that is read of who is logged in alone, or of nobody.
-    fn other(&self, alloc: Global, kind: u16, payload: &[u8]) -> Result<Action, OutOfMemory>
-        ensures { IfOk result (λ a. a ≡ other_action self.now kind payload.now) }
+    fn other(&self, alloc: Global, kind: u16, payload: Octets) -> Result<Action, OutOfMemory>
+        ensures { IfOk result (λ a. a ≡ other_action self.now kind payload) }
     {
-        if !comes_after_login(kind) {
-            return Ok(ignored(Reason::NotRead));
+        if comes_after_login(kind) {
+            self.later(alloc, kind, payload.as_slice())
+        } else {
+            Ok(self.list_of_bans(kind, payload))
         }
+    }
+
+    /// A command of who is logged in.
+    fn later(&self, alloc: Global, kind: u16, payload: &[u8]) -> Result<Action, OutOfMemory>
+        ensures { IfOk result (λ a. a ≡ after_login (session_of self.now.stage)
+            (tree_or_user_action self.now kind payload.now)) }
+    {
         if self.stage.session().is_none() {
             return Ok(ignored(Reason::NotLoggedIn));
         }
         let heard = command(alloc, kind, payload)?;
         Ok(self.ask(heard))
+    }
+
+    /// A list of bans is handed on as it came, of who is logged in; any other type is not read.
+    fn list_of_bans(&self, kind: u16, payload: Octets) -> Action
+        ensures { result ≡ bans_action self.now kind payload }
+    {
+        if !(self.bans && kind == BAN_LIST) {
+            return ignored(Reason::NotRead);
+        }
+        match self.stage {
+            Stage::LoggedIn(_) => Action::Bans(payload),
+            _ => ignored(Reason::NotLoggedIn),
+        }
     }
 
     /// What a command asks for.

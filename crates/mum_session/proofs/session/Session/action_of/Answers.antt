@@ -1,7 +1,6 @@
-use Rattle.std.proofs.Common.{◌≡◌, ◌∙◌, ap, rules}
+use Rattle.std.proofs.Common.{◌≡◌, ◌∙◌, rules}
 use Rattle.std.proofs.lemmas.Result.{IfOk-weaker}
 use Rattle.mum_frame.specs.declared.kind.TheConstants.{UDP_TUNNEL, PING, AUTHENTICATE}
-use Rattle.mum_session.specs.Action.{other_action}
 use Rattle.mum_session.proofs.Frames.{other-asks}
 use Rattle.mum_session.proofs.session.Session.action_of.Goals as goal
 
@@ -11,4 +10,4 @@ returns-in_default c =
     let ping : (c.args.kind ≡ PING → ⊥) = λ e. search rules in
     let login : (c.args.kind ≡ AUTHENTICATE → ⊥) = λ e. search rules in
     let other = other-asks c.args.self.now c.args.kind c.args.payload c.requires.stays tunnel c.requires.other ping login in
-    IfOk-weaker c.other.result _ _ (λ _ is. is ∙ (ap (λ payload. other_action c.args.self.now c.args.kind payload) c.as_slice-in_default.ensures ∙ other)) c.other.ensures
+    IfOk-weaker c.other.result _ _ (λ _ is. is ∙ other) c.other.ensures

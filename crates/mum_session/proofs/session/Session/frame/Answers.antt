@@ -1,13 +1,12 @@
-use Rattle.std.proofs.Common.{◌≡◌, ◌∙◌, Bool, ap, sym, refl}
+use Rattle.std.proofs.Common.{◌∙◌, Bool, ap, sym, refl}
 use Rattle.std.proofs.lemmas.Result.{IfOk-weaker, on_ok_weaker}
 use Rattle.mum_fields.specs.Table.{decoded}
 use Rattle.mum_msg_state.specs.Messages.{version}
-use Rattle.mum_session.specs.Action.{asks, version_action, version_after}
+use Rattle.mum_session.specs.Action.{version_action, version_after}
 use Rattle.mum_session.specs.Machine.{Machine, is_rejected}
-use Rattle.mum_session.proofs.Frames.{behind, behind-gone, behind-version, version-asks, ask-asks, other-quiet}
+use Rattle.mum_session.proofs.Frames.{behind, behind-gone, behind-version, version-asks}
 use Rattle.mum_session.proofs.Strangers.{gone}
 use Rattle.mum_session.proofs.session.Session.frame.Goals as goal
-use Rattle.mum_session.proofs.session.Session.frame.Goals.{in-Ask, in_default}
 
 abbrev stage_test : Machine → Bool
 stage_test machine = is_rejected machine.stage
@@ -35,10 +34,6 @@ returns-then-kind-eq-VERSION-clause-after c =
 pub returns-clause-after : goal.returns-clause-after
 returns-clause-after c =
     let machine = c.args.self.now in
-    let asked : c.match-matches.self ≡ asks c.in_ok-action.action = elim c.match-matches.branch [
-      | in-Ask w ↦ w.self-is ∙ sym (ask-asks w.in-Ask.field-0 c.in_ok-action.action w.in-Ask.is)
-      | in_default w ↦ w.self-is ∙ sym (other-quiet c.in_ok-action.action w.in_default.not-Ask)
-    ] in
-    ap (λ (m : Machine). record m { awaits = c.match-matches.self }) c.self.view_is
-    ∙ (ap (λ (b : Bool). record machine { awaits = b }) asked
+    ap (λ (m : Machine). record m { awaits = c.asks-self-inside.result }) c.self.view_is
+    ∙ (ap (λ (b : Bool). record machine { awaits = b }) c.asks-self-inside.ensures
     ∙ behind machine c.args.frame.kind c.args.frame.payload c.in_ok-action.action c.in_ok-action.ensures c.if-kind-eq-VERSION.false)

@@ -1,6 +1,6 @@
 -- What the takes from the boxes leave, by the parcels that were taken.
 use Rattle.std.proofs.Common.{◌≡◌, ◌≢◌, ℕ, Bool, true, false, ◌&&◌, ◌||◌, not, List, [], ◌∷◌, ◌++◌, length, Option, Some, None, refl, sym, ap, subst, ◌∙◌, ◌⊎◌, inl, inr, arith, true≢false, ◌==◌}
-use Rattle.std.specs.Prelude.{slice_get, if◌then◌else◌}
+use Rattle.std.specs.Prelude.{slice_get, MatchOption, if◌then◌else◌}
 use Rattle.std.proofs.lemmas.List.{append-nil}
 use Rattle.std.proofs.lemmas.Bool.{eq-eqb, ne_eqb}
 use Rattle.mum_base.specs.declared.number.SessionId.{SessionId}
@@ -16,7 +16,7 @@ use Rattle.mum_port.specs.Did.{is_for, is_last, post_bytes, stray_posts, stray_v
 use Rattle.mum_port.specs.Facts.{PortFacts, taking_session}
 use Rattle.mum_port.specs.Stage.{is_live}
 use Rattle.mum_port.specs.Steps.{CollectsPost, DrainsVoice}
-use Rattle.mum_port.specs.Taking.{Collects, Drains, HearsParcel, HearsTaken, PostsParcel, PostsTaken, PassesCollect, PassesDrain, foreign_count, has_taken, stage_after_post}
+use Rattle.mum_port.specs.Taking.{Collects, Drains, HearsParcel, PostsParcel, PassesCollect, PassesDrain, foreign_count, has_taken, stage_after_post}
 use Rattle.mum_port.specs.Turn.{FindsNothing, TakesAtMostOne}
 use Rattle.mum_port.specs.declared.outbound.Taking.{Taking}
 use Rattle.mum_port.specs.declared.outbound.Taking.TheVariants.{NotDue, Nothing, Own, Foreign}
@@ -88,7 +88,7 @@ parcel-counts session parcel Foreign out stage after posts =
     }
 
 taken-counts : (session : SessionId) (post : Option PostParcel) (took : Taking) (out : List ℕ) (stage after : Stage)
-    → PostsTaken post session took out stage after → PostCounts session post took out stage after
+    → MatchOption post ((took ≡ Nothing) × (out ≡ []) × (after ≡ stage)) (λ one. PostsParcel one session took out stage after) → PostCounts session post took out stage after
 taken-counts session (Some parcel) took out stage after posts = parcel-counts session parcel took out stage after posts
 taken-counts session None took out stage after posts = record {
   bytes = posts.1;
@@ -247,7 +247,7 @@ packet-counts session parcel Foreign out hears =
       worked = λ is none. absurd (cc none);
     }
 
-heard-counts : (session : SessionId) (voice : Option VoiceParcel) (took : Taking) (out : List ℕ) → HearsTaken voice session took out → VoiceCounts session voice took out
+heard-counts : (session : SessionId) (voice : Option VoiceParcel) (took : Taking) (out : List ℕ) → MatchOption voice ((took ≡ Nothing) × (out ≡ [])) (λ one. HearsParcel one session took out) → VoiceCounts session voice took out
 heard-counts session (Some parcel) took out hears = packet-counts session parcel took out hears
 heard-counts session None took out hears = record {
   bytes = hears.1;

@@ -1,7 +1,6 @@
 -- A port that closed does nothing more in its step but shut its link.
-use Rattle.std.proofs.Common.{◌≡◌, ℕ, Bool, true, false, ◌&&◌, IsTrue, List, Option, Some, None, refl, sym, ap, ◌∙◌, inl, inr, true≢false, ⊎_elim}
+use Rattle.std.proofs.Common.{◌≡◌, Bool, true, false, ◌&&◌, IsTrue, Option, Some, None, refl, sym, ap, ◌∙◌, inl, inr, true≢false, ⊎_elim}
 use Rattle.mum_base.specs.declared.number.Cause.{Cause}
-use Rattle.mum_io.specs.Counts.{Counts}
 use Rattle.mum_io.specs.Link.{LinkFacts}
 use Rattle.mum_outbox.specs.Facts.{PassFacts}
 use Rattle.mum_port.specs.Facts.{PortFacts, stage_after_put}

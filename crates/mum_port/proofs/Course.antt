@@ -4,7 +4,6 @@ use Rattle.mum_base.specs.declared.number.Cause.{Cause}
 use Rattle.mum_base.specs.declared.number.Cause.TheVariants.{End, LinkFault, FrameTooLong, Rejected, Kicked, Lagged, Memory}
 use Rattle.mum_base.specs.declared.number.SessionId.{SessionId}
 use Rattle.mum_frame.specs.declared.frame.Frame.{Frame}
-use Rattle.mum_io.specs.Counts.{Counts}
 use Rattle.mum_io.specs.Link.{LinkFacts}
 use Rattle.mum_outbox.specs.Facts.{PassFacts, QueueFacts}
 use Rattle.mum_outbox.specs.declared.parcel.PostParcel.{PostParcel}
@@ -194,6 +193,7 @@ module _ {L V : Type 0} {facts : L → LinkFacts} {routed : V → ℕ → Sessio
   was_open_live live = live-open old.stage (Puts-live old desk c.put c.after_put desk_after c.puts live)
 
   pub record ReadCloses (cause : Cause) : Type 0 where
+    pub so : c.read ≡ Closes cause
     pub shown : ReadShows facts c.after_put c.after_read (Closes cause) (took)
     pub not_due : c.handled ≡ NotDue
     pub no_frame : frame ≡ None
@@ -215,6 +215,7 @@ module _ {L V : Type 0} {facts : L → LinkFacts} {routed : V → ℕ → Sessio
       let rest = rests (ap is_closed stage_handle) in
       let stage_end : c.after_write.stage ≡ closed_for cause = ap (λ (p : PortFacts L). p.stage) rest.same ∙ stage_handle in
       let was_open = was_open_live live in record {
+        so = is;
         shown = shows;
         not_due = handled.0;
         no_frame = handled.1;

@@ -1,20 +1,17 @@
 -- What a port puts on the desk: each command once, in order, and then its farewell.
 use Rattle.std.proofs.Common.{◌≡◌, ℕ, Bool, true, false, IsTrue, List, [], ◌∷◌, ◌++◌, Option, Some, None, refl, sym, ap, subst, ◌∙◌, inl, inr, true≢false, append_assoc, is_none, not}
 use Rattle.std.proofs.lemmas.List.{append-nil}
+use Rattle.std.specs.Prelude.{option_to_list}
 use Rattle.mum_base.specs.declared.number.Cause.{Cause}
 use Rattle.mum_base.specs.declared.number.SessionId.{SessionId}
 use Rattle.mum_base.specs.declared.reply.ReplyEnd.{ReplyEnd}
 use Rattle.mum_base.specs.declared.reply.ReplyEnd.TheVariants as ends
 use Rattle.mum_frame.specs.declared.frame.Frame.{Frame}
-use Rattle.mum_io.specs.Counts.{Counts}
 use Rattle.mum_io.specs.Link.{LinkFacts}
 use Rattle.mum_session.specs.Machine.{Machine, session_of}
-use Rattle.mum_session.specs.declared.action.Action.{Action}
-use Rattle.mum_session.specs.declared.action.Action.TheVariants.{Ask, Voice, Echo, Keep, Ignore}
-use Rattle.mum_port.specs.Client.{leave}
-use Rattle.mum_port.specs.Did.{PortDid, action_of, is_last, port_after_put, stage_once_put, waiting_after, waiting_after_put}
-use Rattle.mum_port.specs.Facts.{PortFacts, may_handle, new_port, next_item, next_word}
-use Rattle.mum_port.specs.Life.{Event, Lives, Steps, and_item, asked_item, items_asked, items_put, lagged, replied, stepped, words_said}
+use Rattle.mum_port.specs.Did.{PortDid, asked_item, is_last, port_after_put, stage_once_put, waiting_after_put}
+use Rattle.mum_port.specs.Facts.{PortFacts, leave, may_handle, new_port, next_item, next_word, waiting_after}
+use Rattle.mum_port.specs.Life.{Event, Lives, Steps, items_asked, items_put, lagged, replied, stepped, words_said}
 use Rattle.mum_port.specs.Stage.{is_closed, is_live, stage_after_reply}
 use Rattle.mum_port.specs.Taking.{stage_after_post}
 use Rattle.mum_port.specs.Turn.{Settled}
@@ -66,16 +63,12 @@ left_or_not : (test : Bool) → (test ≡ true → ⊥) → test ≡ false
 left_or_not false never = refl
 left_or_not true never = absurd (never refl)
 
-pub and_item-append : (before : List DeskItem) (item : Option DeskItem) (rest : List DeskItem) → (before ++ and_item item []) ++ rest ≡ before ++ and_item item rest
-and_item-append before None rest = ap (λ (l : List DeskItem). l ++ rest) (append-nil before)
-and_item-append before (Some item) rest = append_assoc before (item ∷ []) rest
-
 -- ---- one put
 
 abbrev PutSo : Option DeskItem → Option DeskItem → Machine → Stage → List DeskItem → List DeskItem → Type 0
 PutSo put waiting machine stage so_far asked =
-    (commands : List DeskItem) × (so_far ++ and_item put [] ≡ commands ++ words_said machine (stage_once_put put waiting stage))
-    × (asked ≡ commands ++ and_item (waiting_after_put put waiting) [])
+    (commands : List DeskItem) × (so_far ++ option_to_list put ≡ commands ++ words_said machine (stage_once_put put waiting stage))
+    × (asked ≡ commands ++ option_to_list (waiting_after_put put waiting))
 
 word_put : (machine : Machine) (stage : Stage) (item : DeskItem) (so_far asked commands : List DeskItem) → next_word machine stage ≡ Some item
     → so_far ≡ commands ++ words_said machine stage → asked ≡ commands ++ [] → PutSo (Some item) None machine stage so_far asked
@@ -90,7 +83,7 @@ word_put machine (Closed cause LastWord) item so_far asked commands due is asks 
 word_put machine (Closed cause Done) item so_far asked commands due is asks = absurd (cc due)
 
 put_so : (put waiting : Option DeskItem) (machine : Machine) (stage : Stage) (so_far asked commands : List DeskItem) → ((item : DeskItem) → put ≡ Some item → next_item waiting machine stage ≡ Some item)
-    → so_far ≡ commands ++ words_said machine stage → asked ≡ commands ++ and_item waiting [] → (has_left stage ≡ true → waiting ≡ None) → PutSo put waiting machine stage so_far asked
+    → so_far ≡ commands ++ words_said machine stage → asked ≡ commands ++ option_to_list waiting → (has_left stage ≡ true → waiting ≡ None) → PutSo put waiting machine stage so_far asked
 put_so None waiting machine stage so_far asked commands due is asks rests = (commands, append-nil so_far ∙ is, asks)
 put_so (Some item) (Some waits) machine stage so_far asked commands due is asks rests =
     let same : waits ≡ item = cc (due item refl) in
@@ -104,17 +97,13 @@ put_so (Some item) None machine stage so_far asked commands due is asks rests = 
 
 -- ---- one command
 
-ask_so : (asked : Option Action) (waiting : Option DeskItem) (so_far commands : List DeskItem) → ((item : DeskItem) → asked_item asked ≡ Some item → waiting ≡ None)
-    → so_far ≡ commands ++ and_item waiting [] → so_far ++ and_item (asked_item asked) [] ≡ commands ++ and_item (waiting_after asked waiting) []
+ask_so : (asked : Option DeskItem) (waiting : Option DeskItem) (so_far commands : List DeskItem) → ((item : DeskItem) → asked ≡ Some item → waiting ≡ None)
+    → so_far ≡ commands ++ option_to_list waiting → so_far ++ option_to_list asked ≡ commands ++ option_to_list (waiting_after asked waiting)
 ask_so None waiting so_far commands free is = append-nil so_far ∙ is
-ask_so (Some (Ask command)) waiting so_far commands free is =
-    ap (λ (l : List DeskItem). l ++ items.Command command ∷ []) (is ∙ (ap (λ (w : Option DeskItem). commands ++ and_item w []) (free (items.Command command) refl) ∙ append-nil commands))
-ask_so (Some (Voice packet)) waiting so_far commands free is = append-nil so_far ∙ is
-ask_so (Some (Echo wire)) waiting so_far commands free is = append-nil so_far ∙ is
-ask_so (Some Keep) waiting so_far commands free is = append-nil so_far ∙ is
-ask_so (Some (Ignore why)) waiting so_far commands free is = append-nil so_far ∙ is
+ask_so (Some item) waiting so_far commands free is =
+    ap (λ (l : List DeskItem). l ++ item ∷ []) (is ∙ (ap (λ (w : Option DeskItem). commands ++ option_to_list w) (free item refl) ∙ append-nil commands))
 
-handled_there : (machine : Machine) (frame : Option Frame) (item : DeskItem) → asked_item (action_of machine frame) ≡ Some item → (f : Frame) × (frame ≡ Some f)
+handled_there : (machine : Machine) (frame : Option Frame) (item : DeskItem) → asked_item machine frame ≡ Some item → (f : Frame) × (frame ≡ Some f)
 handled_there machine None item asks = absurd (cc asks)
 handled_there machine (Some frame) item asks = (frame, refl)
 
@@ -125,7 +114,7 @@ module _ {L : Type 0} where
   pub record DeskSo (port : PortFacts L) (put asked : List DeskItem) : Type 0 where
     pub commands : List DeskItem
     pub put_is : put ≡ commands ++ words_said port.machine port.stage
-    pub asked_is : asked ≡ commands ++ and_item port.waiting []
+    pub asked_is : asked ≡ commands ++ option_to_list port.waiting
     pub rests : has_left port.stage ≡ true → port.waiting ≡ None
 
   -- a port that was open and goes on to wait for the same
@@ -133,7 +122,7 @@ module _ {L : Type 0} where
   moves old new put asked so before now waiting = record {
     commands = so.commands;
     put_is = so.put_is ∙ ap (λ (l : List DeskItem). so.commands ++ l) (no_words old.machine old.stage before ∙ sym (no_words new.machine new.stage now));
-    asked_is = so.asked_is ∙ ap (λ (w : Option DeskItem). so.commands ++ and_item w []) (sym waiting);
+    asked_is = so.asked_is ∙ ap (λ (w : Option DeskItem). so.commands ++ option_to_list w) (sym waiting);
     rests = λ left. not_left new.stage now left;
   }
 
@@ -153,7 +142,7 @@ module _ {L V : Type 0} (facts : L → LinkFacts) (routed : V → ℕ → Sessio
   words_step old machine did new true closed steps =
       let rests = quiet facts routed old machine did new steps closed in (
         ap (λ (s : Stage). words_said new.machine s) rests.stage ∙ ap (λ (m : Machine). words_said m (stage_once_put did.put old.waiting old.stage)) rests.machine,
-        λ said. (steps.turn.puts.waiting ∙ ap (λ (f : Option Frame). waiting_after (action_of old.machine f) (waiting_after_put did.put old.waiting)) rests.no_frame, rests.stage),
+        λ said. (steps.turn.puts.waiting ∙ ap (λ (f : Option Frame). waiting_after (asked_item old.machine f) (waiting_after_put did.put old.waiting)) rests.no_frame, rests.stage),
       )
   words_step old machine did new false opened steps =
       let now = open_step old did new did.closed steps.turn.ends.settled opened in
@@ -167,18 +156,18 @@ module _ {L V : Type 0} (facts : L → LinkFacts) (routed : V → ℕ → Sessio
   rests_put None waiting stage rests said = rests said
 
   step_so : (old : PortFacts L) (machine : Machine) (did : PortDid) (new : PortFacts L) (put asked : List DeskItem) → DeskSo old put asked → Steps facts routed old machine did new
-      → DeskSo new (put ++ and_item did.put []) (asked ++ and_item (asked_item (action_of machine did.handled)) [])
+      → DeskSo new (put ++ option_to_list did.put) (asked ++ option_to_list (asked_item machine did.handled))
   step_so old machine did new put asked so steps =
       let placed = put_so did.put old.waiting old.machine old.stage put asked so.commands steps.turn.puts.due so.put_is so.asked_is so.rests in
       let words = words_step old machine did new (is_closed old.stage) refl steps in
-      let free = λ (item : DeskItem) (asks : asked_item (action_of old.machine did.handled) ≡ Some item).
+      let free = λ (item : DeskItem) (asks : asked_item old.machine did.handled ≡ Some item).
       let there = handled_there old.machine did.handled item asks in nothing_waits (port_after_put did.put old) (steps.turn.handles.allowed there.0 there.1) in
       record {
         commands = placed.0;
         put_is = placed.1 ∙ ap (λ (l : List DeskItem). placed.0 ++ l) (sym words.0);
-        asked_is = ap (λ (m : Machine). asked ++ and_item (asked_item (action_of m did.handled)) []) steps.of_port
-            ∙ (ask_so (action_of old.machine did.handled) (waiting_after_put did.put old.waiting) asked placed.0 free placed.2
-            ∙ ap (λ (w : Option DeskItem). placed.0 ++ and_item w []) (sym steps.turn.puts.waiting));
+        asked_is = ap (λ (m : Machine). asked ++ option_to_list (asked_item m did.handled)) steps.of_port
+            ∙ (ask_so (asked_item old.machine did.handled) (waiting_after_put did.put old.waiting) asked placed.0 free placed.2
+            ∙ ap (λ (w : Option DeskItem). placed.0 ++ option_to_list w) (sym steps.turn.puts.waiting));
         rests = λ said. (words.1 said).0 ∙ rests_put did.put old.waiting old.stage so.rests (sym (ap has_left (words.1 said).1) ∙ said);
       }
 
@@ -188,8 +177,8 @@ module _ {L V : Type 0} (facts : L → LinkFacts) (routed : V → ℕ → Sessio
       subst (λ (l : List DeskItem). DeskSo new l (asked ++ [])) (sym (append-nil put)) (subst (λ (l : List DeskItem). DeskSo new put l) (sym (append-nil asked)) (stays_so old new put asked so same))
   life_so old (stepped machine did ∷ events) new put asked so (mid, steps, lives) =
       let next = life_so mid events new _ _ (step_so old machine did mid put asked so steps) lives in
-      subst (λ (l : List DeskItem). DeskSo new l (asked ++ and_item (asked_item (action_of machine did.handled)) (items_asked events))) (and_item-append put did.put (items_put events))
-      (subst (λ (l : List DeskItem). DeskSo new ((put ++ and_item did.put []) ++ items_put events) l) (and_item-append asked (asked_item (action_of machine did.handled)) (items_asked events)) next)
+      subst (λ (l : List DeskItem). DeskSo new l (asked ++ (option_to_list (asked_item machine did.handled) ++ items_asked events))) (append_assoc put (option_to_list did.put) (items_put events))
+      (subst (λ (l : List DeskItem). DeskSo new ((put ++ option_to_list did.put) ++ items_put events) l) (append_assoc asked (option_to_list (asked_item machine did.handled)) (items_asked events)) next)
   life_so old (replied wire cause ∷ events) new put asked so (mid, (end, passes, inl stays), lives) = life_so mid events new put asked (stays_so old mid put asked so stays.same) lives
   life_so old (replied wire cause ∷ events) new put asked so (mid, (end, passes, inr (inl takes)), lives) =
       let now = open-stays mid.stage (ap (λ (p : PortFacts L). is_closed p.stage) takes.rest ∙ after_reply-open end old.stage takes.was_open) in
@@ -201,7 +190,7 @@ module _ {L V : Type 0} (facts : L → LinkFacts) (routed : V → ℕ → Sessio
       life_so mid events new put asked (moves old mid put asked so (open-stays old.stage lags.0) (ap (λ (p : PortFacts L). has_left p.stage) lags.2.rest) (ap (λ (p : PortFacts L). p.waiting) lags.2.rest)) lives
 
   pub put_once : (connection worker : ℕ) (link : L) (events : List Event) (port : PortFacts L) → Lives facts routed (new_port connection worker link) events port
-      → (commands : List DeskItem) × (items_put events ≡ commands ++ words_said port.machine port.stage) × (items_asked events ≡ commands ++ and_item port.waiting [])
+      → (commands : List DeskItem) × (items_put events ≡ commands ++ words_said port.machine port.stage) × (items_asked events ≡ commands ++ option_to_list port.waiting)
   put_once connection worker link events port lives =
       let so = life_so (new_port connection worker link) events port [] [] (record { commands = []; put_is = refl; asked_is = refl; rests = λ said. absurd (true≢false (sym said)) }) lives in
       (so.commands, so.put_is, so.asked_is)

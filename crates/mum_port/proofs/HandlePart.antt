@@ -1,19 +1,19 @@
 -- What the handling of a frame leaves, by the frame that was handled.
 use Rattle.std.proofs.Common.{◌≡◌, ◌≢◌, ℕ, IsTrue, List, [], ◌++◌, Option, Some, None, refl, sym, ap, subst, ◌∙◌, ◌⊎◌, inl, inr}
+use Rattle.std.specs.Option.{option_and_then}
 use Rattle.std.proofs.lemmas.List.{append-nil}
-use Rattle.mum_base.specs.declared.number.Cause.TheVariants.{End, LinkFault, FrameTooLong, Rejected, Kicked, Lagged, Memory}
+use Rattle.mum_base.specs.declared.number.Cause.TheVariants.{FrameTooLong, Memory}
 use Rattle.mum_base.specs.declared.number.SessionId.{SessionId}
 use Rattle.mum_frame.specs.declared.frame.Frame.{Frame}
 use Rattle.mum_frame.specs.Frame.{HasFrame, HasNoFrame, IsFrame, TooLong}
 use Rattle.mum_session.specs.Machine.{Machine, session_of}
 use Rattle.mum_session.specs.declared.action.Action.{Action}
-use Rattle.mum_session.specs.declared.action.Action.TheVariants.{Ask, Voice, Echo, Keep, Ignore}
-use Rattle.mum_port.specs.Did.{action_of, bytes_of, echo_of, machine_after, waiting_after}
-use Rattle.mum_port.specs.Facts.{PortFacts, may_handle}
-use Rattle.mum_port.specs.Handling.{Acts, HandlesKept, Routes}
+use Rattle.mum_session.specs.declared.action.Action.TheVariants.{Voice, Echo}
+use Rattle.mum_port.specs.Did.{action_of, asked_item, bytes_of, echo_of, machine_after}
+use Rattle.mum_port.specs.Facts.{PortFacts, item_of, may_handle, waiting_after}
+use Rattle.mum_port.specs.Handling.{Acts, HandlesKept, Routes, Sinks}
 use Rattle.mum_port.specs.Stage.{stage_by}
 use Rattle.mum_port.specs.Steps.{Handles}
-use Rattle.mum_port.specs.declared.item.DeskItem.{DeskItem}
 use Rattle.mum_port.specs.declared.stage.Went.{Went}
 use Rattle.mum_port.specs.declared.stage.Went.TheVariants.{NotDue, Stalled, Worked, Closes}
 use Rattle.mum_port.proofs.ReadPart.{closes}
@@ -21,111 +21,83 @@ use Rattle.mum_port.proofs.ReadPart.{closes}
 module _ {V : Type 0} (routed : V → ℕ → SessionId → List ℕ → V → Type 0) where
   -- a packet of a connection that may have no session goes to the router
   abbrev pub RoutesOf : ℕ → Option SessionId → Option Action → V → V → Type 0
-  RoutesOf connection session None router after = after ≡ router
-  RoutesOf connection session (Some (Ask command)) router after = after ≡ router
   RoutesOf connection session (Some (Voice packet)) router after = Routes routed connection session packet router after
-  RoutesOf connection session (Some (Echo wire)) router after = after ≡ router
-  RoutesOf connection session (Some Keep) router after = after ≡ router
-  RoutesOf connection session (Some (Ignore why)) router after = after ≡ router
+  RoutesOf connection session others router after = after ≡ router
 
   -- what a frame that was handled leaves: dropped is an echo for which there was no memory
-  pub record ActLeaves (connection : ℕ) (session : Option SessionId) (asked : Option Action) (waiting : Option DeskItem) (out : List ℕ) (router : V) (went : Went)
-      (waiting_new : Option DeskItem) (out_new : List ℕ) (router_new : V) : Type 0 where
+  pub record ActLeaves (connection : ℕ) (session : Option SessionId) (asked : Option Action) (old : Sinks V) (went : Went) (new : Sinks V) : Type 0 where
     pub dropped : List ℕ
-    pub waits : waiting_new ≡ waiting_after asked waiting
-    pub bytes : out ++ echo_of asked ≡ out_new ++ dropped
+    pub waits : new.waiting ≡ waiting_after (option_and_then (item_of connection session) asked) old.waiting
+    pub bytes : old.out ++ echo_of asked ≡ new.out ++ dropped
     pub dropped_none : closes went ≡ None → dropped ≡ []
-    pub routes : RoutesOf connection session asked router router_new
+    pub routes : RoutesOf connection session asked old.router new.router
     pub ends : (went ≡ Worked) ⊎ (went ≡ Closes Memory)
 
   -- where nothing is to be written the bytes stay
   quiet : (out out_new : List ℕ) → out_new ≡ out → out ++ [] ≡ out_new ++ []
   quiet out out_new same = ap (λ (l : List ℕ). l ++ []) (sym same)
 
-  act-leaves : (connection : ℕ) (session : Option SessionId) (asked : Action) (waiting : Option DeskItem) (out : List ℕ) (router : V) (went : Went) (waiting_new : Option DeskItem) (out_new : List ℕ) (router_new : V)
-      → Acts routed connection session asked waiting out router went waiting_new out_new router_new
-      → ActLeaves connection session (Some asked) waiting out router went waiting_new out_new router_new
-  act-leaves connection session (Ask command) waiting out router went waiting_new out_new router_new acts = record {
-    dropped = [];
-    waits = acts.1;
-    bytes = quiet out out_new acts.2;
-    dropped_none = λ open_still. refl;
-    routes = acts.3;
-    ends = inl acts.0;
-  }
-  act-leaves connection session (Voice packet) waiting out router went waiting_new out_new router_new acts = record {
-    dropped = [];
-    waits = acts.1;
-    bytes = quiet out out_new acts.2;
-    dropped_none = λ open_still. refl;
-    routes = acts.3;
-    ends = inl acts.0;
-  }
-  act-leaves connection session (Echo wire) waiting out router went waiting_new out_new router_new (inl done, waits, routes) = record {
+  -- what writes nothing and asks for no packet leaves this
+  same-leaves : (connection : ℕ) (session : Option SessionId) (asked : Action) (old : Sinks V) (went : Went) (new : Sinks V) → echo_of (Some asked) ≡ []
+      → new.waiting ≡ waiting_after (item_of connection session asked) old.waiting → new.out ≡ old.out → RoutesOf connection session (Some asked) old.router new.router → went ≡ Worked
+      → ActLeaves connection session (Some asked) old went new
+  same-leaves connection session asked old went new silent waits out routes worked = record {
     dropped = [];
     waits = waits;
-    bytes = sym done.1 ∙ sym (append-nil out_new);
+    bytes = ap (λ (l : List ℕ). old.out ++ l) silent ∙ quiet old.out new.out out;
     dropped_none = λ open_still. refl;
     routes = routes;
-    ends = inl done.0;
-  }
-  act-leaves connection session (Echo wire) waiting out router went waiting_new out_new router_new (inr lacks, waits, routes) = record {
-    dropped = wire;
-    waits = waits;
-    bytes = ap (λ (l : List ℕ). l ++ wire) (sym lacks.1);
-    dropped_none = λ open_still. absurd (cc (sym open_still ∙ ap closes lacks.0));
-    routes = routes;
-    ends = inr lacks.0;
-  }
-  act-leaves connection session Keep waiting out router went waiting_new out_new router_new acts = record {
-    dropped = [];
-    waits = acts.1;
-    bytes = quiet out out_new acts.2;
-    dropped_none = λ open_still. refl;
-    routes = acts.3;
-    ends = inl acts.0;
-  }
-  act-leaves connection session (Ignore why) waiting out router went waiting_new out_new router_new acts = record {
-    dropped = [];
-    waits = acts.1;
-    bytes = quiet out out_new acts.2;
-    dropped_none = λ open_still. refl;
-    routes = acts.3;
-    ends = inl acts.0;
+    ends = inl worked;
   }
 
-  abbrev pub handled_in_kept : (machine : Machine) (kept : List ℕ) (waiting : Option DeskItem) (out : List ℕ) (router : V) (went : Went)
-      (machine_new : Machine) (kept_new : List ℕ) (waiting_new : Option DeskItem) (out_new : List ℕ) (router_new : V)
-      → HandlesKept routed machine kept waiting out router went machine_new kept_new waiting_new out_new router_new → Option Frame
-  handled_in_kept machine kept waiting out router went machine_new kept_new waiting_new out_new router_new (inl (whole, inl first)) = Some first.frame
-  handled_in_kept machine kept waiting out router went machine_new kept_new waiting_new out_new router_new (inl (whole, inr lacks)) = None
-  handled_in_kept machine kept waiting out router went machine_new kept_new waiting_new out_new router_new (inr none) = None
+  act-leaves : (connection : ℕ) (session : Option SessionId) (asked : Action) (old : Sinks V) (went : Went) (new : Sinks V)
+      → Acts routed connection session asked old went new → ActLeaves connection session (Some asked) old went new
+  act-leaves connection session (Voice packet) old went new acts =
+      same-leaves connection session (Voice packet) old went new refl (ap (λ (s : Sinks V). s.waiting) acts.1) (ap (λ (s : Sinks V). s.out) acts.1) acts.2 acts.0
+  act-leaves connection session (Echo wire) old went new (rest, inl done) = record {
+    dropped = [];
+    waits = ap (λ (s : Sinks V). s.waiting) rest;
+    bytes = sym done.1 ∙ sym (append-nil new.out);
+    dropped_none = λ open_still. refl;
+    routes = ap (λ (s : Sinks V). s.router) rest;
+    ends = inl done.0;
+  }
+  act-leaves connection session (Echo wire) old went new (rest, inr lacks) = record {
+    dropped = wire;
+    waits = ap (λ (s : Sinks V). s.waiting) rest;
+    bytes = ap (λ (l : List ℕ). l ++ wire) (sym lacks.1);
+    dropped_none = λ open_still. absurd (cc (sym open_still ∙ ap closes lacks.0));
+    routes = ap (λ (s : Sinks V). s.router) rest;
+    ends = inr lacks.0;
+  }
+  act-leaves connection session others old went new acts =
+      same-leaves connection session others old went new refl (ap (λ (s : Sinks V). s.waiting) acts.1) (ap (λ (s : Sinks V). s.out) acts.1) (ap (λ (s : Sinks V). s.router) acts.1) acts.0
+
+  abbrev pub handled_in_kept : (machine : Machine) (kept : List ℕ) (old : Sinks V) (went : Went) (machine_new : Machine) (kept_new : List ℕ) (new : Sinks V)
+      → HandlesKept routed machine kept old went machine_new kept_new new → Option Frame
+  handled_in_kept machine kept old went machine_new kept_new new (inl (whole, inl first)) = Some first.frame
+  handled_in_kept machine kept old went machine_new kept_new new (inl (whole, inr lacks)) = None
+  handled_in_kept machine kept old went machine_new kept_new new (inr none) = None
 
   -- why a part of a step that handles a frame ended as it did
   abbrev pub HandleShows : List ℕ → Option Frame → Went → Type 0
-  HandleShows kept frame NotDue = ⊥
   HandleShows kept frame Stalled = (frame ≡ None) × HasNoFrame kept × ¬ TooLong kept
   HandleShows kept frame Worked = frame ≢ None
-  HandleShows kept frame (Closes End) = ⊥
-  HandleShows kept frame (Closes LinkFault) = ⊥
   HandleShows kept frame (Closes FrameTooLong) = (frame ≡ None) × TooLong kept
-  HandleShows kept frame (Closes Rejected) = ⊥
-  HandleShows kept frame (Closes Kicked) = ⊥
-  HandleShows kept frame (Closes Lagged) = ⊥
   HandleShows kept frame (Closes Memory) = HasFrame kept
+  HandleShows kept frame others = ⊥
 
-  pub record KeptLeaves (machine : Machine) (kept : List ℕ) (waiting : Option DeskItem) (out : List ℕ) (router : V) (went : Went)
-      (machine_new : Machine) (kept_new : List ℕ) (waiting_new : Option DeskItem) (out_new : List ℕ) (router_new : V) (frame : Option Frame) : Type 0 where
+  pub record KeptLeaves (machine : Machine) (kept : List ℕ) (old : Sinks V) (went : Went) (machine_new : Machine) (kept_new : List ℕ) (new : Sinks V) (frame : Option Frame) : Type 0 where
     -- the bytes behind the frame, and the echo for which there was no memory
     pub unhandled : List ℕ
     pub dropped : List ℕ
     pub bytes : kept ≡ bytes_of frame ++ unhandled
     pub unhandled_kept : closes went ≡ None → unhandled ≡ kept_new
     pub machine_is : machine_new ≡ machine_after machine frame
-    pub waits : waiting_new ≡ waiting_after (action_of machine frame) waiting
-    pub out_bytes : out ++ echo_of (action_of machine frame) ≡ out_new ++ dropped
+    pub waits : new.waiting ≡ waiting_after (asked_item machine frame) old.waiting
+    pub out_bytes : old.out ++ echo_of (action_of machine frame) ≡ new.out ++ dropped
     pub dropped_none : closes went ≡ None → dropped ≡ []
-    pub routes : RoutesOf machine.connection (session_of machine.stage) (action_of machine frame) router router_new
+    pub routes : RoutesOf machine.connection (session_of machine.stage) (action_of machine frame) old.router new.router
     pub whole : (f : Frame) → frame ≡ Some f → IsFrame f
     pub shows : HandleShows kept frame went
 
@@ -136,13 +108,12 @@ module _ {V : Type 0} (routed : V → ℕ → SessionId → List ℕ → V → T
   whole_is : (first f : Frame) → IsFrame first → Some first ≡ Some f → IsFrame f
   whole_is first f whole is = let same : first ≡ f = cc is in subst IsFrame same whole
 
-  pub kept-leaves : (machine : Machine) (kept : List ℕ) (waiting : Option DeskItem) (out : List ℕ) (router : V) (went : Went)
-      (machine_new : Machine) (kept_new : List ℕ) (waiting_new : Option DeskItem) (out_new : List ℕ) (router_new : V)
-      (handles : HandlesKept routed machine kept waiting out router went machine_new kept_new waiting_new out_new router_new)
-      → KeptLeaves machine kept waiting out router went machine_new kept_new waiting_new out_new router_new
-      (handled_in_kept machine kept waiting out router went machine_new kept_new waiting_new out_new router_new handles)
-  kept-leaves machine kept waiting out router went machine_new kept_new waiting_new out_new router_new (inl (has, inl first)) =
-      let act = act-leaves _ _ _ _ _ _ _ _ _ _ first.handled.acts in record {
+  pub kept-leaves : (machine : Machine) (kept : List ℕ) (old : Sinks V) (went : Went) (machine_new : Machine) (kept_new : List ℕ) (new : Sinks V)
+      (handles : HandlesKept routed machine kept old went machine_new kept_new new)
+      → KeptLeaves machine kept old went machine_new kept_new new
+      (handled_in_kept machine kept old went machine_new kept_new new handles)
+  kept-leaves machine kept old went machine_new kept_new new (inl (has, inl first)) =
+      let act = act-leaves _ _ _ _ _ _ first.handled.acts in record {
         unhandled = kept_new;
         dropped = act.dropped;
         bytes = first.first;
@@ -155,29 +126,29 @@ module _ {V : Type 0} (routed : V → ℕ → SessionId → List ℕ → V → T
         whole = λ f is. whole_is first.frame f first.whole is;
         shows = shows_of_act kept first.frame went has act.ends;
       }
-  kept-leaves machine kept waiting out router went machine_new kept_new waiting_new out_new router_new (inl (has, inr lacks)) = record {
+  kept-leaves machine kept old went machine_new kept_new new (inl (has, inr lacks)) = record {
     unhandled = kept;
     dropped = [];
     bytes = refl;
     unhandled_kept = λ open_still. absurd (cc (sym open_still ∙ ap closes lacks.went_so));
     machine_is = lacks.machine_same;
-    waits = lacks.waiting_same;
-    out_bytes = ap (λ (l : List ℕ). l ++ []) (sym lacks.out_same);
+    waits = ap (λ (s : Sinks V). s.waiting) lacks.same;
+    out_bytes = ap (λ (s : Sinks V). s.out ++ []) (sym lacks.same);
     dropped_none = λ open_still. refl;
-    routes = lacks.router_same;
+    routes = ap (λ (s : Sinks V). s.router) lacks.same;
     whole = λ f is. absurd (cc is);
     shows = subst (HandleShows kept None) (sym lacks.went_so) has;
   }
-  kept-leaves machine kept waiting out router went machine_new kept_new waiting_new out_new router_new (inr none) = record {
+  kept-leaves machine kept old went machine_new kept_new new (inr none) = record {
     unhandled = kept;
     dropped = [];
     bytes = refl;
     unhandled_kept = λ open_still. sym none.kept_same;
     machine_is = none.machine_same;
-    waits = none.waiting_same;
-    out_bytes = ap (λ (l : List ℕ). l ++ []) (sym none.out_same);
+    waits = ap (λ (s : Sinks V). s.waiting) none.same;
+    out_bytes = ap (λ (s : Sinks V). s.out ++ []) (sym none.same);
     dropped_none = λ open_still. refl;
-    routes = none.router_same;
+    routes = ap (λ (s : Sinks V). s.router) none.same;
     whole = λ f is. absurd (cc is);
     shows = shows_of_none kept went none.why;
   }
@@ -189,7 +160,7 @@ module _ {V : Type 0} (routed : V → ℕ → SessionId → List ℕ → V → T
 module _ {L V : Type 0} (routed : V → ℕ → SessionId → List ℕ → V → Type 0) where
   abbrev pub handled_of : (old : PortFacts L) (router : V) (went : Went) (new : PortFacts L) (router_new : V) → Handles routed old router went new router_new → Option Frame
   handled_of old router went new router_new (inl never) = None
-  handled_of old router went new router_new (inr one) = handled_in_kept routed _ _ _ _ _ _ _ _ _ _ _ one.handled
+  handled_of old router went new router_new (inr one) = handled_in_kept routed _ _ _ _ _ _ _ one.handled
 
   -- whether it was due, and then what it shows
   abbrev pub HandledOrNot : PortFacts L → Option Frame → Went → PortFacts L → Type 0
@@ -202,7 +173,7 @@ module _ {L V : Type 0} (routed : V → ℕ → SessionId → List ℕ → V →
     pub bytes : old.framer.kept ≡ bytes_of frame ++ unhandled
     pub unhandled_kept : closes went ≡ None → unhandled ≡ new.framer.kept
     pub machine : new.machine ≡ machine_after old.machine frame
-    pub waiting : new.waiting ≡ waiting_after (action_of old.machine frame) old.waiting
+    pub waiting : new.waiting ≡ waiting_after (asked_item old.machine frame) old.waiting
     pub out : old.out ++ echo_of (action_of old.machine frame) ≡ new.out ++ dropped
     pub dropped_none : closes went ≡ None → dropped ≡ []
     pub routes : RoutesOf routed old.machine.connection (session_of old.machine.stage) (action_of old.machine frame) router router_new
@@ -235,7 +206,7 @@ module _ {L V : Type 0} (routed : V → ℕ → SessionId → List ℕ → V →
     stage = ap (λ (p : PortFacts L). p.stage) never.same ∙ ap (λ (w : Went). stage_by w old.stage) (sym never.so);
   }
   handle-leaves old router went new router_new (inr one) =
-      let kept = kept-leaves routed _ _ _ _ _ _ _ _ _ _ _ one.handled in record {
+      let kept = kept-leaves routed _ _ _ _ _ _ _ one.handled in record {
         unhandled = kept.unhandled;
         dropped = kept.dropped;
         bytes = kept.bytes;

@@ -14,12 +14,12 @@ use Rattle.mum_outbox.specs.Facts.{PassFacts, QueueFacts}
 use Rattle.mum_outbox.specs.declared.parcel.PostParcel.{PostParcel}
 use Rattle.mum_outbox.specs.declared.parcel.VoiceParcel.{VoiceParcel}
 use Rattle.mum_session.specs.Machine.{session_of}
-use Rattle.mum_port.specs.Did.{PortDid, action_of, bytes_of, desk_after_put, echo_of, is_last, machine_after, port_after_put, post_bytes, voice_bytes, waiting_after}
-use Rattle.mum_port.specs.Facts.{MayRead, PortFacts, due_item, may_handle, may_write, taking_session}
+use Rattle.mum_port.specs.Did.{PortDid, action_of, asked_item, bytes_of, desk_after_put, echo_of, is_last, machine_after, port_after_put, post_bytes, voice_bytes}
+use Rattle.mum_port.specs.Facts.{MayRead, PortFacts, due_item, may_handle, may_write, taking_session, waiting_after}
 use Rattle.mum_port.specs.Stage.{has_worked, is_live}
 use Rattle.mum_port.specs.Steps.{PortChain, Reads}
 use Rattle.mum_port.specs.Taking.{has_taken, stage_after_post}
-use Rattle.mum_port.specs.Turn.{FindBoxesEmpty, IsIdle, did_nothing, voice_first_after}
+use Rattle.mum_port.specs.Turn.{FindsPostEmpty, FindsVoiceEmpty, IsIdle, did_nothing, voice_first_after}
 use Rattle.mum_port.specs.declared.item.DeskItem.{DeskItem}
 use Rattle.mum_port.specs.declared.port.Step.{Step}
 use Rattle.mum_port.specs.declared.passes.Passes.{Passes}
@@ -58,6 +58,10 @@ worked-closes NotDue idle = refl
 worked-closes Stalled idle = refl
 worked-closes Worked idle = refl
 worked-closes (Closes cause) idle = absurd (true≢false idle)
+
+-- neither box had anything
+abbrev FindBoxesEmpty : List QueueFacts → List QueueFacts → Option Passes → Option Passes → Type 0
+FindBoxesEmpty posts voices passes after = FindsPostEmpty posts passes after × FindsVoiceEmpty voices passes after
 
 -- ---- what an idle part shows
 
@@ -266,8 +270,11 @@ module _ {L V : Type 0} {facts : L → LinkFacts} {routed : V → ℕ → Sessio
 
   empty_idle : (idle : AllIdle) (session : SessionId) → taking_session old ≡ Some session → FindBoxesEmpty posts voices old.passes c.after_take.passes
   empty_idle idle session looks =
+      let may = taking_same c.after_handle old (stage_idle idle) (out_idle idle) (session_handle c) ∙ looks in
+      let gave_none : (post_bytes (Some session) (post c) ≡ []) × (is_last (Some session) (post c) ≡ false) =
+      (ap (λ (p : Option PostParcel). post_bytes (Some session) p) (none_post idle), ap (λ (p : Option PostParcel). is_last (Some session) p) (none_post idle)) in
       subst (λ (s : Option Passes). FindBoxesEmpty posts voices s c.after_take.passes) (passes_handle c)
-      ((take_part c).empty session (taking_same c.after_handle old (stage_idle idle) (out_idle idle) (session_handle c) ∙ looks) (none_post idle) (none_voice idle))
+      ((take_part c).post_empty_so session may (none_post idle) (λ first. none_voice idle), (take_part c).voice_empty_so session may (none_voice idle) (λ first. gave_none))
 
   pub is_idle : step.worked ≡ false → IsIdle facts posts voices old desk (did_of c) new desk_after
   is_idle worked =
@@ -276,7 +283,7 @@ module _ {L V : Type 0} {facts : L → LinkFacts} {routed : V → ℕ → Sessio
       let put = put_same (none_put idle) in
       let waiting_end : c.after_write.waiting ≡ old.waiting =
       (write_part c).waiting ∙ ((take_part c).waiting ∙ ((handle_part c).waiting
-      ∙ (ap (λ (f : Option Frame). waiting_after (action_of c.after_read.machine f) c.after_read.waiting) (handle_so idle).0 ∙ waiting_read idle))) in
+      ∙ (ap (λ (f : Option Frame). waiting_after (asked_item c.after_read.machine f) c.after_read.waiting) (handle_so idle).0 ∙ waiting_read idle))) in
       let out_end : c.after_write.out ≡ old.out =
       ap (λ (l : List ℕ). l ++ c.after_write.out) (sym (write_so idle).0) ∙ (sym (write_part c).bytes ∙ out_taken idle) in
       let stage_last : c.after_write.stage ≡ old.stage =

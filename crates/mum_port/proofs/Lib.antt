@@ -17,6 +17,7 @@ pub mod Parcels
 pub mod PassTakes
 pub mod PassesKept
 pub mod Speaking
+pub mod Trying
 pub mod Turned
 pub mod Wires
 pub mod WritePart

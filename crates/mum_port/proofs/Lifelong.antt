@@ -1,5 +1,5 @@
 -- What holds of a connection from its taking in on.
-use Rattle.std.proofs.Common.{◌≡◌, ℕ, Bool, false, List, ◌++◌, Option, Some, None, refl, sym, ap, subst, ◌∙◌, All}
+use Rattle.std.proofs.Common.{◌≡◌, ℕ, false, List, ◌++◌, Option, Some, None, refl, sym, ap, subst, ◌∙◌, All}
 use Rattle.std.specs.List.{flat_map}
 use Rattle.std.proofs.lemmas.List.{append-nil}
 use Rattle.mum_base.specs.declared.number.Cause.{Cause}
@@ -9,7 +9,6 @@ use Rattle.mum_frame.specs.declared.frame.Frame.{Frame}
 use Rattle.mum_frame.specs.Frame.{HasNoFrame, IsFrame, frame_spelling}
 use Rattle.mum_frame.specs.Stream.{IsFront, Splits}
 use Rattle.mum_frame.proofs.Streams.{longest-Splits}
-use Rattle.mum_io.specs.Counts.{Counts}
 use Rattle.mum_io.specs.Link.{LinkFacts}
 use Rattle.mum_session.specs.Machine.{Machine}
 use Rattle.mum_port.specs.Did.{PortDid, bytes_of}

@@ -1,5 +1,6 @@
 -- What holds of a port whatever happens to it: what it handled, and what it wrote.
-use Rattle.std.proofs.Common.{◌≡◌, ◌≢◌, ℕ, Bool, true, false, IsTrue, List, [], ◌∷◌, ◌++◌, Option, Some, None, refl, sym, ap, subst, ◌∙◌, inl, inr, ⊎_elim, true≢false, append_assoc, All}
+use Rattle.std.proofs.Common.{◌≡◌, ◌≢◌, ℕ, true, false, IsTrue, List, [], ◌∷◌, ◌++◌, Option, Some, None, refl, sym, ap, subst, ◌∙◌, inl, inr, ⊎_elim, true≢false, append_assoc, All}
+use Rattle.std.specs.Prelude.{option_to_list}
 use Rattle.std.specs.List.{flat_map}
 use Rattle.std.proofs.lemmas.List.{append-nil}
 use Rattle.std.proofs.lemmas.List.Elements.{All-cons, All-nil}
@@ -7,13 +8,12 @@ use Rattle.mum_base.specs.declared.number.Cause.{Cause}
 use Rattle.mum_base.specs.declared.number.SessionId.{SessionId}
 use Rattle.mum_frame.specs.declared.frame.Frame.{Frame}
 use Rattle.mum_frame.specs.Frame.{IsFrame, frame_spelling}
-use Rattle.mum_io.specs.Counts.{Counts}
 use Rattle.mum_io.specs.Link.{LinkFacts}
 use Rattle.mum_outbox.specs.declared.parcel.PostParcel.{PostParcel}
 use Rattle.mum_session.specs.Machine.{Machine, session_of}
 use Rattle.mum_port.specs.Did.{PortDid, bytes_of, is_last, machine_after, port_after_put, queued, stage_once_put}
 use Rattle.mum_port.specs.Facts.{PortFacts, may_handle}
-use Rattle.mum_port.specs.Life.{Event, Lives, Steps, and_frame, bytes_queued, bytes_taken, bytes_written, frames_handled, lagged, replied, stepped}
+use Rattle.mum_port.specs.Life.{Event, Lives, Steps, bytes_queued, bytes_taken, bytes_written, frames_handled, lagged, replied, stepped}
 use Rattle.mum_port.specs.Stage.{is_closed}
 use Rattle.mum_port.specs.Taking.{stage_after_post}
 use Rattle.mum_port.specs.Turn.{Settled, StaysInTurn}
@@ -24,11 +24,11 @@ use Rattle.mum_port.proofs.Resting.{live-open, may-live}
 abbrev spelled : List Frame → List ℕ
 spelled frames = flat_map frame_spelling frames
 
-spelled-and : (frame : Option Frame) (frames : List Frame) → spelled (and_frame frame frames) ≡ bytes_of frame ++ spelled frames
+spelled-and : (frame : Option Frame) (frames : List Frame) → spelled (option_to_list frame ++ frames) ≡ bytes_of frame ++ spelled frames
 spelled-and None frames = refl
 spelled-and (Some frame) frames = refl
 
-each-and : (frame : Option Frame) (frames : List Frame) → ((f : Frame) → frame ≡ Some f → IsFrame f) → All IsFrame frames → All IsFrame (and_frame frame frames)
+each-and : (frame : Option Frame) (frames : List Frame) → ((f : Frame) → frame ≡ Some f → IsFrame f) → All IsFrame frames → All IsFrame (option_to_list frame ++ frames)
 each-and None frames one each = each
 each-and (Some frame) frames one each = All-cons IsFrame frame frames (one frame refl) each
 
@@ -95,7 +95,7 @@ module _ {L V : Type 0} (facts : L → LinkFacts) (routed : V → ℕ → Sessio
       let rests = quiet old machine did mid steps closed in
       let others = closed_life mid events new lives (quiet-closed old did mid rests closed) in (
         ap (λ (l : List ℕ). l ++ bytes_taken events) rests.no_bytes ∙ others.0,
-        ap (λ (f : Option Frame). and_frame f (frames_handled events)) rests.no_frame ∙ others.1,
+        ap (λ (f : Option Frame). option_to_list f ++ frames_handled events) rests.no_frame ∙ others.1,
         ap (λ (l : List ℕ). l ++ bytes_written events) rests.no_write ∙ others.2,
         others.3,
       )

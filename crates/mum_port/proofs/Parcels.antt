@@ -11,7 +11,7 @@ use Rattle.mum_port.specs.Did.{is_last, post_bytes, stray_posts, stray_voices, v
 use Rattle.mum_port.specs.Facts.{PortFacts, taking_session}
 use Rattle.mum_port.specs.Steps.{CollectsBehind, TakesParcels}
 use Rattle.mum_port.specs.Taking.{foreign_count, has_taken, stage_after_post}
-use Rattle.mum_port.specs.Turn.{FindBoxesEmpty, FindsNothing, FindsPostEmpty, FindsVoiceEmpty, TakesAtMostOne, voice_first_after}
+use Rattle.mum_port.specs.Turn.{FindsNothing, FindsPostEmpty, FindsVoiceEmpty, TakesAtMostOne, voice_first_after}
 use Rattle.mum_port.specs.declared.outbound.Taking.{Taking}
 use Rattle.mum_port.specs.declared.outbound.Taking.TheVariants.{NotDue}
 use Rattle.mum_port.specs.declared.passes.Passes.{Passes}
@@ -131,11 +131,6 @@ post_empty_behind posts (Some passes) (Some mid) (Some after) post voice heard p
     subst (λ (n : ℕ). FindsNothing POST_CAPACITY posts n passes.post after.post) (ap (λ (s : _). s.0) heard.0)
     (subst (λ (p : PassFacts PostParcel). FindsNothing POST_CAPACITY posts mid.slot.0 p after.post) heard.1 (posted.3 none))
 
-both_empty : (posts voices : List QueueFacts) (passes after : Option Passes) → FindsPostEmpty posts passes after → FindsVoiceEmpty voices passes after → FindBoxesEmpty posts voices passes after
-both_empty posts voices None after posted heard = posted
-both_empty posts voices (Some passes) None posted heard = absurd posted
-both_empty posts voices (Some passes) (Some after) posted heard = (posted, heard)
-
 -- ---- which box comes first then
 
 next_first : (post : Option PostParcel) (voice : Option VoiceParcel) (posted heard before : Bool)
@@ -191,7 +186,9 @@ module _ {L : Type 0} (posts voices : List QueueFacts) where
     pub voice_worked : has_taken heard ≡ true → voice ≢ None
     pub looked : LookedForParcels old post voice new
     pub taken : BothTaken old.passes post voice new.passes
-    pub empty : (session : SessionId) → taking_session old ≡ Some session → post ≡ None → voice ≡ None → FindBoxesEmpty posts voices old.passes new.passes
+    pub post_empty_so : (session : SessionId) → taking_session old ≡ Some session → post ≡ None → (old.voice_first ≡ true → voice ≡ None) → FindsPostEmpty posts old.passes new.passes
+    pub voice_empty_so : (session : SessionId) → taking_session old ≡ Some session → voice ≡ None
+        → (old.voice_first ≡ false → (post_bytes (Some session) post ≡ []) × (is_last (Some session) post ≡ false)) → FindsVoiceEmpty voices old.passes new.passes
     pub notice_behind_notice : old.voice_first ≡ true → post ≢ None → (voice ≡ None) × FindsVoiceEmpty voices old.passes new.passes
     pub voice_behind_voice : old.voice_first ≡ false → voice ≢ None → post ≡ None → FindsPostEmpty posts old.passes new.passes
     pub next : new.voice_first ≡ voice_first_after post voice old.voice_first
@@ -242,13 +239,15 @@ module _ {L : Type 0} (posts voices : List QueueFacts) where
         let is = taking-is mid session looks in
         taking-of old session (not_last _ old.stage (sym p.stage ∙ is.0)) (nothing_before old.out _ (sym p.out ∙ is.1)) (sym session_mid ∙ is.2)
 
-    -- and one that might look before, where the post box had nothing, might look then
-    might_still : post ≡ None → taking_session mid ≡ taking_session old
-    might_still none =
+    -- and one that might look before, where the post box gave nothing that is to come before, might look then
+    might_still : (session : SessionId) → taking_session old ≡ Some session → (post_bytes (Some session) post ≡ []) × (is_last (Some session) post ≡ false)
+        → taking_session mid ≡ Some session
+    might_still session may gave =
+        let there = (taking-is old session may).2 in
         taking_same mid old
-        (p.stage ∙ ap (λ (x : Option PostParcel). stage_after_post (is_last (session_of old.machine.stage) x) old.stage) none)
-        (p.out ∙ (ap (λ (x : Option PostParcel). old.out ++ post_bytes (session_of old.machine.stage) x) none ∙ append-nil old.out))
-        session_mid
+        (p.stage ∙ (ap (λ (s : Option SessionId). stage_after_post (is_last s post) old.stage) there ∙ ap (λ (b : Bool). stage_after_post b old.stage) gave.1))
+        (p.out ∙ (ap (λ (s : Option SessionId). old.out ++ post_bytes s post) there ∙ (ap (λ (l : List ℕ). old.out ++ l) gave.0 ∙ append-nil old.out)))
+        session_mid ∙ may
 
     pub post-first : ParcelsLeave old posted heard new post voice
     post-first = record {
@@ -266,10 +265,11 @@ module _ {L : Type 0} (posts voices : List QueueFacts) where
           (λ heard_it. inr (heard_it.0, might_mid heard_it.0 heard_it.1)) v.looked)
           (λ looked. inr (looked.0, looked.1)) p.looked;
       taken = post_then_voice old.passes mid.passes new.passes post voice (post_took old posted mid post p) (voice_took mid heard new voice v);
-      empty = λ session may no_post no_voice. both_empty posts voices old.passes new.passes
-          (post_empty posts old.passes mid.passes new.passes post voice (post_was_looked old posted mid post session p may) no_post (voice_took mid heard new voice v))
-          (voice_empty_behind voices old.passes mid.passes new.passes post voice (post_took old posted mid post p)
-          (voice_was_looked mid heard new voice session v (might_still no_post ∙ may)) no_voice);
+      post_empty_so = λ session may no_post gave.
+          post_empty posts old.passes mid.passes new.passes post voice (post_was_looked old posted mid post session p may) no_post (voice_took mid heard new voice v);
+      voice_empty_so = λ session may no_voice gave.
+          voice_empty_behind voices old.passes mid.passes new.passes post voice (post_took old posted mid post p)
+          (voice_was_looked mid heard new voice session v (might_still session may (gave turn))) no_voice;
       notice_behind_notice = λ first some. absurd (true≢false (sym first ∙ turn));
       voice_behind_voice = λ first some no_post.
           let might = voice_might mid heard new voice v some in
@@ -303,7 +303,8 @@ module _ {L : Type 0} (posts voices : List QueueFacts) where
           looked = ⊎_elim (λ unheard. absurd (v.worked took unheard.0)) (λ heard_it. inr (heard_it.0, heard_it.1)) v.looked;
           taken = subst (λ (x : PortFacts L). BothTaken old.passes post voice x.passes) (sym same)
               (voice_then_post old.passes mid.passes mid.passes post voice (voice_took old heard mid voice v) (post_unlooked mid.passes post none));
-          empty = λ session may no_post no_voice. absurd (v.worked took no_voice);
+          post_empty_so = λ session may no_post gave. absurd (v.worked took (gave turn));
+          voice_empty_so = λ session may no_voice gave. absurd (v.worked took no_voice);
           notice_behind_notice = λ first some. absurd (some none);
           voice_behind_voice = λ first some no_post. absurd (true≢false (sym turn ∙ first));
           next = ap (λ (x : PortFacts L). x.voice_first) same ∙ (v.first
@@ -352,10 +353,11 @@ module _ {L : Type 0} (posts voices : List QueueFacts) where
             (λ heard_it. inr (heard_it.0, heard_it.1)) v.looked)
             (λ looked. inr (looked.0, sym might_then ∙ looked.1)) p.looked;
         taken = voice_then_post old.passes mid.passes new.passes post voice (voice_took old heard mid voice v) (post_took mid posted new post p);
-        empty = λ session may no_post no_voice_either. both_empty posts voices old.passes new.passes
-            (post_empty_behind posts old.passes mid.passes new.passes post voice (voice_took old heard mid voice v)
-            (post_was_looked mid posted new post session p (might_then ∙ may)) no_post)
-            (voice_empty voices old.passes mid.passes new.passes post voice (voice_was_looked old heard mid voice session v may) no_voice (post_took mid posted new post p));
+        post_empty_so = λ session may no_post gave.
+            post_empty_behind posts old.passes mid.passes new.passes post voice (voice_took old heard mid voice v)
+            (post_was_looked mid posted new post session p (might_then ∙ may)) no_post;
+        voice_empty_so = λ session may none gave.
+            voice_empty voices old.passes mid.passes new.passes post voice (voice_was_looked old heard mid voice session v may) no_voice (post_took mid posted new post p);
         notice_behind_notice = λ first some.
             let might = post_might mid posted new post p some in (
               no_voice,

@@ -1,7 +1,6 @@
 -- What a step takes from the boxes of its passes.
 use Rattle.std.proofs.Common.{◌≡◌, ℕ, ◌+◌, Bool, List, [], ◌++◌, Option, Some, None, refl, sym, ap, subst, ◌∙◌, inl, inr, ⊎_elim}
 use Rattle.mum_base.specs.declared.number.SessionId.{SessionId}
-use Rattle.mum_io.specs.Counts.{Counts}
 use Rattle.mum_io.specs.Link.{LinkFacts}
 use Rattle.mum_outbox.specs.Facts.{PassFacts, QueueFacts}
 use Rattle.mum_session.specs.Machine.{session_of}
@@ -62,7 +61,7 @@ module _ {L V : Type 0} {facts : L → LinkFacts} {routed : V → ℕ → Sessio
       let is = taking-is c.after_handle session looks in
       looks_old session is.0 is.1 is.2
 
-  passes_end : new.passes ≡ c.after_take.passes
+  pub passes_end : new.passes ≡ c.after_take.passes
   passes_end = (settle-machine facts _ _ _ _ c.settles).2 ∙ (write_part c).passes
 
   first_end : new.voice_first ≡ c.after_take.voice_first

@@ -2,13 +2,12 @@
 use Rattle.std.proofs.Common.{◌≡◌, ℕ, Bool, true, false, List, Option, Some, None, refl, sym, ap, subst, ◌∙◌, inl, inr}
 use Rattle.mum_base.specs.declared.number.Cause.{Cause}
 use Rattle.mum_base.specs.declared.number.SessionId.{SessionId}
-use Rattle.mum_io.specs.Counts.{Counts}
 use Rattle.mum_io.specs.Link.{LinkFacts}
 use Rattle.mum_outbox.specs.Calls.{Takes}
 use Rattle.mum_outbox.specs.Facts.{PassFacts, QueueFacts}
 use Rattle.mum_port.specs.Facts.{PortFacts, due_item}
 use Rattle.mum_port.specs.Steps.{CollectsBehind, CollectsPost, DrainsVoice, Handles, Puts, Reads, Settles, TakesParcels, Writes, desk_refused}
-use Rattle.mum_port.specs.Taking.{Collects, Drains, IsPassOfPost, IsPassOfVoice, IsPosted, IsVoiced, PassesCollect, PassesDrain, has_taken}
+use Rattle.mum_port.specs.Taking.{Collects, Drains, IsPosted, IsVoiced, PassesCollect, PassesDrain, has_taken}
 use Rattle.mum_port.specs.declared.item.DeskItem.{DeskItem}
 use Rattle.mum_port.specs.declared.outbound.Taking.{Taking}
 use Rattle.mum_port.specs.declared.passes.Passes.{Passes}
@@ -21,26 +20,26 @@ Takes-queue capacity pass (Some item) after takes = ap (λ (p : PassFacts _). p.
 Takes-queue capacity pass None after takes = ap (λ (p : PassFacts _). p.queue) takes.0
 
 PassesCollect-posted : (posts boxes : List QueueFacts) (session : SessionId) (passes : Passes) (stage : Stage) (took : Taking) (after : Passes) (out : List ℕ) (stage_after : Stage)
-    → PassesCollect posts session passes stage took after out stage_after → IsPassOfPost boxes passes → IsPassOfPost boxes after
-PassesCollect-posted posts boxes session passes stage took after out stage_after (inl none) known = subst (IsPassOfPost boxes) (sym none.0.passes_same) known
+    → PassesCollect posts session passes stage took after out stage_after → IsPosted boxes (Some passes) → IsPosted boxes (Some after)
+PassesCollect-posted posts boxes session passes stage took after out stage_after (inl none) known = subst (λ (p : Passes). IsPosted boxes (Some p)) (sym none.0.passes_same) known
 PassesCollect-posted posts boxes session passes stage took after out stage_after (inr takes) known =
-    subst (IsPassOfPost boxes) (sym takes.after) (λ queue found. Takes-queue _ _ _ _ takes.takes ∙ known queue found)
+    subst (λ (p : Passes). IsPosted boxes (Some p)) (sym takes.after) (λ queue found. Takes-queue _ _ _ _ takes.takes ∙ known queue found)
 
 PassesCollect-voiced : (posts boxes : List QueueFacts) (session : SessionId) (passes : Passes) (stage : Stage) (took : Taking) (after : Passes) (out : List ℕ) (stage_after : Stage)
-    → PassesCollect posts session passes stage took after out stage_after → IsPassOfVoice boxes passes → IsPassOfVoice boxes after
-PassesCollect-voiced posts boxes session passes stage took after out stage_after (inl none) known = subst (IsPassOfVoice boxes) (sym none.0.passes_same) known
-PassesCollect-voiced posts boxes session passes stage took after out stage_after (inr takes) known = subst (IsPassOfVoice boxes) (sym takes.after) known
+    → PassesCollect posts session passes stage took after out stage_after → IsVoiced boxes (Some passes) → IsVoiced boxes (Some after)
+PassesCollect-voiced posts boxes session passes stage took after out stage_after (inl none) known = subst (λ (p : Passes). IsVoiced boxes (Some p)) (sym none.0.passes_same) known
+PassesCollect-voiced posts boxes session passes stage took after out stage_after (inr takes) known = subst (λ (p : Passes). IsVoiced boxes (Some p)) (sym takes.after) known
 
 PassesDrain-posted : (voices boxes : List QueueFacts) (session : SessionId) (passes : Passes) (took : Taking) (after : Passes) (out : List ℕ)
-    → PassesDrain voices session passes took after out → IsPassOfPost boxes passes → IsPassOfPost boxes after
-PassesDrain-posted voices boxes session passes took after out (inl none) known = subst (IsPassOfPost boxes) (sym none.passes_same) known
-PassesDrain-posted voices boxes session passes took after out (inr takes) known = subst (IsPassOfPost boxes) (sym takes.after) known
+    → PassesDrain voices session passes took after out → IsPosted boxes (Some passes) → IsPosted boxes (Some after)
+PassesDrain-posted voices boxes session passes took after out (inl none) known = subst (λ (p : Passes). IsPosted boxes (Some p)) (sym none.passes_same) known
+PassesDrain-posted voices boxes session passes took after out (inr takes) known = subst (λ (p : Passes). IsPosted boxes (Some p)) (sym takes.after) known
 
 PassesDrain-voiced : (voices boxes : List QueueFacts) (session : SessionId) (passes : Passes) (took : Taking) (after : Passes) (out : List ℕ)
-    → PassesDrain voices session passes took after out → IsPassOfVoice boxes passes → IsPassOfVoice boxes after
-PassesDrain-voiced voices boxes session passes took after out (inl none) known = subst (IsPassOfVoice boxes) (sym none.passes_same) known
+    → PassesDrain voices session passes took after out → IsVoiced boxes (Some passes) → IsVoiced boxes (Some after)
+PassesDrain-voiced voices boxes session passes took after out (inl none) known = subst (λ (p : Passes). IsVoiced boxes (Some p)) (sym none.passes_same) known
 PassesDrain-voiced voices boxes session passes took after out (inr takes) known =
-    subst (IsPassOfVoice boxes) (sym takes.after) (λ queue found. Takes-queue _ _ _ _ takes.takes ∙ known queue found)
+    subst (λ (p : Passes). IsVoiced boxes (Some p)) (sym takes.after) (λ queue found. Takes-queue _ _ _ _ takes.takes ∙ known queue found)
 
 Collects-posted : (posts boxes : List QueueFacts) (session : SessionId) (passes : Option Passes) (stage : Stage) (took : Taking) (after : Option Passes) (out : List ℕ) (stage_after : Stage)
     → Collects posts session passes stage took after out stage_after → IsPosted boxes passes → IsPosted boxes after

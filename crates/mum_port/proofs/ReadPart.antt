@@ -147,11 +147,8 @@ module _ {L : Type 0} (facts : L → LinkFacts) where
   ReadShows old new Worked took = took ≢ []
   ReadShows old new (Closes End) took = MayRead old × (took ≡ []) × Rose (facts old.link).counts.ends (facts new.link).counts.ends × IsAtEnd (facts old.link).left
   ReadShows old new (Closes LinkFault) took = MayRead old × Rose (facts old.link).counts.faults (facts new.link).counts.faults
-  ReadShows old new (Closes FrameTooLong) took = ⊥
-  ReadShows old new (Closes Rejected) took = ⊥
-  ReadShows old new (Closes Kicked) took = ⊥
-  ReadShows old new (Closes Lagged) took = ⊥
   ReadShows old new (Closes Memory) took = MayRead old × (took ≢ [])
+  ReadShows old new others bytes = ⊥
 
   shown_once : (old : PortFacts L) (went : Went) (new : PortFacts L) (took lost : List ℕ) → MayRead old → ReadEnded went took lost (facts old.link).counts (facts new.link).counts (facts old.link).left
       → ReadShows old new went took

@@ -1,7 +1,6 @@
 -- A port that is closed does nothing more in its step but put its farewell.
 use Rattle.std.proofs.Common.{◌≡◌, ℕ, Bool, true, false, IsTrue, List, [], Option, Some, None, refl, sym, ap, ◌∙◌, inl, inr, true≢false, not, length, ◌==◌}
 use Rattle.mum_base.specs.declared.number.SessionId.{SessionId}
-use Rattle.mum_io.specs.Counts.{Counts}
 use Rattle.mum_io.specs.Link.{LinkFacts}
 use Rattle.mum_outbox.specs.Facts.{QueueFacts}
 use Rattle.mum_port.specs.Facts.{PortFacts, may_handle, may_write, stage_after_put}

@@ -1,30 +1,28 @@
 -- Only who is logged in asks for a packet to be heard.
-use Rattle.std.proofs.Common.{◌≡◌, ℕ, Bool, true, false, List, Option, Some, None, Ok, Err, refl, sym, ap, ◌∙◌, subst, true≢false, if◌then◌else◌, ◌==◌}
+use Rattle.std.proofs.Common.{◌≡◌, ℕ, Bool, true, false, List, Option, Some, None, Ok, Err, refl, sym, ap, ◌∙◌, subst, true≢false, if◌then◌else◌, ◌==◌, ◌&&◌}
 use Rattle.std.specs.List.{list_any}
 use Rattle.mum_base.specs.declared.number.SessionId.{SessionId}
 use Rattle.mum_fields.specs.Table.{decoded}
 use Rattle.mum_frame.specs.declared.frame.Frame.{Frame}
 use Rattle.mum_frame.specs.declared.kind.TheConstants.{UDP_TUNNEL, VERSION, PING, AUTHENTICATE}
 use Rattle.mum_msg_state.specs.Messages.{ping, version}
-use Rattle.mum_session.specs.Action.{Decoded, action, after_login, command_action, commands_after_login, ignore, login_action, ping_action, tree_or_user_action, version_action, voice_action}
+use Rattle.mum_session.specs.Action.{Decoded, action, after_login, bans_action, command_action, commands_after_login, ignore, login_action, ping_action, tree_or_user_action, version_action, voice_action}
 use Rattle.mum_session.specs.Heard.{command_heard, login_heard}
 use Rattle.mum_session.specs.Machine.{Machine, is_rejected, session_of}
 use Rattle.mum_session.specs.declared.action.Action.{Action}
-use Rattle.mum_session.specs.declared.action.Action.TheVariants.{Ask, Voice, Echo, Keep, Ignore}
+use Rattle.mum_session.specs.declared.action.Action.TheVariants.{Voice, Bans}
+use Rattle.mum_session.specs.declared.action.TheConstants.{BAN_LIST}
 use Rattle.mum_session.specs.declared.command.Asked.{Asked}
 use Rattle.mum_session.specs.declared.heard.Heard.{Heard}
 use Rattle.mum_session.specs.declared.heard.Heard.TheVariants as heard
-use Rattle.mum_base.specs.declared.outcome.Reason.TheVariants.{Gone}
+use Rattle.mum_base.specs.declared.outcome.Reason.TheVariants.{Gone, NotRead}
 use Rattle.mum_port.specs.Did.{action_of}
 use Rattle.mum_port.specs.Turn.{RoutesPacket}
 use Rattle.mum_port.proofs.HandlePart.{RoutesOf}
 
 abbrev is_voice : Action → Bool
-is_voice (Ask command) = false
 is_voice (Voice packet) = true
-is_voice (Echo wire) = false
-is_voice Keep = false
-is_voice (Ignore why) = false
+is_voice others = false
 
 either_silent : (test : Bool) (a b : Action) → is_voice a ≡ false → is_voice b ≡ false → is_voice (if test then a else b) ≡ false
 either_silent true a b one two = one
@@ -47,6 +45,11 @@ later-silent : (session : Option SessionId) (a : Action) → is_voice a ≡ fals
 later-silent None a silent = refl
 later-silent (Some session) a silent = silent
 
+bans-silent : (machine : Machine) (kind : ℕ) (payload : List ℕ) → is_voice (bans_action machine kind payload) ≡ false
+bans-silent machine kind payload =
+    either_silent (machine.bans && kind == BAN_LIST) (after_login (session_of machine.stage) (Bans payload)) (ignore NotRead)
+    (later-silent (session_of machine.stage) (Bans payload) refl) refl
+
 stranger-silent : (machine : Machine) (kind : ℕ) (payload : List ℕ) → session_of machine.stage ≡ None → is_voice (action machine kind payload) ≡ false
 unfolding action
 stranger-silent machine kind payload none =
@@ -56,7 +59,7 @@ stranger-silent machine kind payload none =
     (either_silent (kind == PING) (ping_action (decoded ping payload)) _ (ping-silent (decoded ping payload))
     (either_silent (kind == AUTHENTICATE) (login_action machine payload) _ (command-silent machine (login_heard machine.version payload))
     (either_silent (list_any (λ known. known == kind) commands_after_login) (after_login (session_of machine.stage) (tree_or_user_action machine kind payload)) _
-    (later-silent (session_of machine.stage) (tree_or_user_action machine kind payload) (command-silent machine (command_heard kind payload))) refl)))))
+    (later-silent (session_of machine.stage) (tree_or_user_action machine kind payload) (command-silent machine (command_heard kind payload))) (bans-silent machine kind payload))))))
 
 speaker_of : (machine : Machine) (kind : ℕ) (payload packet : List ℕ) (session : Option SessionId) → session_of machine.stage ≡ session → action machine kind payload ≡ Voice packet
     → (speaker : SessionId) × (session ≡ Some speaker)
@@ -67,13 +70,10 @@ speaker_of machine kind payload packet None is asks =
 module _ {V : Type 0} (routed : V → ℕ → SessionId → List ℕ → V → Type 0) where
   routes_asked : (machine : Machine) (kind : ℕ) (payload : List ℕ) (asked : Action) (router after : V) → action machine kind payload ≡ asked
       → RoutesOf routed machine.connection (session_of machine.stage) (Some asked) router after → RoutesPacket routed machine.connection (session_of machine.stage) (Some asked) router after
-  routes_asked machine kind payload (Ask command) router after is routes = routes
   routes_asked machine kind payload (Voice packet) router after is routes =
       let speaker = speaker_of machine kind payload packet (session_of machine.stage) refl is in
       (speaker.0, speaker.1, subst (λ (s : Option SessionId). RoutesOf routed machine.connection s (Some (Voice packet)) router after) speaker.1 routes)
-  routes_asked machine kind payload (Echo wire) router after is routes = routes
-  routes_asked machine kind payload Keep router after is routes = routes
-  routes_asked machine kind payload (Ignore why) router after is routes = routes
+  routes_asked machine kind payload others router after is routes = routes
 
   pub routes_packet : (machine : Machine) (frame : Option Frame) (router after : V)
       → RoutesOf routed machine.connection (session_of machine.stage) (action_of machine frame) router after → RoutesPacket routed machine.connection (session_of machine.stage) (action_of machine frame) router after

@@ -1,16 +1,15 @@
 -- The sentences of a step, of the chain of its parts.
-use Rattle.std.proofs.Common.{◌≡◌, ℕ, ◌+◌, ◌≤◌, Bool, IsTrue, List, ◌++◌, length, Option, Some, None, is_none, not, refl, sym, ap, subst, ◌∙◌, ◌⊎◌, inl, inr, arith, length-append}
+use Rattle.std.proofs.Common.{◌≡◌, ℕ, ◌+◌, ◌≤◌, IsTrue, List, ◌++◌, length, Option, Some, None, is_none, not, refl, sym, ap, subst, ◌∙◌, ◌⊎◌, inl, inr, arith, length-append}
 use Rattle.std.proofs.lemmas.Bool.{leb-true}
 use Rattle.mum_base.specs.declared.number.SessionId.{SessionId}
 use Rattle.mum_frame.specs.declared.frame.Frame.{Frame}
-use Rattle.mum_io.specs.Counts.{Counts}
 use Rattle.mum_io.specs.Link.{LinkFacts}
 use Rattle.mum_outbox.specs.Facts.{PassFacts, QueueFacts}
 use Rattle.mum_outbox.specs.declared.parcel.PostParcel.{PostParcel}
 use Rattle.mum_outbox.specs.declared.parcel.VoiceParcel.{VoiceParcel}
 use Rattle.mum_session.specs.Machine.{Machine, session_of}
-use Rattle.mum_port.specs.Did.{PortDid, action_of, echo_of, port_after_put, post_bytes, queued, voice_bytes, waiting_after}
-use Rattle.mum_port.specs.Facts.{PortFacts, may_handle}
+use Rattle.mum_port.specs.Did.{PortDid, action_of, asked_item, echo_of, port_after_put, post_bytes, queued, voice_bytes}
+use Rattle.mum_port.specs.Facts.{PortFacts, may_handle, waiting_after}
 use Rattle.mum_port.specs.Stage.{is_live}
 use Rattle.mum_port.specs.Steps.{PortChain}
 use Rattle.mum_port.specs.Turn.{EndsInTurn, HandlesInTurn, KeepsWithin, LooksWhereItMay, PortTurn, PutsInTurn, RoutesPacket, WritesInTurn}
@@ -26,6 +25,7 @@ use Rattle.mum_port.proofs.Idle.{and-right, did_something, is_idle, too_long}
 use Rattle.mum_port.proofs.ReadPart.{closes, put-due, put-pass}
 use Rattle.mum_port.proofs.PassTakes.{looks_where_it_may, takes_by_turns, takes_in_turn}
 use Rattle.mum_port.proofs.Speaking.{routes_packet}
+use Rattle.mum_port.proofs.Trying.{has_handled, has_looked, has_read, has_written}
 
 -- ---- the bound on what is kept
 
@@ -94,8 +94,8 @@ module _ {L V : Type 0} {facts : L → LinkFacts} {routed : V → ℕ → Sessio
     due = put-due old desk c.put c.after_put desk_after c.puts;
     pass = put-pass old desk c.put c.after_put desk_after c.puts;
     waiting = (settle-machine facts _ _ _ _ c.settles).1 ∙ ((write_part c).waiting ∙ ((take_part c).waiting ∙ ((handle_part c).waiting
-        ∙ (ap (λ (m : Machine). waiting_after (action_of m (frame c)) c.after_read.waiting) (machine_read c)
-        ∙ ap (λ (w : Option DeskItem). waiting_after (action_of old.machine (frame c)) w)
+        ∙ (ap (λ (m : Machine). waiting_after (asked_item m (frame c)) c.after_read.waiting) (machine_read c)
+        ∙ ap (λ (w : Option DeskItem). waiting_after (asked_item old.machine (frame c)) w)
         ((read_part c).waiting ∙ ap (λ (p : PortFacts L). p.waiting) (port_put c))))));
   }
 
@@ -120,6 +120,10 @@ module _ {L V : Type 0} {facts : L → LinkFacts} {routed : V → ℕ → Sessio
     ends = ends_in_turn;
     idle = is_idle c;
     worked = did_something c;
+    has_read = has_read c;
+    has_handled = has_handled c;
+    has_looked = has_looked c;
+    has_written = has_written c;
   }
 
   -- a step did something of which the sentences hold

@@ -1,7 +1,7 @@
 -- What the write of a step leaves, by the bytes that were written.
-use Rattle.std.proofs.Common.{◌≡◌, ◌≢◌, ℕ, ◌<◌, Bool, IsTrue, List, [], ◌∷◌, ◌++◌, length, Option, refl, sym, ap, subst, ◌∙◌, inl, inr, arith}
+use Rattle.std.proofs.Common.{◌≡◌, ◌≢◌, ℕ, ◌<◌, IsTrue, List, [], ◌∷◌, ◌++◌, length, refl, sym, ap, subst, ◌∙◌, inl, inr, arith}
 use Rattle.mum_base.specs.declared.number.Cause.TheVariants.{End, LinkFault, FrameTooLong, Rejected, Kicked, Lagged, Memory}
-use Rattle.mum_io.specs.Counts.{Counts, NoneFalls, Rose}
+use Rattle.mum_io.specs.Counts.{NoneFalls, Rose}
 use Rattle.mum_io.specs.Link.{Appends, Keeps, LinkFacts}
 use Rattle.mum_io.proofs.CountLemmas.{NoneFalls-refl}
 use Rattle.mum_port.specs.Facts.{PortFacts, may_write}
@@ -27,13 +27,8 @@ module _ {L : Type 0} (facts : L → LinkFacts) where
   WriteShows old new NotDue wrote = (wrote ≡ []) × (new ≡ old) × (IsTrue (may_write old) → ⊥)
   WriteShows old new Stalled wrote = (wrote ≡ []) × Rose (facts old.link).counts.stalls (facts new.link).counts.stalls
   WriteShows old new Worked wrote = wrote ≢ []
-  WriteShows old new (Closes End) wrote = ⊥
   WriteShows old new (Closes LinkFault) wrote = IsTrue (may_write old) × Rose (facts old.link).counts.faults (facts new.link).counts.faults
-  WriteShows old new (Closes FrameTooLong) wrote = ⊥
-  WriteShows old new (Closes Rejected) wrote = ⊥
-  WriteShows old new (Closes Kicked) wrote = ⊥
-  WriteShows old new (Closes Lagged) wrote = ⊥
-  WriteShows old new (Closes Memory) wrote = ⊥
+  WriteShows old new others bytes = ⊥
 
   shown_once : (old : PortFacts L) (went : Went) (new : PortFacts L) (wrote : List ℕ) → IsTrue (may_write old) → WriteEnded went wrote (facts old.link).counts (facts new.link).counts
       → WriteShows old new went wrote

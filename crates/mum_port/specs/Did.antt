@@ -1,5 +1,6 @@
 -- What a step of a port did, and what follows of it for what the port keeps.
 use Rattle.std.specs.Prelude.{◌==◌, ℕ, Bool, false, ◌&&◌, List, [], ◌++◌, Option, Some, None, if◌then◌else◌}
+use Rattle.std.specs.Option.{option_and_then}
 use Rattle.mum_base.specs.declared.number.Cause.{Cause}
 use Rattle.mum_base.specs.declared.number.SessionId.{SessionId}
 use Rattle.mum_frame.specs.declared.frame.Frame.{Frame}
@@ -11,13 +12,11 @@ use Rattle.mum_outbox.specs.declared.parcel.VoiceParcel.{VoiceParcel}
 use Rattle.mum_session.specs.Action.{action, after_frame}
 use Rattle.mum_session.specs.Machine.{Machine, session_of}
 use Rattle.mum_session.specs.declared.action.Action.{Action}
-use Rattle.mum_session.specs.declared.action.Action.TheVariants.{Ask, Voice, Echo, Keep, Ignore}
-use Rattle.mum_port.specs.Facts.{PortFacts, stage_after_put}
-use Rattle.mum_port.specs.Putting.{with_offered}
-use Rattle.mum_port.specs.Steps.{desk_refused}
+use Rattle.mum_session.specs.declared.action.Action.TheVariants.{Echo}
+use Rattle.mum_port.specs.Facts.{PortFacts, item_of, stage_after_put}
+use Rattle.mum_port.specs.Steps.{desk_refused, with_offered}
 use Rattle.mum_port.specs.Taking.{stage_after_post}
 use Rattle.mum_port.specs.declared.item.DeskItem.{DeskItem}
-use Rattle.mum_port.specs.declared.item.DeskItem.TheVariants as items
 use Rattle.mum_port.specs.declared.stage.Stage.{Stage}
 
 pub record PortDid : Type 0 where
@@ -72,23 +71,14 @@ abbrev pub action_of : Machine → Option Frame → Option Action
 action_of machine None = None
 action_of machine (Some frame) = Some (action machine frame.kind frame.payload)
 
--- a command waits for the desk
-abbrev pub waiting_after : Option Action → Option DeskItem → Option DeskItem
-waiting_after None waiting = waiting
-waiting_after (Some (Ask command)) waiting = Some (items.Command command)
-waiting_after (Some (Voice packet)) waiting = waiting
-waiting_after (Some (Echo wire)) waiting = waiting
-waiting_after (Some Keep) waiting = waiting
-waiting_after (Some (Ignore why)) waiting = waiting
+-- the item that it asked for, if it asked for one
+abbrev pub asked_item : Machine → Option Frame → Option DeskItem
+asked_item machine frame = option_and_then (item_of machine.connection (session_of machine.stage)) (action_of machine frame)
 
 -- an echo is to be written
 abbrev pub echo_of : Option Action → List ℕ
-echo_of None = []
-echo_of (Some (Ask command)) = []
-echo_of (Some (Voice packet)) = []
 echo_of (Some (Echo wire)) = wire
-echo_of (Some Keep) = []
-echo_of (Some (Ignore why)) = []
+echo_of others = []
 
 -- ---- what the boxes gave
 

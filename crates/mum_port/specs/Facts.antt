@@ -1,18 +1,23 @@
 -- What contracts see of a port, and what it may do.
 use Rattle.std.specs.Prelude.{◌==◌, ℕ, Bool, false, ◌&&◌, not, nat_le, is_none, IsTrue, List, [], length, Option, Some, None, if◌then◌else◌}
+use Rattle.std.specs.Option.{option_map}
 use Rattle.mum_base.specs.declared.number.SessionId.{SessionId}
 use Rattle.mum_frame.specs.Frame.{HasNoFrame, TooLong}
 use Rattle.mum_frame.specs.Stream.{FramerState}
-use Rattle.mum_session.specs.Machine.{Machine, fresh, session_of}
-use Rattle.mum_port.specs.Client.{leave}
+use Rattle.mum_rules_user.specs.declared.message.UserMessage.TheVariants as about
+use Rattle.mum_session.specs.declared.action.Action.{Action}
+use Rattle.mum_session.specs.declared.action.Action.TheVariants.{Ask, Bans}
+use Rattle.mum_session.specs.declared.command.Asked.TheVariants.{User}
+use Rattle.mum_session.specs.declared.command.Command.{Command}
+use Rattle.mum_session.specs.Machine.{Machine, fresh_with_bans, session_of}
 use Rattle.mum_port.specs.Stage.{after_word, is_closed, is_live}
 use Rattle.mum_port.specs.declared.item.DeskItem.{DeskItem}
 use Rattle.mum_port.specs.declared.item.DeskItem.TheVariants as items
 use Rattle.mum_port.specs.declared.port.TheConstants.{UNWRITTEN_LIMIT}
 use Rattle.mum_port.specs.declared.passes.Passes.{Passes}
-use Rattle.mum_port.specs.declared.stage.Farewell.TheVariants.{Leave, LastWord, Done}
+use Rattle.mum_port.specs.declared.stage.Farewell.TheVariants.{Leave, LastWord}
 use Rattle.mum_port.specs.declared.stage.Stage.{Stage}
-use Rattle.mum_port.specs.declared.stage.Stage.TheVariants.{Live, Ending, Closed}
+use Rattle.mum_port.specs.declared.stage.Stage.TheVariants.{Live, Closed}
 
 pub record PortFacts (L : Type 0) : Type 0 where
   pub link : L
@@ -36,7 +41,7 @@ empty_framer = record { kept = []; room = 0 }
 abbrev pub new_port : {L : Type 0} → ℕ → ℕ → L → PortFacts L
 new_port connection worker link = record {
   link = link;
-  machine = fresh connection worker;
+  machine = fresh_with_bans connection worker;
   framer = empty_framer;
   waiting = None;
   out = [];
@@ -45,13 +50,27 @@ new_port connection worker link = record {
   stage = Live;
 }
 
+-- the command by which a connection goes, with the session that it has
+abbrev pub leave : Machine → Command
+leave machine =
+    record { connection = machine.connection; worker = machine.worker; session = session_of machine.stage; what = User about.Leave }
+
+-- what an action of a connection, which may have a session, puts on the desk: its command, or the bans that its session sent
+abbrev pub item_of : ℕ → Option SessionId → Action → Option DeskItem
+item_of connection session (Ask command) = Some (items.Command command)
+item_of connection session (Bans payload) = option_map (λ own. items.Bans connection own payload) session
+item_of connection session others = None
+
+-- what waits for the desk once an item was asked for, or none
+abbrev pub waiting_after : Option DeskItem → Option DeskItem → Option DeskItem
+waiting_after None waiting = waiting
+waiting_after (Some item) waiting = Some item
+
 -- what a port that closed owes the desk next
 abbrev pub next_word : Machine → Stage → Option DeskItem
-next_word machine Live = None
-next_word machine (Ending cause) = None
 next_word machine (Closed cause Leave) = Some (items.Command (leave machine))
 next_word machine (Closed cause LastWord) = Some (items.Closed machine.connection)
-next_word machine (Closed cause Done) = None
+next_word machine others = None
 
 -- what is next for the desk: what waits, and else the farewell
 abbrev pub next_item : Option DeskItem → Machine → Stage → Option DeskItem

@@ -7,15 +7,17 @@ use Rattle.mum_frame.specs.Frame.{HasFrame, HasNoFrame, IsFrame, TooLong, frame_
 use Rattle.mum_session.specs.Action.{action, after_frame}
 use Rattle.mum_session.specs.Machine.{Machine, session_of}
 use Rattle.mum_session.specs.declared.action.Action.{Action}
-use Rattle.mum_session.specs.declared.action.Action.TheVariants.{Ask, Voice, Echo, Keep, Ignore}
+use Rattle.mum_session.specs.declared.action.Action.TheVariants.{Voice, Echo}
+use Rattle.mum_port.specs.Facts.{item_of, waiting_after}
 use Rattle.mum_port.specs.declared.item.DeskItem.{DeskItem}
-use Rattle.mum_port.specs.declared.item.DeskItem.TheVariants as items
 use Rattle.mum_port.specs.declared.stage.Went.{Went}
 use Rattle.mum_port.specs.declared.stage.Went.TheVariants.{Stalled, Worked, Closes}
 
--- an echo is written after all else, or there is no memory for it
-abbrev pub Echoes : List ℕ → List ℕ → Went → List ℕ → Type 0
-Echoes out wire went out_after = ((went ≡ Worked) × (out_after ≡ out ++ wire)) ⊎ ((went ≡ Closes Memory) × (out_after ≡ out))
+-- where what a frame asks for goes: what waits for the desk, what is to be written, and the router
+pub record Sinks (V : Type 0) : Type 0 where
+  pub waiting : Option DeskItem
+  pub out : List ℕ
+  pub router : V
 
 module _ {V : Type 0} (routed : V → ℕ → SessionId → List ℕ → V → Type 0) where
   -- a packet of a session goes to the router
@@ -23,66 +25,51 @@ module _ {V : Type 0} (routed : V → ℕ → SessionId → List ℕ → V → T
   Routes connection (Some session) packet router router_after = routed router connection session packet router_after
   Routes connection None packet router router_after = router_after ≡ router
 
-  -- what a frame asks for is done: a command waits for the desk, a packet is routed, an echo is to be written
-  abbrev pub Acts : ℕ → Option SessionId → Action → Option DeskItem → List ℕ → V → Went → Option DeskItem → List ℕ → V → Type 0
-  Acts connection session (Ask command) waiting out router went waiting_after out_after router_after =
-      (went ≡ Worked) × (waiting_after ≡ Some (items.Command command)) × (out_after ≡ out) × (router_after ≡ router)
-  Acts connection session (Voice packet) waiting out router went waiting_after out_after router_after =
-      (went ≡ Worked) × (waiting_after ≡ waiting) × (out_after ≡ out) × Routes connection session packet router router_after
-  Acts connection session (Echo wire) waiting out router went waiting_after out_after router_after =
-      Echoes out wire went out_after × (waiting_after ≡ waiting) × (router_after ≡ router)
-  Acts connection session Keep waiting out router went waiting_after out_after router_after =
-      (went ≡ Worked) × (waiting_after ≡ waiting) × (out_after ≡ out) × (router_after ≡ router)
-  Acts connection session (Ignore why) waiting out router went waiting_after out_after router_after =
-      (went ≡ Worked) × (waiting_after ≡ waiting) × (out_after ≡ out) × (router_after ≡ router)
+  -- what a frame asks for is done: a packet is routed, an echo is written after all else, or there is no memory for it, and an
+  -- item waits for the desk
+  abbrev pub Acts : ℕ → Option SessionId → Action → Sinks V → Went → Sinks V → Type 0
+  Acts connection session (Voice packet) old went new =
+      (went ≡ Worked) × (new ≡ record old { router = new.router }) × Routes connection session packet old.router new.router
+  Acts connection session (Echo wire) old went new =
+      (new ≡ record old { out = new.out })
+      × (((went ≡ Worked) × (new.out ≡ old.out ++ wire)) ⊎ ((went ≡ Closes Memory) × (new.out ≡ old.out)))
+  Acts connection session others old went new =
+      (went ≡ Worked) × (new ≡ record old { waiting = waiting_after (item_of connection session others) old.waiting })
 
   -- the machine takes a frame, and what the frame asks for is done
-  pub record HandlesFrame (machine : Machine) (frame : Frame) (waiting : Option DeskItem) (out : List ℕ) (router : V) (went : Went)
-      (machine_after : Machine) (waiting_after : Option DeskItem) (out_after : List ℕ) (router_after : V) : Type 0 where
+  pub record HandlesFrame (machine : Machine) (frame : Frame) (old : Sinks V) (went : Went) (machine_after : Machine) (new : Sinks V) : Type 0 where
     pub taken : machine_after ≡ after_frame machine frame.kind frame.payload
-    pub acts : Acts machine.connection (session_of machine.stage) (action machine frame.kind frame.payload) waiting out router went waiting_after out_after router_after
+    pub acts : Acts machine.connection (session_of machine.stage) (action machine frame.kind frame.payload) old went new
 
-  -- nothing changes, and memory ran out
-  pub record FindsNoMemory (machine : Machine) (waiting : Option DeskItem) (out : List ℕ) (router : V) (went : Went)
-      (machine_after : Machine) (waiting_after : Option DeskItem) (out_after : List ℕ) (router_after : V) : Type 0 where
+  -- nothing changes: memory ran out
+  pub record FindsNoMemory (machine : Machine) (old : Sinks V) (went : Went) (machine_after : Machine) (new : Sinks V) : Type 0 where
     pub went_so : went ≡ Closes Memory
     pub machine_same : machine_after ≡ machine
-    pub waiting_same : waiting_after ≡ waiting
-    pub out_same : out_after ≡ out
-    pub router_same : router_after ≡ router
+    pub same : new ≡ old
 
-  -- a frame is handled, or memory ran out
-  abbrev pub TakesFrame : Machine → Frame → Option DeskItem → List ℕ → V → Went → Machine → Option DeskItem → List ℕ → V → Type 0
-  TakesFrame machine frame waiting out router went machine_after waiting_after out_after router_after =
-      HandlesFrame machine frame waiting out router went machine_after waiting_after out_after router_after
-      ⊎ FindsNoMemory machine waiting out router went machine_after waiting_after out_after router_after
+  abbrev pub TakesFrame : Machine → Frame → Sinks V → Went → Machine → Sinks V → Type 0
+  TakesFrame machine frame old went machine_after new = HandlesFrame machine frame old went machine_after new ⊎ FindsNoMemory machine old went machine_after new
 
   -- the first frame that is kept is handled
-  pub record HandlesFirst (machine : Machine) (kept : List ℕ) (waiting : Option DeskItem) (out : List ℕ) (router : V) (went : Went)
-      (machine_after : Machine) (kept_after : List ℕ) (waiting_after : Option DeskItem) (out_after : List ℕ) (router_after : V) : Type 0 where
+  pub record HandlesFirst (machine : Machine) (kept : List ℕ) (old : Sinks V) (went : Went) (machine_after : Machine) (kept_after : List ℕ) (new : Sinks V) : Type 0 where
     pub frame : Frame
     pub whole : IsFrame frame
     pub first : kept ≡ frame_spelling frame ++ kept_after
-    pub handled : HandlesFrame machine frame waiting out router went machine_after waiting_after out_after router_after
+    pub handled : HandlesFrame machine frame old went machine_after new
 
-  -- so it is, or memory ran out
-  abbrev pub HandlesWhole : Machine → List ℕ → Option DeskItem → List ℕ → V → Went → Machine → List ℕ → Option DeskItem → List ℕ → V → Type 0
-  HandlesWhole machine kept waiting out router went machine_after kept_after waiting_after out_after router_after =
-      HandlesFirst machine kept waiting out router went machine_after kept_after waiting_after out_after router_after
-      ⊎ FindsNoMemory machine waiting out router went machine_after waiting_after out_after router_after
+  abbrev pub HandlesWhole : Machine → List ℕ → Sinks V → Went → Machine → List ℕ → Sinks V → Type 0
+  HandlesWhole machine kept old went machine_after kept_after new =
+      HandlesFirst machine kept old went machine_after kept_after new ⊎ FindsNoMemory machine old went machine_after new
 
   -- no frame is kept and nothing changes, but that the port closes where a length above the limit is kept
-  pub record FindsNoFrame (machine : Machine) (kept : List ℕ) (waiting : Option DeskItem) (out : List ℕ) (router : V) (went : Went)
-      (machine_after : Machine) (kept_after : List ℕ) (waiting_after : Option DeskItem) (out_after : List ℕ) (router_after : V) : Type 0 where
+  pub record FindsNoFrame (machine : Machine) (kept : List ℕ) (old : Sinks V) (went : Went) (machine_after : Machine) (kept_after : List ℕ) (new : Sinks V) : Type 0 where
     pub why : ((went ≡ Stalled) × HasNoFrame kept × ¬ TooLong kept) ⊎ ((went ≡ Closes FrameTooLong) × TooLong kept)
     pub machine_same : machine_after ≡ machine
     pub kept_same : kept_after ≡ kept
-    pub waiting_same : waiting_after ≡ waiting
-    pub out_same : out_after ≡ out
-    pub router_same : router_after ≡ router
+    pub same : new ≡ old
 
   -- the first frame that is kept is handled, or memory ran out beside it, or none is kept
-  abbrev pub HandlesKept : Machine → List ℕ → Option DeskItem → List ℕ → V → Went → Machine → List ℕ → Option DeskItem → List ℕ → V → Type 0
-  HandlesKept machine kept waiting out router went machine_after kept_after waiting_after out_after router_after =
-      (HasFrame kept × HandlesWhole machine kept waiting out router went machine_after kept_after waiting_after out_after router_after)
-      ⊎ FindsNoFrame machine kept waiting out router went machine_after kept_after waiting_after out_after router_after
+  abbrev pub HandlesKept : Machine → List ℕ → Sinks V → Went → Machine → List ℕ → Sinks V → Type 0
+  HandlesKept machine kept old went machine_after kept_after new =
+      (HasFrame kept × HandlesWhole machine kept old went machine_after kept_after new)
+      ⊎ FindsNoFrame machine kept old went machine_after kept_after new

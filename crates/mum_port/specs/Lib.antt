@@ -1,11 +1,9 @@
-pub mod Client
 pub mod Did
 pub mod Facts
 pub mod Handling
 pub mod Life
 pub mod Linking
 pub mod Outgoing
-pub mod Putting
 pub mod Replies
 pub mod Stage
 pub mod Steps

@@ -1,27 +1,24 @@
 -- What happens to a port, one event after another.
-use Rattle.std.specs.Prelude.{◌≡◌, ℕ, Bool, List, [], ◌∷◌, ◌++◌, Option, Some, None}
+use Rattle.std.specs.Prelude.{◌≡◌, ℕ, List, [], ◌∷◌, Option, option_to_list}
+use Rattle.std.specs.List.{flat_map}
 use Rattle.mum_base.specs.declared.number.Cause.{Cause}
 use Rattle.mum_base.specs.declared.number.SessionId.{SessionId}
 use Rattle.mum_base.specs.declared.reply.ReplyEnd.{ReplyEnd}
 use Rattle.mum_frame.specs.declared.frame.Frame.{Frame}
-use Rattle.mum_io.specs.Counts.{Counts}
 use Rattle.mum_io.specs.Link.{LinkFacts}
 use Rattle.mum_outbox.specs.Facts.{PassFacts, QueueFacts}
 use Rattle.mum_session.specs.Machine.{Machine}
-use Rattle.mum_session.specs.declared.action.Action.{Action}
-use Rattle.mum_session.specs.declared.action.Action.TheVariants.{Ask, Voice, Echo, Keep, Ignore}
-use Rattle.mum_port.specs.Client.{leave}
-use Rattle.mum_port.specs.Did.{PortDid, action_of, queued}
-use Rattle.mum_port.specs.Facts.{PortFacts}
+use Rattle.mum_port.specs.Did.{PortDid, asked_item, queued}
+use Rattle.mum_port.specs.Facts.{PortFacts, leave}
 use Rattle.mum_port.specs.Replies.{Answers, Lags}
 use Rattle.mum_port.specs.Turn.{PortTurn}
 use Rattle.mum_port.specs.declared.item.DeskItem.{DeskItem}
 use Rattle.mum_port.specs.declared.item.DeskItem.TheVariants as items
 use Rattle.mum_port.specs.declared.port.Step.{Step}
 use Rattle.mum_port.specs.declared.passes.Passes.{Passes}
-use Rattle.mum_port.specs.declared.stage.Farewell.TheVariants.{Leave, LastWord, Done}
+use Rattle.mum_port.specs.declared.stage.Farewell.TheVariants.{LastWord, Done}
 use Rattle.mum_port.specs.declared.stage.Stage.{Stage}
-use Rattle.mum_port.specs.declared.stage.Stage.TheVariants.{Live, Ending, Closed}
+use Rattle.mum_port.specs.declared.stage.Stage.TheVariants.{Closed}
 
 -- a step that did this, with the machine that the connection was before it; a reply with its bytes; or a lag
 pub data Event : Type 0 where
@@ -53,72 +50,44 @@ module _ {L V : Type 0} (facts : L → LinkFacts) (routed : V → ℕ → Sessio
 
 -- ---- what came of the events
 
-abbrev pub bytes_taken : List Event → List ℕ
-bytes_taken [] = []
-bytes_taken (stepped machine did ∷ events) = did.took ++ bytes_taken events
-bytes_taken (replied wire closed ∷ events) = bytes_taken events
-bytes_taken (lagged closed ∷ events) = bytes_taken events
+-- what one event gave, where a step gave this
+abbrev pub in_step : {A : Type 0} → (Machine → PortDid → List A) → Event → List A
+in_step given (stepped machine did) = given machine did
+in_step given others = []
 
-abbrev pub and_frame : Option Frame → List Frame → List Frame
-and_frame None frames = frames
-and_frame (Some frame) frames = frame ∷ frames
+abbrev pub bytes_taken : List Event → List ℕ
+bytes_taken events = flat_map (in_step (λ machine did. did.took)) events
 
 abbrev pub frames_handled : List Event → List Frame
-frames_handled [] = []
-frames_handled (stepped machine did ∷ events) = and_frame did.handled (frames_handled events)
-frames_handled (replied wire closed ∷ events) = frames_handled events
-frames_handled (lagged closed ∷ events) = frames_handled events
+frames_handled events = flat_map (in_step (λ machine did. option_to_list did.handled)) events
 
 -- what is to be written of a step, or of a reply, in the order in which it was taken
+abbrev pub queued_by : Event → List ℕ
+queued_by (replied wire closed) = wire
+queued_by event = in_step queued event
+
 abbrev pub bytes_queued : List Event → List ℕ
-bytes_queued [] = []
-bytes_queued (stepped machine did ∷ events) = queued machine did ++ bytes_queued events
-bytes_queued (replied wire closed ∷ events) = wire ++ bytes_queued events
-bytes_queued (lagged closed ∷ events) = bytes_queued events
+bytes_queued events = flat_map queued_by events
 
 abbrev pub bytes_written : List Event → List ℕ
-bytes_written [] = []
-bytes_written (stepped machine did ∷ events) = did.wrote ++ bytes_written events
-bytes_written (replied wire closed ∷ events) = bytes_written events
-bytes_written (lagged closed ∷ events) = bytes_written events
-
-abbrev pub and_item : Option DeskItem → List DeskItem → List DeskItem
-and_item None rest = rest
-and_item (Some item) rest = item ∷ rest
+bytes_written events = flat_map (in_step (λ machine did. did.wrote)) events
 
 -- what was put on the desk
 abbrev pub items_put : List Event → List DeskItem
-items_put [] = []
-items_put (stepped machine did ∷ events) = and_item did.put (items_put events)
-items_put (replied wire closed ∷ events) = items_put events
-items_put (lagged closed ∷ events) = items_put events
+items_put events = flat_map (in_step (λ machine did. option_to_list did.put)) events
 
--- the command that a frame asked for
-abbrev pub asked_item : Option Action → Option DeskItem
-asked_item None = None
-asked_item (Some (Ask command)) = Some (items.Command command)
-asked_item (Some (Voice packet)) = None
-asked_item (Some (Echo wire)) = None
-asked_item (Some Keep) = None
-asked_item (Some (Ignore why)) = None
-
+-- what frames asked for
 abbrev pub items_asked : List Event → List DeskItem
-items_asked [] = []
-items_asked (stepped machine did ∷ events) = and_item (asked_item (action_of machine did.handled)) (items_asked events)
-items_asked (replied wire closed ∷ events) = items_asked events
-items_asked (lagged closed ∷ events) = items_asked events
+items_asked events = flat_map (in_step (λ machine did. option_to_list (asked_item machine did.handled))) events
 
 -- the words of the farewell that a port has said
 abbrev pub words_said : Machine → Stage → List DeskItem
-words_said machine Live = []
-words_said machine (Ending parting) = []
-words_said machine (Closed cause Leave) = []
 words_said machine (Closed cause LastWord) = items.Command (leave machine) ∷ []
 words_said machine (Closed cause Done) = items.Command (leave machine) ∷ items.Closed machine.connection ∷ []
+words_said machine others = []
 
 -- no reply is among them
 abbrev pub AreUnanswered : List Event → Type 0
 AreUnanswered [] = Unit {0}
-AreUnanswered (stepped machine did ∷ events) = AreUnanswered events
 AreUnanswered (replied wire closed ∷ events) = ⊥
-AreUnanswered (lagged closed ∷ events) = AreUnanswered events
+AreUnanswered (event ∷ events) = AreUnanswered events

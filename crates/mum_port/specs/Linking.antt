@@ -1,36 +1,26 @@
 -- What a port does on its link.
-use Rattle.std.specs.Prelude.{◌≡◌, ℕ, ◌<◌, Bool, IsTrue, List, [], ◌++◌, length, Option}
-use Rattle.mum_base.specs.declared.number.Cause.TheVariants.{End, LinkFault, FrameTooLong, Rejected, Kicked, Lagged, Memory}
+use Rattle.std.specs.Prelude.{◌≡◌, ℕ, ◌<◌, IsTrue, List, [], ◌++◌, length, Option}
+use Rattle.mum_base.specs.declared.number.Cause.TheVariants.{End, LinkFault, Memory}
 use Rattle.mum_io.specs.Counts.{Counts, NoneFalls, Rose}
 use Rattle.mum_io.specs.Link.{Appends, Consumes, IsAtEnd, Keeps, LinkFacts}
 use Rattle.mum_port.specs.declared.stage.Went.{Went}
-use Rattle.mum_port.specs.declared.stage.Went.TheVariants.{NotDue, Stalled, Worked, Closes}
+use Rattle.mum_port.specs.declared.stage.Went.TheVariants.{Stalled, Worked, Closes}
 
 -- how a read ended: what it took and what was lost of it for memory, the counts, and what was left to be read
 abbrev pub ReadEnded : Went → List ℕ → List ℕ → Counts → Counts → Option (List ℕ) → Type 0
-ReadEnded NotDue took lost old new left = ⊥
 ReadEnded Stalled took lost old new left = (took ≡ []) × (lost ≡ []) × Rose old.stalls new.stalls
 ReadEnded Worked took lost old new left = (0 < length took) × (lost ≡ [])
 ReadEnded (Closes End) took lost old new left = (took ≡ []) × (lost ≡ []) × Rose old.ends new.ends × IsAtEnd left
 ReadEnded (Closes LinkFault) took lost old new left = (took ≡ []) × (lost ≡ []) × Rose old.faults new.faults
 ReadEnded (Closes Memory) took lost old new left = 0 < length took
-ReadEnded (Closes FrameTooLong) took lost old new left = ⊥
-ReadEnded (Closes Rejected) took lost old new left = ⊥
-ReadEnded (Closes Kicked) took lost old new left = ⊥
-ReadEnded (Closes Lagged) took lost old new left = ⊥
+ReadEnded others took lost old new left = ⊥
 
 -- how a write ended: what it wrote, and the counts
 abbrev pub WriteEnded : Went → List ℕ → Counts → Counts → Type 0
-WriteEnded NotDue wrote old new = ⊥
 WriteEnded Stalled wrote old new = (wrote ≡ []) × Rose old.stalls new.stalls
 WriteEnded Worked wrote old new = 0 < length wrote
-WriteEnded (Closes End) wrote old new = ⊥
 WriteEnded (Closes LinkFault) wrote old new = (wrote ≡ []) × Rose old.faults new.faults
-WriteEnded (Closes FrameTooLong) wrote old new = ⊥
-WriteEnded (Closes Rejected) wrote old new = ⊥
-WriteEnded (Closes Kicked) wrote old new = ⊥
-WriteEnded (Closes Lagged) wrote old new = ⊥
-WriteEnded (Closes Memory) wrote old new = ⊥
+WriteEnded others wrote old new = ⊥
 
 module _ {L : Type 0} (facts : L → LinkFacts) where
   -- a read: the bytes that it took stand after those that were kept, but for what was lost for memory

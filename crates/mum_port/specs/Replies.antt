@@ -1,10 +1,9 @@
 -- What a reply of the control owner, and a lag, leave of a port.
-use Rattle.std.specs.Prelude.{◌≡◌, ◌⊎◌, ℕ, Bool, true, false, List, ◌++◌, Option, Some, None}
+use Rattle.std.specs.Prelude.{◌≡◌, ◌⊎◌, ℕ, true, false, List, ◌++◌, Option, Some, None}
 use Rattle.mum_base.specs.declared.number.Cause.{Cause}
 use Rattle.mum_base.specs.declared.number.Cause.TheVariants as causes
 use Rattle.mum_base.specs.declared.reply.ReplyEnd.{ReplyEnd}
 use Rattle.mum_base.specs.declared.reply.ReplyEnd.TheVariants.{Joined, Decided, Rejected}
-use Rattle.mum_io.specs.Counts.{Counts}
 use Rattle.mum_io.specs.Link.{LinkFacts}
 use Rattle.mum_session.specs.Machine.{answered}
 use Rattle.mum_port.specs.Facts.{PortFacts}

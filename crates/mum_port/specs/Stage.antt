@@ -11,35 +11,26 @@ use Rattle.mum_port.specs.declared.stage.Parting.TheVariants as partings
 use Rattle.mum_port.specs.declared.stage.Stage.{Stage}
 use Rattle.mum_port.specs.declared.stage.Stage.TheVariants.{Live, Ending, Closed}
 use Rattle.mum_port.specs.declared.stage.Went.{Went}
-use Rattle.mum_port.specs.declared.stage.Went.TheVariants.{NotDue, Stalled, Worked, Closes}
+use Rattle.mum_port.specs.declared.stage.Went.TheVariants.{Worked, Closes}
 
 abbrev pub is_live : Stage → Bool
 is_live Live = true
-is_live (Ending cause) = false
-is_live (Closed cause farewell) = false
+is_live others = false
 
 abbrev pub is_closed : Stage → Bool
-is_closed Live = false
-is_closed (Ending cause) = false
 is_closed (Closed cause farewell) = true
+is_closed others = false
 
 -- the desk is owed nothing more
-abbrev pub is_done : Farewell → Bool
-is_done Leave = false
-is_done LastWord = false
-is_done Done = true
-
 abbrev pub is_gone : Stage → Bool
-is_gone Live = false
-is_gone (Ending cause) = false
-is_gone (Closed cause farewell) = is_done farewell
+is_gone (Closed cause Done) = true
+is_gone others = false
 
 -- it did something
 abbrev pub has_worked : Went → Bool
-has_worked NotDue = false
-has_worked Stalled = false
 has_worked Worked = true
 has_worked (Closes cause) = true
+has_worked others = false
 
 -- a port that has just closed owes the whole farewell
 abbrev pub closed_for : Cause → Stage
@@ -49,21 +40,16 @@ closed_for cause = Closed cause Leave
 abbrev pub stage_by : Went → Stage → Stage
 stage_by (Closes cause) Live = closed_for cause
 stage_by (Closes cause) (Ending before) = closed_for cause
-stage_by (Closes cause) (Closed before farewell) = Closed before farewell
-stage_by NotDue stage = stage
-stage_by Stalled stage = stage
-stage_by Worked stage = stage
+stage_by others stage = stage
 
 -- what is owed once the next word is on the desk
 abbrev pub owed_after : Farewell → Farewell
 owed_after Leave = LastWord
-owed_after LastWord = Done
-owed_after Done = Done
+owed_after others = Done
 
 abbrev pub after_word : Stage → Stage
-after_word Live = Live
-after_word (Ending cause) = Ending cause
 after_word (Closed cause farewell) = Closed cause (owed_after farewell)
+after_word others = others
 
 -- the cause for which a port closes that writes what it keeps
 abbrev pub parting_cause : Parting → Cause
@@ -72,24 +58,15 @@ parting_cause partings.Kicked = causes.Kicked
 
 -- one that ends closes once it has nothing to write
 abbrev pub settled_where : Bool → Stage → Stage
-settled_where nothing_unwritten Live = Live
 settled_where nothing_unwritten (Ending parting) = if nothing_unwritten then closed_for (parting_cause parting) else Ending parting
-settled_where nothing_unwritten (Closed cause farewell) = Closed cause farewell
+settled_where nothing_unwritten others = others
 
 -- for what a port closed, if it did
 abbrev pub cause_of : Stage → Option Cause
-cause_of Live = None
-cause_of (Ending cause) = None
 cause_of (Closed cause farewell) = Some cause
+cause_of others = None
 
--- a login that was rejected is the end of a live port
-abbrev pub rejected : Stage → Stage
-rejected Live = Ending partings.Rejected
-rejected (Ending cause) = Ending cause
-rejected (Closed cause farewell) = Closed cause farewell
-
--- the stage after a reply
+-- the stage after a reply: a login that was rejected is the end of a live port
 abbrev pub stage_after_reply : ReplyEnd → Stage → Stage
-stage_after_reply (ends.Joined session slot) stage = stage
-stage_after_reply ends.Decided stage = stage
-stage_after_reply ends.Rejected stage = rejected stage
+stage_after_reply ends.Rejected Live = Ending partings.Rejected
+stage_after_reply others stage = stage

@@ -1,16 +1,15 @@
 -- What each part of a port's step does, and the whole step as a chain of them.
-use Rattle.std.specs.Prelude.{◌≡◌, ◌⊎◌, ◌==◌, ◌||◌, ◌&&◌, ◌+◌, ℕ, Bool, true, false, not, IsTrue, is_some, List, [], ◌∷◌, length, Option, Some, None}
+use Rattle.std.specs.Prelude.{◌≡◌, ◌⊎◌, ◌==◌, ◌||◌, ◌&&◌, ◌+◌, ℕ, Bool, true, false, not, IsTrue, is_some, List, [], ◌∷◌, length, Option, Some, None, ◌++◌}
 use Rattle.std.specs.List.{list_any}
 use Rattle.mum_base.specs.declared.number.Cause.{Cause}
 use Rattle.mum_base.specs.declared.number.SessionId.{SessionId}
-use Rattle.mum_io.specs.Counts.{Counts}
 use Rattle.mum_io.specs.Link.{LinkFacts}
+use Rattle.mum_outbox.specs.Calls.{one_more}
 use Rattle.mum_outbox.specs.Facts.{PassFacts, QueueFacts}
 use Rattle.mum_port.specs.Facts.{MayRead, PortFacts, due_item, empty_framer, may_handle, may_write, stage_after_put, taking_session}
-use Rattle.mum_port.specs.Handling.{HandlesKept}
+use Rattle.mum_port.specs.Handling.{HandlesKept, Sinks}
 use Rattle.mum_port.specs.Linking.{ReadsLink, ShutsLink, WritesLink}
-use Rattle.mum_port.specs.Putting.{with_offered, with_refused}
-use Rattle.mum_port.specs.Stage.{cause_of, closed_for, has_worked, is_closed, settled_where, stage_by}
+use Rattle.mum_port.specs.Stage.{after_word, cause_of, closed_for, has_worked, is_closed, settled_where, stage_by}
 use Rattle.mum_port.specs.Taking.{Collects, Drains, foreign_count, has_taken}
 use Rattle.mum_port.specs.declared.item.DeskItem.{DeskItem}
 use Rattle.mum_port.specs.declared.outbound.Taking.{Taking}
@@ -21,6 +20,27 @@ use Rattle.mum_port.specs.declared.stage.Went.{Went}
 use Rattle.mum_port.specs.declared.stage.Went.TheVariants.{NotDue}
 
 -- ---- the desk
+
+-- the item is the last that was offered to the desk
+abbrev pub with_offered : PassFacts DeskItem → DeskItem → PassFacts DeskItem
+with_offered desk item = record desk { offered = desk.offered ++ item ∷ [] }
+
+-- one more offer found the desk full
+abbrev pub with_refused : PassFacts DeskItem → PassFacts DeskItem
+with_refused desk = record desk { full = one_more desk.full }
+
+-- what waited is on the desk, or waits on since the desk was full
+abbrev pub PutsWaiting : Option DeskItem → PassFacts DeskItem → Bool → PassFacts DeskItem → Option DeskItem → Type 0
+PutsWaiting None desk put after waiting_after = (put ≡ false) × (after ≡ desk) × (waiting_after ≡ None)
+PutsWaiting (Some item) desk put after waiting_after =
+    ((put ≡ true) × (after ≡ with_offered desk item) × (waiting_after ≡ None))
+    ⊎ ((put ≡ false) × (after ≡ with_refused desk) × (waiting_after ≡ Some item))
+
+-- a word of the farewell is on the desk, or is owed on since the desk was full
+abbrev pub PutsWord : DeskItem → PassFacts DeskItem → Stage → Bool → PassFacts DeskItem → Stage → Type 0
+PutsWord word desk stage put after stage_after =
+    ((put ≡ true) × (after ≡ with_offered desk word) × (stage_after ≡ after_word stage))
+    ⊎ ((put ≡ false) × (after ≡ with_refused desk) × (stage_after ≡ stage))
 
 -- what an offer that was not accepted leaves of the pass: a full desk is counted, where something was due
 abbrev pub desk_refused : Option DeskItem → PassFacts DeskItem → PassFacts DeskItem
@@ -106,10 +126,14 @@ module _ {L : Type 0} where
   abbrev pub TakesParcels : List QueueFacts → List QueueFacts → PortFacts L → Taking → Taking → PortFacts L → Type 0
   TakesParcels posts voices old posted heard new = TakesPostFirst posts voices old posted heard new ⊎ TakesVoiceFirst posts voices old posted heard new
 
+  -- where what a frame of a port asks for goes, with the router
+  abbrev pub sinks : {V : Type 0} → PortFacts L → V → Sinks V
+  sinks port router = record { waiting = port.waiting; out = port.out; router = router }
+
   -- a frame was looked for, where one might be handled
   pub record HandlesOne {V : Type 0} (routed : V → ℕ → SessionId → List ℕ → V → Type 0) (old : PortFacts L) (router : V) (went : Went) (new : PortFacts L) (router_after : V) : Type 0 where
     pub allowed : IsTrue (may_handle old)
-    pub handled : HandlesKept routed old.machine old.framer.kept old.waiting old.out router went new.machine new.framer.kept new.waiting new.out router_after
+    pub handled : HandlesKept routed old.machine old.framer.kept (sinks old router) went new.machine new.framer.kept (sinks new router_after)
     pub left : new ≡ record old { machine = new.machine; framer = new.framer; waiting = new.waiting; out = new.out; stage = stage_by went old.stage }
 
   abbrev pub Handles : {V : Type 0} → (V → ℕ → SessionId → List ℕ → V → Type 0) → PortFacts L → V → Went → PortFacts L → V → Type 0

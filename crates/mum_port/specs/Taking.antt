@@ -1,12 +1,13 @@
 -- What a port takes from the boxes of its slot.
-use Rattle.std.specs.Prelude.{◌≡◌, ◌≢◌, ◌⊎◌, ℕ, Bool, true, false, List, [], slice_get, Option, Some, None, if◌then◌else◌}
+use Rattle.std.specs.Prelude.{◌≡◌, ◌≢◌, ◌⊎◌, ℕ, Bool, true, false, List, [], slice_get, Option, Some, None, MatchOption, if◌then◌else◌}
 use Rattle.mum_base.specs.declared.number.SessionId.{SessionId}
+use Rattle.mum_base.specs.declared.number.Slot.{Slot}
+use Rattle.mum_base.specs.declared.number.TheConstants.{POST_CAPACITY, VOICE_CAPACITY}
 use Rattle.mum_frame.specs.declared.kind.TheConstants.{UDP_TUNNEL}
 use Rattle.mum_frame.specs.Frame.{spelling_of}
 use Rattle.mum_outbox.specs.Calls.{Takes}
 use Rattle.mum_outbox.specs.Facts.{PassFacts, QueueFacts}
 use Rattle.mum_outbox.specs.declared.parcel.PostParcel.{PostParcel}
-use Rattle.mum_base.specs.declared.number.TheConstants.{POST_CAPACITY, VOICE_CAPACITY}
 use Rattle.mum_outbox.specs.declared.parcel.VoiceParcel.{VoiceParcel}
 use Rattle.mum_port.specs.declared.outbound.Taking.{Taking}
 use Rattle.mum_port.specs.declared.outbound.Taking.TheVariants.{NotDue, Nothing, Own, Foreign}
@@ -16,32 +17,26 @@ use Rattle.mum_port.specs.declared.stage.Stage.{Stage}
 use Rattle.mum_port.specs.declared.stage.Stage.TheVariants.{Ending}
 
 abbrev pub has_taken : Taking → Bool
-has_taken NotDue = false
-has_taken Nothing = false
 has_taken Own = true
 has_taken Foreign = true
+has_taken others = false
 
 abbrev pub foreign_count : Taking → ℕ
-foreign_count NotDue = 0
-foreign_count Nothing = 0
-foreign_count Own = 0
 foreign_count Foreign = 1
+foreign_count others = 0
 
--- the pass is one of the post box of its slot, where there is such a box
-abbrev pub IsPassOfPost : List QueueFacts → Passes → Type 0
-IsPassOfPost posts passes = (queue : QueueFacts) → slice_get posts passes.slot.0 ≡ Some queue → passes.post.queue ≡ queue.queue
+-- the pass is one of the box of this slot, where there is such a box
+abbrev pub IsPassOf : {I : Type 0} → List QueueFacts → Slot → PassFacts I → Type 0
+IsPassOf boxes slot pass = (queue : QueueFacts) → slice_get boxes slot.0 ≡ Some queue → pass.queue ≡ queue.queue
 
-abbrev pub IsPassOfVoice : List QueueFacts → Passes → Type 0
-IsPassOfVoice voices passes = (queue : QueueFacts) → slice_get voices passes.slot.0 ≡ Some queue → passes.voice.queue ≡ queue.queue
-
--- so is that of a port, where it has passes
+-- the passes of a port, where it has some, are those of the post box and of the voice box of its slot
 abbrev pub IsPosted : List QueueFacts → Option Passes → Type 0
 IsPosted posts None = Unit {0}
-IsPosted posts (Some passes) = IsPassOfPost posts passes
+IsPosted posts (Some passes) = IsPassOf posts passes.slot passes.post
 
 abbrev pub IsVoiced : List QueueFacts → Option Passes → Type 0
 IsVoiced voices None = Unit {0}
-IsVoiced voices (Some passes) = IsPassOfVoice voices passes
+IsVoiced voices (Some passes) = IsPassOf voices passes.slot passes.voice
 
 -- after the last parcel of its session a port ends, as one that was kicked
 abbrev pub stage_after_post : Bool → Stage → Stage
@@ -49,26 +44,15 @@ stage_after_post last stage = if last then Ending Kicked else stage
 
 -- a parcel of the post box is to be written, where it is for the session, and else it is dropped
 abbrev pub PostsParcel : PostParcel → SessionId → Taking → List ℕ → Stage → Stage → Type 0
-PostsParcel parcel session NotDue out stage stage_after = ⊥
-PostsParcel parcel session Nothing out stage stage_after = ⊥
 PostsParcel parcel session Own out stage stage_after = (parcel.to ≡ session) × (out ≡ parcel.bytes) × (stage_after ≡ stage_after_post parcel.last stage)
 PostsParcel parcel session Foreign out stage stage_after = (parcel.to ≢ session) × (out ≡ []) × (stage_after ≡ stage)
+PostsParcel parcel session others out stage stage_after = ⊥
 
 -- a parcel of the voice box is to be written as a frame of type 1, where it is for the session, and else it is dropped
 abbrev pub HearsParcel : VoiceParcel → SessionId → Taking → List ℕ → Type 0
-HearsParcel parcel session NotDue out = ⊥
-HearsParcel parcel session Nothing out = ⊥
 HearsParcel parcel session Own out = (parcel.to ≡ session) × (out ≡ spelling_of UDP_TUNNEL parcel.bytes.items)
 HearsParcel parcel session Foreign out = (parcel.to ≢ session) × (out ≡ [])
-
--- what became of what the post box gave
-abbrev pub PostsTaken : Option PostParcel → SessionId → Taking → List ℕ → Stage → Stage → Type 0
-PostsTaken None session took out stage stage_after = (took ≡ Nothing) × (out ≡ []) × (stage_after ≡ stage)
-PostsTaken (Some parcel) session took out stage stage_after = PostsParcel parcel session took out stage stage_after
-
-abbrev pub HearsTaken : Option VoiceParcel → SessionId → Taking → List ℕ → Type 0
-HearsTaken None session took out = (took ≡ Nothing) × (out ≡ [])
-HearsTaken (Some parcel) session took out = HearsParcel parcel session took out
+HearsParcel parcel session others out = ⊥
 
 -- one take from the post box
 pub record TakesPost (session : SessionId) (passes : Passes) (stage : Stage) (took : Taking) (passes_after : Passes) (out : List ℕ) (stage_after : Stage) : Type 0 where
@@ -76,14 +60,15 @@ pub record TakesPost (session : SessionId) (passes : Passes) (stage : Stage) (to
   pub parcel : Option PostParcel
   pub after : passes_after ≡ record passes { post = pass }
   pub takes : Takes POST_CAPACITY passes.post parcel pass
-  pub posted : PostsTaken parcel session took out stage stage_after
+  pub posted : MatchOption parcel ((took ≡ Nothing) × (out ≡ []) × (stage_after ≡ stage)) (λ one. PostsParcel one session took out stage stage_after)
 
+-- one take from the voice box
 pub record TakesVoice (session : SessionId) (passes : Passes) (took : Taking) (passes_after : Passes) (out : List ℕ) : Type 0 where
   pub pass : PassFacts VoiceParcel
   pub parcel : Option VoiceParcel
   pub after : passes_after ≡ record passes { voice = pass }
   pub takes : Takes VOICE_CAPACITY passes.voice parcel pass
-  pub heard : HearsTaken parcel session took out
+  pub heard : MatchOption parcel ((took ≡ Nothing) × (out ≡ [])) (λ one. HearsParcel one session took out)
 
 -- nothing was taken, since there is no box of the slot
 pub record FindsNoBox (boxes : List QueueFacts) (passes : Passes) (took : Taking) (passes_after : Passes) (out : List ℕ) : Type 0 where
@@ -102,12 +87,10 @@ PassesDrain voices session passes took passes_after out = FindsNoBox voices pass
 -- a port takes from the boxes of its passes, and nothing where it has none
 abbrev pub Collects : List QueueFacts → SessionId → Option Passes → Stage → Taking → Option Passes → List ℕ → Stage → Type 0
 Collects posts session None stage took None out stage_after = (took ≡ NotDue) × (out ≡ []) × (stage_after ≡ stage)
-Collects posts session None stage took (Some after) out stage_after = ⊥
-Collects posts session (Some passes) stage took None out stage_after = ⊥
 Collects posts session (Some passes) stage took (Some after) out stage_after = PassesCollect posts session passes stage took after out stage_after
+Collects posts session passes stage took after out stage_after = ⊥
 
 abbrev pub Drains : List QueueFacts → SessionId → Option Passes → Taking → Option Passes → List ℕ → Type 0
 Drains voices session None took None out = (took ≡ NotDue) × (out ≡ [])
-Drains voices session None took (Some after) out = ⊥
-Drains voices session (Some passes) took None out = ⊥
 Drains voices session (Some passes) took (Some after) out = PassesDrain voices session passes took after out
+Drains voices session passes took after out = ⊥

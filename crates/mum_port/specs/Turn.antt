@@ -5,7 +5,7 @@ use Rattle.mum_base.specs.declared.number.Cause.TheVariants.{End, LinkFault, Fra
 use Rattle.mum_base.specs.declared.number.SessionId.{SessionId}
 use Rattle.mum_frame.specs.declared.frame.Frame.{Frame}
 use Rattle.mum_frame.specs.Frame.{HasFrame, HasNoFrame, IsFrame, TooLong}
-use Rattle.mum_io.specs.Counts.{Counts, NoneFalls, Rose}
+use Rattle.mum_io.specs.Counts.{NoneFalls, Rose}
 use Rattle.mum_io.specs.Link.{Appends, Consumes, IsAtEnd, LinkFacts}
 use Rattle.mum_outbox.specs.Calls.{Takes}
 use Rattle.mum_outbox.specs.Facts.{PassFacts, QueueFacts}
@@ -14,9 +14,9 @@ use Rattle.mum_outbox.specs.declared.parcel.VoiceParcel.{VoiceParcel}
 use Rattle.mum_base.specs.declared.number.TheConstants.{POST_CAPACITY, VOICE_CAPACITY}
 use Rattle.mum_session.specs.Machine.{session_of}
 use Rattle.mum_session.specs.declared.action.Action.{Action}
-use Rattle.mum_session.specs.declared.action.Action.TheVariants.{Ask, Voice, Echo, Keep, Ignore}
-use Rattle.mum_port.specs.Did.{PortDid, action_of, bytes_of, desk_after_put, machine_after, port_after_put, queued, stage_kept, stray_posts, stray_voices, waiting_after, waiting_after_put}
-use Rattle.mum_port.specs.Facts.{MayRead, PortFacts, due_item, empty_framer, may_handle, may_write, taking_session}
+use Rattle.mum_session.specs.declared.action.Action.TheVariants.{Voice}
+use Rattle.mum_port.specs.Did.{PortDid, action_of, asked_item, bytes_of, desk_after_put, echo_of, is_last, machine_after, port_after_put, post_bytes, queued, stage_kept, stray_posts, stray_voices, waiting_after_put}
+use Rattle.mum_port.specs.Facts.{MayRead, PortFacts, due_item, empty_framer, may_handle, may_write, taking_session, waiting_after}
 use Rattle.mum_port.specs.Stage.{closed_for, is_closed}
 use Rattle.mum_port.specs.declared.item.DeskItem.{DeskItem}
 use Rattle.mum_port.specs.declared.port.Step.{Step}
@@ -38,22 +38,18 @@ module _ {L : Type 0} where
 -- a packet goes to the router with the session that sent it, and nothing else does
 module _ {V : Type 0} (routed : V → ℕ → SessionId → List ℕ → V → Type 0) where
   abbrev pub RoutesPacket : ℕ → Option SessionId → Option Action → V → V → Type 0
-  RoutesPacket connection session None router after = after ≡ router
-  RoutesPacket connection session (Some (Ask command)) router after = after ≡ router
   RoutesPacket connection session (Some (Voice packet)) router after =
       (speaker : SessionId) × (session ≡ Some speaker) × routed router connection speaker packet after
-  RoutesPacket connection session (Some (Echo wire)) router after = after ≡ router
-  RoutesPacket connection session (Some Keep) router after = after ≡ router
-  RoutesPacket connection session (Some (Ignore why)) router after = after ≡ router
+  RoutesPacket connection session others router after = after ≡ router
 
 -- ---- the desk
 
 module _ {L : Type 0} where
-  -- at most one item is put, which was due; a command that was asked for waits
+  -- at most one item is put, which was due; what its frame asked for waits
   pub record PutsInTurn (old : PortFacts L) (desk : PassFacts DeskItem) (did : PortDid) (new : PortFacts L) (after : PassFacts DeskItem) : Type 0 where
     pub due : (item : DeskItem) → did.put ≡ Some item → due_item old ≡ Some item
     pub pass : after ≡ desk_after_put did.put (due_item old) desk
-    pub waiting : new.waiting ≡ waiting_after (action_of old.machine did.handled) (waiting_after_put did.put old.waiting)
+    pub waiting : new.waiting ≡ waiting_after (asked_item old.machine did.handled) (waiting_after_put did.put old.waiting)
 
 -- ---- the boxes
 
@@ -72,9 +68,8 @@ NothingTaken did = (did.post ≡ None) × (did.voice ≡ None)
 -- a port takes from the boxes of its passes alone
 abbrev pub PassesTake : Option Passes → PortDid → Option Passes → Type 0
 PassesTake None did None = NothingTaken did
-PassesTake None did (Some after) = ⊥
-PassesTake (Some passes) did None = ⊥
 PassesTake (Some passes) did (Some after) = PassTakes passes did after
+PassesTake passes did after = ⊥
 
 module _ {L : Type 0} where
   -- its boxes were not looked at, or it might look at them: it is live and logged in, and had nothing to write
@@ -127,16 +122,16 @@ module _ {L : Type 0} where
     pub voice_behind_voice : old.voice_first ≡ false → did.voice ≢ None → did.post ≡ None → FindsPostEmpty posts old.passes new.passes
     pub next : new.voice_first ≡ voice_first_after did.post did.voice old.voice_first
 
+  -- each box gave something or had nothing, but the second where what the first gave is to come before it
+  pub record HasLooked (posts voices : List QueueFacts) (session : SessionId) (old : PortFacts L) (did : PortDid) (new : PortFacts L) : Type 0 where
+    pub post : did.post ≡ None → (old.voice_first ≡ true → did.voice ≡ None) → FindsPostEmpty posts old.passes new.passes
+    pub voice : did.voice ≡ None → (old.voice_first ≡ false → (post_bytes (Some session) did.post ≡ []) × (is_last (Some session) did.post ≡ false))
+        → FindsVoiceEmpty voices old.passes new.passes
+
 -- ---- a step that did nothing
 
 abbrev pub did_nothing : PortDid
 did_nothing = record { put = None; took = []; lost = []; handled = None; post = None; voice = None; wrote = []; unsaid = []; closed = None }
-
-abbrev pub FindBoxesEmpty : List QueueFacts → List QueueFacts → Option Passes → Option Passes → Type 0
-FindBoxesEmpty posts voices None after = after ≡ None
-FindBoxesEmpty posts voices (Some passes) None = ⊥
-FindBoxesEmpty posts voices (Some passes) (Some after) =
-    FindsNothing POST_CAPACITY posts passes.slot.0 passes.post after.post × FindsNothing VOICE_CAPACITY voices passes.slot.0 passes.voice after.voice
 
 -- ---- the link, and the close
 
@@ -202,9 +197,18 @@ module _ {L : Type 0} (facts : L → LinkFacts) where
     pub no_frame : IsTrue (may_handle old) → HasNoFrame old.framer.kept × ¬ TooLong old.framer.kept
     pub read_stalled : MayRead old → Rose (facts old.link).counts.stalls (facts new.link).counts.stalls
     pub write_stalled : IsTrue (may_write old) → Rose (facts old.link).counts.stalls (facts new.link).counts.stalls
-    pub boxes_empty : (session : SessionId) → taking_session old ≡ Some session → FindBoxesEmpty posts voices old.passes new.passes
+    pub boxes_empty : (session : SessionId) → taking_session old ≡ Some session
+        → FindsPostEmpty posts old.passes new.passes × FindsVoiceEmpty voices old.passes new.passes
     pub kept : new.framer.kept ≡ old.framer.kept
     pub rest : new ≡ record old { link = new.link; framer = new.framer; passes = new.passes }
+
+  -- ---- what a step tries
+
+  -- it took bytes, or its link had none, had ended or failed
+  abbrev pub HasRead : PortFacts L → PortDid → PortFacts L → Type 0
+  HasRead old did new =
+      (did.took ≢ []) ⊎ (Rose (facts old.link).counts.stalls (facts new.link).counts.stalls
+      ⊎ (Rose (facts old.link).counts.ends (facts new.link).counts.ends ⊎ Rose (facts old.link).counts.faults (facts new.link).counts.faults))
 
   -- ---- the whole step
 
@@ -222,3 +226,13 @@ module _ {L : Type 0} (facts : L → LinkFacts) where
     pub ends : EndsInTurn old did step new
     pub idle : step.worked ≡ false → IsIdle posts voices old desk did new desk_after
     pub worked : step.worked ≡ true → did ≢ did_nothing
+    -- where it might read it did: it took bytes, or its link had none, had ended or failed
+    pub has_read : MayRead (port_after_put did.put old) → HasRead old did new
+    -- where it might handle a frame and a whole one was there it did, or closed since there was no memory
+    pub has_handled : IsTrue (may_handle (port_after_put did.put old)) → HasFrame (old.framer.kept ++ did.took) → did.handled ≡ None → did.closed ≡ Some Memory
+    -- where it might look at its boxes, no echo came before them and it stayed open, it looked
+    pub has_looked : (session : SessionId) → taking_session old ≡ Some session → echo_of (action_of old.machine did.handled) ≡ [] → did.closed ≡ None
+        → HasLooked posts voices session old did new
+    -- where bytes were to be written, and it was and stayed open, it wrote some, or its link was not ready
+    pub has_written : is_closed old.stage ≡ false → old.out ++ queued old.machine did ≢ [] → did.closed ≡ None → did.wrote ≡ []
+        → Rose (facts old.link).counts.stalls (facts new.link).counts.stalls

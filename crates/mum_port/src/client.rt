@@ -2,8 +2,8 @@
 
 ghost use Rattle.std.specs.Prelude.{◌≡◌, IfOk, OnErr, OnOk, false};
 ghost use Rattle.mum_session.specs.Action.{action, after_frame};
-ghost use Rattle.mum_session.specs.Machine.{answered, fresh, session_of};
-ghost use Rattle.mum_port.specs.Client.{leave};
+ghost use Rattle.mum_session.specs.Machine.{answered, fresh_with_bans, session_of};
+ghost use Rattle.mum_port.specs.Facts.{leave};
 
 use mum_base::{OutOfMemory, ReplyEnd, SessionId};
 use mum_frame::Frame;
@@ -32,14 +32,14 @@ impl Model for Client {
 }
 
 impl Client {
-    /// A connection that sent nothing yet.
+    /// A connection that sent nothing yet, and may send lists of bans.
     pub(crate) fn new(connection: u32, worker: u8) -> Client
-        ensures { result ≡ fresh connection worker }
+        ensures { result ≡ fresh_with_bans connection worker }
     {
         Client {
             connection,
             worker,
-            session: Session::new(connection, worker),
+            session: Session::with_bans(connection, worker),
         }
     }
 

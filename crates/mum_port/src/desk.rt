@@ -1,7 +1,7 @@
 //! What a port puts on the desk of the control owner.
 
 ghost use Rattle.std.specs.Prelude.{◌≡◌};
-ghost use Rattle.mum_port.specs.Putting.{PutsWaiting, PutsWord};
+ghost use Rattle.mum_port.specs.Steps.{PutsWaiting, PutsWord};
 
 use crate::item::DeskItem;
 use crate::stage::Stage;

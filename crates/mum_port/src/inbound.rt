@@ -3,6 +3,8 @@
 ghost use Rattle.std.specs.Prelude.{◌≡◌, ◌<◌, ℕ, Bool, IsTrue, false, length};
 ghost use Rattle.mum_frame.specs.Frame.{HasFrame};
 ghost use Rattle.mum_session.specs.Machine.{session_of};
+ghost use Rattle.mum_session.specs.declared.action.Action.TheVariants.{Bans};
+ghost use Rattle.mum_port.specs.Facts.{item_of, waiting_after};
 ghost use Rattle.mum_port.specs.Handling.{Acts, HandlesKept, HandlesWhole, TakesFrame};
 ghost use Rattle.mum_port.specs.Linking.{ReadsLink};
 
@@ -11,7 +13,7 @@ use crate::item::DeskItem;
 use crate::outgoing::Outgoing;
 use crate::router::VoiceRouter;
 use crate::stage::Went;
-use mum_base::{Cause, SessionId};
+use mum_base::{Cause, Octets, SessionId};
 use mum_frame::{Frame, Framer, Kept};
 use mum_io::{Link, PollRead};
 use mum_session::Action;
@@ -34,8 +36,8 @@ pub(crate) fn read<L: Link>(link: &mut L, framer: &mut Framer, buf: &mut [u8]) -
     }
 }
 
-// What a frame asks for. A command waits for the desk, a packet goes to the router, and an echo is
-// written after all else.
+// What a frame asks for. A command and a list of bans wait for the desk, a packet goes to the router, and
+// an echo is written after all else.
 fn act<V: VoiceRouter>(
     action: Action,
     connection: u32,
@@ -45,8 +47,9 @@ fn act<V: VoiceRouter>(
     router: &mut V,
 ) -> Went
     requires { IsTrue (V.has_room router.old) }
-    ensures { Acts V.routed connection session action waiting.old out.old (V.without_room router.old)
-        result waiting.new out.new (V.without_room router.new) }
+    ensures { Acts V.routed connection session action
+        (record { waiting = waiting.old; out = out.old; router = V.without_room router.old }) result
+        (record { waiting = waiting.new; out = out.new; router = V.without_room router.new }) }
 {
     match action {
         Action::Ask(command) => {
@@ -69,6 +72,29 @@ fn act<V: VoiceRouter>(
         },
         Action::Keep => Went::Worked,
         Action::Ignore { .. } => Went::Worked,
+        Action::Bans(payload) => {
+            wait_with_bans(connection, session, payload, waiting);
+            Went::Worked
+        }
+    }
+}
+
+// A list of bans waits for the desk, with the session that sent it.
+fn wait_with_bans(
+    connection: u32,
+    session: Option<SessionId>,
+    payload: Octets,
+    waiting: &mut Option<DeskItem>,
+)
+    ensures { waiting.new ≡ waiting_after (item_of connection session (Bans payload)) waiting.old }
+{
+    match session {
+        Some(session) => drop(waiting.replace(DeskItem::Bans {
+            connection,
+            session,
+            payload,
+        })),
+        None => drop(payload),
     }
 }
 
@@ -83,8 +109,9 @@ fn take_frame<V: VoiceRouter>(
 ) -> Went
     requires ready { client.old.awaits ≡ false }
     requires room { IsTrue (V.has_room router.old) }
-    ensures { TakesFrame V.routed client.old frame waiting.old out.old (V.without_room router.old)
-        result client.new waiting.new out.new (V.without_room router.new) }
+    ensures { TakesFrame V.routed client.old frame
+        (record { waiting = waiting.old; out = out.old; router = V.without_room router.old }) result client.new
+        (record { waiting = waiting.new; out = out.new; router = V.without_room router.new }) }
 {
     let connection = client.connection();
     let session = client.session();
@@ -104,9 +131,9 @@ fn handle_whole<V: VoiceRouter>(
     router: &mut V,
 ) -> Went
     requires { client.old.awaits ≡ false }
-    ensures { HandlesWhole V.routed client.old framer.old.kept waiting.old out.old
-        (V.without_room router.old) result client.new framer.new.kept waiting.new out.new
-        (V.without_room router.new) }
+    ensures { HandlesWhole V.routed client.old framer.old.kept
+        (record { waiting = waiting.old; out = out.old; router = V.without_room router.old }) result client.new framer.new.kept
+        (record { waiting = waiting.new; out = out.new; router = V.without_room router.new }) }
 {
     if router.reserve().is_err() {
         return Went::Closes(Cause::Memory);
@@ -127,9 +154,9 @@ pub(crate) fn handle<V: VoiceRouter>(
     router: &mut V,
 ) -> Went
     requires { client.old.awaits ≡ false }
-    ensures { HandlesKept V.routed client.old framer.old.kept waiting.old out.old
-        (V.without_room router.old) result client.new framer.new.kept waiting.new out.new
-        (V.without_room router.new) }
+    ensures { HandlesKept V.routed client.old framer.old.kept
+        (record { waiting = waiting.old; out = out.old; router = V.without_room router.old }) result client.new framer.new.kept
+        (record { waiting = waiting.new; out = out.new; router = V.without_room router.new }) }
 {
     match framer.kept() {
         Kept::Nothing => Went::Stalled,

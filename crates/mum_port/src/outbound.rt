@@ -2,7 +2,7 @@
 
 ghost use Rattle.std.specs.Prelude.{◌≡◌, ◌<◌, ◌≤◌, [], length};
 ghost use Rattle.mum_port.specs.Linking.{WritesLink};
-ghost use Rattle.mum_port.specs.Taking.{Collects, Drains, HearsParcel, IsPassOfPost, IsPassOfVoice, IsPosted, IsVoiced, PostsParcel, PassesCollect, PassesDrain, foreign_count, has_taken};
+ghost use Rattle.mum_port.specs.Taking.{Collects, Drains, HearsParcel, IsPassOf, IsPosted, IsVoiced, PostsParcel, PassesCollect, PassesDrain, foreign_count, has_taken};
 
 use crate::outgoing::Outgoing;
 use crate::passes::Passes;
@@ -85,7 +85,7 @@ fn take_post<R: Wait>(
     stage: &mut Stage,
 ) -> Taking
     requires empty { out.old ≡ [] }
-    requires queue { IsPassOfPost posts.now passes.old }
+    requires queue { IsPassOf posts.now passes.old.slot passes.old.post }
     ensures { PassesCollect posts.now session passes.old stage.old result passes.new out.new stage.new }
 {
     let Some(queue) = posts.get(usize::from(passes.slot.0)) else {
@@ -106,7 +106,7 @@ fn take_voice<R: Wait>(
     out: &mut Outgoing,
 ) -> Taking
     requires empty { out.old ≡ [] }
-    requires queue { IsPassOfVoice voices.now passes.old }
+    requires queue { IsPassOf voices.now passes.old.slot passes.old.voice }
     ensures { PassesDrain voices.now session passes.old result passes.new out.new }
 {
     let Some(queue) = voices.get(usize::from(passes.slot.0)) else {

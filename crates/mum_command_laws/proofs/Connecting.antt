@@ -50,52 +50,49 @@ IsAsked machine session act =
     (act ≡ ignore Malformed) ⊎ (act ≡ ignore TooLong)
     ⊎ ((what : Asked) × (act ≡ Ask (record { connection = machine.connection; worker = machine.worker; session = Some session; what = what })))
 
-asked : (connection worker : ℕ) (told : Option ℕ) (session : SessionId) (awaits : Bool) (read : Heard Asked)
-    → IsAsked (record { connection = connection; worker = worker; version = told; stage = LoggedIn session; awaits = awaits }) session
-    (command_action (record { connection = connection; worker = worker; version = told; stage = LoggedIn session; awaits = awaits }) read)
-asked connection worker told session awaits heard.Malformed = inl refl
-asked connection worker told session awaits heard.TooLong = inr (inl refl)
-asked connection worker told session awaits (heard.Message what) = inr (inr (what, refl))
+-- a machine that has come to a session
+abbrev seated : Machine → SessionId → Machine
+seated machine session = record machine { stage = LoggedIn session }
 
--- at a connection with a session
-abbrev seated : ℕ → ℕ → Option ℕ → SessionId → Bool → Machine
-seated connection worker told session awaits =
-    record { connection = connection; worker = worker; version = told; stage = LoggedIn session; awaits = awaits }
+asked : (machine : Machine) (session : SessionId) (read : Heard Asked) → IsAsked (seated machine session) session (command_action (seated machine session) read)
+asked machine session heard.Malformed = inl refl
+asked machine session heard.TooLong = inr (inl refl)
+asked machine session (heard.Message what) = inr (inr (what, refl))
 
-each_asked : (connection worker : ℕ) (told : Option ℕ) (session : SessionId) (awaits : Bool) (payload : List ℕ)
-    → All (λ kind. IsAsked (seated connection worker told session awaits) session (action (seated connection worker told session awaits) kind payload)) commands
+each_asked : (before : Machine) (session : SessionId) (payload : List ℕ)
+    → All (λ kind. IsAsked (seated before session) session (action (seated before session) kind payload)) commands
 unfolding action
-each_asked connection worker told session awaits payload =
-    let machine = seated connection worker told session awaits in
+each_asked before session payload =
+    let machine = seated before session in
     All-cons (λ kind. IsAsked machine session (action machine kind payload)) CHANNEL_REMOVE
     (CHANNEL_STATE ∷ USER_REMOVE ∷ USER_STATE ∷ TEXT_MESSAGE ∷ ACL ∷ VOICE_TARGET ∷ PERMISSION_QUERY ∷ [])
-    (asked connection worker told session awaits (command_heard CHANNEL_REMOVE payload))
+    (asked before session (command_heard CHANNEL_REMOVE payload))
     (All-cons (λ kind. IsAsked machine session (action machine kind payload)) CHANNEL_STATE
     (USER_REMOVE ∷ USER_STATE ∷ TEXT_MESSAGE ∷ ACL ∷ VOICE_TARGET ∷ PERMISSION_QUERY ∷ [])
-    (asked connection worker told session awaits (command_heard CHANNEL_STATE payload))
+    (asked before session (command_heard CHANNEL_STATE payload))
     (All-cons (λ kind. IsAsked machine session (action machine kind payload)) USER_REMOVE
     (USER_STATE ∷ TEXT_MESSAGE ∷ ACL ∷ VOICE_TARGET ∷ PERMISSION_QUERY ∷ [])
-    (asked connection worker told session awaits (command_heard USER_REMOVE payload))
+    (asked before session (command_heard USER_REMOVE payload))
     (All-cons (λ kind. IsAsked machine session (action machine kind payload)) USER_STATE
     (TEXT_MESSAGE ∷ ACL ∷ VOICE_TARGET ∷ PERMISSION_QUERY ∷ [])
-    (asked connection worker told session awaits (command_heard USER_STATE payload))
+    (asked before session (command_heard USER_STATE payload))
     (All-cons (λ kind. IsAsked machine session (action machine kind payload)) TEXT_MESSAGE
     (ACL ∷ VOICE_TARGET ∷ PERMISSION_QUERY ∷ [])
-    (asked connection worker told session awaits (command_heard TEXT_MESSAGE payload))
+    (asked before session (command_heard TEXT_MESSAGE payload))
     (All-cons (λ kind. IsAsked machine session (action machine kind payload)) ACL
     (VOICE_TARGET ∷ PERMISSION_QUERY ∷ [])
-    (asked connection worker told session awaits (command_heard ACL payload))
+    (asked before session (command_heard ACL payload))
     (All-cons (λ kind. IsAsked machine session (action machine kind payload)) VOICE_TARGET
     (PERMISSION_QUERY ∷ [])
-    (asked connection worker told session awaits (command_heard VOICE_TARGET payload))
+    (asked before session (command_heard VOICE_TARGET payload))
     (All-cons (λ kind. IsAsked machine session (action machine kind payload)) PERMISSION_QUERY []
-    (asked connection worker told session awaits (command_heard PERMISSION_QUERY payload))
+    (asked before session (command_heard PERMISSION_QUERY payload))
     (All-nil (λ kind. IsAsked machine session (action machine kind payload))))))))))
 
 pub commands_are_asked_lem : CommandsAreAsked
 commands_are_asked_lem machine session payload in_session =
     subst (λ (m : Machine). All (λ kind. IsAsked m session (action m kind payload)) commands) (same machine in_session)
-    (each_asked machine.connection machine.worker machine.version session machine.awaits payload)
+    (each_asked machine session payload)
   where
-    same : (one : Machine) → one.stage ≡ LoggedIn session → seated one.connection one.worker one.version session one.awaits ≡ one
+    same : (one : Machine) → one.stage ≡ LoggedIn session → seated one session ≡ one
     same one is = sym (ap (λ (s : Stage). record one { stage = s }) is)

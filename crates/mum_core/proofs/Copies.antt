@@ -12,7 +12,7 @@ use Rattle.mum_route.specs.Route.{Member}
 use Rattle.mum_route.proofs.Seated.{each_hearer, seated}
 use Rattle.mum_voice.specs.Packet.{packet}
 use Rattle.mum_session.specs.declared.action.Action.{Action}
-use Rattle.mum_session.specs.declared.action.Action.TheVariants.{Ask, Voice, Echo, Keep, Ignore}
+use Rattle.mum_session.specs.declared.action.Action.TheVariants.{Voice}
 use Rattle.mum_core.specs.declared.outbox.Parcel.{Parcel}
 use Rattle.mum_core.specs.declared.connection.Seat.{Seat}
 use Rattle.mum_core.specs.declared.worker.Outgoing.{Outgoing}
@@ -100,11 +100,8 @@ all_hears P core w (Some held) all = λ v. changed-by (Follows P) (λ x h. h) co
 all_hears P core w None all = all
 
 all_frame : (P : Outgoing → Type 0) (core : CoreState) (c : ℕ) (version : Option ℕ) (a : Action) → AllCopies P core → AllCopies P (frame_step.does core c version a)
-all_frame P core c version (Ask command) all = all
 all_frame P core c version (Voice payload) all = all_hears P core (connection_at core c).worker (spoken (connection_at core c).seat (packet payload)) all
-all_frame P core c version (Echo frame) all = all
-all_frame P core c version Keep all = all
-all_frame P core c version (Ignore why) all = all
+all_frame P core c version others all = all
 
 all_notes : (P : Outgoing → Type 0) (core : CoreState) (w : ℕ) (revision : Option ℕ) → AllCopies P core → AllCopies P (tell_step.notes w revision core)
 all_notes P core w None all = all
@@ -150,11 +147,8 @@ hears_still core w (Some held) = (refl, refl)
 hears_still core w None = (refl, refl)
 
 pub frame_still : (core : CoreState) (c : ℕ) (version : Option ℕ) (a : Action) → Still core (frame_step.does core c version a)
-frame_still core c version (Ask command) = (refl, refl)
 frame_still core c version (Voice payload) = hears_still core (connection_at core c).worker (spoken (connection_at core c).seat (packet payload))
-frame_still core c version (Echo frame) = (refl, refl)
-frame_still core c version Keep = (refl, refl)
-frame_still core c version (Ignore why) = (refl, refl)
+frame_still core c version others = (refl, refl)
 
 pub notes_still : (core : CoreState) (w : ℕ) (revision : Option ℕ) → Still core (tell_step.notes w revision core)
 notes_still core w None = (refl, refl)

@@ -12,7 +12,7 @@ use Rattle.mum_voice.specs.Packet.{packet}
 use Rattle.mum_core.specs.declared.connection.Seat.{Seat}
 use Rattle.mum_core.specs.declared.worker.Outgoing.{Outgoing}
 use Rattle.mum_session.specs.declared.action.Action.{Action}
-use Rattle.mum_session.specs.declared.action.Action.TheVariants.{Ask, Voice, Echo, Keep, Ignore}
+use Rattle.mum_session.specs.declared.action.Action.TheVariants.{Voice}
 use Rattle.mum_record.specs.declared.head.Version.{Version}
 use Rattle.mum_record.specs.declared.step.Step.TheVariants as steps
 use Rattle.mum_record.specs.declared.step.Step.{Step}
@@ -75,11 +75,8 @@ clean_hears core w (Some held) none clean =
 clean_hears core w None none clean = clean
 
 clean_frame : (core : CoreState) (c : ℕ) (version : Option ℕ) (a : Action) → (worker_at core (connection_at core c).worker).copies ≡ [] → AreClean core.workers → AreClean (frame_step.does core c version a).workers
-clean_frame core c version (Ask command) none clean = clean
 clean_frame core c version (Voice payload) none clean = clean_hears core (connection_at core c).worker (spoken (connection_at core c).seat (packet payload)) none clean
-clean_frame core c version (Echo frame) none clean = clean
-clean_frame core c version Keep none clean = clean
-clean_frame core c version (Ignore why) none clean = clean
+clean_frame core c version others none clean = clean
 
 clean_notes : (core : CoreState) (w : ℕ) (revision : Option ℕ) → AreClean core.workers → AreClean (tell_step.notes w revision core).workers
 clean_notes core w None clean = clean
@@ -148,11 +145,8 @@ hears_same core w (Some held) = (refl, refl, left-same core.workers w (λ worker
 hears_same core w None = (refl, refl, refl)
 
 frame_same : (core : CoreState) (c : ℕ) (version : Option ℕ) (a : Action) → Same core (frame_step.does core c version a)
-frame_same core c version (Ask command) = (refl, refl, refl)
 frame_same core c version (Voice payload) = hears_same core (connection_at core c).worker (spoken (connection_at core c).seat (packet payload))
-frame_same core c version (Echo frame) = (refl, refl, refl)
-frame_same core c version Keep = (refl, refl, refl)
-frame_same core c version (Ignore why) = (refl, refl, refl)
+frame_same core c version others = (refl, refl, refl)
 
 decided_same : (core : CoreState) (c : ℕ) (verdict : Option Verdict) → Same core (option_map_or (edit_step.decides core c) verdict core)
 decided_same core c None = (refl, refl, refl)

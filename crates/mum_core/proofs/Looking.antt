@@ -14,7 +14,7 @@ use Rattle.mum_record.specs.declared.step.Step.{Step}
 use Rattle.mum_record.specs.declared.step.Step.TheVariants as steps
 use Rattle.mum_record.specs.declared.step.Step.TheVariants.{Open, Frame, Publish, Tell, Look, Offer, Post, Drain, Collect, Close, End}
 use Rattle.mum_session.specs.declared.action.Action.{Action}
-use Rattle.mum_session.specs.declared.action.Action.TheVariants.{Ask, Voice, Echo, Keep, Ignore}
+use Rattle.mum_session.specs.declared.action.Action.TheVariants.{Voice}
 use Rattle.mum_cache.specs.declared.caches.Caches.{Caches}
 use Rattle.mum_cache.specs.Caches.{AreSound}
 use Rattle.mum_core.specs.Caches.{CachedCore, EachIsSound, KeepsFor, LooksThrough, caches_at, routes_in}
@@ -42,11 +42,8 @@ hears_many core w None = refl
 hears_many core w (Some held) = length-changed core.workers w (λ worker. record worker { held = Some held })
 
 frame_many : (core : CoreState) (c : ℕ) (version : Option ℕ) (a : Action) → length (frame_step.does core c version a).workers ≡ length core.workers
-frame_many core c version (Ask name) = refl
 frame_many core c version (Voice payload) = hears_many core (connection_at core c).worker (spoken (connection_at core c).seat (packet payload))
-frame_many core c version (Echo frame) = refl
-frame_many core c version Keep = refl
-frame_many core c version (Ignore why) = refl
+frame_many core c version others = refl
 
 notes_many : (core : CoreState) (w : ℕ) (revision : Option ℕ) → length (tell_step.notes w revision core).workers ≡ length core.workers
 notes_many core w None = refl

@@ -13,7 +13,7 @@ use Rattle.mum_record.specs.declared.step.Step.{Step}
 use Rattle.mum_record.specs.declared.step.Step.TheVariants as steps
 use Rattle.mum_record.specs.declared.step.Step.TheVariants.{Open, Frame, Publish, Tell, Look, Offer, Post, Drain, Collect, Close, End}
 use Rattle.mum_session.specs.declared.action.Action.{Action}
-use Rattle.mum_session.specs.declared.action.Action.TheVariants.{Ask, Voice, Echo, Keep, Ignore}
+use Rattle.mum_session.specs.declared.action.Action.TheVariants.{Voice}
 use Rattle.mum_core.specs.declared.connection.Seat.{Seat}
 use Rattle.mum_base.specs.declared.number.TheConstants.{SLOTS}
 use Rattle.mum_core.specs.declared.worker.Outgoing.{Outgoing}
@@ -49,11 +49,8 @@ hears_quiet core w (Some held) = (refl, refl)
 hears_quiet core w None = (refl, refl)
 
 pub frame_quiet : (core : CoreState) (c : ℕ) (version : Option ℕ) (a : Action) → Quiet core (frame_step.does core c version a)
-frame_quiet core c version (Ask command) = (refl, refl)
 frame_quiet core c version (Voice payload) = hears_quiet core (connection_at core c).worker (spoken (connection_at core c).seat (packet payload))
-frame_quiet core c version (Echo frame) = (refl, refl)
-frame_quiet core c version Keep = (refl, refl)
-frame_quiet core c version (Ignore why) = (refl, refl)
+frame_quiet core c version others = (refl, refl)
 
 pub notes_quiet : (core : CoreState) (w : ℕ) (revision : Option ℕ) → Quiet core (tell_step.notes w revision core)
 notes_quiet core w None = (refl, refl)

@@ -10,7 +10,7 @@ use Rattle.mum_state.specs.Proper.{IsProper}
 use Rattle.mum_state.specs.State.{StateValue}
 use Rattle.mum_voice.specs.Packet.{packet}
 use Rattle.mum_session.specs.declared.action.Action.{Action}
-use Rattle.mum_session.specs.declared.action.Action.TheVariants.{Ask, Voice, Echo, Keep, Ignore}
+use Rattle.mum_session.specs.declared.action.Action.TheVariants.{Voice}
 use Rattle.mum_route.specs.declared.hearer.Hearer.{Hearer}
 use Rattle.mum_core.specs.declared.worker.Outgoing.{Outgoing}
 use Rattle.mum_record.specs.declared.head.Version.{Version}
@@ -185,11 +185,8 @@ hears_go n v core w None holds none = still n (worker_at core v)
 
 frame_goes : (n v : ℕ) (core : CoreState) (c : ℕ) (version : Option ℕ) (a : Action) → (worker_at core (connection_at core c).worker).held ≡ None → (worker_at core (connection_at core c).worker).copies ≡ []
     → GoesTo n v [] core (frame_step.does core c version a).workers
-frame_goes n v core c version (Ask command) holds none = still n (worker_at core v)
 frame_goes n v core c version (Voice payload) holds none = hears_go n v core (connection_at core c).worker (spoken (connection_at core c).seat (packet payload)) holds none
-frame_goes n v core c version (Echo frame) holds none = still n (worker_at core v)
-frame_goes n v core c version Keep holds none = still n (worker_at core v)
-frame_goes n v core c version (Ignore why) holds none = still n (worker_at core v)
+frame_goes n v core c version others holds none = still n (worker_at core v)
 
 notes_go : (n v : ℕ) (core : CoreState) (w : ℕ) (revision : Option ℕ) → GoesTo n v [] core (tell_step.notes w revision core).workers
 notes_go n v core w None = still n (worker_at core v)

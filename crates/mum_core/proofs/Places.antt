@@ -10,7 +10,7 @@ use Rattle.mum_state.specs.declared.verdict.Verdict.{Verdict}
 use Rattle.mum_voice.specs.Packet.{packet}
 use Rattle.mum_notify.specs.declared.notice.Notice.{Notice}
 use Rattle.mum_session.specs.declared.action.Action.{Action}
-use Rattle.mum_session.specs.declared.action.Action.TheVariants.{Ask, Voice, Echo, Keep, Ignore}
+use Rattle.mum_session.specs.declared.action.Action.TheVariants.{Ask, Voice, Keep}
 use Rattle.mum_session.specs.declared.command.Asked.{Asked}
 use Rattle.mum_core.specs.declared.connection.Connection.{Connection}
 use Rattle.mum_core.specs.declared.connection.Reply.{Reply}
@@ -87,11 +87,8 @@ hears_connections core w (Some held) = refl
 hears_connections core w None = refl
 
 frame_connections : (core : CoreState) (c : ℕ) (version : Option ℕ) (a : Action) → (frame_step.does core c version a).connections ≡ with_change core.connections (change_by c version a)
-frame_connections core c version (Ask command) = refl
 frame_connections core c version (Voice payload) = hears_connections core (connection_at core c).worker (spoken (connection_at core c).seat (packet payload))
-frame_connections core c version (Echo frame) = refl
-frame_connections core c version Keep = refl
-frame_connections core c version (Ignore why) = refl
+frame_connections core c version others = refl
 
 notes_connections : (core : CoreState) (w : ℕ) (revision : Option ℕ) → (tell_step.notes w revision core).connections ≡ core.connections
 notes_connections core w None = refl

@@ -12,7 +12,7 @@ use Rattle.mum_voice.specs.Packet.{packet}
 use Rattle.mum_core.specs.declared.connection.Seat.{Seat}
 use Rattle.mum_core.specs.declared.worker.Outgoing.{Outgoing}
 use Rattle.mum_session.specs.declared.action.Action.{Action}
-use Rattle.mum_session.specs.declared.action.Action.TheVariants.{Ask, Voice, Echo, Keep, Ignore}
+use Rattle.mum_session.specs.declared.action.Action.TheVariants.{Voice}
 use Rattle.mum_record.specs.declared.head.Version.{Version}
 use Rattle.mum_record.specs.declared.step.Step.TheVariants as steps
 use Rattle.mum_record.specs.declared.step.Step.{Step}
@@ -52,11 +52,8 @@ hears_keeps core w (Some held) = (refl, refl, refl)
 hears_keeps core w None = (refl, refl, refl)
 
 pub frame_keeps : (core : CoreState) (c : ℕ) (version : Option ℕ) (a : Action) → Keeps core (frame_step.does core c version a)
-frame_keeps core c version (Ask name) = (refl, refl, refl)
 frame_keeps core c version (Voice payload) = hears_keeps core (connection_at core c).worker (spoken (connection_at core c).seat (packet payload))
-frame_keeps core c version (Echo frame) = (refl, refl, refl)
-frame_keeps core c version Keep = (refl, refl, refl)
-frame_keeps core c version (Ignore why) = (refl, refl, refl)
+frame_keeps core c version others = (refl, refl, refl)
 
 pub notes_keep : (core : CoreState) (w : ℕ) (revision : Option ℕ) → Keeps core (tell_step.notes w revision core)
 notes_keep core w None = (refl, refl, refl)
@@ -240,11 +237,8 @@ hears_goes_on core v w (Some held) = changed-by Further same_worker core.workers
 hears_goes_on core v w None = same_worker (worker_at core w)
 
 frame_goes_on : (core : CoreState) (c w : ℕ) (version : Option ℕ) (a : Action) → Further (worker_at core w) (worker_at (frame_step.does core c version a) w)
-frame_goes_on core c w version (Ask name) = same_worker (worker_at core w)
 frame_goes_on core c w version (Voice payload) = hears_goes_on core (connection_at core c).worker w (spoken (connection_at core c).seat (packet payload))
-frame_goes_on core c w version (Echo frame) = same_worker (worker_at core w)
-frame_goes_on core c w version Keep = same_worker (worker_at core w)
-frame_goes_on core c w version (Ignore why) = same_worker (worker_at core w)
+frame_goes_on core c w version others = same_worker (worker_at core w)
 
 notes_go_on : (core : CoreState) (v w : ℕ) (revision : Option ℕ) → Further (worker_at core w) (worker_at (tell_step.notes v revision core) w)
 notes_go_on core v w None = same_worker (worker_at core w)

@@ -17,7 +17,7 @@ use Rattle.mum_state.specs.State.{StateValue}
 use Rattle.mum_voice.specs.declared.fault.BadVoice.{BadVoice}
 use Rattle.mum_voice.specs.Packet.{Parts, packet}
 use Rattle.mum_session.specs.declared.action.Action.{Action}
-use Rattle.mum_session.specs.declared.action.Action.TheVariants.{Ask, Voice, Echo, Keep, Ignore}
+use Rattle.mum_session.specs.declared.action.Action.TheVariants.{Ask, Voice, Keep}
 use Rattle.mum_session.specs.declared.command.Asked.{Asked}
 use Rattle.mum_core.specs.declared.connection.Connection.{Connection}
 use Rattle.mum_core.specs.declared.connection.Reply.{Reply}
@@ -245,11 +245,8 @@ hears_from w k core v (Some seat) (Ok parts) = from (seat.session.0 == k) refl
 
 frame_from : (w k : ℕ) (core : CoreState) (c : ℕ) (version : Option ℕ) (a : Action)
     → (Without k (worker_at core w) (worker_at (frame_step.does core c version a) w)) ⊎ (IsOf k (connection_at core c).seat × (w ≡ (connection_at core c).worker))
-frame_from w k core c version (Ask name) = inl (without k (worker_at core w))
-frame_from w k core c version (Echo frame) = inl (without k (worker_at core w))
-frame_from w k core c version Keep = inl (without k (worker_at core w))
-frame_from w k core c version (Ignore why) = inl (without k (worker_at core w))
 frame_from w k core c version (Voice payload) = hears_from w k core (connection_at core c).worker (connection_at core c).seat (packet payload)
+frame_from w k core c version others = inl (without k (worker_at core w))
 
 frame_source : (w k : ℕ) (core : CoreState) (c : ℕ) (bytes : List ℕ) → illegal core (Frame c bytes) ≡ None
     → (of_speaker k (packet_taken w core (Frame c bytes)) ≡ []) ⊎ Source w k core

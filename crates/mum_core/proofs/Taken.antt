@@ -8,7 +8,7 @@ use Rattle.mum_notify.specs.declared.notice.Notice.{Notice}
 use Rattle.mum_voice.specs.Packet.{packet}
 use Rattle.mum_core.specs.declared.{connection.Seat.Seat, machine.StepFault.StepFault, worker.Outgoing.Outgoing}
 use Rattle.mum_session.specs.declared.action.Action.{Action}
-use Rattle.mum_session.specs.declared.action.Action.TheVariants.{Ask, Voice, Echo, Keep, Ignore}
+use Rattle.mum_session.specs.declared.action.Action.TheVariants.{Voice}
 use Rattle.mum_record.specs.declared.step.Step.{Step}
 use Rattle.mum_record.specs.declared.step.Step.TheVariants.{Open, Frame, Edit, Publish, Tell, Look, Offer, Post, Drain, Collect, Close, End}
 use Rattle.mum_core.specs.Case.{IsStarved, named_cause}
@@ -33,11 +33,8 @@ hears_line core w (Some held) = refl
 hears_line core w None = refl
 
 frame_line : (core : CoreState) (c : ℕ) (version : Option ℕ) (asked : Action) → (frame_step.does core c version asked).line ≡ core.line
-frame_line core c version (Ask command) = refl
 frame_line core c version (Voice payload) = hears_line core (connection_at core c).worker (spoken (connection_at core c).seat (packet payload))
-frame_line core c version (Echo frame) = refl
-frame_line core c version Keep = refl
-frame_line core c version (Ignore why) = refl
+frame_line core c version others = refl
 
 edit_line : (core : CoreState) (c : ℕ) (decision : Option Verdict) → (option_map_or (edit_step.decides core c) decision core).line ≡ core.line
 edit_line core c None = refl

@@ -12,7 +12,7 @@ stage_of connection =
     if connection.rejected then Rejected
     else option_map_or (λ seat. LoggedIn seat.session) connection.seat BeforeLogin
 
--- the machine of the connection of this number, which waits for no reply where a frame is taken
+-- the machine of the connection of this number, which waits for no reply where a frame is taken. Lists of bans are not read
 abbrev pub machine_of : ℕ → Connection → Machine
 machine_of c connection = record {
   connection = c;
@@ -20,4 +20,5 @@ machine_of c connection = record {
   version = connection.version;
   stage = stage_of connection;
   awaits = false;
+  bans = false;
 }

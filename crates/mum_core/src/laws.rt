@@ -1,7 +1,7 @@
 //! What follows from the definitions of the steps for every run of them. These functions do
 //! nothing: each contract is a theorem.
 
-ghost use Rattle.std.specs.Prelude.{◌≡◌, ◌==◌, ◌≤◌, ◌<◌, ◌+◌, ◌-◌, ◌^◌, ◌⊎◌, ◌++◌, ◌∷◌, ℕ, List, [], filter, length, map, sum_by, IsSome, IsTrue, None, Some, true};
+ghost use Rattle.std.specs.Prelude.{◌≡◌, ◌≢◌, ◌==◌, ◌≤◌, ◌<◌, ◌+◌, ◌-◌, ◌^◌, ◌⊎◌, ◌++◌, ◌∷◌, ℕ, List, [], filter, length, map, sum_by, IsSome, IsTrue, None, Some, true};
 ghost use Rattle.std.specs.List.{AllByRecursion, AllPairs};
 ghost use Rattle.mum_base.specs.declared.number.SessionId.{SessionId};
 ghost use Rattle.mum_base.specs.declared.number.Slot.{Slot};
@@ -20,7 +20,8 @@ ghost use Rattle.mum_record.specs.declared.step.Step.{Step};
 ghost use Rattle.mum_record.specs.declared.step.Step.TheVariants.{Collect, Drain, Frame, Look, Offer};
 ghost use Rattle.mum_core.specs.Core.{CoreState, start, state_at, connection_at, is_opened, outbox_at, posts_at, worker_at};
 ghost use Rattle.mum_core.specs.Laws.{IsOfferOf, IsParcelOf, IsRun, IsSubsequence, IsSubsequenceBy, collected, gathered, heard, is_by, looked, noticed, offered, packet_taken, posted, posted_in, ran, removed, sent, told_notice, wired};
-ghost use Rattle.mum_core.specs.Step.{does, illegal};
+ghost use Rattle.mum_core.specs.Step.{does, frame_action, illegal};
+ghost use Rattle.mum_session.specs.declared.action.Action.TheVariants.{Bans};
 ghost use Rattle.mum_core.specs.Worker.{HeldPacket};
 ghost use Rattle.mum_core.specs.steps.Look.{outgoing};
 
@@ -192,4 +193,9 @@ pub fn notices_keep_their_order()
         gathered (posted_in slot) (start version opening workers) steps
         ≡ gathered (collected slot) (start version opening workers) steps
         ++ posts_at (ran (start version opening workers) steps) slot }
+{}
+
+/// No frame of a recording asks for bans: a BanList is passed over there, as each type that is not read.
+pub fn recordings_read_no_bans()
+    ensures { (core : CoreState) (c : ℕ) (bytes payload : List ℕ) → frame_action core c bytes ≢ Bans payload }
 {}

@@ -3,8 +3,10 @@ use Rattle.std.specs.Prelude.{ℕ, List, [], ◌∷◌, Option, Some, None, Resu
 use Rattle.hex.specs.Hex.{encode_lower}
 use Rattle.mum_voice.specs.declared.fault.BadVoice.{BadVoice}
 use Rattle.mum_voice.specs.Packet.{Parts, packet}
+use Rattle.mum_base.specs.Codes.{reason_code}
+use Rattle.mum_base.specs.declared.outcome.Reason.TheVariants.{NotRead}
 use Rattle.mum_session.specs.declared.action.Action.{Action}
-use Rattle.mum_session.specs.declared.action.Action.TheVariants.{Ask, Voice, Echo, Keep, Ignore}
+use Rattle.mum_session.specs.declared.action.Action.TheVariants.{Ask, Voice, Echo, Keep, Ignore, Bans}
 use Rattle.mum_core.specs.declared.connection.Seat.{Seat}
 use Rattle.mum_core.specs.Case.{Case, is_closed, not_opened}
 use Rattle.mum_core.specs.Connection.{asking, is_untold, untold}
@@ -35,13 +37,12 @@ abbrev pub hears : CoreState → ℕ → Option HeldPacket → CoreState
 hears core w None = core
 hears core w (Some held) = at_worker w (λ worker. holding held worker) core
 
--- what an action changes of the core, where the connection has told this version
+-- what an action changes of the core, where the connection has told this version. No frame of a recording asks for bans
 abbrev pub does : CoreState → ℕ → Option ℕ → Action → CoreState
 does core c version (Ask command) = at_connection c (asking command.what) core
 does core c version (Voice payload) = hears core (connection_at core c).worker (spoken (connection_at core c).seat (packet payload))
-does core c version (Echo frame) = core
 does core c version Keep = at_connection c (λ connection. record connection { version = version }) core
-does core c version (Ignore why) = core
+does core c version others = core
 
 abbrev pub heard_line : ℕ → Result Parts BadVoice → List (List ℕ)
 heard_line c (Ok parts) = codes "heard" ∷ decimal c ∷ []
@@ -53,6 +54,7 @@ line c (Voice payload) = heard_line c (packet payload)
 line c (Echo frame) = codes "echo" ∷ decimal c ∷ encode_lower frame ∷ []
 line c Keep = codes "kept" ∷ decimal c ∷ []
 line c (Ignore why) = codes "ignored" ∷ decimal c ∷ decimal why ∷ []
+line c (Bans payload) = codes "ignored" ∷ decimal c ∷ decimal (reason_code NotRead) ∷ []
 
 abbrev pub lines : ℕ → Action → List (List (List ℕ))
 lines c action = line c action ∷ []

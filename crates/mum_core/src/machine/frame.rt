@@ -17,7 +17,7 @@ ghost use Rattle.mum_core.specs.steps.Frame.{forbids, does, hears, heard_line, l
 use super::{Machine, StepFault, illegal};
 use crate::connection::{Connection, ask_at, keep_version_at};
 use crate::worker::{Held, hold_at};
-use mum_base::{Octets, OutOfMemory};
+use mum_base::{Octets, OutOfMemory, Reason};
 use mum_frame::{Frame, whole_frame};
 use mum_record::{Word, push_line};
 use mum_session::{Action, Command};
@@ -104,6 +104,7 @@ impl Machine {
             Action::Echo(frame) => self.echo(connection, &frame, text),
             Action::Keep => self.keep(connection, version, text),
             Action::Ignore { why } => self.ignore(connection, why, text),
+            Action::Bans(_) => self.ignore(connection, Reason::NotRead.code(), text),
         }
     }
 

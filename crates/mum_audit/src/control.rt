@@ -7,13 +7,11 @@ ghost use Rattle.mum_audit.specs.Audit.{first_wrong, lines_on};
 ghost use Rattle.mum_audit.specs.Controls.{after_entries, after_entry, control_findings, entry_finding};
 ghost use Rattle.mum_audit.specs.Finding.{same_verdict};
 
-use crate::decision::decided;
 use crate::finding::{Finding, verdicts_differ};
 use crate::line::next_line;
 use crate::past::Past;
-use mum_base::{Mark, Octets, OutOfMemory};
+use mum_base::{Mark, OutOfMemory};
 use mum_record::ControlEntry;
-use mum_session::mark_of;
 use std::alloc::Global;
 
 // Whether two verdicts are one.
@@ -33,11 +31,7 @@ fn check_entry(
     ensures finding { IfOk result (λ found. found ≡ entry_finding past.old entry.now) }
     ensures past { OnOk result (past.new ≡ after_entry past.old entry.now) }
 {
-    let frame = entry.frame.as_ref().map(Octets::as_slice);
-    let actor = past.session(entry.connection);
-    let verdict = decided(alloc, past.state(), actor, entry.version, frame)?;
-    let defined = mark_of(past.next_revision(), &verdict);
-    past.take(entry.connection, verdict)?;
+    let defined = past.decide(alloc, entry)?;
     if is_same(entry.verdict, defined) {
         return Ok(None);
     }

@@ -6,15 +6,11 @@ use Rattle.mum_crew.specs.Along.{Along}
 use Rattle.mum_crew.specs.declared.role.Turn.{Turn}
 use Rattle.mum_io.specs.Link.{LinkFacts}
 use Rattle.mum_port.specs.Facts.{PortFacts}
-use Rattle.mum_port.specs.Handling.{Acts, HandlesKept, Routes}
-use Rattle.mum_port.specs.Steps.{Handles}
-use Rattle.mum_port.specs.declared.item.DeskItem.{DeskItem}
+use Rattle.mum_port.specs.Turn.{RoutesPacket as PortRoutes}
 use Rattle.mum_published.specs.Bell.{Rung, Answer, Comes, Lagging, NoMore}
 use Rattle.mum_published.specs.Facts.{Opening}
-use Rattle.mum_session.specs.Action.{action}
-use Rattle.mum_session.specs.Machine.{Machine, session_of}
 use Rattle.mum_session.specs.declared.action.Action.{Action}
-use Rattle.mum_session.specs.declared.action.Action.TheVariants.{Ask, Voice, Echo, Keep, Ignore}
+use Rattle.mum_session.specs.declared.action.Action.TheVariants.{Voice}
 use Rattle.mum_worker.specs.Boxes.{BoxesFacts}
 use Rattle.mum_worker.specs.Facts.{WorkerFacts}
 use Rattle.mum_worker.specs.Hearing.{Hears, LagsWhereIts, TakesOrTurns}
@@ -23,33 +19,6 @@ use Rattle.mum_worker.specs.Routing.{CommonFacts, RoutesPacket}
 use Rattle.mum_worker.specs.Stepping.{PortSteps, Shares}
 use Rattle.mum_worker.specs.Turning.{Turned}
 
--- what holds of a router that stays and of one that routes a packet holds of the handling of a frame
-module _ {V : Type 0} (routed : V → ℕ → SessionId → List ℕ → V → Type 0) (K : V → V → Type 0) (same : (old new : V) → new ≡ old → K old new)
-    (one : (old : V) (connection : ℕ) (session : SessionId) (packet : List ℕ) (new : V) → routed old connection session packet new → K old new) where
-  routes_keep : (connection : ℕ) (session : Option SessionId) (packet : List ℕ) (old new : V) → Routes routed connection session packet old new → K old new
-  routes_keep connection (Some session) packet old new routes = one old connection session packet new routes
-  routes_keep connection None packet old new routes = same old new routes
-
-  acts_keep : (connection : ℕ) (session : Option SessionId) (act : Action) (waiting : Option DeskItem) (out : List ℕ) (old : V) (went : _) (waiting_after : Option DeskItem) (out_after : List ℕ) (new : V)
-      → Acts routed connection session act waiting out old went waiting_after out_after new → K old new
-  acts_keep connection session (Ask command) waiting out old went waiting_after out_after new acts = same old new acts.3
-  acts_keep connection session (Voice packet) waiting out old went waiting_after out_after new acts = routes_keep connection session packet old new acts.3
-  acts_keep connection session (Echo wire) waiting out old went waiting_after out_after new acts = same old new acts.2
-  acts_keep connection session Keep waiting out old went waiting_after out_after new acts = same old new acts.3
-  acts_keep connection session (Ignore why) waiting out old went waiting_after out_after new acts = same old new acts.3
-
-  kept_keep : (machine : Machine) (kept : List ℕ) (waiting : Option DeskItem) (out : List ℕ) (old : V) (went : _) (machine_after : Machine) (kept_after : List ℕ) (waiting_after : Option DeskItem) (out_after : List ℕ) (new : V)
-      → HandlesKept routed machine kept waiting out old went machine_after kept_after waiting_after out_after new → K old new
-  kept_keep machine kept waiting out old went machine_after kept_after waiting_after out_after new (inl (has, inl first)) =
-      acts_keep machine.connection (session_of machine.stage) (action machine first.frame.kind first.frame.payload) waiting out old went waiting_after out_after new first.handled.acts
-  kept_keep machine kept waiting out old went machine_after kept_after waiting_after out_after new (inl (has, inr none)) = same old new none.router_same
-  kept_keep machine kept waiting out old went machine_after kept_after waiting_after out_after new (inr none) = same old new none.router_same
-
-  pub handles_keep : {L : Type 0} (port : PortFacts L) (old : V) (went : _) (after : PortFacts L) (new : V) → Handles routed port old went after new → K old new
-  handles_keep port old went after new (inl never) = same old new never.1
-  handles_keep port old went after new (inr handles) =
-      kept_keep port.machine port.framer.kept port.waiting port.out old went after.machine after.framer.kept after.waiting after.out new handles.handled
-
 closed_journal : (connection : ℕ) (closed : Option Cause) (kept : RecordFacts) → (after_close connection closed kept).journal ≡ kept.journal
 closed_journal connection None kept = refl
 closed_journal connection (Some cause) kept = refl
@@ -57,6 +26,11 @@ closed_journal connection (Some cause) kept = refl
 routed_journal : (opening : Opening) (old : CommonFacts) (connection : ℕ) (speaker : SessionId) (packet : List ℕ) (new : CommonFacts) → RoutesPacket opening old connection speaker packet new → new.kept.journal ≡ old.kept.journal
 routed_journal opening old connection speaker packet new (inl drops) = ap (λ (k : RecordFacts). k.journal) drops.none_kept
 routed_journal opening old connection speaker packet new (inr routes) = ap (λ (k : RecordFacts). k.journal) routes.entry
+
+asked_journal : (opening : Opening) (connection : ℕ) (session : Option SessionId) (asked : Option Action) (old new : CommonFacts) → PortRoutes (RoutesPacket opening) connection session asked old new
+    → new.kept.journal ≡ old.kept.journal
+asked_journal opening connection session (Some (Voice packet)) old new routes = routed_journal opening old connection routes.0 packet new routes.2
+asked_journal opening connection session others old new same = ap (λ (c : CommonFacts). c.kept.journal) same
 
 module _ {L : Type 0} (facts : L → LinkFacts) where
   lagged_journal : (session : SessionId) (old : PortFacts L) (before : RecordFacts) (new : PortFacts L) (after : RecordFacts) → LagsWhereIts facts session old before new after → after.journal ≡ before.journal
@@ -73,8 +47,7 @@ module _ {L : Type 0} (facts : L → LinkFacts) where
   stepped_journal opening boxes old before new after steps =
       ap (λ (c : CommonFacts). c.kept.journal) steps.noted
       ∙ (closed_journal old.machine.connection steps.step.closed _
-      ∙ handles_keep (RoutesPacket opening) (λ (v w : CommonFacts). w.kept.journal ≡ v.kept.journal) (λ v w e. ap (λ (c : CommonFacts). c.kept.journal) e)
-      (λ v n s b w r. routed_journal opening v n s b w r) _ _ _ _ _ steps.chain.handles)
+      ∙ asked_journal opening _ _ _ _ _ steps.turned.1.routes)
 
   steps_journal : (opening : Opening) (boxes : BoxesFacts) (olds : List (PortFacts L)) (before : Shares) (news : List (PortFacts L)) (after : Shares) → Along (PortSteps facts opening boxes) olds before news after → after.common.kept.journal ≡ before.common.kept.journal
   steps_journal opening boxes [] before [] after along = ap (λ (s : Shares). s.common.kept.journal) along

@@ -2,9 +2,11 @@
 use Rattle.std.specs.Prelude.{◌≡◌, ◌||◌, Bool}
 use Rattle.mum_io.specs.Link.{LinkFacts}
 use Rattle.mum_outbox.specs.Facts.{PassFacts}
+use Rattle.mum_port.specs.Did.{PortDid}
 use Rattle.mum_port.specs.Facts.{PortFacts}
 use Rattle.mum_port.specs.Steps.{PortChain}
 use Rattle.mum_port.specs.Taking.{IsPosted, IsVoiced}
+use Rattle.mum_port.specs.Turn.{PortTurn}
 use Rattle.mum_port.specs.declared.item.DeskItem.{DeskItem}
 use Rattle.mum_port.specs.declared.port.Step.{Step}
 use Rattle.mum_published.specs.Facts.{Opening}
@@ -29,5 +31,7 @@ module _ {L : Type 0} (facts : L → LinkFacts) (opening : Opening) (boxes : Box
     pub step : Step
     pub routed : CommonFacts
     pub chain : PortChain facts (RoutesPacket opening) boxes.posts boxes.voices old before.desk before.common step new after.desk routed
+    pub turned : (did : PortDid)
+        × PortTurn facts (RoutesPacket opening) boxes.posts boxes.voices old before.desk before.common did step new after.desk routed
     pub noted : after.common ≡ record routed { kept = after_step old.machine.connection step routed.kept }
     pub worked : after.worked ≡ before.worked || step.worked

@@ -7,7 +7,6 @@ use Rattle.mum_crew.specs.declared.role.Turn.{Turn}
 use Rattle.mum_crew.specs.declared.role.Turn.TheVariants.{Worked, Idle, Done}
 use Rattle.mum_io.specs.Link.{LinkFacts}
 use Rattle.mum_port.specs.Facts.{PortFacts}
-use Rattle.mum_port.proofs.Turned.{did_turn}
 use Rattle.mum_published.specs.Bell.{Rung, Answer, Comes, Lagging, NoMore}
 use Rattle.mum_published.specs.Facts.{Opening}
 use Rattle.mum_worker.specs.Bell.{BellFacts, TakesRung}
@@ -88,7 +87,7 @@ module _ {L : Type 0} (facts : L → LinkFacts) (opening : Opening) where
   idle_along boxes (old ∷ olds) before (new ∷ news) after (between, steps, along) none =
       let rest = idle_along boxes olds between news after along none in
       let both = neither before.worked steps.step.worked (sym steps.worked ∙ rest.0) in
-      let turn = did_turn steps.chain in
+      let turn = steps.turned in
       (both.0, (between.desk, (turn.0, turn.1.idle both.1), rest.1))
 
   one_on : (boxes : BoxesFacts) (old : PortFacts L) (olds : List (PortFacts L)) (new : PortFacts L) (news : List (PortFacts L)) → StepWorked facts opening boxes olds news
@@ -110,7 +109,7 @@ module _ {L : Type 0} (facts : L → LinkFacts) (opening : Opening) where
   one_here : (boxes : BoxesFacts) (old : PortFacts L) (olds : List (PortFacts L)) (before : Shares) (new : PortFacts L) (news : List (PortFacts L)) (after : Shares) (steps : PortSteps facts opening boxes old before new after)
       → steps.step.worked ≡ true → StepWorked facts opening boxes (old ∷ olds) (new ∷ news)
   one_here boxes old olds before new news after steps worked =
-      let turn = did_turn steps.chain in record {
+      let turn = steps.turned in record {
         place = zero;
         port = old;
         there = refl;

@@ -1,25 +1,23 @@
 -- What one event makes of the life of a port.
-use Rattle.std.proofs.Common.{◌≡◌, ◌==◌, ◌∙◌, ℕ, Bool, true, false, true≢false, cond, not, IsTrue, List, [], ◌∷◌, ◌++◌, Option, Some, None, refl, ap, sym, subst, inl, inr, append_assoc}
+use Rattle.std.proofs.Common.{◌≡◌, ◌==◌, ◌∙◌, ℕ, Bool, true, false, cond, IsTrue, List, [], ◌∷◌, ◌++◌, Option, Some, None, refl, ap, sym, subst, inl, inr}
 use Rattle.std.specs.List.{AllByRecursion as Each, filter_map}
 use Rattle.std.proofs.lemmas.Bool.{eqb-true}
 use Rattle.std.proofs.lemmas.List.{append-nil}
+use Rattle.std.specs.Prelude.{option_to_list}
+use Rattle.std.proofs.lemmas.Grind.{flat_map-append}
 use Rattle.mum_base.specs.declared.number.Cause.{Cause}
 use Rattle.mum_base.specs.declared.number.SessionId.{SessionId}
 use Rattle.mum_base.specs.declared.reply.ReplyEnd.{ReplyEnd}
 use Rattle.mum_frame.specs.declared.frame.Frame.{Frame}
 use Rattle.mum_io.specs.Link.{LinkFacts}
 use Rattle.mum_outbox.specs.Facts.{PassFacts}
-use Rattle.mum_port.specs.Did.{PortDid, action_of, desk_after_put, machine_after, port_after_put, waiting_after_put}
+use Rattle.mum_port.specs.Did.{PortDid, action_of, desk_after_put, machine_after, waiting_after_put}
 use Rattle.mum_port.specs.Facts.{PortFacts, due_item}
-use Rattle.mum_port.specs.Life.{Event, Happens, Lives, Steps, and_frame, and_item, frames_handled, items_put, lagged, replied, stepped}
+use Rattle.mum_port.specs.Life.{Event, Happens, Lives, Steps, frames_handled, items_put, lagged, replied, stepped}
 use Rattle.mum_port.specs.Replies.{Answers, Lags}
-use Rattle.mum_port.specs.Stage.{is_live}
 use Rattle.mum_port.specs.declared.item.DeskItem.{DeskItem}
 use Rattle.mum_port.specs.declared.passes.Passes.{Passes}
-use Rattle.mum_port.proofs.Closing.{and-left}
-use Rattle.mum_port.proofs.Idle.{and-right}
-use Rattle.mum_port.proofs.Course.{did_of}
-use Rattle.mum_port.proofs.Turned.{turned}
+use Rattle.mum_port.proofs.Awaiting.{waits_still}
 use Rattle.mum_published.specs.Facts.{Opening, ReplyFacts}
 use Rattle.mum_session.specs.Machine.{Machine}
 use Rattle.mum_worker.specs.Boxes.{BoxesFacts}
@@ -36,27 +34,11 @@ use Rattle.mum_worker_laws.proofs.Own.{OwnItem, asked-own, connection-machine_af
 
 -- ---- one event more
 
-and_item-onto : (item : Option DeskItem) (xs ys : List DeskItem) → and_item item (xs ++ ys) ≡ and_item item xs ++ ys
-and_item-onto None xs ys = refl
-and_item-onto (Some item) xs ys = refl
-
 items_put-append : (events more : List Event) → items_put (events ++ more) ≡ items_put events ++ items_put more
-items_put-append [] more = refl
-items_put-append (stepped machine did ∷ events) more =
-    ap (λ (l : List DeskItem). and_item did.put l) (items_put-append events more) ∙ and_item-onto did.put (items_put events) (items_put more)
-items_put-append (replied wire closed ∷ events) more = items_put-append events more
-items_put-append (lagged closed ∷ events) more = items_put-append events more
-
-and_frame-onto : (frame : Option Frame) (xs ys : List Frame) → and_frame frame (xs ++ ys) ≡ and_frame frame xs ++ ys
-and_frame-onto None xs ys = refl
-and_frame-onto (Some frame) xs ys = refl
+items_put-append events more = flat_map-append _ events more
 
 pub frames-append : (events more : List Event) → frames_handled (events ++ more) ≡ frames_handled events ++ frames_handled more
-frames-append [] more = refl
-frames-append (stepped machine did ∷ events) more =
-    ap (λ (l : List Frame). and_frame did.handled l) (frames-append events more) ∙ and_frame-onto did.handled (frames_handled events) (frames_handled more)
-frames-append (replied wire closed ∷ events) more = frames-append events more
-frames-append (lagged closed ∷ events) more = frames-append events more
+frames-append events more = flat_map-append _ events more
 
 module _ {L V : Type 0} (facts : L → LinkFacts) (routed : V → ℕ → SessionId → List ℕ → V → Type 0) where
   lives_more : (old : PortFacts L) (events : List Event) (mid : PortFacts L) (event : Event) (new : PortFacts L) → Lives facts routed old events mid
@@ -67,12 +49,7 @@ module _ {L V : Type 0} (facts : L → LinkFacts) (routed : V → ℕ → Sessio
       (next, happened, lives_more next events mid event new lives happens)
 
 said-append : (events more : List Event) → packets_said (events ++ more) ≡ packets_said events ++ packets_said more
-said-append [] more = refl
-said-append (stepped machine did ∷ events) more =
-    ap (λ (l : List Said). said_by machine (action_of machine did.handled) ++ l) (said-append events more)
-    ∙ sym (append_assoc (said_by machine (action_of machine did.handled)) (packets_said events) (packets_said more))
-said-append (replied wire closed ∷ events) more = said-append events more
-said-append (lagged closed ∷ events) more = said-append events more
+said-append events more = flat_map-append _ events more
 
 -- ---- a life
 
@@ -127,26 +104,16 @@ module _ {L : Type 0} (facts : L → LinkFacts) (opening : Opening) where
 
   -- ---- a step
 
-  offered_more : (put due : Option DeskItem) (desk after : PassFacts DeskItem) → after ≡ desk_after_put put due desk → after.offered ≡ desk.offered ++ and_item put []
+  offered_more : (put due : Option DeskItem) (desk after : PassFacts DeskItem) → after ≡ desk_after_put put due desk → after.offered ≡ desk.offered ++ option_to_list put
   offered_more (Some item) due desk after is = ap (λ (p : PassFacts DeskItem). p.offered) is
   offered_more None None desk after is = ap (λ (p : PassFacts DeskItem). p.offered) is ∙ sym (append-nil desk.offered)
   offered_more None (Some item) desk after is = ap (λ (p : PassFacts DeskItem). p.offered) is ∙ sym (append-nil desk.offered)
 
-  one_of : (put : Option DeskItem) (connection own : ℕ) (b : Bool) → OwnItem own put → (own == connection) ≡ b → items_of connection (and_item put []) ≡ cond b (and_item put []) []
+  one_of : (put : Option DeskItem) (connection own : ℕ) (b : Bool) → OwnItem own put → (own == connection) ≡ b → items_of connection (option_to_list put) ≡ cond b (option_to_list put) []
   one_of None connection own true owned is = refl
   one_of None connection own false owned is = refl
   one_of (Some item) connection own b owned is =
       ap (λ (test : Bool). cond test (item ∷ []) []) (item-of item own connection (owned item refl) ∙ is)
-
-  no_frame : (frame : Option Frame) → ((f : Frame) → frame ≡ Some f → ⊥) → frame ≡ None
-  no_frame None never = refl
-  no_frame (Some frame) never = absurd (never frame refl)
-
-  pub nothing_handled : (old : PortFacts L) (machine : Machine) (did : PortDid) (new : PortFacts L) → Steps facts (RoutesPacket opening) old machine did new → old.machine.awaits ≡ true → did.handled ≡ None
-  nothing_handled old machine did new steps awaits =
-      no_frame did.handled (λ f is.
-      let free : not old.machine.awaits ≡ true = and-left (not old.machine.awaits) _ (and-right (is_live (port_after_put did.put old).stage) _ (steps.turn.handles.allowed f is)) in
-      true≢false (sym free ∙ ap not awaits))
 
   abbrev stepped_life : Life L → Machine → PortDid → PortFacts L → Life L
   stepped_life life machine did new = record { first = life.first; events = life.events ++ stepped machine did ∷ []; last = new }
@@ -154,12 +121,12 @@ module _ {L : Type 0} (facts : L → LinkFacts) (opening : Opening) where
   still_step : (life : Life L) (machine : Machine) (did : PortDid) (new : PortFacts L) → Steps facts (RoutesPacket opening) life.last machine did new
       → (connection : ℕ) → Still connection life → Still connection (stepped_life life machine did new)
   still_step life machine did new steps connection still =
-      let none = nothing_handled life.last machine did new steps still.awaits in
+      let none = waits_still facts (RoutesPacket opening) life.last machine did new steps still.awaits in
       let same : new.machine ≡ life.last.machine = steps.turn.handles.machine ∙ ap (λ (f : Option Frame). machine_after life.last.machine f) none in record {
         of_it = ap (λ (m : Machine). m.connection) same ∙ still.of_it;
         awaits = ap (λ (m : Machine). m.awaits) same ∙ still.awaits;
         nothing = frames-append life.events (stepped machine did ∷ [])
-            ∙ (ap (λ (f : Option Frame). frames_handled life.events ++ and_frame f []) none ∙ (append-nil (frames_handled life.events) ∙ still.nothing));
+            ∙ (ap (λ (f : Option Frame). frames_handled life.events ++ (option_to_list f ++ [])) none ∙ (append-nil (frames_handled life.events) ∙ still.nothing));
       }
 
   own_step : (life : Life L) (machine : Machine) (did : PortDid) (new : PortFacts L) → Steps facts (RoutesPacket opening) life.last machine did new → IsOwn life → IsOwn (stepped_life life machine did new)
@@ -172,7 +139,7 @@ module _ {L : Type 0} (facts : L → LinkFacts) (opening : Opening) where
       }
 
   put_its : (life : Life L) (machine : Machine) (did : PortDid) (new : PortFacts L) → Steps facts (RoutesPacket opening) life.last machine did new → IsOwn life
-      → (connection : ℕ) (b : Bool) → (life.first.machine.connection == connection) ≡ b → items_of connection (and_item did.put []) ≡ cond b (and_item did.put []) []
+      → (connection : ℕ) (b : Bool) → (life.first.machine.connection == connection) ≡ b → items_of connection (option_to_list did.put) ≡ cond b (option_to_list did.put) []
   put_its life machine did new steps own connection b is =
       one_of did.put connection life.last.machine.connection b
       (λ item put. due-own life.last own.waits item (steps.turn.puts.due item put))
@@ -184,12 +151,12 @@ module _ {L : Type 0} (facts : L → LinkFacts) (opening : Opening) where
       (connection : ℕ) → filter_map (routed_of connection) told ≡ cond (machine.connection == connection) (said_by machine (action_of machine did.handled)) []
 
   changes_step : (told : List Moment) (life : Life L) (machine : Machine) (did : PortDid) (new : PortFacts L) → Steps facts (RoutesPacket opening) life.last machine did new
-      → IsSaid told machine did → Changes told (and_item did.put []) life (stepped_life life machine did new)
+      → IsSaid told machine did → Changes told (option_to_list did.put) life (stepped_life life machine did new)
   changes_step told life machine did new steps said = record {
     first = refl;
     lived = λ lives. lives_more facts (RoutesPacket opening) life.first life.events life.last (stepped machine did) new lives steps;
     owned = own_step life machine did new steps;
-    puts = items_put-append life.events (stepped machine did ∷ []);
+    puts = items_put-append life.events (stepped machine did ∷ []) ∙ ap (λ (l : List DeskItem). items_put life.events ++ l) (append-nil (option_to_list did.put));
     its = λ own connection b is. put_its life machine did new steps own connection b is;
     since = said_by machine (action_of machine did.handled);
     says = said-append life.events (stepped machine did ∷ [])
@@ -204,7 +171,7 @@ module _ {L : Type 0} (facts : L → LinkFacts) (opening : Opening) where
   pub one_step : (boxes : BoxesFacts) (life : Life L) (old : PortFacts L) (before : Shares) (new : PortFacts L) (after : Shares) (steps : PortSteps facts opening boxes old before new after) → life.last ≡ old
       → One (look_stepped opening facts boxes old before new after steps) life before.desk.offered new after.desk.offered
   one_step boxes life old before new after steps same =
-      let happened : Steps facts (RoutesPacket opening) old old.machine (did_of steps.chain) new = record {
+      let happened : Steps facts (RoutesPacket opening) old old.machine steps.turned.0 new = record {
         of_port = refl;
         posts = boxes.posts;
         voices = boxes.voices;
@@ -213,15 +180,15 @@ module _ {L : Type 0} (facts : L → LinkFacts) (opening : Opening) where
         router = before.common;
         router_after = steps.routed;
         step = steps.step;
-        turn = turned steps.chain;
+        turn = steps.turned.1;
       } in record {
-        put = and_item (did_of steps.chain).put [];
-        now = stepped_life life old.machine (did_of steps.chain) new;
-        changes = changes_step (look_stepped opening facts boxes old before new after steps) life old.machine (did_of steps.chain) new
-            (subst (λ (p : PortFacts L). Steps facts (RoutesPacket opening) p old.machine (did_of steps.chain) new) (sym same) happened)
+        put = option_to_list steps.turned.0.put;
+        now = stepped_life life old.machine steps.turned.0 new;
+        changes = changes_step (look_stepped opening facts boxes old before new after steps) life old.machine steps.turned.0 new
+            (subst (λ (p : PortFacts L). Steps facts (RoutesPacket opening) p old.machine steps.turned.0 new) (sym same) happened)
             (λ connection. step_said opening connection facts boxes old before new after steps);
         last_is = refl;
-        desk = offered_more (did_of steps.chain).put (due_item old) before.desk after.desk (turned steps.chain).puts.pass;
+        desk = offered_more steps.turned.0.put (due_item old) before.desk after.desk steps.turned.1.puts.pass;
       }
 
   -- ---- a reply, and a lag

@@ -24,16 +24,15 @@ use Rattle.mum_port.specs.declared.stage.Farewell.TheVariants.{Leave, LastWord, 
 use Rattle.mum_port.specs.declared.stage.Stage.{Stage}
 use Rattle.mum_port.specs.declared.stage.Stage.TheVariants.{Live, Ending, Closed}
 use Rattle.mum_port.proofs.BoxParts.{taking-is}
-use Rattle.mum_port.proofs.Course.{did_of, stage_once_put-closed}
+use Rattle.mum_port.proofs.Course.{stage_once_put-closed}
 use Rattle.mum_port.proofs.Idle.{and-right}
-use Rattle.mum_port.proofs.Turned.{turned}
 use Rattle.mum_published.specs.Bell.{Rung, Answer, Comes, Lagging, NoMore}
 use Rattle.mum_published.specs.Facts.{Opening}
 use Rattle.mum_record.specs.declared.journal.WorkerEntry.{WorkerEntry}
 use Rattle.mum_record.specs.declared.journal.WorkerEntry.TheVariants as entries
 use Rattle.mum_session.specs.Machine.{Machine, answered}
 use Rattle.mum_session.specs.declared.action.Action.{Action}
-use Rattle.mum_session.specs.declared.action.Action.TheVariants.{Ask, Voice, Echo, Keep, Ignore}
+use Rattle.mum_session.specs.declared.action.Action.TheVariants.{Voice}
 use Rattle.mum_worker.specs.Boxes.{BoxesFacts}
 use Rattle.mum_worker.specs.Facts.{WorkerFacts, is_of, stays}
 use Rattle.mum_worker.specs.Hearing.{AnswersFirst, Hears, LagsWhereIts, TakesOrTurns}
@@ -134,12 +133,8 @@ routed_same opening old connection speaker bytes new (inr keeps) = record {
 }
 
 acted_same : (opening : Opening) (connection : ℕ) (session : Option SessionId) (asked : Option Action) (old new : CommonFacts) → PortRoutes (RoutesPacket opening) connection session asked old new → Same old.kept new.kept
-acted_same opening connection session None old new same = same_kept old.kept new.kept (ap (λ (c : CommonFacts). c.kept) same)
-acted_same opening connection session (Some (Ask command)) old new same = same_kept old.kept new.kept (ap (λ (c : CommonFacts). c.kept) same)
 acted_same opening connection session (Some (Voice packet)) old new routes = routed_same opening old connection routes.0 packet new routes.2
-acted_same opening connection session (Some (Echo wire)) old new same = same_kept old.kept new.kept (ap (λ (c : CommonFacts). c.kept) same)
-acted_same opening connection session (Some Keep) old new same = same_kept old.kept new.kept (ap (λ (c : CommonFacts). c.kept) same)
-acted_same opening connection session (Some (Ignore why)) old new same = same_kept old.kept new.kept (ap (λ (c : CommonFacts). c.kept) same)
+acted_same opening connection session others old new same = same_kept old.kept new.kept (ap (λ (c : CommonFacts). c.kept) same)
 
 -- ---- a port
 
@@ -312,8 +307,8 @@ module _ {L : Type 0} (facts : L → LinkFacts) (opening : Opening) where
   steps_keep boxes [] before (new ∷ news) after rest none balance = absurd none
   steps_keep boxes (old ∷ olds) before [] after rest none balance = absurd none
   steps_keep boxes (old ∷ olds) before (new ∷ news) after rest (between, step, along) balance =
-      let turn = turned step.chain in
-      let did = did_of step.chain in
+      let turn = step.turned.1 in
+      let did = step.turned.0 in
       let number : new.machine.connection ≡ old.machine.connection = ap (λ (m : Machine). m.connection) turn.handles.machine ∙ connection-machine_after old.machine did.handled in
       let goes : Goes step.step.closed old new = subst (λ (closed : Option Cause). Goes closed old new) (sym turn.ends.reported) (goes_settled old did new did.closed number turn.takes.looks turn.ends.settled) in
       let mid : RecordFacts = record step.routed.kept { stale = min (step.routed.kept.stale + step.step.stale) LAST } in

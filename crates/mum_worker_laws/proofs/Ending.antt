@@ -1,13 +1,15 @@
 -- What the desk has of a port once it is gone, and what each port did in order.
 use Rattle.std.proofs.Common.{◌≡◌, ◌==◌, ◌∙◌, ℕ, ◌+◌, Bool, true, false, not, cond, List, [], ◌∷◌, ◌++◌, All, length, filter, Option, Some, None, refl, ap, sym, subst, inl, inr, arith}
+use Rattle.std.specs.Prelude.{option_to_list}
 use Rattle.std.specs.List.{AllByRecursion as Each}
 use Rattle.std.proofs.lemmas.List.Elements.{All-from_recursion, recursion_from_All}
 use Rattle.mum_crew.specs.Turns.{TurnsTo}
 use Rattle.mum_crew.specs.declared.role.Turn.{Turn}
 use Rattle.mum_io.specs.Link.{LinkFacts}
-use Rattle.mum_port.specs.Did.{action_of}
-use Rattle.mum_port.specs.Facts.{PortFacts, new_port}
-use Rattle.mum_port.specs.Life.{Event, Lives, and_item, asked_item, items_asked, lagged, replied, stepped, words_said}
+use Rattle.mum_frame.specs.declared.frame.Frame.{Frame}
+use Rattle.mum_port.specs.Did.{asked_item}
+use Rattle.mum_port.specs.Facts.{PortFacts, item_of, new_port}
+use Rattle.mum_port.specs.Life.{Event, Lives, items_asked, lagged, replied, stepped, words_said}
 use Rattle.mum_port.specs.Stage.{is_gone}
 use Rattle.mum_port.specs.declared.item.DeskItem.{DeskItem}
 use Rattle.mum_port.specs.declared.stage.Farewell.TheVariants.{Leave, LastWord, Done}
@@ -17,9 +19,11 @@ use Rattle.mum_port.proofs.Farewells.{put_once}
 use Rattle.mum_port.proofs.Lifelong.{conserved, front_of, written_in_order}
 use Rattle.mum_published.specs.Bell.{Rung, Answer, Comes, Lagging, NoMore}
 use Rattle.mum_published.specs.Facts.{Opening}
-use Rattle.mum_session.specs.Machine.{Machine}
+use Rattle.mum_base.specs.declared.number.SessionId.{SessionId}
+use Rattle.mum_session.specs.Action.{action}
+use Rattle.mum_session.specs.Machine.{Machine, session_of}
 use Rattle.mum_session.specs.declared.action.Action.{Action}
-use Rattle.mum_session.specs.declared.action.Action.TheVariants.{Ask, Voice, Echo, Keep, Ignore}
+use Rattle.mum_session.specs.declared.action.Action.TheVariants.{Ask, Bans}
 use Rattle.mum_worker.specs.Facts.{WorkerFacts, is_of, stays}
 use Rattle.mum_worker.specs.Hearing.{Hears, TakesOrTurns}
 use Rattle.mum_worker.specs.Opening.{HasOpened}
@@ -47,17 +51,21 @@ words_closed connection machine (Closed cause LastWord) = refl
 words_closed connection machine (Closed cause Done) = length-item (machine.connection == connection) _
 
 -- no frame asks for it
-none_asked : (connection : ℕ) (asked : Option Action) (rest : List DeskItem) → count (is_closed_of connection) (and_item (asked_item asked) rest) ≡ count (is_closed_of connection) rest
-none_asked connection None rest = refl
-none_asked connection (Some (Ask command)) rest = refl
-none_asked connection (Some (Voice packet)) rest = refl
-none_asked connection (Some (Echo wire)) rest = refl
-none_asked connection (Some Keep) rest = refl
-none_asked connection (Some (Ignore why)) rest = refl
+none_acted : (connection own : ℕ) (session : Option SessionId) (asked : Action) (rest : List DeskItem)
+    → count (is_closed_of connection) (option_to_list (item_of own session asked) ++ rest) ≡ count (is_closed_of connection) rest
+none_acted connection own session (Ask command) rest = refl
+none_acted connection own (Some sender) (Bans payload) rest = refl
+none_acted connection own None (Bans payload) rest = refl
+none_acted connection own session others rest = refl
+
+none_asked : (connection : ℕ) (machine : Machine) (frame : Option Frame) (rest : List DeskItem)
+    → count (is_closed_of connection) (option_to_list (asked_item machine frame) ++ rest) ≡ count (is_closed_of connection) rest
+none_asked connection machine None rest = refl
+none_asked connection machine (Some frame) rest = none_acted connection machine.connection (session_of machine.stage) (action machine frame.kind frame.payload) rest
 
 asked_closed : (connection : ℕ) (events : List Event) → count (is_closed_of connection) (items_asked events) ≡ 0
 asked_closed connection [] = refl
-asked_closed connection (stepped machine did ∷ events) = none_asked connection (action_of machine did.handled) (items_asked events) ∙ asked_closed connection events
+asked_closed connection (stepped machine did ∷ events) = none_asked connection machine did.handled (items_asked events) ∙ asked_closed connection events
 asked_closed connection (replied wire closed ∷ events) = asked_closed connection events
 asked_closed connection (lagged closed ∷ events) = asked_closed connection events
 
@@ -145,8 +153,8 @@ module _ {L : Type 0} (facts : L → LinkFacts) (opening : Opening) where
       put_closed (count (is_closed_of connection) (put_by life)) (count (is_closed_of connection) orderly.puts.commands) (count (is_closed_of connection) (words_said life.last.machine life.last.stage))
       (cond (is_gone life.last.stage) (one (is_of connection life.last)) 0) (cond (stays life.last) (one (is_of connection life.last)) 0) (one (is_of connection life.first))
       (ap (λ (l : List DeskItem). count (is_closed_of connection) l) orderly.puts.put ∙ count-append (is_closed_of connection) orderly.puts.commands (words_said life.last.machine life.last.stage))
-      (no_command (count (is_closed_of connection) orderly.puts.commands) (count (is_closed_of connection) (and_item life.last.waiting []))
-      (sym (asked_closed connection life.events) ∙ (ap (λ (l : List DeskItem). count (is_closed_of connection) l) orderly.puts.asked ∙ count-append (is_closed_of connection) orderly.puts.commands (and_item life.last.waiting []))))
+      (no_command (count (is_closed_of connection) orderly.puts.commands) (count (is_closed_of connection) (option_to_list life.last.waiting))
+      (sym (asked_closed connection life.events) ∙ (ap (λ (l : List DeskItem). count (is_closed_of connection) l) orderly.puts.asked ∙ count-append (is_closed_of connection) orderly.puts.commands (option_to_list life.last.waiting))))
       (words_closed connection life.last.machine life.last.stage)
       (one_or_kept (is_gone life.last.stage) (one (is_of connection life.last)) ∙ ap (λ (n : ℕ). one (n == connection)) own.number)
 

@@ -18,10 +18,9 @@ use Rattle.mum_outbox.specs.Facts.{PassFacts as BoxFacts}
 use Rattle.mum_outbox.specs.declared.parcel.VoiceParcel.{VoiceParcel}
 use Rattle.mum_outbox.specs.declared.queue.Offered.TheVariants.{Sent, Full}
 use Rattle.mum_outbox.specs.declared.queue.Offered.{Offered}
+use Rattle.mum_port.specs.Did.{action_of}
 use Rattle.mum_port.specs.Facts.{PortFacts}
-use Rattle.mum_port.specs.Handling.{Acts, HandlesKept, Routes as PortRoutes}
-use Rattle.mum_port.specs.Steps.{Handles}
-use Rattle.mum_port.specs.declared.item.DeskItem.{DeskItem}
+use Rattle.mum_port.specs.Turn.{RoutesPacket as PortRoutes}
 use Rattle.mum_published.specs.Facts.{NoteFacts, Opening, PassFacts, ReplyFacts}
 use Rattle.mum_published.proofs.Prefixes.{prefix_self, prefix_trans}
 use Rattle.mum_router.specs.Facts.{RouterFacts}
@@ -32,9 +31,8 @@ use Rattle.mum_router.specs.declared.offering.Routed.{Routed}
 use Rattle.mum_router.proofs.Entries.{Kept, SeesEach, kept_of, sees_append, sees_of}
 use Rattle.mum_crew.specs.Along.{Along}
 use Rattle.mum_published.specs.Bell.{Rung, Answer, Comes, Lagging, NoMore}
-use Rattle.mum_session.specs.Action.{action}
-use Rattle.mum_session.specs.Machine.{Machine, session_of}
-use Rattle.mum_session.specs.declared.action.Action.TheVariants.{Ask, Voice, Echo, Keep, Ignore}
+use Rattle.mum_session.specs.Machine.{session_of}
+use Rattle.mum_session.specs.declared.action.Action.TheVariants.{Voice}
 use Rattle.mum_session.specs.declared.action.Action.{Action}
 use Rattle.mum_state.specs.declared.edit.Edit.{Edit}
 use Rattle.mum_voice.specs.Packet.{Parts}
@@ -44,7 +42,7 @@ use Rattle.mum_worker.specs.Hearing.{Hears, LearnsGiven}
 use Rattle.mum_worker.specs.Routing.{CommonFacts, RoutesPacket}
 use Rattle.mum_worker.specs.Stepping.{PortSteps, Shares}
 use Rattle.mum_worker.specs.Turning.{Turned, WorkerTurned, shares_of}
-use Rattle.mum_worker_laws.specs.Laws.{Follows, Look, Moment, Told, Looked, SeesFrom, ask_made, copies_at, copies_made, copy_for, edits_of, edits_told, history, if_sent, if_there, look_acted, look_handled, look_in, look_kept, look_made, look_of_session, look_stepped, looks_along, looks_in, moments_of, offered_in, packets_in, routed_packet, told_by}
+use Rattle.mum_worker_laws.specs.Laws.{Follows, Look, Moment, Told, Looked, SeesFrom, ask_made, copies_at, copies_made, copy_for, edits_of, edits_told, history, if_sent, if_there, look_asked, look_in, look_made, look_stepped, looks_along, looks_in, moments_of, offered_in, packets_in, routed_packet, told_by}
 
 -- ---- the copies of one packet
 
@@ -288,34 +286,10 @@ module _ (opening : Opening) where
   same_common : (old new : CommonFacts) → new ≡ old → Goes opening old.router new.router []
   same_common old new same = stays opening old.router new.router (ap (λ (c : CommonFacts). c.router) same)
 
-  go_session : (old : CommonFacts) (connection : ℕ) (session : Option SessionId) (bytes : List ℕ) (new : CommonFacts) (routes : PortRoutes (RoutesPacket opening) connection session bytes old new)
-      → Goes opening old.router new.router (look_of_session opening old connection session bytes new routes)
-  go_session old connection None bytes new same = same_common old new same
-  go_session old connection (Some speaker) bytes new routes = go_made old connection speaker bytes new routes
-
-  go_acted : (connection : ℕ) (session : Option SessionId) (asked : Action) (waiting : Option DeskItem) (out : List ℕ) (old : CommonFacts) (went : _) (waiting_after : Option DeskItem) (out_after : List ℕ) (new : CommonFacts)
-      (acts : Acts (RoutesPacket opening) connection session asked waiting out old went waiting_after out_after new)
-      → Goes opening old.router new.router (look_acted opening connection session asked waiting out old went waiting_after out_after new acts)
-  go_acted connection session (Ask command) waiting out old went waiting_after out_after new acts = same_common old new acts.3
-  go_acted connection session (Voice packet) waiting out old went waiting_after out_after new acts = go_session old connection session packet new acts.3
-  go_acted connection session (Echo wire) waiting out old went waiting_after out_after new acts = same_common old new acts.2
-  go_acted connection session Keep waiting out old went waiting_after out_after new acts = same_common old new acts.3
-  go_acted connection session (Ignore why) waiting out old went waiting_after out_after new acts = same_common old new acts.3
-
-  go_kept : (machine : Machine) (kept : List ℕ) (waiting : Option DeskItem) (out : List ℕ) (old : CommonFacts) (went : _) (machine_after : Machine) (kept_after : List ℕ) (waiting_after : Option DeskItem) (out_after : List ℕ) (new : CommonFacts)
-      (handles : HandlesKept (RoutesPacket opening) machine kept waiting out old went machine_after kept_after waiting_after out_after new)
-      → Goes opening old.router new.router (look_kept opening machine kept waiting out old went machine_after kept_after waiting_after out_after new handles)
-  go_kept machine kept waiting out old went machine_after kept_after waiting_after out_after new (inl (has, inl first)) =
-      go_acted machine.connection (session_of machine.stage) (action machine first.frame.kind first.frame.payload) waiting out old went waiting_after out_after new first.handled.acts
-  go_kept machine kept waiting out old went machine_after kept_after waiting_after out_after new (inl (has, inr lacks)) = same_common old new lacks.router_same
-  go_kept machine kept waiting out old went machine_after kept_after waiting_after out_after new (inr none) = same_common old new none.router_same
-
-  module _ {L : Type 0} where
-    go_handled : (old : PortFacts L) (router : CommonFacts) (went : _) (new : PortFacts L) (after : CommonFacts) (handles : Handles (RoutesPacket opening) old router went new after)
-        → Goes opening router.router after.router (look_handled opening old router went new after handles)
-    go_handled old router went new after (inl none) = same_common router after none.1
-    go_handled old router went new after (inr one) =
-        go_kept old.machine old.framer.kept old.waiting old.out router went new.machine new.framer.kept new.waiting new.out after one.handled
+  go_asked : (connection : ℕ) (session : Option SessionId) (asked : Option Action) (old new : CommonFacts) (routes : PortRoutes (RoutesPacket opening) connection session asked old new)
+      → Goes opening old.router new.router (look_asked opening connection session asked old new routes)
+  go_asked connection session (Some (Voice packet)) old new routes = go_made old connection routes.0 packet new routes.2
+  go_asked connection session others old new same = same_common old new same
 
   module _ {L : Type 0} (facts : L → LinkFacts) where
     go_stepped : (boxes : BoxesFacts) (old : PortFacts L) (before : Shares) (new : PortFacts L) (after : Shares) (steps : PortSteps facts opening boxes old before new after)
@@ -323,7 +297,7 @@ module _ (opening : Opening) where
     go_stepped boxes old before new after steps =
         subst (λ (r : RouterFacts). Goes opening before.common.router r (look_stepped opening facts boxes old before new after steps))
         (sym (ap (λ (c : CommonFacts). c.router) steps.noted))
-        (go_handled steps.chain.after_read before.common steps.chain.handled steps.chain.after_handle steps.routed steps.chain.handles)
+        (go_asked old.machine.connection (session_of old.machine.stage) (action_of old.machine steps.turned.0.handled) before.common steps.routed steps.turned.1.routes)
 
     go_along : (boxes : BoxesFacts) (olds : List (PortFacts L)) (before : Shares) (news : List (PortFacts L)) (after : Shares) (along : Along (PortSteps facts opening boxes) olds before news after)
         → Goes opening before.common.router after.common.router (looks_along opening facts boxes olds before news after along)

@@ -1,7 +1,9 @@
 -- A port that closed at the end of its link has handled all frames.
-use Rattle.std.proofs.Common.{◌≡◌, ◌∙◌, ℕ, Bool, true, false, true≢false, List, [], ◌∷◌, ◌++◌, Option, Some, None, refl, ap, sym, subst, inl, inr, append_assoc}
+use Rattle.std.proofs.Common.{◌≡◌, ◌∙◌, ℕ, Bool, true, false, true≢false, List, [], ◌∷◌, ◌++◌, Option, Some, None, refl, ap, sym, subst, inl, inr}
 use Rattle.std.specs.List.{All, flat_map}
 use Rattle.std.proofs.lemmas.List.{append-nil}
+use Rattle.std.specs.Prelude.{option_to_list}
+use Rattle.std.proofs.lemmas.Grind.{flat_map-append}
 use Rattle.mum_base.specs.declared.number.Cause.{Cause}
 use Rattle.mum_base.specs.declared.number.Cause.TheVariants.{End}
 use Rattle.mum_frame.specs.declared.frame.Frame.{Frame}
@@ -10,7 +12,7 @@ use Rattle.mum_frame.specs.Stream.{Splits}
 use Rattle.mum_io.specs.Link.{LinkFacts}
 use Rattle.mum_port.specs.Did.{PortDid, is_last, stage_once_put}
 use Rattle.mum_port.specs.Facts.{PortFacts, new_port}
-use Rattle.mum_port.specs.Life.{Event, Happens, Lives, Steps, and_frame, bytes_taken, frames_handled, lagged, replied, stepped}
+use Rattle.mum_port.specs.Life.{Event, Happens, Lives, Steps, bytes_taken, frames_handled, lagged, replied, stepped}
 use Rattle.mum_port.specs.Stage.{cause_of, is_closed}
 use Rattle.mum_port.specs.Taking.{stage_after_post}
 use Rattle.mum_port.specs.Turn.{Settled}
@@ -45,11 +47,7 @@ posted-open true stage opened = refl
 posted-open false stage opened = opened
 
 taken-append : (events more : List Event) → bytes_taken (events ++ more) ≡ bytes_taken events ++ bytes_taken more
-taken-append [] more = refl
-taken-append (stepped machine did ∷ events) more =
-    ap (λ (l : List ℕ). did.took ++ l) (taken-append events more) ∙ sym (append_assoc did.took (bytes_taken events) (bytes_taken more))
-taken-append (replied wire closed ∷ events) more = taken-append events more
-taken-append (lagged closed ∷ events) more = taken-append events more
+taken-append events more = flat_map-append _ events more
 
 module _ {L : Type 0} (facts : L → LinkFacts) (opening : Opening) where
   -- a port that is closed stays closed for that cause
@@ -155,8 +153,8 @@ module _ {L : Type 0} (facts : L → LinkFacts) (opening : Opening) where
   handled_at_end old events new at =
       ap frames_handled at.is
       ∙ (frames-append at.before (stepped at.machine at.did ∷ at.after)
-      ∙ (ap (λ (l : List Frame). frames_handled at.before ++ and_frame at.did.handled l) (closed_life facts (RoutesPacket opening) at.mid at.after new at.lives at.closed).1
-      ∙ (ap (λ (f : Option Frame). frames_handled at.before ++ and_frame f []) (shown_at_end at.port at.did at.mid at.did.closed at.closes at.steps.turn.ends.settled).0
+      ∙ (ap (λ (l : List Frame). frames_handled at.before ++ (option_to_list at.did.handled ++ l)) (closed_life facts (RoutesPacket opening) at.mid at.after new at.lives at.closed).1
+      ∙ (ap (λ (f : Option Frame). frames_handled at.before ++ (option_to_list f ++ [])) (shown_at_end at.port at.did at.mid at.did.closed at.closes at.steps.turn.ends.settled).0
       ∙ append-nil (frames_handled at.before))))
 
   pub all_frames : (connection worker : ℕ) (link : L) (events : List Event) (new : PortFacts L) → Lives facts (RoutesPacket opening) (new_port connection worker link) events new

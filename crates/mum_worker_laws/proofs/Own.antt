@@ -1,5 +1,5 @@
 -- What a port puts on the desk is of its own connection.
-use Rattle.std.proofs.Common.{◌≡◌, ◌==◌, ◌∙◌, ℕ, Bool, true, false, if◌then◌else◌, List, Option, Some, None, Ok, Err, refl, ap, sym}
+use Rattle.std.proofs.Common.{◌≡◌, ◌==◌, ◌&&◌, ◌∙◌, ℕ, Bool, true, false, if◌then◌else◌, List, Option, Some, None, Ok, Err, refl, ap, sym}
 use Rattle.std.specs.List.{list_any}
 use Rattle.std.proofs.lemmas.Bool.{eq-eqb, eqb-true}
 use Rattle.mum_base.specs.declared.number.SessionId.{SessionId}
@@ -7,18 +7,18 @@ use Rattle.mum_fields.specs.Table.{decoded}
 use Rattle.mum_frame.specs.declared.frame.Frame.{Frame}
 use Rattle.mum_frame.specs.declared.kind.TheConstants.{UDP_TUNNEL, VERSION, PING, AUTHENTICATE}
 use Rattle.mum_msg_state.specs.Messages.{ping, version}
-use Rattle.mum_base.specs.declared.outcome.Reason.TheVariants.{Gone}
-use Rattle.mum_session.specs.Action.{Decoded, action, after_login, command_action, commands_after_login, ignore, login_action, ping_action, tree_or_user_action, version_action, voice_action}
+use Rattle.mum_base.specs.declared.outcome.Reason.TheVariants.{Gone, NotRead}
+use Rattle.mum_session.specs.Action.{Decoded, action, after_login, bans_action, command_action, commands_after_login, ignore, login_action, ping_action, tree_or_user_action, version_action, voice_action}
 use Rattle.mum_session.specs.Heard.{command_heard, login_heard}
 use Rattle.mum_session.specs.Machine.{Machine, is_rejected, session_of}
 use Rattle.mum_session.specs.declared.action.Action.{Action}
-use Rattle.mum_session.specs.declared.action.Action.TheVariants.{Ask, Voice, Echo, Keep, Ignore}
+use Rattle.mum_session.specs.declared.action.Action.TheVariants.{Ask, Bans}
+use Rattle.mum_session.specs.declared.action.TheConstants.{BAN_LIST}
 use Rattle.mum_session.specs.declared.command.Asked.{Asked}
 use Rattle.mum_session.specs.declared.heard.Heard.{Heard}
 use Rattle.mum_session.specs.declared.heard.Heard.TheVariants as heard
-use Rattle.mum_port.specs.Client.{leave}
-use Rattle.mum_port.specs.Did.{action_of, machine_after, waiting_after, waiting_after_put}
-use Rattle.mum_port.specs.Facts.{PortFacts, due_item, next_item, next_word}
+use Rattle.mum_port.specs.Did.{asked_item, machine_after, waiting_after_put}
+use Rattle.mum_port.specs.Facts.{PortFacts, due_item, item_of, leave, next_item, next_word, waiting_after}
 use Rattle.mum_port.specs.declared.item.DeskItem.{DeskItem}
 use Rattle.mum_port.specs.declared.item.DeskItem.TheVariants as items
 use Rattle.mum_port.specs.declared.stage.Farewell.TheVariants.{Leave, LastWord, Done}
@@ -27,14 +27,11 @@ use Rattle.mum_port.specs.declared.stage.Stage.TheVariants.{Live, Ending, Closed
 use Rattle.mum_port.proofs.Machines.{connection-after_frame}
 use Rattle.mum_worker_laws.specs.Lives.{is_item_of}
 
--- ---- a command is of the connection that asks for it
+-- ---- what a connection asks for is its own
 
 abbrev asks_own : ℕ → Action → Bool
 asks_own connection (Ask command) = command.connection == connection
-asks_own connection (Voice packet) = true
-asks_own connection (Echo wire) = true
-asks_own connection Keep = true
-asks_own connection (Ignore why) = true
+asks_own connection others = true
 
 either_own : (connection : ℕ) (test : Bool) (a b : Action) → asks_own connection a ≡ true → asks_own connection b ≡ true → asks_own connection (if test then a else b) ≡ true
 either_own connection true a b first other = first
@@ -61,6 +58,11 @@ later-own : (connection : ℕ) (session : Option SessionId) (a : Action) → ask
 later-own connection None a own = refl
 later-own connection (Some session) a own = own
 
+bans-own : (machine : Machine) (kind : ℕ) (payload : List ℕ) → asks_own machine.connection (bans_action machine kind payload) ≡ true
+bans-own machine kind payload =
+    either_own machine.connection (machine.bans && kind == BAN_LIST) (after_login (session_of machine.stage) (Bans payload)) (ignore NotRead)
+    (later-own machine.connection (session_of machine.stage) (Bans payload) refl) refl
+
 action-own : (machine : Machine) (kind : ℕ) (payload : List ℕ) → asks_own machine.connection (action machine kind payload) ≡ true
 unfolding action
 action-own machine kind payload =
@@ -70,7 +72,7 @@ action-own machine kind payload =
     (either_own machine.connection (kind == PING) (ping_action (decoded ping payload)) _ (ping-own machine.connection (decoded ping payload))
     (either_own machine.connection (kind == AUTHENTICATE) (login_action machine payload) _ (command-own machine (login_heard machine.version payload))
     (either_own machine.connection (list_any (λ known. known == kind) commands_after_login) (after_login (session_of machine.stage) (tree_or_user_action machine kind payload)) _
-    (later-own machine.connection (session_of machine.stage) (tree_or_user_action machine kind payload) (command-own machine (command_heard kind payload))) refl)))))
+    (later-own machine.connection (session_of machine.stage) (tree_or_user_action machine kind payload) (command-own machine (command_heard kind payload))) (bans-own machine kind payload))))))
 
 -- ---- what waits, and what is due
 
@@ -100,19 +102,25 @@ pub put-own : (connection : ℕ) (put waiting : Option DeskItem) → OwnItem con
 put-own connection (Some done) waiting own item is = absurd (cc is)
 put-own connection None waiting own item is = own item is
 
-acted-own : (connection : ℕ) (asked : Action) (waiting : Option DeskItem) → asks_own connection asked ≡ true → OwnItem connection waiting → OwnItem connection (waiting_after (Some asked) waiting)
-acted-own connection (Ask command) waiting asks own item is =
+acted-own : (connection : ℕ) (session : Option SessionId) (asked : Action) → asks_own connection asked ≡ true → OwnItem connection (item_of connection session asked)
+acted-own connection session (Ask command) asks item is =
     let same : item ≡ items.Command command = cc (sym is) in
     ap (λ (i : DeskItem). is_item_of connection i) same ∙ asks
-acted-own connection (Voice packet) waiting asks own item is = own item is
-acted-own connection (Echo wire) waiting asks own item is = own item is
-acted-own connection Keep waiting asks own item is = own item is
-acted-own connection (Ignore why) waiting asks own item is = own item is
+acted-own connection (Some own) (Bans payload) asks item is =
+    let same : item ≡ items.Bans connection own payload = cc (sym is) in
+    ap (λ (i : DeskItem). is_item_of connection i) same ∙ eq-eqb connection connection refl
+acted-own connection None (Bans payload) asks item is = absurd (cc is)
+acted-own connection session others asks item is = absurd (cc is)
 
-pub asked-own : (machine : Machine) (frame : Option Frame) (waiting : Option DeskItem) → OwnItem machine.connection waiting → OwnItem machine.connection (waiting_after (action_of machine frame) waiting)
+waits-own : (connection : ℕ) (asked waiting : Option DeskItem) → OwnItem connection asked → OwnItem connection waiting → OwnItem connection (waiting_after asked waiting)
+waits-own connection None waiting asks own item is = own item is
+waits-own connection (Some asked) waiting asks own item is = asks item is
+
+pub asked-own : (machine : Machine) (frame : Option Frame) (waiting : Option DeskItem) → OwnItem machine.connection waiting → OwnItem machine.connection (waiting_after (asked_item machine frame) waiting)
 asked-own machine None waiting own item is = own item is
 asked-own machine (Some frame) waiting own item is =
-    acted-own machine.connection (action machine frame.kind frame.payload) waiting (action-own machine frame.kind frame.payload) own item is
+    waits-own machine.connection (asked_item machine (Some frame)) waiting
+    (acted-own machine.connection (session_of machine.stage) (action machine frame.kind frame.payload) (action-own machine frame.kind frame.payload)) own item is
 
 pub connection-machine_after : (machine : Machine) (frame : Option Frame) → (machine_after machine frame).connection ≡ machine.connection
 connection-machine_after machine None = refl
@@ -122,3 +130,4 @@ connection-machine_after machine (Some frame) = connection-after_frame machine f
 pub item-of : (item : DeskItem) (own connection : ℕ) → is_item_of own item ≡ true → is_item_of connection item ≡ (own == connection)
 item-of (items.Command command) own connection is = ap (λ (n : ℕ). n == connection) (eqb-true command.connection own is)
 item-of (items.Closed closed) own connection is = ap (λ (n : ℕ). n == connection) (eqb-true closed own is)
+item-of (items.Bans sender session payload) own connection is = ap (λ (n : ℕ). n == connection) (eqb-true sender own is)

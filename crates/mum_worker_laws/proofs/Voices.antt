@@ -9,21 +9,19 @@ use Rattle.mum_crew.specs.Along.{Along}
 use Rattle.mum_crew.specs.Turns.{TurnsTo}
 use Rattle.mum_crew.specs.declared.role.Turn.{Turn}
 use Rattle.mum_io.specs.Link.{LinkFacts}
+use Rattle.mum_port.specs.Did.{action_of}
 use Rattle.mum_port.specs.Facts.{PortFacts}
-use Rattle.mum_port.specs.Handling.{Acts, HandlesKept, Routes as PortRoutes}
-use Rattle.mum_port.specs.Steps.{Handles}
+use Rattle.mum_port.specs.Turn.{RoutesPacket as PortRoutes}
 use Rattle.mum_outbox.specs.declared.rule.TheConstants.{LAST}
-use Rattle.mum_port.specs.declared.item.DeskItem.{DeskItem}
 use Rattle.mum_port.specs.declared.port.Step.{Step}
 use Rattle.mum_published.specs.Bell.{Rung, Answer, Comes, Lagging, NoMore}
 use Rattle.mum_published.specs.Facts.{Opening}
 use Rattle.mum_record.specs.declared.journal.WorkerEntry.{WorkerEntry}
 use Rattle.mum_record.specs.declared.journal.WorkerEntry.TheVariants as entries
 use Rattle.mum_router.specs.Facts.{RouterFacts}
-use Rattle.mum_session.specs.Action.{action}
-use Rattle.mum_session.specs.Machine.{Machine, session_of}
+use Rattle.mum_session.specs.Machine.{session_of}
 use Rattle.mum_session.specs.declared.action.Action.{Action}
-use Rattle.mum_session.specs.declared.action.Action.TheVariants.{Ask, Voice, Echo, Keep, Ignore}
+use Rattle.mum_session.specs.declared.action.Action.TheVariants.{Voice}
 use Rattle.mum_voice.specs.Packet.{Parts, packet}
 use Rattle.mum_voice.specs.declared.fault.BadVoice.{BadVoice}
 use Rattle.mum_worker.specs.Boxes.{BoxesFacts}
@@ -34,7 +32,7 @@ use Rattle.mum_worker.specs.Record.{RecordFacts, after_close, after_step, has_cl
 use Rattle.mum_worker.specs.Routing.{CommonFacts, RoutesPacket}
 use Rattle.mum_worker.specs.Stepping.{PortSteps, Shares}
 use Rattle.mum_worker.specs.Turning.{Turned, WorkerTurned, shares_of}
-use Rattle.mum_worker_laws.specs.Laws.{Look, Moment, Told, history, look_acted, look_handled, look_in, look_kept, look_made, look_of_session, look_stepped, looks_along, looks_in, moments_of, told_by}
+use Rattle.mum_worker_laws.specs.Laws.{Look, Moment, Told, history, look_asked, look_in, look_made, look_stepped, looks_along, looks_in, moments_of, told_by}
 use Rattle.mum_worker_laws.specs.Voices.{talk_in, talk_made}
 
 -- these moments were written down: each look has an entry, where a journal is kept
@@ -102,34 +100,10 @@ module _ (opening : Opening) where
   same_common : (old new : CommonFacts) → new ≡ old → Writes [] old.kept new.kept
   same_common old new same = rests old.kept new.kept (ap (λ (c : CommonFacts). c.kept) same)
 
-  of_session : (old : CommonFacts) (connection : ℕ) (session : Option SessionId) (bytes : List ℕ) (new : CommonFacts) (routes : PortRoutes (RoutesPacket opening) connection session bytes old new)
-      → Writes (look_of_session opening old connection session bytes new routes) old.kept new.kept
-  of_session old connection None bytes new same = same_common old new same
-  of_session old connection (Some speaker) bytes new routes = said opening old connection speaker bytes new routes
-
-  acted : (connection : ℕ) (session : Option SessionId) (asked : Action) (waiting : Option DeskItem) (out : List ℕ) (old : CommonFacts) (went : _) (waiting_after : Option DeskItem) (out_after : List ℕ) (new : CommonFacts)
-      (acts : Acts (RoutesPacket opening) connection session asked waiting out old went waiting_after out_after new)
-      → Writes (look_acted opening connection session asked waiting out old went waiting_after out_after new acts) old.kept new.kept
-  acted connection session (Ask command) waiting out old went waiting_after out_after new acts = same_common old new acts.3
-  acted connection session (Voice packet) waiting out old went waiting_after out_after new acts = of_session old connection session packet new acts.3
-  acted connection session (Echo wire) waiting out old went waiting_after out_after new acts = same_common old new acts.2
-  acted connection session Keep waiting out old went waiting_after out_after new acts = same_common old new acts.3
-  acted connection session (Ignore why) waiting out old went waiting_after out_after new acts = same_common old new acts.3
-
-  of_kept : (machine : Machine) (kept : List ℕ) (waiting : Option DeskItem) (out : List ℕ) (old : CommonFacts) (went : _) (machine_after : Machine) (kept_after : List ℕ) (waiting_after : Option DeskItem) (out_after : List ℕ) (new : CommonFacts)
-      (handles : HandlesKept (RoutesPacket opening) machine kept waiting out old went machine_after kept_after waiting_after out_after new)
-      → Writes (look_kept opening machine kept waiting out old went machine_after kept_after waiting_after out_after new handles) old.kept new.kept
-  of_kept machine kept waiting out old went machine_after kept_after waiting_after out_after new (inl (has, inl first)) =
-      acted machine.connection (session_of machine.stage) (action machine first.frame.kind first.frame.payload) waiting out old went waiting_after out_after new first.handled.acts
-  of_kept machine kept waiting out old went machine_after kept_after waiting_after out_after new (inl (has, inr lacks)) = same_common old new lacks.router_same
-  of_kept machine kept waiting out old went machine_after kept_after waiting_after out_after new (inr none) = same_common old new none.router_same
-
-  module _ {L : Type 0} where
-    handled : (old : PortFacts L) (router : CommonFacts) (went : _) (new : PortFacts L) (after : CommonFacts) (handles : Handles (RoutesPacket opening) old router went new after)
-        → Writes (look_handled opening old router went new after handles) router.kept after.kept
-    handled old router went new after (inl none) = same_common router after none.1
-    handled old router went new after (inr one) =
-        of_kept old.machine old.framer.kept old.waiting old.out router went new.machine new.framer.kept new.waiting new.out after one.handled
+  of_asked : (connection : ℕ) (session : Option SessionId) (asked : Option Action) (old new : CommonFacts) (routes : PortRoutes (RoutesPacket opening) connection session asked old new)
+      → Writes (look_asked opening connection session asked old new routes) old.kept new.kept
+  of_asked connection session (Some (Voice packet)) old new routes = said opening old connection routes.0 packet new routes.2
+  of_asked connection session others old new same = same_common old new same
 
   module _ {L : Type 0} (facts : L → LinkFacts) where
     -- what is noted behind it adds no packet
@@ -143,7 +117,7 @@ module _ (opening : Opening) where
         → Writes (look_stepped opening facts boxes old before new after steps) before.common.kept after.common.kept
     stepped boxes old before new after steps =
         behind (look_stepped opening facts boxes old before new after steps) before.common.kept steps.routed.kept after.common.kept
-        (handled steps.chain.after_read before.common steps.chain.handled steps.chain.after_handle steps.routed steps.chain.handles)
+        (of_asked old.machine.connection (session_of old.machine.stage) (action_of old.machine steps.turned.0.handled) before.common steps.routed steps.turned.1.routes)
         (noted old.machine.connection steps.step steps.routed.kept after.common.kept (ap (λ (c : CommonFacts). c.kept) steps.noted))
       where
         noted : (connection : ℕ) (step : Step) (kept after_it : RecordFacts) → after_it ≡ after_step connection step kept → Writes [] kept after_it

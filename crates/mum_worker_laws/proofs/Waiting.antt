@@ -9,23 +9,20 @@ use Rattle.mum_crew.specs.Turns.{TurnsTo}
 use Rattle.mum_crew.specs.declared.role.Turn.{Turn}
 use Rattle.mum_frame.specs.declared.frame.Frame.{Frame}
 use Rattle.mum_io.specs.Link.{LinkFacts}
-use Rattle.mum_port.specs.Did.{action_of, machine_after}
+use Rattle.mum_port.specs.Did.{action_of, asked_item, machine_after, port_after_put}
 use Rattle.mum_port.specs.Facts.{PortFacts, may_handle, new_port}
-use Rattle.mum_port.specs.Handling.{Acts, HandlesKept, Routes as PortRoutes}
-use Rattle.mum_port.specs.Life.{Steps, asked_item}
+use Rattle.mum_port.specs.Turn.{RoutesPacket as PortRoutes}
+use Rattle.mum_port.specs.Life.{Steps}
 use Rattle.mum_port.specs.Stage.{is_live}
-use Rattle.mum_port.specs.Steps.{Handles}
 use Rattle.mum_port.specs.declared.item.DeskItem.{DeskItem}
+use Rattle.mum_port.proofs.Awaiting.{awaits_then, waits_still}
 use Rattle.mum_port.proofs.Closing.{and-left}
-use Rattle.mum_port.proofs.Course.{machine_read}
 use Rattle.mum_port.proofs.Idle.{and-right}
-use Rattle.mum_port.proofs.Turned.{did_turn}
 use Rattle.mum_published.specs.Bell.{Rung, Answer, Comes, Lagging, NoMore}
 use Rattle.mum_published.specs.Facts.{Opening}
-use Rattle.mum_session.specs.Action.{action, after_frame, asks}
 use Rattle.mum_session.specs.Machine.{Machine, session_of}
 use Rattle.mum_session.specs.declared.action.Action.{Action}
-use Rattle.mum_session.specs.declared.action.Action.TheVariants.{Ask, Voice, Echo, Keep, Ignore}
+use Rattle.mum_session.specs.declared.action.Action.TheVariants.{Voice}
 use Rattle.mum_worker.specs.Boxes.{BoxesFacts}
 use Rattle.mum_worker.specs.Facts.{WorkerFacts, stays}
 use Rattle.mum_worker.specs.Hearing.{AnswersFirst, Hears, LagsWhereIts, TakesOrTurns}
@@ -33,29 +30,12 @@ use Rattle.mum_worker.specs.Record.{RecordFacts}
 use Rattle.mum_worker.specs.Routing.{CommonFacts, RoutesPacket}
 use Rattle.mum_worker.specs.Stepping.{PortSteps, Shares}
 use Rattle.mum_worker.specs.Turning.{WorkerTurned, shares_of}
-use Rattle.mum_worker_laws.specs.Laws.{Moment, history, look_acted, look_handled, look_kept, look_made, look_of_session, look_stepped, looks_along, moments_of, told_by}
+use Rattle.mum_worker_laws.specs.Laws.{Moment, history, look_asked, look_made, look_stepped, looks_along, moments_of, told_by}
 use Rattle.mum_worker_laws.specs.Lives.{AwaitsReply, IsNoPacketOf, IsNoReplyTo, IsOfAnother, if_taken, ports_taken, taken_in}
-use Rattle.mum_worker_laws.proofs.Changing.{awaits_lagged, nothing_handled, place_answered, place_lagged}
+use Rattle.mum_worker_laws.proofs.Changing.{awaits_lagged, place_answered, place_lagged}
 use Rattle.mum_worker_laws.proofs.Counts.{each-append, each_back, each_front, each_left}
 use Rattle.mum_worker_laws.proofs.Lasting.{first_is_of}
 use Rattle.mum_worker_laws.proofs.Own.{connection-machine_after}
-
--- ---- behind a command a reply is awaited
-
-asks-some : (asked : Action) (item : DeskItem) → asked_item (Some asked) ≡ Some item → asks asked ≡ true
-asks-some (Ask command) item is = refl
-asks-some (Voice packet) item is = absurd (cc is)
-asks-some (Echo wire) item is = absurd (cc is)
-asks-some Keep item is = absurd (cc is)
-asks-some (Ignore why) item is = absurd (cc is)
-
-frame_awaits : (machine : Machine) (frame : Frame) (item : DeskItem) → asked_item (Some (action machine frame.kind frame.payload)) ≡ Some item → (after_frame machine frame.kind frame.payload).awaits ≡ true
-unfolding after_frame
-frame_awaits machine frame item is = asks-some (action machine frame.kind frame.payload) item is
-
-awaits_behind : (machine : Machine) (frame : Option Frame) (item : DeskItem) → asked_item (action_of machine frame) ≡ Some item → (machine_after machine frame).awaits ≡ true
-awaits_behind machine None item is = absurd (cc is)
-awaits_behind machine (Some frame) item is = frame_awaits machine frame item is
 
 -- ---- no packet meanwhile
 
@@ -71,27 +51,17 @@ module _ (opening : Opening) (asked : ℕ) where
   made_of_another old connection speaker bytes new (inl drops) another = tt
   made_of_another old connection speaker bytes new (inr keeps) another = (another, tt)
 
-  session_of_another : (old : CommonFacts) (connection : ℕ) (session : Option SessionId) (bytes : List ℕ) (new : CommonFacts) (routes : PortRoutes (RoutesPacket opening) connection session bytes old new) → connection ≢ asked
-      → Each (IsNoPacketOf asked) (look_of_session opening old connection session bytes new routes)
-  session_of_another old connection None bytes new same another = tt
-  session_of_another old connection (Some speaker) bytes new routes another = made_of_another old connection speaker bytes new routes another
+  asked_of_another : (connection : ℕ) (session : Option SessionId) (does : Option Action) (old new : CommonFacts) (routes : PortRoutes (RoutesPacket opening) connection session does old new) → connection ≢ asked
+      → Each (IsNoPacketOf asked) (look_asked opening connection session does old new routes)
+  asked_of_another connection session (Some (Voice packet)) old new routes another = made_of_another old connection routes.0 packet new routes.2 another
+  asked_of_another connection session others old new same another = tt
 
-  acted_of_another : (connection : ℕ) (session : Option SessionId) (does : Action) (waiting : Option DeskItem) (out : List ℕ) (old : CommonFacts) (went : _) (waiting_after : Option DeskItem) (out_after : List ℕ) (new : CommonFacts)
-      (acts : Acts (RoutesPacket opening) connection session does waiting out old went waiting_after out_after new) → connection ≢ asked
-      → Each (IsNoPacketOf asked) (look_acted opening connection session does waiting out old went waiting_after out_after new acts)
-  acted_of_another connection session (Ask command) waiting out old went waiting_after out_after new acts another = tt
-  acted_of_another connection session (Voice packet) waiting out old went waiting_after out_after new acts another = session_of_another old connection session packet new acts.3 another
-  acted_of_another connection session (Echo wire) waiting out old went waiting_after out_after new acts another = tt
-  acted_of_another connection session Keep waiting out old went waiting_after out_after new acts another = tt
-  acted_of_another connection session (Ignore why) waiting out old went waiting_after out_after new acts another = tt
-
-  kept_of_another : (machine : Machine) (kept : List ℕ) (waiting : Option DeskItem) (out : List ℕ) (old : CommonFacts) (went : _) (machine_new : Machine) (kept_after : List ℕ) (waiting_after : Option DeskItem) (out_after : List ℕ) (new : CommonFacts)
-      (handles : HandlesKept (RoutesPacket opening) machine kept waiting out old went machine_new kept_after waiting_after out_after new) → machine.connection ≢ asked
-      → Each (IsNoPacketOf asked) (look_kept opening machine kept waiting out old went machine_new kept_after waiting_after out_after new handles)
-  kept_of_another machine kept waiting out old went machine_new kept_after waiting_after out_after new (inl (has, inl first)) another =
-      acted_of_another machine.connection (session_of machine.stage) (action machine first.frame.kind first.frame.payload) waiting out old went waiting_after out_after new first.handled.acts another
-  kept_of_another machine kept waiting out old went machine_new kept_after waiting_after out_after new (inl (has, inr lacks)) another = tt
-  kept_of_another machine kept waiting out old went machine_new kept_after waiting_after out_after new (inr none) another = tt
+  handled_of_another : (machine : Machine) (handled : Option Frame) (old new : CommonFacts) (routes : PortRoutes (RoutesPacket opening) machine.connection (session_of machine.stage) (action_of machine handled) old new)
+      → ((frame : Frame) → handled ≡ Some frame → machine.connection ≢ asked)
+      → Each (IsNoPacketOf asked) (look_asked opening machine.connection (session_of machine.stage) (action_of machine handled) old new routes)
+  handled_of_another machine None old new routes another = tt
+  handled_of_another machine (Some frame) old new routes another =
+      asked_of_another machine.connection (session_of machine.stage) (action_of machine (Some frame)) old new routes (another frame refl)
 
   module _ {L : Type 0} where
     -- a port that awaits a reply handles nothing
@@ -99,23 +69,16 @@ module _ (opening : Opening) (asked : ℕ) where
     not_handled port awaits may =
         true≢false (sym (and-left (not port.machine.awaits) _ (and-right (is_live port.stage) _ may)) ∙ ap not awaits)
 
-    handled_of_another : (old : PortFacts L) (router : CommonFacts) (went : _) (new : PortFacts L) (after : CommonFacts) (handles : Handles (RoutesPacket opening) old router went new after) → AwaitsReply asked old
-        → Each (IsNoPacketOf asked) (look_handled opening old router went new after handles)
-    handled_of_another old router went new after (inl none) awaits = tt
-    handled_of_another old router went new after (inr one) awaits =
-        kept_of_another old.machine old.framer.kept old.waiting old.out router went new.machine new.framer.kept new.waiting new.out after one.handled
-        (λ its. not_handled old (awaits its) one.allowed)
-
   module _ {L : Type 0} (facts : L → LinkFacts) where
     step_of_another : (boxes : BoxesFacts) (old : PortFacts L) (before : Shares) (new : PortFacts L) (after : Shares) (steps : PortSteps facts opening boxes old before new after) → AwaitsReply asked old
         → Each (IsNoPacketOf asked) (look_stepped opening facts boxes old before new after steps)
     step_of_another boxes old before new after steps awaits =
-        handled_of_another steps.chain.after_read before.common steps.chain.handled steps.chain.after_handle steps.routed steps.chain.handles
-        (subst (λ (m : Machine). m.connection ≡ asked → IsTrue m.awaits) (sym (machine_read steps.chain)) awaits)
+        handled_of_another old.machine steps.turned.0.handled before.common steps.routed steps.turned.1.routes
+        (λ frame is its. not_handled (port_after_put steps.turned.0.put old) (awaits its) (steps.turned.1.handles.allowed frame is))
 
     step_awaits : (boxes : BoxesFacts) (old : PortFacts L) (before : Shares) (new : PortFacts L) (after : Shares) → PortSteps facts opening boxes old before new after → AwaitsReply asked old → AwaitsReply asked new
     step_awaits boxes old before new after steps awaits =
-        let turn = did_turn steps.chain in
+        let turn = steps.turned in
         let happened : Steps facts (RoutesPacket opening) old old.machine turn.0 new = record {
           of_port = refl;
           posts = boxes.posts;
@@ -129,7 +92,7 @@ module _ (opening : Opening) (asked : ℕ) where
         } in
         λ its.
         let was : old.machine.awaits ≡ true = awaits (sym (connection-machine_after old.machine turn.0.handled) ∙ (ap (λ (m : Machine). m.connection) (sym turn.1.handles.machine) ∙ its)) in
-        ap (λ (m : Machine). m.awaits) (turn.1.handles.machine ∙ ap (λ (f : Option Frame). machine_after old.machine f) (nothing_handled facts opening old old.machine turn.0 new happened was)) ∙ was
+        ap (λ (m : Machine). m.awaits) (turn.1.handles.machine ∙ ap (λ (f : Option Frame). machine_after old.machine f) (waits_still facts (RoutesPacket opening) old old.machine turn.0 new happened was)) ∙ was
 
     along_of_another : (boxes : BoxesFacts) (olds : List (PortFacts L)) (before : Shares) (news : List (PortFacts L)) (after : Shares) (along : Along (PortSteps facts opening boxes) olds before news after)
         → Each (AwaitsReply asked) olds → Each (AwaitsReply asked) news × Each (IsNoPacketOf asked) (looks_along opening facts boxes olds before news after along)
@@ -226,6 +189,5 @@ module _ (opening : Opening) (asked : ℕ) where
 
 module _ {L : Type 0} (facts : L → LinkFacts) (opening : Opening) where
   pub command_awaits : (old new : PortFacts L) (machine : Machine) (did : _) (item : DeskItem) → Steps facts (RoutesPacket opening) old machine did new
-      → asked_item (action_of machine did.handled) ≡ Some item → IsTrue new.machine.awaits
-  command_awaits old new machine did item steps asked =
-      ap (λ (m : Machine). m.awaits) (steps.turn.handles.machine ∙ ap (λ (m : Machine). machine_after m did.handled) (sym steps.of_port)) ∙ awaits_behind machine did.handled item asked
+      → asked_item machine did.handled ≡ Some item → IsTrue new.machine.awaits
+  command_awaits = awaits_then facts (RoutesPacket opening)

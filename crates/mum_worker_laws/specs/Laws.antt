@@ -12,20 +12,18 @@ use Rattle.mum_outbox.specs.Facts.{PassFacts}
 use Rattle.mum_outbox.specs.declared.parcel.VoiceParcel.{VoiceParcel}
 use Rattle.mum_outbox.specs.declared.queue.Offered.TheVariants.{Sent, Full}
 use Rattle.mum_outbox.specs.declared.queue.Offered.{Offered}
+use Rattle.mum_port.specs.Did.{action_of}
 use Rattle.mum_port.specs.Facts.{PortFacts}
-use Rattle.mum_port.specs.Handling.{Acts, HandlesKept, Routes as PortRoutes}
-use Rattle.mum_port.specs.Steps.{Handles}
-use Rattle.mum_port.specs.declared.item.DeskItem.{DeskItem}
-use Rattle.mum_published.specs.Bell.{Rung, Answer, Comes, Lagging, NoMore}
+use Rattle.mum_port.specs.Turn.{RoutesPacket as PortRoutes}
+use Rattle.mum_published.specs.Bell.{Rung, Answer}
 use Rattle.mum_published.specs.Calls.{ask_at}
 use Rattle.mum_published.specs.Facts.{NoteFacts, Opening, ReplyFacts}
 use Rattle.mum_published.specs.declared.rule.AskAt.{AskAt}
 use Rattle.mum_router.specs.Laws.{RoutedPacket}
 use Rattle.mum_router.specs.Offering.{Delivery, Outs, parcel_for}
 use Rattle.mum_router.specs.Picking.{ask_of}
-use Rattle.mum_session.specs.Action.{action}
-use Rattle.mum_session.specs.Machine.{Machine, session_of}
-use Rattle.mum_session.specs.declared.action.Action.TheVariants.{Ask, Voice, Echo, Keep, Ignore}
+use Rattle.mum_session.specs.Machine.{session_of}
+use Rattle.mum_session.specs.declared.action.Action.TheVariants.{Voice}
 use Rattle.mum_session.specs.declared.action.Action.{Action}
 use Rattle.mum_state.specs.declared.edit.Edit.{Edit}
 use Rattle.mum_voice.specs.Packet.{Parts}
@@ -133,37 +131,18 @@ module _ (opening : Opening) where
     deliveries = keeps.once.routes.1;
   }) ∷ []
 
-  abbrev pub look_of_session : (old : CommonFacts) (connection : ℕ) (session : Option SessionId) (bytes : List ℕ) (new : CommonFacts) → PortRoutes (RoutesPacket opening) connection session bytes old new → List Moment
-  look_of_session old connection None bytes new same = []
-  look_of_session old connection (Some speaker) bytes new routes = look_made old connection speaker bytes new routes
-
-  -- the packet of a frame that was handled
-  abbrev pub look_acted : (connection : ℕ) (session : Option SessionId) (asked : Action) (waiting : Option DeskItem) (out : List ℕ) (old : CommonFacts) (went : _) (waiting_after : Option DeskItem) (out_after : List ℕ) (new : CommonFacts)
-      → Acts (RoutesPacket opening) connection session asked waiting out old went waiting_after out_after new → List Moment
-  look_acted connection session (Ask command) waiting out old went waiting_after out_after new acts = []
-  look_acted connection session (Voice packet) waiting out old went waiting_after out_after new acts = look_of_session old connection session packet new acts.3
-  look_acted connection session (Echo wire) waiting out old went waiting_after out_after new acts = []
-  look_acted connection session Keep waiting out old went waiting_after out_after new acts = []
-  look_acted connection session (Ignore why) waiting out old went waiting_after out_after new acts = []
-
-  abbrev pub look_kept : (machine : Machine) (kept : List ℕ) (waiting : Option DeskItem) (out : List ℕ) (old : CommonFacts) (went : _) (machine_after : Machine) (kept_after : List ℕ) (waiting_after : Option DeskItem) (out_after : List ℕ) (new : CommonFacts)
-      → HandlesKept (RoutesPacket opening) machine kept waiting out old went machine_after kept_after waiting_after out_after new → List Moment
-  look_kept machine kept waiting out old went machine_after kept_after waiting_after out_after new (inl (has, inl first)) =
-      look_acted machine.connection (session_of machine.stage) (action machine first.frame.kind first.frame.payload) waiting out old went waiting_after out_after new first.handled.acts
-  look_kept machine kept waiting out old went machine_after kept_after waiting_after out_after new (inl (has, inr lacks)) = []
-  look_kept machine kept waiting out old went machine_after kept_after waiting_after out_after new (inr none) = []
-
-  module _ {L : Type 0} where
-    abbrev pub look_handled : (old : PortFacts L) (router : CommonFacts) (went : _) (new : PortFacts L) (after : CommonFacts) → Handles (RoutesPacket opening) old router went new after → List Moment
-    look_handled old router went new after (inl none) = []
-    look_handled old router went new after (inr one) =
-        look_kept old.machine old.framer.kept old.waiting old.out router went new.machine new.framer.kept new.waiting new.out after one.handled
+  -- the packet that was asked to be routed
+  abbrev pub look_asked : (connection : ℕ) (session : Option SessionId) (asked : Option Action) (old new : CommonFacts)
+      → PortRoutes (RoutesPacket opening) connection session asked old new → List Moment
+  look_asked connection session (Some (Voice packet)) old new routes = look_made old connection routes.0 packet new routes.2
+  look_asked connection session others old new same = []
 
   module _ {L : Type 0} (facts : L → LinkFacts) where
     -- the packet that the step of a port routed, if it did
     abbrev pub look_stepped : (boxes : BoxesFacts) (old : PortFacts L) (before : Shares) (new : PortFacts L) (after : Shares) → PortSteps facts opening boxes old before new after → List Moment
     look_stepped boxes old before new after steps =
-        look_handled steps.chain.after_read before.common steps.chain.handled steps.chain.after_handle steps.routed steps.chain.handles
+        look_asked old.machine.connection (session_of old.machine.stage) (action_of old.machine steps.turned.0.handled) before.common steps.routed
+        steps.turned.1.routes
 
     -- the packets that ports routed, one after the other
     abbrev pub looks_along : (boxes : BoxesFacts) (olds : List (PortFacts L)) (before : Shares) (news : List (PortFacts L)) (after : Shares) → Along (PortSteps facts opening boxes) olds before news after → List Moment
@@ -177,9 +156,7 @@ module _ (opening : Opening) where
 
 abbrev pub told_of : {L : Type 0} → Rung L → List Moment
 told_of (Answer reply) = Told reply ∷ []
-told_of (Comes connection link) = []
-told_of (Lagging session) = []
-told_of NoMore = []
+told_of others = []
 
 -- the reply that a turn heard, if it did
 abbrev pub told_by : {L : Type 0} → Option (Rung L) → List Moment

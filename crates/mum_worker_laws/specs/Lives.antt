@@ -1,5 +1,5 @@
 -- The ports that a worker has over its turns, what happens to each of them, and what they put on the desk.
-use Rattle.std.specs.Prelude.{◌≡◌, ◌≢◌, ◌==◌, ◌≤◌, ◌+◌, ⊤, ℕ, Bool, false, IsTrue, List, [], ◌∷◌, ◌++◌, All, filter, length, map, Option, Some, None, Result, Ok, Err, if◌then◌else◌}
+use Rattle.std.specs.Prelude.{◌≡◌, ◌≢◌, ◌==◌, ◌≤◌, ◌+◌, ⊤, ℕ, Bool, false, IsTrue, List, [], ◌∷◌, ◌++◌, All, filter, length, map, Option, Some, None, Result, Ok, Err, if◌then◌else◌, option_to_list}
 use mathlib.Core.Logic.{inl, inr}
 use Rattle.std.specs.List.{filter_map, flat_map}
 use Rattle.mum_base.specs.declared.number.Cause.TheVariants.{End}
@@ -12,14 +12,14 @@ use Rattle.mum_frame.specs.declared.frame.Frame.{Frame}
 use Rattle.mum_io.specs.Link.{LinkFacts}
 use Rattle.mum_port.specs.Did.{action_of}
 use Rattle.mum_port.specs.Facts.{PortFacts, new_port}
-use Rattle.mum_port.specs.Life.{Event, Lives, and_item, bytes_queued, bytes_taken, bytes_written, frames_handled, items_asked, items_put, lagged, replied, stepped, words_said}
+use Rattle.mum_port.specs.Life.{Event, Lives, bytes_queued, bytes_taken, bytes_written, frames_handled, in_step, items_asked, items_put, words_said}
 use Rattle.mum_port.specs.Stage.{cause_of, is_closed}
 use Rattle.mum_port.specs.declared.item.DeskItem.TheVariants as items
 use Rattle.mum_port.specs.declared.item.DeskItem.{DeskItem}
 use Rattle.mum_published.specs.Bell.{Rung, Answer, Comes, Lagging, NoMore}
 use Rattle.mum_published.specs.Facts.{Opening}
 use Rattle.mum_session.specs.Machine.{Machine, session_of}
-use Rattle.mum_session.specs.declared.action.Action.TheVariants.{Ask, Voice, Echo, Keep, Ignore}
+use Rattle.mum_session.specs.declared.action.Action.TheVariants.{Voice}
 use Rattle.mum_session.specs.declared.action.Action.{Action}
 use Rattle.mum_voice.specs.Packet.{Parts, packet}
 use Rattle.mum_voice.specs.declared.fault.BadVoice.{BadVoice}
@@ -41,11 +41,12 @@ count test xs = length (filter test xs)
 abbrev pub is_item_of : ℕ → DeskItem → Bool
 is_item_of connection (items.Command command) = command.connection == connection
 is_item_of connection (items.Closed closed) = closed == connection
+is_item_of connection (items.Bans sender session payload) = sender == connection
 
 -- the item that says that the port of this connection is gone
 abbrev pub is_closed_of : ℕ → DeskItem → Bool
-is_closed_of connection (items.Command command) = false
 is_closed_of connection (items.Closed closed) = closed == connection
+is_closed_of connection others = false
 
 -- what is there of a connection, in order
 abbrev pub items_of : ℕ → List DeskItem → List DeskItem
@@ -66,19 +67,12 @@ said_of (Some speaker) (Ok parts) = record { speaker = speaker; packet = parts }
 
 -- the packet that a frame is which asks for this
 abbrev pub said_by : Machine → Option Action → List Said
-said_by machine None = []
-said_by machine (Some (Ask command)) = []
 said_by machine (Some (Voice bytes)) = said_of (session_of machine.stage) (packet bytes)
-said_by machine (Some (Echo wire)) = []
-said_by machine (Some Keep) = []
-said_by machine (Some (Ignore why)) = []
+said_by machine others = []
 
 -- the packets that the frames of a port are, in order
 abbrev pub packets_said : List Event → List Said
-packets_said [] = []
-packets_said (stepped machine did ∷ events) = said_by machine (action_of machine did.handled) ++ packets_said events
-packets_said (replied wire closed ∷ events) = packets_said events
-packets_said (lagged closed ∷ events) = packets_said events
+packets_said events = flat_map (in_step (λ machine did. said_by machine (action_of machine did.handled))) events
 
 -- a packet that was routed, where it is of this connection
 abbrev pub routed_of : ℕ → Moment → Option Said
@@ -153,7 +147,7 @@ module _ {L : Type 0} where
   pub record PutsInOrder (life : Life L) : Type 0 where
     pub commands : List DeskItem
     pub put : put_by life ≡ commands ++ words_said life.last.machine life.last.stage
-    pub asked : items_asked life.events ≡ commands ++ and_item life.last.waiting []
+    pub asked : items_asked life.events ≡ commands ++ option_to_list life.last.waiting
 
   -- it does all three in their order
   pub record IsOrderly (life : Life L) : Type 0 where

@@ -5,9 +5,9 @@ ghost use Rattle.std.specs.Prelude.{◌≡◌, ◌+◌, IsTrue, ℕ, List, Optio
 ghost use Rattle.std.specs.List.{All};
 ghost use Rattle.mum_crew.specs.Turns.{TurnsTo};
 ghost use Rattle.mum_crew.specs.declared.role.Turn.{Turn};
-ghost use Rattle.mum_port.specs.Did.{PortDid, action_of};
+ghost use Rattle.mum_port.specs.Did.{PortDid, asked_item};
 ghost use Rattle.mum_port.specs.Facts.{PortFacts};
-ghost use Rattle.mum_port.specs.Life.{Steps, asked_item};
+ghost use Rattle.mum_port.specs.Life.{Steps};
 ghost use Rattle.mum_port.specs.declared.item.DeskItem.{DeskItem};
 ghost use Rattle.mum_published.specs.Facts.{Opening, PassFacts};
 ghost use Rattle.mum_session.specs.Machine.{Machine};
@@ -59,13 +59,13 @@ pub fn ports_live<L: Link>()
         All IsOrderly lived.lives }
 {}
 
-/// A connection that asked for a command is heard again once a reply to it was heard: no packet of it is routed
+/// A connection that asked for a command, or brought a list of bans, is heard again once a reply was heard: no packet of it is routed
 /// before. That no frame of it is handled before is said of its life.
 pub fn a_reply_comes_before_the_next_packet<L: Link>()
-    // Behind a frame that asks for a command its port awaits a reply.
+    // Behind such a frame its port awaits a reply.
     ensures awaits { (opening : Opening) (old new : PortFacts L) (machine : Machine) (did : PortDid) (item : DeskItem) →
         Steps L.facts (RoutesPacket opening) old machine did new →
-        asked_item (action_of machine did.handled) ≡ Some item → IsTrue new.machine.awaits }
+        asked_item machine did.handled ≡ Some item → IsTrue new.machine.awaits }
     ensures packets { (opening : Opening) (old worker : WorkerFacts L) (turns : List Turn) (connection : ℕ) →
         (all : TurnsTo (WorkerTurned L.facts opening) old turns worker) →
         All (AwaitsReply connection) old.ports →

@@ -18,13 +18,20 @@ use Rattle.mum_control.specs.Commanded.{Commanded, Decides, Publishes, current, 
 use Rattle.mum_control.specs.Facts.{ControlFacts}
 use Rattle.mum_base.specs.declared.reply.Mark.{Mark}
 use Rattle.mum_base.specs.declared.reply.ReplyEnd.{ReplyEnd}
-use Rattle.mum_owner.specs.Counted.{HasCounted, HasGiven}
 use Rattle.mum_doorway.specs.Doors.{given_after_all}
 use Rattle.mum_owner.specs.Facts.{GuestsFacts, ScribeFacts}
 use Rattle.mum_owner.specs.Guests.{joined_by}
 use Rattle.mum_owner.proofs.Steps.{joined_given}
 use Rattle.mum_owner.specs.declared.entry.Draft.{Draft}
 use Rattle.mum_owner.specs.Written.{accepted_by, recorded}
+
+-- as many were counted as the control owner has appended
+abbrev pub HasCounted : ControlFacts → ScribeFacts → Type 0
+HasCounted control scribe = scribe.accepted ≡ length (appended control.publisher)
+
+-- the door gave those that are counted, one by one, since it had given so many
+abbrev pub HasGiven : ℕ → GuestsFacts → ℕ → Type 0
+HasGiven before guests now = now ≡ given_after_all before guests.given
 
 one_more_appended : (publisher : PublisherFacts) (edit : Edit) → length (appended (with_edit publisher edit)) ≡ length (appended publisher) + 1
 one_more_appended publisher edit =

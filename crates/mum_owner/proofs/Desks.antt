@@ -1,6 +1,6 @@
 -- What was taken from the desk, logins that wait, and what was posted.
 use Rattle.std.proofs.Common.{◌≡◌, ◌∙◌, ℕ, Bool, true, false, cond, List, [], length, Option, ap, subst, sym}
-use Rattle.std.specs.Prelude.{◌==◌, IsTrue, is_none, is_some}
+use Rattle.std.specs.Prelude.{◌==◌, IsTrue, MatchBool, is_none, is_some}
 use Rattle.mum_control.specs.Facts.{ControlFacts}
 use Rattle.mum_control.specs.Posting.{PostsNext}
 use Rattle.mum_control.specs.declared.posted.Posted.{Posted}
@@ -9,14 +9,14 @@ use Rattle.mum_outbox.specs.declared.parcel.TheConstants.{DESK_CAPACITY}
 use Rattle.mum_port.specs.declared.item.DeskItem.{DeskItem}
 use Rattle.mum_session.specs.declared.command.Command.{Command}
 use Rattle.mum_owner.specs.Facts.{DeskFacts, OwnerFacts}
-use Rattle.mum_owner.specs.Serving.{ReceivesItem, TakesItem, blocker, may_go, with_pass}
-use Rattle.mum_owner.specs.Turned.{PostsNotice, PostsOne, PostsWhere, has_posted, lagged_by}
+use Rattle.mum_owner.specs.Serving.{ReceivesItem, Rests, TakesItem, blocker, may_go, with_pass}
+use Rattle.mum_owner.specs.Turned.{PostsNotice, PostsOne, has_posted, lag_at, with_lag}
 
 module _ {D L : Type 0} where
   pub taken_item : (old before : OwnerFacts D L) (desk : DeskFacts) (item : Option DeskItem) (worked : Bool) (new : OwnerFacts D L) → before ≡ old
-      → Takes DESK_CAPACITY before.desk.pass item desk.pass → desk.leave ≡ before.desk.leave → ReceivesItem (record before { desk = desk }) item worked new
+      → Takes DESK_CAPACITY before.desk.pass item desk.pass → desk.leave ≡ before.desk.leave → worked ≡ is_some item → ReceivesItem (record before { desk = desk }) item new
       → TakesItem old worked new
-  taken_item old before desk item worked new is takes leave received =
+  taken_item old before desk item worked new is takes leave so received =
       let kept : record before { desk = desk } ≡ with_pass desk.pass old =
       ap (λ (l : Option ℕ). record before { desk = record { pass = desk.pass; leave = l } }) leave
       ∙ ap (λ (o : OwnerFacts D L). with_pass desk.pass o) is in
@@ -24,7 +24,8 @@ module _ {D L : Type 0} where
         item = item;
         pass = desk.pass;
         taken = subst (λ (o : OwnerFacts D L). Takes DESK_CAPACITY o.desk.pass item desk.pass) is takes;
-        received = subst (λ (o : OwnerFacts D L). ReceivesItem o item worked new) kept received;
+        so = so;
+        received = subst (λ (o : OwnerFacts D L). ReceivesItem o item new) kept received;
       }
 
   -- where no login waits, none may go
@@ -35,13 +36,13 @@ module _ {D L : Type 0} where
 
   pub posted_one : (old before : OwnerFacts D L) (answer : Posted) (after : ControlFacts) (worked : Bool) (new : OwnerFacts D L) → before ≡ old
       → is_some before.kept.lag ≡ false → PostsNext before.control before.control.pending answer after → worked ≡ has_posted answer
-      → new ≡ lagged_by answer (record before { control = after }) → PostsNotice old worked new
+      → new ≡ with_lag (lag_at answer before.guests.rows) (record before { control = after }) → PostsNotice old worked new
   posted_one old before answer after worked new is none posts so others =
       let here : PostsOne old worked new = record {
         answer = answer;
         after = after;
         posts = subst (λ (o : OwnerFacts D L). PostsNext o.control o.control.pending answer after) is posts;
         so = so;
-        others = others ∙ ap (λ (o : OwnerFacts D L). lagged_by answer (record o { control = after })) is;
+        others = others ∙ ap (λ (o : OwnerFacts D L). with_lag (lag_at answer o.guests.rows) (record o { control = after })) is;
       } in
-      subst (λ (b : Bool). PostsWhere b old worked new) (sym none ∙ ap (λ (o : OwnerFacts D L). is_some o.kept.lag) is) here
+      subst (λ (b : Bool). MatchBool b (Rests old worked new) (PostsOne old worked new)) (sym none ∙ ap (λ (o : OwnerFacts D L). is_some o.kept.lag) is) here

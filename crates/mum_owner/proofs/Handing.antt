@@ -1,6 +1,6 @@
 -- Connections and replies on their way to the bells, over each part of a turn and over turns.
 use Rattle.std.proofs.Common.{◌≡◌, ◌∙◌, ℕ, zero, suc, ◌+◌, ◌<◌, Bool, true, false, cond, List, [], ◌∷◌, ◌++◌, length, map, Option, Some, None, refl, ap, sym, subst, add-one, append_assoc}
-use Rattle.std.specs.Prelude.{◌&&◌, ◌||◌, filter, is_none, is_some, not}
+use Rattle.std.specs.Prelude.{◌&&◌, ◌||◌, filter, is_none, is_some, not, option_to_list}
 use Rattle.std.specs.List.{filter_map}
 use Rattle.std.proofs.lemmas.List.{append-nil, map-append}
 use Rattle.std.proofs.lemmas.List.Elements.{filter-append}
@@ -9,8 +9,9 @@ use Rattle.mum_control.specs.Facts.{ControlFacts}
 use Rattle.mum_published.specs.Facts.{ReplyFacts}
 use Rattle.mum_crew.specs.Turns.{TurnsTo}
 use Rattle.mum_crew.specs.declared.role.Turn.{Turn}
-use Rattle.mum_io.specs.Counts.{Counts, next_count}
+use Rattle.mum_io.specs.Counts.{next_count}
 use Rattle.mum_io.specs.Door.{DoorFacts, given_after}
+use Rattle.mum_io.specs.Link.{LinkFacts}
 use Rattle.mum_io.specs.declared.door.Accept.{Accept}
 use Rattle.mum_io.specs.declared.door.Accept.TheVariants as accepted
 use Rattle.mum_published.specs.Bell.{Rung}
@@ -20,10 +21,10 @@ use Rattle.mum_doorway.specs.Doors.{given_after_all}
 use Rattle.mum_doorway.specs.Asking.{DoorwayFacts}
 use Rattle.mum_owner.specs.Facts.{GuestsFacts, KeptFacts, OwnerFacts}
 use Rattle.mum_owner.specs.Guests.{has_room}
-use Rattle.mum_owner.specs.Laws.{answered, came_by, came_where, connections_given, handed, is_of_worker, listed, made, numbers, puts_at, replies_made}
+use Rattle.mum_owner.specs.Laws.{answered, came_by, came_where, connections_given, handed, is_of_worker, made, numbers, puts_at, replies_made}
 use Rattle.mum_owner.specs.Opened.{IsOpened}
 use Rattle.mum_owner.specs.Serving.{ServesDesk}
-use Rattle.mum_owner.specs.Turned.{AsksWhere, Offered, OwnerTurned, guests_by, is_not_to_ask, is_over, kept_by}
+use Rattle.mum_owner.specs.Turned.{Asks, Offered, OwnerTurned, guests_by, is_not_to_ask, is_over, kept_by}
 use Rattle.mum_owner.specs.declared.kept.Coming.{Coming}
 use Rattle.mum_owner.specs.declared.kept.Lag.{Lag}
 use Rattle.mum_owner.proofs.Putting.{many_offered, many_told, none_told, other_offered, own_offered}
@@ -40,7 +41,7 @@ is_for place workers coming = is_of_worker place workers coming.connection
 
 -- the connections of a worker that its bell took, and the one that is kept for it
 abbrev pub connections_to : {L : Type 0} → ℕ → ℕ → List (SideFacts L) → Option (Coming L) → List (Coming L)
-connections_to place workers bells coming = filter_map handed (puts_at place bells) ++ filter (is_for place workers) (listed coming)
+connections_to place workers bells coming = filter_map handed (puts_at place bells) ++ filter (is_for place workers) (option_to_list coming)
 
 abbrev pub reply_number : ReplyFacts → ℕ
 reply_number reply = reply.connection
@@ -56,7 +57,7 @@ is_to place workers reply = is_of_worker place workers reply.connection
 
 -- the replies to a worker that its bell took, and the one that is kept for it
 abbrev pub replies_to : {L : Type 0} → ℕ → ℕ → List (SideFacts L) → Option ReplyFacts → List ReplyFacts
-replies_to place workers bells reply = filter_map answered (puts_at place bells) ++ filter (is_to place workers) (listed reply)
+replies_to place workers bells reply = filter_map answered (puts_at place bells) ++ filter (is_to place workers) (option_to_list reply)
 
 -- ---- numbers
 
@@ -66,12 +67,12 @@ numbers_more given = rw add-one refl
 given_more : (before given : ℕ) → given_after_all before (given + 1) ≡ next_count (given_after_all before given)
 given_more before given = rw add-one refl
 
-pub given_by : {L : Type 0} (answer : Accept L) (before old new : ℕ) (guests : GuestsFacts) → old ≡ given_after_all before guests.given → new ≡ given_after answer old
-    → new ≡ given_after_all before (guests_by answer guests).given
-given_by (accepted.Conn link) before old new guests was is = is ∙ ap next_count was ∙ sym (given_more before guests.given)
-given_by accepted.NotYet before old new guests was is = is ∙ was
-given_by accepted.End before old new guests was is = is ∙ was
-given_by accepted.Failed before old new guests was is = is ∙ was
+pub given_by : {L : Type 0} (link_facts : L → LinkFacts) (answer : Accept L) (before old new : ℕ) (guests : GuestsFacts) → old ≡ given_after_all before guests.given → new ≡ given_after answer old
+    → new ≡ given_after_all before (guests_by link_facts answer guests).given
+given_by link_facts (accepted.Conn link) before old new guests was is = is ∙ ap next_count was ∙ sym (given_more before guests.given)
+given_by link_facts accepted.NotYet before old new guests was is = is ∙ was
+given_by link_facts accepted.End before old new guests was is = is ∙ was
+given_by link_facts accepted.Failed before old new guests was is = is ∙ was
 
 -- ---- the door
 
@@ -94,14 +95,14 @@ module _ {L : Type 0} where
   answered_so accepted.Failed place workers bells connection kept given none so = so ∙ ap (λ (l : List (Coming L)). filter (is_for place workers) l) (sym (append-nil given))
 
   -- it is numbered behind those that were given
-  numbered_so : (answer : Accept L) (guests : GuestsFacts) (given : List (Coming L)) → map number_of given ≡ numbers guests.given
-      → map number_of (given ++ came_by answer (guests.given + 1)) ≡ numbers (guests_by answer guests).given
-  numbered_so (accepted.Conn link) guests given so =
+  numbered_so : (link_facts : L → LinkFacts) (answer : Accept L) (guests : GuestsFacts) (given : List (Coming L)) → map number_of given ≡ numbers guests.given
+      → map number_of (given ++ came_by answer (guests.given + 1)) ≡ numbers (guests_by link_facts answer guests).given
+  numbered_so link_facts (accepted.Conn link) guests given so =
       map-append number_of given (record { connection = guests.given + 1; link = link } ∷ [])
       ∙ ap (λ (l : List ℕ). l ++ (guests.given + 1) ∷ []) so ∙ sym (numbers_more guests.given)
-  numbered_so accepted.NotYet guests given so = ap (λ (l : List (Coming L)). map number_of l) (append-nil given) ∙ so
-  numbered_so accepted.End guests given so = ap (λ (l : List (Coming L)). map number_of l) (append-nil given) ∙ so
-  numbered_so accepted.Failed guests given so = ap (λ (l : List (Coming L)). map number_of l) (append-nil given) ∙ so
+  numbered_so link_facts accepted.NotYet guests given so = ap (λ (l : List (Coming L)). map number_of l) (append-nil given) ∙ so
+  numbered_so link_facts accepted.End guests given so = ap (λ (l : List (Coming L)). map number_of l) (append-nil given) ∙ so
+  numbered_so link_facts accepted.Failed guests given so = ap (λ (l : List (Coming L)). map number_of l) (append-nil given) ∙ so
 
 reply_same : {L : Type 0} (answer : Accept L) (connection : ℕ) (kept : KeptFacts L) → (kept_by answer connection kept).reply ≡ kept.reply
 reply_same (accepted.Conn link) connection kept = refl
@@ -129,7 +130,7 @@ module _ {L : Type 0} where
   reply_made : (place workers : ℕ) (bells : List (SideFacts L)) (before after : Option ReplyFacts) → ((reply : ReplyFacts) → before ≡ Some reply → after ≡ Some reply)
       → replies_to place workers bells after ≡ replies_to place workers bells before ++ filter (is_to place workers) (made before after)
   reply_made place workers bells None after stays =
-      ap (λ (l : List ReplyFacts). l ++ filter (is_to place workers) (listed after)) (sym (append-nil (filter_map answered (puts_at place bells))))
+      ap (λ (l : List ReplyFacts). l ++ filter (is_to place workers) (option_to_list after)) (sym (append-nil (filter_map answered (puts_at place bells))))
   reply_made place workers bells (Some reply) after stays =
       ap (λ (o : Option ReplyFacts). replies_to place workers bells o) (stays reply refl) ∙ sym (append-nil (replies_to place workers bells (Some reply)))
 
@@ -181,11 +182,11 @@ module _ {D L : Type 0} where
       record {
         many = many_told old.is_ending o.after_coming o.told new.bells o.tells ∙ many_coming;
         connections =
-            ap (λ (l : List (Coming L)). l ++ filter (is_for place workers) (listed new.kept.coming)) coming_past_end ∙ coming
-            ∙ ap (λ (l : List (Coming L)). l ++ filter (is_for place workers) (listed old.kept.coming)) (coming_past_lag ∙ coming_past_reply)
+            ap (λ (l : List (Coming L)). l ++ filter (is_for place workers) (option_to_list new.kept.coming)) coming_past_end ∙ coming
+            ∙ ap (λ (l : List (Coming L)). l ++ filter (is_for place workers) (option_to_list old.kept.coming)) (coming_past_lag ∙ coming_past_reply)
             ∙ hands.connections;
         answers =
-            ap (λ (l : List ReplyFacts). l ++ filter (is_to place workers) (listed new.kept.reply)) (reply_past_end ∙ reply_past_coming ∙ reply_past_lag) ∙ reply
+            ap (λ (l : List ReplyFacts). l ++ filter (is_to place workers) (option_to_list new.kept.reply)) (reply_past_end ∙ reply_past_coming ∙ reply_past_lag) ∙ reply
             ∙ hands.answers;
       }
 
@@ -228,9 +229,9 @@ module _ {D L : Type 0} where
   ended_guests true owner = refl
   ended_guests false owner = refl
 
-module _ {D L : Type 0} (door_facts : D → DoorFacts) where
+module _ {D L : Type 0} (door_facts : D → DoorFacts) (link_facts : L → LinkFacts) where
   asked_hands : (b : Bool) (place workers : ℕ) (old : OwnerFacts D L) (worked : Bool) (new : OwnerFacts D L) (given : List (Coming L)) (replies : List ReplyFacts) → (b ≡ false → old.kept.coming ≡ None)
-      → (asks : AsksWhere door_facts b old worked new) → Hands place workers old given replies → Hands place workers new (given ++ came_where door_facts b old worked new asks) replies
+      → (asks : Asks door_facts link_facts b old worked new) → Hands place workers old given replies → Hands place workers new (given ++ came_where door_facts link_facts b old worked new asks) replies
   asked_hands true place workers old worked new given replies none rests hands =
       subst (λ (l : List (Coming L)). Hands place workers new l replies) (sym (append-nil given)) (subst (λ (o : OwnerFacts D L). Hands place workers o given replies) (sym rests.1) hands)
   asked_hands false place workers old worked new given replies none asks hands =
@@ -250,10 +251,10 @@ module _ {D L : Type 0} (door_facts : D → DoorFacts) where
       }
 
   -- the connections that came with a turn
-  abbrev pub came : (old : OwnerFacts D L) (turn : Turn) (new : OwnerFacts D L) → OwnerTurned door_facts old turn new → List (Coming L)
-  came old turn new t = came_where door_facts (is_not_to_ask t.after_post) t.after_post t.came t.after_door t.asks
+  abbrev pub came : (old : OwnerFacts D L) (turn : Turn) (new : OwnerFacts D L) → OwnerTurned door_facts link_facts old turn new → List (Coming L)
+  came old turn new t = came_where door_facts link_facts (is_not_to_ask t.after_post) t.after_post t.came t.after_door t.asks
 
-  turned_hands : (place workers : ℕ) (old : OwnerFacts D L) (turn : Turn) (new : OwnerFacts D L) (t : OwnerTurned door_facts old turn new) (given : List (Coming L)) (replies : List ReplyFacts)
+  turned_hands : (place workers : ℕ) (old : OwnerFacts D L) (turn : Turn) (new : OwnerFacts D L) (t : OwnerTurned door_facts link_facts old turn new) (given : List (Coming L)) (replies : List ReplyFacts)
       → 0 < workers → Hands place workers old given replies
       → Hands place workers new (given ++ came old turn new t) (replies ++ made t.after_offers.kept.reply t.after_desk.kept.reply)
   turned_hands place workers old turn new t given replies some hands =
@@ -268,18 +269,18 @@ module _ {D L : Type 0} (door_facts : D → DoorFacts) where
       subst (λ (o : OwnerFacts D L). Hands place workers o (given ++ came old turn new t) more) (sym t.ends)
       (ended_hands (is_over t.after_door && is_none t.after_door.kept.coming) place workers t.after_door (given ++ came old turn new t) more six)
 
-  all_hands : (place workers : ℕ) (old : OwnerFacts D L) (turns : List Turn) (new : OwnerFacts D L) (all : TurnsTo (OwnerTurned door_facts) old turns new) (given : List (Coming L)) (replies : List ReplyFacts)
+  all_hands : (place workers : ℕ) (old : OwnerFacts D L) (turns : List Turn) (new : OwnerFacts D L) (all : TurnsTo (OwnerTurned door_facts link_facts) old turns new) (given : List (Coming L)) (replies : List ReplyFacts)
       → 0 < workers → Hands place workers old given replies
-      → Hands place workers new (given ++ connections_given door_facts old turns new all) (replies ++ replies_made door_facts old turns new all)
+      → Hands place workers new (given ++ connections_given door_facts link_facts old turns new all) (replies ++ replies_made door_facts link_facts old turns new all)
   all_hands place workers old [] new all given replies some hands =
       subst (λ (l : List (Coming L)). Hands place workers new l (replies ++ [])) (sym (append-nil given))
       (subst (λ (l : List ReplyFacts). Hands place workers new given l) (sym (append-nil replies)) (subst (λ (o : OwnerFacts D L). Hands place workers o given replies) (sym all) hands))
   all_hands place workers old (turn ∷ turns) new all given replies some hands =
       let t = all.1 in
       let more = made t.after_offers.kept.reply t.after_desk.kept.reply in
-      let later = connections_given door_facts all.0 turns new all.2 in
-      subst (λ (l : List ReplyFacts). Hands place workers new (given ++ connections_given door_facts old (turn ∷ turns) new all) l) (append_assoc replies more (replies_made door_facts all.0 turns new all.2))
-      (subst (λ (l : List (Coming L)). Hands place workers new l ((replies ++ more) ++ replies_made door_facts all.0 turns new all.2)) (append_assoc given (came old turn all.0 t) later)
+      let later = connections_given door_facts link_facts all.0 turns new all.2 in
+      subst (λ (l : List ReplyFacts). Hands place workers new (given ++ connections_given door_facts link_facts old (turn ∷ turns) new all) l) (append_assoc replies more (replies_made door_facts link_facts all.0 turns new all.2))
+      (subst (λ (l : List (Coming L)). Hands place workers new l ((replies ++ more) ++ replies_made door_facts link_facts all.0 turns new all.2)) (append_assoc given (came old turn all.0 t) later)
       (all_hands place workers all.0 turns new all.2 (given ++ came old turn all.0 t) (replies ++ more) some (turned_hands place workers old turn all.0 t given replies some hands)))
 
   new_hands : (control : ControlFacts) (door : D) (connections place : ℕ) (journal : Bool) (queues : List TableId) (opened : OwnerFacts D L) → IsOpened control door connections journal queues opened
@@ -301,15 +302,15 @@ module _ {D L : Type 0} (door_facts : D → DoorFacts) where
 
   -- from the opening on
   pub handed_once : (control : ControlFacts) (door : D) (connections place : ℕ) (journal : Bool) (queues : List TableId) (opened owner : OwnerFacts D L) (turns : List Turn) → 0 < length queues
-      → IsOpened control door connections journal queues opened → (all : TurnsTo (OwnerTurned door_facts) opened turns owner)
-      → Hands place (length queues) owner (connections_given door_facts opened turns owner all) (replies_made door_facts opened turns owner all)
+      → IsOpened control door connections journal queues opened → (all : TurnsTo (OwnerTurned door_facts link_facts) opened turns owner)
+      → Hands place (length queues) owner (connections_given door_facts link_facts opened turns owner all) (replies_made door_facts link_facts opened turns owner all)
   handed_once control door connections place journal queues opened owner turns some new all =
       all_hands place (length queues) opened turns owner all [] [] some (new_hands control door connections place journal queues opened new)
 
   -- ---- how many the door gave
 
   -- up to the door, and behind it, the doorway and the number of those that were given stay
-  before_door : (old : OwnerFacts D L) (turn : Turn) (new : OwnerFacts D L) (t : OwnerTurned door_facts old turn new)
+  before_door : (old : OwnerFacts D L) (turn : Turn) (new : OwnerFacts D L) (t : OwnerTurned door_facts link_facts old turn new)
       → (t.after_post.doorway ≡ old.doorway) × (t.after_post.guests.given ≡ old.guests.given)
   before_door old turn new t =
       let desk = desk_stays t.after_offers t.served t.after_desk t.serves in
@@ -320,7 +321,7 @@ module _ {D L : Type 0} (door_facts : D → DoorFacts) where
         post.given ∙ ap (λ (g : GuestsFacts). g.given) publish.guests ∙ press.given ∙ desk.given ∙ ap (λ (o : OwnerFacts D L). o.guests.given) t.offers.others,
       )
 
-  behind_door : (old : OwnerFacts D L) (turn : Turn) (new : OwnerFacts D L) (t : OwnerTurned door_facts old turn new)
+  behind_door : (old : OwnerFacts D L) (turn : Turn) (new : OwnerFacts D L) (t : OwnerTurned door_facts link_facts old turn new)
       → (new.doorway ≡ t.after_door.doorway) × (new.guests.given ≡ t.after_door.guests.given)
   behind_door old turn new t =
       let over = is_over t.after_door && is_none t.after_door.kept.coming in (
@@ -329,15 +330,15 @@ module _ {D L : Type 0} (door_facts : D → DoorFacts) where
       )
 
   -- they are numbered in the order in which they came
-  asked_numbered : (b : Bool) (old : OwnerFacts D L) (worked : Bool) (new : OwnerFacts D L) (given : List (Coming L)) (asks : AsksWhere door_facts b old worked new)
-      → map number_of given ≡ numbers old.guests.given → map number_of (given ++ came_where door_facts b old worked new asks) ≡ numbers new.guests.given
+  asked_numbered : (b : Bool) (old : OwnerFacts D L) (worked : Bool) (new : OwnerFacts D L) (given : List (Coming L)) (asks : Asks door_facts link_facts b old worked new)
+      → map number_of given ≡ numbers old.guests.given → map number_of (given ++ came_where door_facts link_facts b old worked new asks) ≡ numbers new.guests.given
   asked_numbered true old worked new given rests so =
       ap (λ (l : List (Coming L)). map number_of l) (append-nil given) ∙ so ∙ ap (λ (o : OwnerFacts D L). numbers o.guests.given) (sym rests.1)
   asked_numbered false old worked new given asks so =
-      numbered_so asks.answer old.guests given so ∙ ap (λ (o : OwnerFacts D L). numbers o.guests.given) (sym asks.others)
+      numbered_so link_facts asks.answer old.guests given so ∙ ap (λ (o : OwnerFacts D L). numbers o.guests.given) (sym asks.others)
 
-  all_numbered : (old : OwnerFacts D L) (turns : List Turn) (new : OwnerFacts D L) (all : TurnsTo (OwnerTurned door_facts) old turns new) (given : List (Coming L))
-      → map number_of given ≡ numbers old.guests.given → map number_of (given ++ connections_given door_facts old turns new all) ≡ numbers new.guests.given
+  all_numbered : (old : OwnerFacts D L) (turns : List Turn) (new : OwnerFacts D L) (all : TurnsTo (OwnerTurned door_facts link_facts) old turns new) (given : List (Coming L))
+      → map number_of given ≡ numbers old.guests.given → map number_of (given ++ connections_given door_facts link_facts old turns new all) ≡ numbers new.guests.given
   all_numbered old [] new all given so =
       ap (λ (l : List (Coming L)). map number_of l) (append-nil given) ∙ so ∙ ap (λ (o : OwnerFacts D L). numbers o.guests.given) (sym all)
   all_numbered old (turn ∷ turns) new all given so =
@@ -346,13 +347,13 @@ module _ {D L : Type 0} (door_facts : D → DoorFacts) where
       let now : map number_of more ≡ numbers all.0.guests.given =
       asked_numbered (is_not_to_ask t.after_post) t.after_post t.came t.after_door given t.asks (so ∙ ap (λ (n : ℕ). numbers n) (sym (before_door old turn all.0 t).1))
       ∙ ap (λ (n : ℕ). numbers n) (sym (behind_door old turn all.0 t).1) in
-      ap (λ (l : List (Coming L)). map number_of l) (sym (append_assoc given (came old turn all.0 t) (connections_given door_facts all.0 turns new all.2)))
+      ap (λ (l : List (Coming L)). map number_of l) (sym (append_assoc given (came old turn all.0 t) (connections_given door_facts link_facts all.0 turns new all.2)))
       ∙ all_numbered all.0 turns new all.2 more now
 
   -- from the opening on
   pub numbered_from : (control : ControlFacts) (door : D) (connections : ℕ) (journal : Bool) (queues : List TableId) (opened owner : OwnerFacts D L) (turns : List Turn)
-      → IsOpened control door connections journal queues opened → (all : TurnsTo (OwnerTurned door_facts) opened turns owner)
-      → map number_of (connections_given door_facts opened turns owner all) ≡ numbers owner.guests.given
+      → IsOpened control door connections journal queues opened → (all : TurnsTo (OwnerTurned door_facts link_facts) opened turns owner)
+      → map number_of (connections_given door_facts link_facts opened turns owner all) ≡ numbers owner.guests.given
   numbered_from control door connections journal queues opened owner turns new all =
       all_numbered opened turns owner all [] (ap (λ (o : OwnerFacts D L). numbers o.guests.given) (sym new))
 
@@ -364,24 +365,24 @@ module _ {D L : Type 0} (door_facts : D → DoorFacts) where
   same_count before old new same counted =
       ap (λ (d : DoorwayFacts D). (door_facts d.door).given) same.0 ∙ counted ∙ ap (λ (n : ℕ). given_after_all before n) (sym same.1)
 
-  asked_count : (b : Bool) (before : ℕ) (old : OwnerFacts D L) (worked : Bool) (new : OwnerFacts D L) → AsksWhere door_facts b old worked new → IsCounted before old → IsCounted before new
+  asked_count : (b : Bool) (before : ℕ) (old : OwnerFacts D L) (worked : Bool) (new : OwnerFacts D L) → Asks door_facts link_facts b old worked new → IsCounted before old → IsCounted before new
   asked_count true before old worked new rests counted = subst (λ (o : OwnerFacts D L). IsCounted before o) (sym rests.1) counted
   asked_count false before old worked new asks counted =
-      given_by asks.answer before (door_facts old.doorway.door).given (door_facts new.doorway.door).given old.guests counted asks.gave
+      given_by link_facts asks.answer before (door_facts old.doorway.door).given (door_facts new.doorway.door).given old.guests counted asks.gave
       ∙ ap (λ (g : GuestsFacts). given_after_all before g.given) (sym (ap (λ (o : OwnerFacts D L). o.guests) asks.others))
 
-  turned_count : (before : ℕ) (old : OwnerFacts D L) (turn : Turn) (new : OwnerFacts D L) → OwnerTurned door_facts old turn new → IsCounted before old → IsCounted before new
+  turned_count : (before : ℕ) (old : OwnerFacts D L) (turn : Turn) (new : OwnerFacts D L) → OwnerTurned door_facts link_facts old turn new → IsCounted before old → IsCounted before new
   turned_count before old turn new t counted =
       same_count before t.after_door new (behind_door old turn new t)
       (asked_count (is_not_to_ask t.after_post) before t.after_post t.came t.after_door t.asks (same_count before old t.after_post (before_door old turn new t) counted))
 
-  all_counted : (before : ℕ) (old : OwnerFacts D L) (turns : List Turn) (new : OwnerFacts D L) → TurnsTo (OwnerTurned door_facts) old turns new → IsCounted before old → IsCounted before new
+  all_counted : (before : ℕ) (old : OwnerFacts D L) (turns : List Turn) (new : OwnerFacts D L) → TurnsTo (OwnerTurned door_facts link_facts) old turns new → IsCounted before old → IsCounted before new
   all_counted before old [] new all counted = subst (λ (o : OwnerFacts D L). IsCounted before o) (sym all) counted
   all_counted before old (turn ∷ turns) new all counted = all_counted before all.0 turns new all.2 (turned_count before old turn all.0 all.1 counted)
 
   -- from the opening on
   pub counted_from : (control : ControlFacts) (door : D) (connections : ℕ) (journal : Bool) (queues : List TableId) (opened owner : OwnerFacts D L) (turns : List Turn)
-      → IsOpened control door connections journal queues opened → TurnsTo (OwnerTurned door_facts) opened turns owner → (door_facts owner.doorway.door).given ≡ given_after_all (door_facts door).given owner.guests.given
+      → IsOpened control door connections journal queues opened → TurnsTo (OwnerTurned door_facts link_facts) opened turns owner → (door_facts owner.doorway.door).given ≡ given_after_all (door_facts door).given owner.guests.given
   counted_from control door connections journal queues opened owner turns new all =
       all_counted (door_facts door).given opened turns owner all
       (ap (λ (o : OwnerFacts D L). (door_facts o.doorway.door).given) new ∙ ap (λ (o : OwnerFacts D L). given_after_all (door_facts door).given o.guests.given) (sym new))

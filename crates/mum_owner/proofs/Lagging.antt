@@ -117,19 +117,19 @@ rows_noted connection rows =
 
 -- ---- one more is given
 
-entered_lagged : (connection given : ℕ) (rows : List Guest) → connection ≤ given → AllLagged connection rows → AllLagged connection (rows ++ new_guest (given + 1) ∷ [])
-entered_lagged connection given [] within all = (λ same. absurd (omega (arith, same, within)), all)
-entered_lagged connection given (guest ∷ rows) within all = (all.0, entered_lagged connection given rows within all.1)
+entered_lagged : (connection given : ℕ) (address : List ℕ) (rows : List Guest) → connection ≤ given → AllLagged connection rows → AllLagged connection (rows ++ new_guest (given + 1) address ∷ [])
+entered_lagged connection given address [] within all = (λ same. absurd (omega (arith, same, within)), all)
+entered_lagged connection given address (guest ∷ rows) within all = (all.0, entered_lagged connection given address rows within all.1)
 
-entered_within : (given : ℕ) (rows : List Guest) → AllWithin given rows → AllWithin (given + 1) (rows ++ new_guest (given + 1) ∷ [])
-entered_within given [] all = (omega arith, all)
-entered_within given (guest ∷ rows) all = let first : guest.connection ≤ given = all.0 in (omega arith, entered_within given rows all.1)
+entered_within : (given : ℕ) (address : List ℕ) (rows : List Guest) → AllWithin given rows → AllWithin (given + 1) (rows ++ new_guest (given + 1) address ∷ [])
+entered_within given address [] all = (omega arith, all)
+entered_within given address (guest ∷ rows) all = let first : guest.connection ≤ given = all.0 in (omega arith, entered_within given address rows all.1)
 
-pub lagged_entered : (connection given : ℕ) (rows : List Guest) → connection ≤ given → AllLagged connection rows → AllLagged connection (rows ++ new_guest (given + 1) ∷ [])
-lagged_entered connection given rows within all = entered_lagged connection given rows within all
+pub lagged_entered : (connection given : ℕ) (address : List ℕ) (rows : List Guest) → connection ≤ given → AllLagged connection rows → AllLagged connection (rows ++ new_guest (given + 1) address ∷ [])
+lagged_entered connection given address rows within all = entered_lagged connection given address rows within all
 
-pub within_entered : (given : ℕ) (rows : List Guest) → AllWithin given rows → AllWithin (given + 1) (rows ++ new_guest (given + 1) ∷ [])
-within_entered given rows all = entered_within given rows all
+pub within_entered : (given : ℕ) (address : List ℕ) (rows : List Guest) → AllWithin given rows → AllWithin (given + 1) (rows ++ new_guest (given + 1) address ∷ [])
+within_entered given address rows all = entered_within given address rows all
 
 -- ---- a lag item is made
 

@@ -13,3 +13,5 @@ mod Giving
 mod Framing
 mod Sent
 mod Answering
+mod Warding
+mod Booking

@@ -1,6 +1,6 @@
 -- A connection lags once: what is kept of a lag item that was made, over each part of a turn and over turns.
-use Rattle.std.proofs.Common.{◌≡◌, ◌≢◌, ◌∙◌, ℕ, ◌≤◌, ◌⊎◌, Bool, true, false, cond, List, [], ◌∷◌, ◌++◌, Option, Some, None, refl, ap, sym, subst, inl, inr, arith, rules}
-use Rattle.std.specs.Prelude.{◌&&◌, All, is_none}
+use Rattle.std.proofs.Common.{◌≡◌, ◌≢◌, ◌∙◌, ℕ, ◌≤◌, ◌⊎◌, Bool, true, false, cond, List, [], ◌∷◌, ◌++◌, Option, Some, None, refl, ap, sym, subst, inl, inr, arith, rules, append_assoc}
+use Rattle.std.specs.Prelude.{◌&&◌, All, is_none, option_to_list}
 use Rattle.std.specs.List.{AllPairs}
 use Rattle.std.proofs.lemmas.List.Elements.{All-append, All-cons}
 use Rattle.std.proofs.lemmas.List.Kept.{AllPairs-cons}
@@ -8,14 +8,14 @@ use Rattle.atomic_table.specs.Seated.{TableId}
 use Rattle.mum_control.specs.Facts.{ControlFacts}
 use Rattle.mum_crew.specs.Turns.{TurnsTo}
 use Rattle.mum_crew.specs.declared.role.Turn.{Turn}
-use Rattle.mum_io.specs.Counts.{Counts}
 use Rattle.mum_io.specs.declared.door.Accept.{Accept}
 use Rattle.mum_io.specs.declared.door.Accept.TheVariants as accepted
 use Rattle.mum_io.specs.Door.{DoorFacts}
+use Rattle.mum_io.specs.Link.{LinkFacts}
 use Rattle.mum_owner.specs.Facts.{GuestsFacts, OwnerFacts}
-use Rattle.mum_owner.specs.Laws.{lags_made, listed, made}
+use Rattle.mum_owner.specs.Laws.{lags_made, made}
 use Rattle.mum_owner.specs.Opened.{IsOpened}
-use Rattle.mum_owner.specs.Turned.{AsksWhere, OwnerTurned, guests_by, is_not_to_ask, is_over}
+use Rattle.mum_owner.specs.Turned.{Asks, OwnerTurned, guests_by, is_not_to_ask, is_over}
 use Rattle.mum_owner.specs.declared.guests.Guest.{Guest}
 use Rattle.mum_owner.specs.declared.kept.Lag.{Lag}
 use Rattle.mum_owner.proofs.Lagging.{AllLagged, AllWithin, HasUnlagged, RowsStay, all_noted, lagged_entered, never_both, rows_equal, rows_noted, unlagged_within, within_entered}
@@ -52,17 +52,17 @@ then_on old mid new one other = record {
   given = λ were. other.given (one.given were);
 }
 
-by_answer : {L : Type 0} (answer : Accept L) (guests : GuestsFacts) → GoesOn guests (guests_by answer guests)
-by_answer (accepted.Conn link) guests = record {
+by_answer : {L : Type 0} (link_facts : L → LinkFacts) (answer : Accept L) (guests : GuestsFacts) → GoesOn guests (guests_by link_facts answer guests)
+by_answer link_facts (accepted.Conn link) guests = record {
   lagged = λ connection has. record {
-    all = lagged_entered connection guests.given guests.rows has.was_given has.all;
+    all = lagged_entered connection guests.given (link_facts link).address guests.rows has.was_given has.all;
     was_given = let was = has.was_given in omega (arith, was);
   };
-  given = λ were. within_entered guests.given guests.rows were;
+  given = λ were. within_entered guests.given (link_facts link).address guests.rows were;
 }
-by_answer accepted.NotYet guests = by_same guests guests refl
-by_answer accepted.End guests = by_same guests guests refl
-by_answer accepted.Failed guests = by_same guests guests refl
+by_answer link_facts accepted.NotYet guests = by_same guests guests refl
+by_answer link_facts accepted.End guests = by_same guests guests refl
+by_answer link_facts accepted.Failed guests = by_same guests guests refl
 
 made_same : {X : Type 0} (x : Option X) → made x x ≡ []
 made_same None = refl
@@ -95,7 +95,7 @@ module _ {D L : Type 0} where
   lag_on old new stays = by_rows old.guests new.guests (lag_rows old new stays) stays.given
 
   made_one : (old new : OwnerFacts D L) (m : MakesLag old new) → made old.kept.lag new.kept.lag ≡ m.item ∷ []
-  made_one old new m = ap (λ (l : Option Lag). made l new.kept.lag) m.none ∙ ap (λ (l : Option Lag). listed l) m.some
+  made_one old new m = ap (λ (l : Option Lag). made l new.kept.lag) m.none ∙ ap (λ (l : Option Lag). option_to_list l) m.some
 
   made_none : (old new : OwnerFacts D L) (m : MakesNone old new) → made old.kept.lag new.kept.lag ≡ []
   made_none old new m = ap (λ (l : Option Lag). made old.kept.lag l) m.lag ∙ made_same old.kept.lag
@@ -128,13 +128,13 @@ module _ {D L : Type 0} where
   ended_by true owner = refl
   ended_by false owner = refl
 
-module _ {D L : Type 0} (door_facts : D → DoorFacts) where
-  asks_on : (b : Bool) (old : OwnerFacts D L) (worked : Bool) (new : OwnerFacts D L) → AsksWhere door_facts b old worked new → GoesOn old.guests new.guests
+module _ {D L : Type 0} (door_facts : D → DoorFacts) (link_facts : L → LinkFacts) where
+  asks_on : (b : Bool) (old : OwnerFacts D L) (worked : Bool) (new : OwnerFacts D L) → Asks door_facts link_facts b old worked new → GoesOn old.guests new.guests
   asks_on true old worked new rests = by_same old.guests new.guests (ap (λ (o : OwnerFacts D L). o.guests) rests.1)
   asks_on false old worked new asks =
-      subst (λ (g : GuestsFacts). GoesOn old.guests g) (sym (ap (λ (o : OwnerFacts D L). o.guests) asks.others)) (by_answer asks.answer old.guests)
+      subst (λ (g : GuestsFacts). GoesOn old.guests g) (sym (ap (λ (o : OwnerFacts D L). o.guests) asks.others)) (by_answer link_facts asks.answer old.guests)
 
-  module _ (old : OwnerFacts D L) (turn : Turn) (new : OwnerFacts D L) (t : OwnerTurned door_facts old turn new) where
+  module _ (old : OwnerFacts D L) (turn : Turn) (new : OwnerFacts D L) (t : OwnerTurned door_facts link_facts old turn new) where
     press : LagStays t.after_desk t.after_press
     press = press_stays t.after_desk t.pressed t.after_press t.presses
 
@@ -160,29 +160,29 @@ module _ {D L : Type 0} (door_facts : D → DoorFacts) where
         (ap (λ (o : OwnerFacts D L). o.guests) t.ends ∙ ended_by (is_over t.after_door && is_none t.after_door.kept.coming) t.after_door))
 
   -- none is made any more for a connection for which one was made
-  never_again : (connection : ℕ) (old : OwnerFacts D L) (turns : List Turn) (new : OwnerFacts D L) (all : TurnsTo (OwnerTurned door_facts) old turns new)
-      → HasLagged connection old.guests → All (IsOther connection) (lags_made door_facts old turns new all)
+  never_again : (connection : ℕ) (old : OwnerFacts D L) (turns : List Turn) (new : OwnerFacts D L) (all : TurnsTo (OwnerTurned door_facts link_facts) old turns new)
+      → HasLagged connection old.guests → All (IsOther connection) (lags_made door_facts link_facts old turns new all)
   never_again connection old [] new all has = none_other connection
   never_again connection old (turn ∷ turns) new all has =
       let t = all.1 in
       let at_press = (to_press old turn all.0 t).lagged connection has in
       let at_post = (to_post old turn all.0 t).lagged connection ((lag_on t.after_desk t.after_press (press old turn all.0 t)).lagged connection at_press) in
       let at_end = (to_end old turn all.0 t).lagged connection ((lag_on t.after_publish t.after_post (post old turn all.0 t)).lagged connection at_post) in
-      All-append (IsOther connection) (made t.after_desk.kept.lag t.after_press.kept.lag)
-      (made t.after_publish.kept.lag t.after_post.kept.lag ++ lags_made door_facts all.0 turns new all.2)
+      All-append (IsOther connection) (made t.after_desk.kept.lag t.after_press.kept.lag ++ made t.after_publish.kept.lag t.after_post.kept.lag)
+      (lags_made door_facts link_facts all.0 turns new all.2)
+      (All-append (IsOther connection) (made t.after_desk.kept.lag t.after_press.kept.lag) (made t.after_publish.kept.lag t.after_post.kept.lag)
       (others_made connection t.after_desk t.after_press at_press (press old turn all.0 t).lags)
-      (All-append (IsOther connection) (made t.after_publish.kept.lag t.after_post.kept.lag) (lags_made door_facts all.0 turns new all.2)
-      (others_made connection t.after_publish t.after_post at_post (post old turn all.0 t).lags)
-      (never_again connection all.0 turns new all.2 at_end))
+      (others_made connection t.after_publish t.after_post at_post (post old turn all.0 t).lags))
+      (never_again connection all.0 turns new all.2 at_end)
 
-  once_each : (old : OwnerFacts D L) (turns : List Turn) (new : OwnerFacts D L) (all : TurnsTo (OwnerTurned door_facts) old turns new) → WereGiven old.guests
-      → AllPairs AreTwo (lags_made door_facts old turns new all)
+  once_each : (old : OwnerFacts D L) (turns : List Turn) (new : OwnerFacts D L) (all : TurnsTo (OwnerTurned door_facts link_facts) old turns new) → WereGiven old.guests
+      → AllPairs AreTwo (lags_made door_facts link_facts old turns new all)
   once_each old [] new all were = none_two
   once_each old (turn ∷ turns) new all were =
       let t = all.1 in
       let pressed = press old turn all.0 t in
       let posted = post old turn all.0 t in
-      let behind = lags_made door_facts all.0 turns new all.2 in
+      let behind = lags_made door_facts link_facts all.0 turns new all.2 in
       let at_press = (to_press old turn all.0 t).given were in
       let at_post = (to_post old turn all.0 t).given ((lag_on t.after_desk t.after_press pressed).given at_press) in
       let at_end = (to_end old turn all.0 t).given ((lag_on t.after_publish t.after_post posted).given at_post) in
@@ -196,11 +196,12 @@ module _ {D L : Type 0} (door_facts : D → DoorFacts) where
       All-append (IsOther connection) (made t.after_publish.kept.lag t.after_post.kept.lag) behind
       (others_made connection t.after_publish t.after_post there posted.lags)
       (later connection ((lag_on t.after_publish t.after_post posted).lagged connection there)) in
-      apart t.after_desk t.after_press (made t.after_publish.kept.lag t.after_post.kept.lag ++ behind) pressed.given at_press from_press from_post pressed.lags
+      subst (AllPairs AreTwo) (sym (append_assoc (made t.after_desk.kept.lag t.after_press.kept.lag) (made t.after_publish.kept.lag t.after_post.kept.lag) behind))
+      (apart t.after_desk t.after_press (made t.after_publish.kept.lag t.after_post.kept.lag ++ behind) pressed.given at_press from_press from_post pressed.lags)
 
   -- from the opening on
   pub lags_once : (control : ControlFacts) (door : D) (connections : ℕ) (journal : Bool) (queues : List TableId) (opened owner : OwnerFacts D L) (turns : List Turn)
-      → IsOpened control door connections journal queues opened → (all : TurnsTo (OwnerTurned door_facts) opened turns owner)
-      → AllPairs (λ one other. one.connection ≢ other.connection) (lags_made door_facts opened turns owner all)
+      → IsOpened control door connections journal queues opened → (all : TurnsTo (OwnerTurned door_facts link_facts) opened turns owner)
+      → AllPairs (λ one other. one.connection ≢ other.connection) (lags_made door_facts link_facts opened turns owner all)
   lags_once control door connections journal queues opened owner turns new all =
       once_each opened turns owner all (subst (λ (g : GuestsFacts). WereGiven g) (sym (ap (λ (o : OwnerFacts D L). o.guests) new)) tt)

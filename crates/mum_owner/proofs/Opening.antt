@@ -1,14 +1,14 @@
 -- What an owner was opened with stays, over each part of a turn.
-use Rattle.std.proofs.Common.{◌≡◌, ◌∙◌, ℕ, Bool, true, false, cond, refl, ap, sym, subst}
+use Rattle.std.proofs.Common.{◌≡◌, ◌∙◌, Bool, true, false, cond, refl, ap, sym, subst}
 use Rattle.std.specs.Prelude.{◌↔◌, ◌&&◌, IsTrue, is_none}
 use Rattle.mum_crew.specs.declared.role.Turn.{Turn}
 use Rattle.mum_crew.specs.declared.role.Turn.TheVariants.{Done}
-use Rattle.mum_io.specs.Counts.{Counts}
 use Rattle.mum_io.specs.declared.door.Accept.{Accept}
 use Rattle.mum_io.specs.declared.door.Accept.TheVariants as accepted
 use Rattle.mum_io.specs.Door.{DoorFacts}
+use Rattle.mum_io.specs.Link.{LinkFacts}
 use Rattle.mum_owner.specs.Facts.{GuestsFacts, OwnerFacts}
-use Rattle.mum_owner.specs.Turned.{AsksWhere, Offered, OwnerTurned, guests_by, has_ended, is_over, turn_of}
+use Rattle.mum_owner.specs.Turned.{Asks, Offered, OwnerTurned, guests_by, has_ended, is_over, turn_of}
 use Rattle.mum_owner.proofs.Steps.{DeskStays, LagStays, PublishStays, desk_stays, post_stays, press_stays, publish_stays}
 
 -- ---- the outcome of a turn
@@ -20,11 +20,11 @@ done_so false false = (λ so. cc, λ so. cc)
 
 -- ---- the connections
 
-guests_limit : {L : Type 0} (answer : Accept L) (guests : GuestsFacts) → (guests_by answer guests).limit ≡ guests.limit
-guests_limit (accepted.Conn link) guests = refl
-guests_limit accepted.NotYet guests = refl
-guests_limit accepted.End guests = refl
-guests_limit accepted.Failed guests = refl
+guests_limit : {L : Type 0} (link_facts : L → LinkFacts) (answer : Accept L) (guests : GuestsFacts) → (guests_by link_facts answer guests).limit ≡ guests.limit
+guests_limit link_facts (accepted.Conn link) guests = refl
+guests_limit link_facts accepted.NotYet guests = refl
+guests_limit link_facts accepted.End guests = refl
+guests_limit link_facts accepted.Failed guests = refl
 
 module _ {D L : Type 0} where
   -- the connections that are given in all, and whether a journal is kept, are as before
@@ -62,16 +62,16 @@ module _ {D L : Type 0} where
   ended_by true owner = record { limit = refl; asked = refl }
   ended_by false owner = same owner
 
-module _ {D L : Type 0} (door_facts : D → DoorFacts) where
-  asks_so : (b : Bool) (old : OwnerFacts D L) (worked : Bool) (new : OwnerFacts D L) → AsksWhere door_facts b old worked new → SameOpening old new
+module _ {D L : Type 0} (door_facts : D → DoorFacts) (link_facts : L → LinkFacts) where
+  asks_so : (b : Bool) (old : OwnerFacts D L) (worked : Bool) (new : OwnerFacts D L) → Asks door_facts link_facts b old worked new → SameOpening old new
   asks_so true old worked new rests = by_equal old new rests.1
   asks_so false old worked new asks = record {
-    limit = ap (λ (o : OwnerFacts D L). o.guests.limit) asks.others ∙ guests_limit asks.answer old.guests;
+    limit = ap (λ (o : OwnerFacts D L). o.guests.limit) asks.others ∙ guests_limit link_facts asks.answer old.guests;
     asked = ap (λ (o : OwnerFacts D L). o.scribe.is_asked) asks.others;
   }
 
   -- over a whole turn
-  pub opening_stays : (old : OwnerFacts D L) (turn : Turn) (new : OwnerFacts D L) → OwnerTurned door_facts old turn new → SameOpening old new
+  pub opening_stays : (old : OwnerFacts D L) (turn : Turn) (new : OwnerFacts D L) → OwnerTurned door_facts link_facts old turn new → SameOpening old new
   opening_stays old turn new t =
       let one = offered_so old t.offered t.after_offers t.offers in
       let two = served_so t.after_offers t.after_desk (desk_stays t.after_offers t.served t.after_desk t.serves) in
@@ -87,5 +87,5 @@ module _ {D L : Type 0} (door_facts : D → DoorFacts) where
         asked = ap (λ (o : OwnerFacts D L). o.scribe.is_asked) t.ends ∙ seven.asked ∙ all.asked;
       }
 
-  pub done_where_ended : (old : OwnerFacts D L) (turn : Turn) (new : OwnerFacts D L) → OwnerTurned door_facts old turn new → (turn ≡ Done) ↔ IsTrue (has_ended new)
+  pub done_where_ended : (old : OwnerFacts D L) (turn : Turn) (new : OwnerFacts D L) → OwnerTurned door_facts link_facts old turn new → (turn ≡ Done) ↔ IsTrue (has_ended new)
   done_where_ended old turn new t = subst (λ (u : Turn). (u ≡ Done) ↔ IsTrue (has_ended new)) (sym t.came_to) (done_so (has_ended new) _)

@@ -1,6 +1,6 @@
 -- What the bell of one worker took, over each change of the bells.
 use Rattle.std.proofs.Common.{◌≡◌, ◌∙◌, ℕ, zero, suc, ◌<◌, Bool, true, false, cond, List, [], ◌∷◌, ◌++◌, length, Option, Some, None, refl, ap, sym, subst, arith}
-use Rattle.std.specs.Prelude.{◌==◌, filter, slice_get}
+use Rattle.std.specs.Prelude.{◌==◌, filter, slice_get, MatchBool, option_to_list}
 use Rattle.std.specs.List.{cons_option, filter_map}
 use Rattle.std.proofs.lemmas.Bool.{eq-eqb, eqb-true}
 use Rattle.std.proofs.lemmas.List.{append-nil}
@@ -9,9 +9,9 @@ use Rattle.std.proofs.Math.Nat.{mod-lt}
 use Rattle.mum_published.specs.Bell.{Rung}
 use Rattle.mum_published.specs.Bell.Rung.{NoMore}
 use Rattle.mum_owner.specs.Bell.{SideFacts}
-use Rattle.mum_owner.specs.Laws.{is_of_worker, listed, puts_at}
+use Rattle.mum_owner.specs.Laws.{is_of_worker, puts_at}
 use Rattle.mum_owner.proofs.Telling.{same_length}
-use Rattle.mum_owner.specs.Ringing.{OffersOne, TellsBy, TellsEach, TellsWhere, at_worker, changed_at, with_found, with_full, with_put, worker_of}
+use Rattle.mum_owner.specs.Ringing.{OffersOne, TellsEach, at_worker, changed_at, with_found, with_full, with_put, worker_of}
 
 worker_within : (connection workers : ℕ) → 0 < workers → worker_of connection workers < workers
 worker_within zero workers some = some
@@ -67,7 +67,7 @@ module _ {L : Type 0} where
 
     -- what is kept for it
     abbrev pub waiting : ℕ → ℕ → Option X → List X
-    waiting place workers kept = filter (λ x. is_of_worker place workers (number x)) (listed kept)
+    waiting place workers kept = filter (λ x. is_of_worker place workers (number x)) (option_to_list kept)
 
     one_more : (put : Rung L) (x : X) (puts : List (Rung L)) → found put ≡ Some x → filter_map found (puts ++ put ∷ []) ≡ filter_map found puts ++ x ∷ []
     one_more put x puts is =
@@ -123,7 +123,9 @@ module _ {L : Type 0} where
         ap (λ (l : List (SideFacts L)). taken place l) offers.0
         ∙ ap (λ (l : List (Rung L)). filter_map found l) (full_anywhere place (worker_of (numbered one) (length bells)) bells)
 
-    told_by : (told : Bool) (side : SideFacts L) (took : Bool) (after : SideFacts L) → TellsBy told side took after → filter_map found after.put ≡ filter_map found side.put
+    told_by : (told : Bool) (side : SideFacts L) (took : Bool) (after : SideFacts L)
+        → MatchBool told ((took ≡ false) × (after ≡ side)) (MatchBool took (after ≡ record (with_put NoMore side) { is_told = true }) (after ≡ with_full side))
+        → filter_map found after.put ≡ filter_map found side.put
     told_by true side took after tells = ap (λ (s : SideFacts L). filter_map found s.put) tells.1
     told_by false side true after tells = ap (λ (s : SideFacts L). filter_map found s.put) tells ∙ none_more NoMore side.put last
     told_by false side false after tells = ap (λ (s : SideFacts L). filter_map found s.put) tells
@@ -136,7 +138,7 @@ module _ {L : Type 0} where
     told_each (suc place) (side ∷ bells) took (changed ∷ after) tells = told_each place bells tells.1 after tells.3
 
     -- the bells were told that no more connections come, or were not
-    pub none_told : (ending : Bool) (place : ℕ) (bells : List (SideFacts L)) (took : Bool) (after : List (SideFacts L)) → TellsWhere ending bells took after → taken place after ≡ taken place bells
+    pub none_told : (ending : Bool) (place : ℕ) (bells : List (SideFacts L)) (took : Bool) (after : List (SideFacts L)) → MatchBool ending (TellsEach bells took after) ((took ≡ false) × (after ≡ bells)) → taken place after ≡ taken place bells
     none_told true place bells took after tells = told_each place bells took after tells
     none_told false place bells took after tells = ap (λ (l : List (SideFacts L)). taken place l) tells.1
 
@@ -150,6 +152,6 @@ module _ {L : Type 0} where
   many_offered number item bells (Some one) false after left offers =
       ap (λ (l : List (SideFacts L)). length l) offers.0 ∙ length_changed (worker_of (number one) (length bells)) with_full bells
 
-  pub many_told : (ending : Bool) (bells : List (SideFacts L)) (took : Bool) (after : List (SideFacts L)) → TellsWhere ending bells took after → length after ≡ length bells
+  pub many_told : (ending : Bool) (bells : List (SideFacts L)) (took : Bool) (after : List (SideFacts L)) → MatchBool ending (TellsEach bells took after) ((took ≡ false) × (after ≡ bells)) → length after ≡ length bells
   many_told true bells took after tells = same_length bells took after tells
   many_told false bells took after tells = ap (λ (l : List (SideFacts L)). length l) tells.1

@@ -31,9 +31,9 @@ rise_weaker : (low lower high : ℕ) (rows : List Guest) → lower ≤ low → R
 rise_weaker low lower high [] less rise = omega arith
 rise_weaker low lower high (guest ∷ rows) less rise = let first : low ≤ guest.connection = rise.0 in (omega arith, rise.1)
 
-rise_more : (low given : ℕ) (rows : List Guest) → RiseWithin low (given + 1) rows → RiseWithin low (given + 1 + 1) (rows ++ new_guest (given + 1) ∷ [])
-rise_more low given [] rise = (rise, omega arith)
-rise_more low given (guest ∷ rows) rise = (rise.0, rise_more (guest.connection + 1) given rows rise.1)
+rise_more : (low given : ℕ) (address : List ℕ) (rows : List Guest) → RiseWithin low (given + 1) rows → RiseWithin low (given + 1 + 1) (rows ++ new_guest (given + 1) address ∷ [])
+rise_more low given address [] rise = (rise, omega arith)
+rise_more low given address (guest ∷ rows) rise = (rise.0, rise_more (guest.connection + 1) given address rows rise.1)
 
 rise_mapped : (f : Guest → Guest) → ((guest : Guest) → (f guest).connection ≡ guest.connection) → (low high : ℕ) (rows : List Guest)
     → RiseWithin low high rows → RiseWithin low high (map f rows)
@@ -85,12 +85,12 @@ count_left connection low high (guest ∷ rows) rise any =
 
 -- ---- what is kept true of them
 
-pub kept_entered : (rows : List Guest) (given closed limit room same : ℕ) → AreKept rows given closed limit room → length rows < CONNECTION_LIMIT → given < limit → same ≡ room
-    → AreKept (rows ++ new_guest (given + 1) ∷ []) (given + 1) closed limit same
-kept_entered rows given closed limit room same kept few below full = record {
-  rise = rise_more 1 given rows kept.rise;
-  open_or_closed = let was = kept.open_or_closed in omega (arith, length-append rows (new_guest (given + 1) ∷ []), was);
-  few = omega (arith, length-append rows (new_guest (given + 1) ∷ []), few);
+pub kept_entered : (address : List ℕ) (rows : List Guest) (given closed limit room same : ℕ) → AreKept rows given closed limit room → length rows < CONNECTION_LIMIT → given < limit → same ≡ room
+    → AreKept (rows ++ new_guest (given + 1) address ∷ []) (given + 1) closed limit same
+kept_entered address rows given closed limit room same kept few below full = record {
+  rise = rise_more 1 given address rows kept.rise;
+  open_or_closed = let was = kept.open_or_closed in omega (arith, length-append rows (new_guest (given + 1) address ∷ []), was);
+  few = omega (arith, length-append rows (new_guest (given + 1) address ∷ []), few);
   within = omega arith;
   room_is = let was = kept.room_is in omega (arith, was, full);
 }

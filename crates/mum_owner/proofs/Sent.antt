@@ -1,5 +1,5 @@
 -- The journal has a command as a frame of the type that was sent.
-use Rattle.std.proofs.Common.{◌≡◌, ◌==◌, ◌||◌, ◌<◌, ◌^◌, ℕ, Bool, true, false, List, [], ◌∷◌, Option, Some, None, ap, arith, refl, subst, sym}
+use Rattle.std.proofs.Common.{◌≡◌, ◌==◌, ◌&&◌, ◌||◌, ◌<◌, ◌^◌, ℕ, Bool, true, false, List, [], ◌∷◌, Option, Some, None, ap, arith, refl, subst, sym}
 use Rattle.std.specs.Prelude.{Err, Ok, if◌then◌else◌}
 use Rattle.std.specs.List.{list_any}
 use Rattle.std.specs.Option.{option_map}
@@ -19,11 +19,13 @@ use Rattle.mum_rules_tree.specs.declared.message.TreeMessage.TheVariants as chan
 use Rattle.mum_rules_user.specs.Asked as user
 use Rattle.mum_rules_user.specs.declared.message.UserMessage.{UserMessage}
 use Rattle.mum_rules_user.specs.declared.message.UserMessage.TheVariants as users
-use Rattle.mum_session.specs.Action.{Decoded, action, after_login, command_action, commands_after_login, login_action, ping_action, tree_or_user_action, version_action, voice_action}
+use Rattle.mum_base.specs.declared.outcome.Reason.TheVariants.{NotRead}
+use Rattle.mum_session.specs.Action.{Decoded, action, after_login, command_action, commands_after_login, ignore, login_action, ping_action, tree_or_user_action, version_action, voice_action}
 use Rattle.mum_session.specs.Heard.{command_heard, heard_map, read}
 use Rattle.mum_session.specs.Machine.{Machine, is_rejected, session_of}
 use Rattle.mum_session.specs.declared.action.Action.{Action}
-use Rattle.mum_session.specs.declared.action.Action.TheVariants.{Ask}
+use Rattle.mum_session.specs.declared.action.Action.TheVariants.{Ask, Bans}
+use Rattle.mum_session.specs.declared.action.TheConstants.{BAN_LIST}
 use Rattle.mum_session.specs.declared.command.Asked.{Asked}
 use Rattle.mum_session.specs.declared.command.Asked.TheVariants.{Tree, User}
 use Rattle.mum_session.specs.declared.command.Command.{Command}
@@ -133,6 +135,11 @@ no_ping : (found : Decoded ping) (command : Command) → ping_action found ≡ A
 no_ping (Ok values) command is = cc
 no_ping (Err fault) command is = cc
 
+no_list : (may : Bool) (session : Option SessionId) (payload : List ℕ) (command : Command) → (if may then after_login session (Bans payload) else ignore NotRead) ≡ Ask command → ⊥
+no_list true None payload command is = cc
+no_list true (Some session) payload command is = cc
+no_list false session payload command is = cc
+
 logged_in : (session : Option SessionId) (asks : Action) (command : Command) → after_login session asks ≡ Ask command → asks ≡ Ask command
 logged_in None asks command is = absurd cc
 logged_in (Some session) asks command is = is
@@ -159,4 +166,4 @@ sent machine kind payload command =
     (λ b4. where_so asks (list_any (λ known. known == kind) commands_after_login) _ _
     (λ any is. of_known (IsSent machine payload command) commands_after_login kind any (each_known machine payload command)
     (logged_in (session_of machine.stage) (tree_or_user_action machine kind payload) command is))
-    (λ b is. absurd cc))))))
+    (λ b is. absurd (no_list (machine.bans && kind == BAN_LIST) (session_of machine.stage) payload command is)))))))

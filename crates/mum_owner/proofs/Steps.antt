@@ -1,8 +1,8 @@
 -- What each part of a turn leaves as it was.
 use Rattle.std.proofs.Common.{◌≡◌, ◌∙◌, ℕ, ◌+◌, ◌⊎◌, Bool, true, false, cond, List, map, Option, Some, None, refl, ap, sym, subst, inl, inr}
-use Rattle.std.specs.Prelude.{◌||◌, ◌==◌, filter, find, is_some, length, nat_lt}
+use Rattle.std.specs.Prelude.{◌||◌, ◌==◌, filter, find, is_some, length, nat_lt, MatchBool, MatchOption}
 use Rattle.std.specs.List.{list_any}
-use Rattle.std.specs.Option.{option_map}
+use Rattle.std.specs.Option.{option_and_then, option_map}
 use Rattle.mum_base.specs.declared.number.SessionId.{SessionId}
 use Rattle.mum_base.specs.declared.number.Slot.{Slot}
 use Rattle.mum_base.specs.declared.number.TheConstants.{CONNECTION_LIMIT}
@@ -18,11 +18,17 @@ use Rattle.mum_port.specs.declared.item.DeskItem.{DeskItem}
 use Rattle.mum_port.specs.declared.item.DeskItem.TheVariants as items
 use Rattle.mum_session.specs.declared.command.Command.{Command}
 use Rattle.mum_state.specs.State.{StateValue}
+use Rattle.mum_warden.specs.Answer.{sent}
+use Rattle.mum_warden.specs.Warden.{WardenFacts, verdict_in}
+use Rattle.mum_bans.specs.Book.{Book}
 use Rattle.mum_owner.specs.Facts.{GuestsFacts, KeptFacts, OwnerFacts}
-use Rattle.mum_owner.specs.Guests.{is_gone_from, is_not_of, is_of, joined_by, lag_noted, may_lag, owned}
-use Rattle.mum_owner.specs.Serving.{GivesOwned, GivesWaiting, GoesWhere, IsGiven, LeaveIsGiven, LeavesWhere, PendsWhere, ReceivesBy, ReceivesItem, ReceivesOwned, ServesDesk, ServesWhere, TakesItem, TakesWhere, blocker, guest_in, kept_after, may_go}
-use Rattle.mum_owner.specs.Turned.{LagsFor, LagsOnce, PostsNotice, PostsOne, PostsWhere, Presses, PressesWhere, Publishes, PublishesBy, PublishesWhere, lagged_by, lagged_for}
-use Rattle.mum_owner.specs.Waiting.{are_none}
+use Rattle.mum_owner.specs.Guests.{is_gone_from, is_not_of, is_of, joined_by, lag_for, lag_noted, lagging, may_lag, owned}
+use Rattle.mum_owner.specs.Banning.{Answers, IsGivenOrRefused, ListComesTo, SettledBy, SettlesList, TestedBy, ban_reply, banned_in, book_after, is_banned, list_reply, with_ban, with_warden}
+use Rattle.mum_owner.specs.Given.{IsGiven, replied, starved}
+use Rattle.mum_owner.specs.Serving.{GivesWaiting, LeaveIsGiven, Next, Receives, ReceivesBy, ReceivesItem, Rests, Serves, ServesDesk, TakesItem, blocker, kept_after, may_go, next, next_by}
+use Rattle.mum_owner.specs.Serving.Next.{Again, Goes, Rest, Take}
+use Rattle.mum_owner.specs.Written.{is_login}
+use Rattle.mum_owner.specs.Turned.{PostsNotice, PostsOne, Presses, Publishes, lag_at, pressing, with_lag}
 use Rattle.mum_owner.specs.declared.desk.TheConstants.{PENDING_LIMIT}
 use Rattle.mum_owner.specs.declared.guests.Guest.{Guest}
 use Rattle.mum_owner.specs.declared.kept.Lag.{Lag}
@@ -50,10 +56,37 @@ reply_keeps_coming false reply kept = refl
 
 -- ---- lag items
 
-gone_unlagged : (state : StateValue) (slot : Option Slot) (rows : List Guest) (found : Guest) → guest_in state slot rows ≡ Some found → found.lagged ≡ false
-    → HasUnlagged found.connection rows
+gone_unlagged : (state : StateValue) (slot : Option Slot) (rows : List Guest) (found : Guest) → option_and_then (λ s. find (is_gone_from state s) rows) slot ≡ Some found
+    → found.lagged ≡ false → HasUnlagged found.connection rows
 gone_unlagged state None rows found so unlagged = cc
 gone_unlagged state (Some slot) rows found so unlagged = found_unlagged (is_gone_from state slot) rows found so unlagged
+
+-- a lag item that is made of a connection is its own, and none was made before
+of_guest : (lagged : Bool) (session : Option SessionId) (connection : ℕ) (lag : Lag)
+    → cond lagged None (option_map (λ s. record { connection = connection; session = s }) session) ≡ Some lag → (lagged ≡ false) × (connection ≡ lag.connection)
+of_guest true session connection lag so = cc
+of_guest false None connection lag so = cc
+of_guest false (Some session) connection lag so = (refl, ap (λ (l : Option Lag). connection_in connection l) so)
+  where
+    connection_in : ℕ → Option Lag → ℕ
+    connection_in other None = other
+    connection_in other (Some item) = item.connection
+
+lag_unlagged : (guest : Option Guest) (rows : List Guest) (lag : Lag)
+    → ((found : Guest) → guest ≡ Some found → found.lagged ≡ false → HasUnlagged found.connection rows) → option_and_then lag_for guest ≡ Some lag
+    → HasUnlagged lag.connection rows
+lag_unlagged None rows lag unlagged so = cc
+lag_unlagged (Some guest) rows lag unlagged so =
+    let own = of_guest guest.lagged guest.session guest.connection lag so in
+    subst (λ (n : ℕ). HasUnlagged n rows) own.1 (unlagged guest refl own.0)
+
+found_connection : (found : Option Guest) (session : SessionId) (rows : List Guest) (lag : Lag)
+    → ((guest : Guest) → found ≡ Some guest → HasUnlagged guest.connection rows)
+    → option_map (λ guest. record { connection = guest.connection; session = session }) found ≡ Some lag → HasUnlagged lag.connection rows
+found_connection None session rows lag unlagged so = cc
+found_connection (Some guest) session rows lag unlagged so =
+    let own = of_guest false (Some session) guest.connection lag so in
+    subst (λ (n : ℕ). HasUnlagged n rows) own.1 (unlagged guest refl)
 
 none_where : (waiting : Bool) (lag : Option Lag) → (waiting || is_some lag) ≡ false → lag ≡ None
 none_where true lag so = cc
@@ -84,6 +117,30 @@ module _ {D L : Type 0} where
   desk_as : (old mid new : OwnerFacts D L) → new ≡ mid → DeskStays old mid → DeskStays old new
   desk_as old mid new is stays = subst (λ (o : OwnerFacts D L). DeskStays old o) (sym is) stays
 
+  replied_so : (old : OwnerFacts D L) (reply : ReplyFacts) → DeskStays old (replied reply old)
+  replied_so old reply = record {
+    limit = refl;
+    asked = refl;
+    given = refl;
+    doorway = refl;
+    bells = refl;
+    lag = refl;
+    coming = refl;
+    rows = rows_same old.guests.rows;
+  }
+
+  starved_so : (old : OwnerFacts D L) (connection : ℕ) → DeskStays old (starved connection old)
+  starved_so old connection = record {
+    limit = refl;
+    asked = refl;
+    given = refl;
+    doorway = refl;
+    bells = refl;
+    lag = refl;
+    coming = refl;
+    rows = rows_same old.guests.rows;
+  }
+
   given_so : (old : OwnerFacts D L) (command : Command) (new : OwnerFacts D L) → IsGiven old command new → DeskStays old new
   given_so old command new (inl gives) = desk_as old _ new gives.others (record {
     limit = joined_limit gives.reply.end command.connection old.guests;
@@ -95,16 +152,67 @@ module _ {D L : Type 0} where
     coming = refl;
     rows = rows_joined gives.reply.end command.connection old.guests;
   })
-  given_so old command new (inr drops) = desk_as old _ new drops.others (record {
-    limit = refl;
-    asked = refl;
-    given = refl;
-    doorway = refl;
-    bells = refl;
-    lag = refl;
-    coming = refl;
-    rows = rows_same old.guests.rows;
-  })
+  given_so old command new (inr drops) = desk_as old _ new drops.others (starved_so old command.connection)
+
+  -- ---- bans
+
+  -- the warden is of no matter here, before and after
+  warden_so : (old new : OwnerFacts D L) (warden : WardenFacts) → DeskStays (with_warden warden old) new → DeskStays old new
+  warden_so old new warden stays = record {
+    limit = stays.limit;
+    asked = stays.asked;
+    given = stays.given;
+    doorway = stays.doorway;
+    bells = stays.bells;
+    lag = stays.lag;
+    coming = stays.coming;
+    rows = stays.rows;
+  }
+
+  banned_so : (old after : OwnerFacts D L) (warden : WardenFacts) → DeskStays old after → DeskStays old (with_warden warden after)
+  banned_so old after warden stays = record {
+    limit = stays.limit;
+    asked = stays.asked;
+    given = stays.given;
+    doorway = stays.doorway;
+    bells = stays.bells;
+    lag = stays.lag;
+    coming = stays.coming;
+    rows = stays.rows;
+  }
+
+  answered_so : (old : OwnerFacts D L) (reply : ReplyFacts) (new : OwnerFacts D L) → Answers old reply new → DeskStays old new
+  answered_so old reply new (inl is) = desk_as old _ new is (replied_so old reply)
+  answered_so old reply new (inr is) = desk_as old _ new is (starved_so old reply.connection)
+
+  tested_so : (banned : Bool) (old : OwnerFacts D L) (login : Command) (new : OwnerFacts D L) → TestedBy banned old login new → DeskStays old new
+  tested_so true old login new answers = answered_so old (ban_reply login.connection) new answers
+  tested_so false old login new given = given_so old login new given
+
+  settled_so : (login : Bool) (banned : Option SessionId) (old : OwnerFacts D L) (command : Command) (new : OwnerFacts D L) → SettledBy login banned old command new → DeskStays old new
+  settled_so true banned old command new tests =
+      warden_so old new tests.warden (tested_so (is_banned old command tests.warden.last) (with_warden tests.warden old) command new tests.tested)
+  settled_so false (Some banned) old command new (inl lacks) =
+      warden_so old new lacks.warden (desk_as (with_warden lacks.warden old) _ new lacks.others (starved_so (with_warden lacks.warden old) command.connection))
+  settled_so false (Some banned) old command new (inr removes) =
+      desk_as old _ new removes.others
+      (banned_so old removes.after _ (warden_so old removes.after removes.warden (given_so (with_warden removes.warden old) command removes.after removes.given)))
+  settled_so false None old command new given = given_so old command new given
+
+  command_so : (old : OwnerFacts D L) (command : Command) (new : OwnerFacts D L) → IsGivenOrRefused old command new → DeskStays old new
+  command_so old command new given = settled_so (is_login command) (banned_in command) old command new given
+
+  list_comes_so : (warden : WardenFacts) (old : OwnerFacts D L) (reply : ReplyFacts) (book : Book) (new : OwnerFacts D L) → ListComesTo warden old reply book new → DeskStays old new
+  list_comes_so warden old reply book new (inl both) = warden_so old new warden (desk_as (with_warden warden old) _ new both.1 (replied_so (with_warden warden old) reply))
+  list_comes_so warden old reply book new (inr both) =
+      warden_so old new warden (desk_as (with_warden warden old) _ new both.1 (starved_so (with_warden warden old) reply.connection))
+
+  list_so : (old : OwnerFacts D L) (connection : ℕ) (session : SessionId) (payload : List ℕ) (new : OwnerFacts D L) → SettlesList old connection session payload new → DeskStays old new
+  list_so old connection session payload new settles =
+      list_comes_so settles.warden old (list_reply connection (sent session (verdict_in old.warden.book settles.allowed payload)))
+      (book_after old.warden.book settles.allowed payload settles.warden.last) new settles.comes_to
+
+  -- ---- leaves and items
 
   leave_so : (old : OwnerFacts D L) (connection : ℕ) (decided : Bool) (new : OwnerFacts D L) → LeaveIsGiven old connection decided new → DeskStays old new
   leave_so old connection decided new (inl gives) = desk_as old _ new gives.others (record {
@@ -140,9 +248,9 @@ module _ {D L : Type 0} where
     coming = refl;
     rows = rows_same old.guests.rows;
   })
-  received_so false false old command new received = given_so old command new received
+  received_so false false old command new received = command_so old command new received
 
-  owned_so : (own : Option Command) (old new : OwnerFacts D L) → ReceivesOwned old own new → DeskStays old new
+  owned_so : (own : Option Command) (old new : OwnerFacts D L) → Receives old own new → DeskStays old new
   owned_so None old new same = desk_as old old new same (desk_same old)
   owned_so (Some command) old new received = received_so _ _ old command new received
 
@@ -160,56 +268,44 @@ module _ {D L : Type 0} where
   }
   closed_by false connection old = desk_same old
 
-  item_so : (old : OwnerFacts D L) (item : Option DeskItem) (worked : Bool) (new : OwnerFacts D L) → ReceivesItem old item worked new → DeskStays old new
-  item_so old None worked new received = desk_as old old new received.1 (desk_same old)
-  item_so old (Some (items.Closed connection)) worked new received =
-      desk_as old _ new received.1 (closed_by (list_any (is_of connection) old.guests.rows) connection old)
-  item_so old (Some (items.Command command)) worked new received = owned_so (owned old.guests.rows command) old new received.1
+  item_so : (old : OwnerFacts D L) (item : Option DeskItem) (new : OwnerFacts D L) → ReceivesItem old item new → DeskStays old new
+  item_so old None new received = desk_as old old new received (desk_same old)
+  item_so old (Some (items.Closed connection)) new received =
+      desk_as old _ new received (closed_by (list_any (is_of connection) old.guests.rows) connection old)
+  item_so old (Some (items.Command command)) new received = owned_so (owned old.guests.rows command) old new received
+  item_so old (Some (items.Bans connection session payload)) new received = list_so old connection session payload new received
 
   taken_so : (old : OwnerFacts D L) (worked : Bool) (new : OwnerFacts D L) → TakesItem old worked new → DeskStays old new
   taken_so old worked new takes =
       let mid : OwnerFacts D L = record old { desk = record old.desk { pass = takes.pass } } in
-      let rest : DeskStays mid new = item_so mid takes.item worked new takes.received in
+      let rest : DeskStays mid new = item_so mid takes.item new takes.received in
       record { limit = rest.limit; asked = rest.asked; given = rest.given; doorway = rest.doorway; bells = rest.bells; lag = rest.lag; coming = rest.coming; rows = rest.rows }
 
-  takes_where_so : (b : Bool) (old : OwnerFacts D L) (worked : Bool) (new : OwnerFacts D L) → TakesWhere b old worked new → DeskStays old new
-  takes_where_so true old worked new takes = taken_so old worked new takes
-  takes_where_so false old worked new rests = desk_as old old new rests.1 (desk_same old)
-
-  login_so : (own : Option Command) (old new : OwnerFacts D L) → GivesOwned old own new → DeskStays old new
+  login_so : (own : Option Command) (old new : OwnerFacts D L) → MatchOption own (new ≡ old) (λ command. IsGivenOrRefused old command new) → DeskStays old new
   login_so None old new same = desk_as old old new same (desk_same old)
-  login_so (Some command) old new given = given_so old command new given
+  login_so (Some command) old new given = command_so old command new given
 
   waiting_so : (old : OwnerFacts D L) (worked : Bool) (new : OwnerFacts D L) → GivesWaiting old worked new → DeskStays old new
   waiting_so old worked new gives =
       let rest = login_so (owned old.guests.rows gives.login) (record old { logins = gives.rest }) new gives.given in
       record { limit = rest.limit; asked = rest.asked; given = rest.given; doorway = rest.doorway; bells = rest.bells; lag = rest.lag; coming = rest.coming; rows = rest.rows }
 
-  goes_so : (b : Bool) (old : OwnerFacts D L) (worked : Bool) (new : OwnerFacts D L) → GoesWhere b old worked new → DeskStays old new
-  goes_so true old worked new gives = waiting_so old worked new gives
-  goes_so false old worked new takes = takes_where_so (nat_lt (length old.logins) CONNECTION_LIMIT) old worked new takes
-
-  pends_so : (b : Bool) (old : OwnerFacts D L) (worked : Bool) (new : OwnerFacts D L) → PendsWhere b old worked new → DeskStays old new
-  pends_so true old worked new rests = desk_as old old new rests.1 (desk_same old)
-  pends_so false old worked new goes = goes_so (may_go old) old worked new goes
-
-  leaves_so : (leave : Option ℕ) (old : OwnerFacts D L) (worked : Bool) (new : OwnerFacts D L) → LeavesWhere leave old worked new → DeskStays old new
-  leaves_so (Some connection) old worked new given = leave_so old connection worked new given
-  leaves_so None old worked new pends = pends_so (nat_lt PENDING_LIMIT (length old.control.pending)) old worked new pends
-
-  serves_where_so : (b : Bool) (old : OwnerFacts D L) (worked : Bool) (new : OwnerFacts D L) → ServesWhere b old worked new → DeskStays old new
-  serves_where_so true old worked new rests = desk_as old old new rests.1 (desk_same old)
-  serves_where_so false old worked new leaves = leaves_so old.desk.leave old worked new leaves
+  serves_so : (next : Next) (old : OwnerFacts D L) (worked : Bool) (new : OwnerFacts D L) → Serves next old worked new → DeskStays old new
+  serves_so Rest old worked new rests = desk_as old old new rests.1 (desk_same old)
+  serves_so (Again connection) old worked new given = leave_so old connection worked new given
+  serves_so Goes old worked new gives = waiting_so old worked new gives
+  serves_so Take old worked new takes = taken_so old worked new takes
 
   pub desk_stays : (old : OwnerFacts D L) (worked : Bool) (new : OwnerFacts D L) → ServesDesk old worked new → DeskStays old new
-  desk_stays old worked new serves = serves_where_so (is_some old.kept.reply) old worked new serves
+  desk_stays old worked new serves = serves_so (next old) old worked new serves
 
   -- a reply that is kept stays
   pub reply_stays : (old : OwnerFacts D L) (worked : Bool) (new : OwnerFacts D L) (reply : ReplyFacts) → ServesDesk old worked new → old.kept.reply ≡ Some reply
       → new.kept.reply ≡ Some reply
   reply_stays old worked new reply serves keeps =
       let kept : is_some old.kept.reply ≡ true = ap (λ (r : Option ReplyFacts). is_some r) keeps in
-      let rests : ServesWhere true old worked new = subst (λ (b : Bool). ServesWhere b old worked new) kept serves in
+      let rests : Rests old worked new =
+      subst (λ (b : Bool). Serves (next_by b old.desk.leave (nat_lt PENDING_LIMIT (length old.control.pending)) (may_go old) (nat_lt (length old.logins) CONNECTION_LIMIT)) old worked new) kept serves in
       ap (λ (o : OwnerFacts D L). o.kept.reply) rests.1 ∙ keeps
 
   -- ---- lag items
@@ -246,9 +342,11 @@ module _ {D L : Type 0} where
   lag_as : (old mid new : OwnerFacts D L) → new ≡ mid → LagStays old mid → LagStays old new
   lag_as old mid new is stays = subst (λ (o : OwnerFacts D L). LagStays old o) (sym is) stays
 
-  with_lag_so : (old : OwnerFacts D L) (connection : ℕ) (session : SessionId) → old.kept.lag ≡ None → HasUnlagged connection old.guests.rows
-      → LagStays old (lagged_for (Some connection) session old)
-  with_lag_so old connection session none unlagged = record {
+  -- a lag item is made where none is kept, of a connection for which none was made
+  lag_so : (old : OwnerFacts D L) (lag : Option Lag) → (old.kept.lag ≡ None) → ((item : Lag) → lag ≡ Some item → HasUnlagged item.connection old.guests.rows)
+      → LagStays old (with_lag lag old)
+  lag_so old None none unlagged = lag_same old
+  lag_so old (Some lag) none unlagged = record {
     limit = refl;
     asked = refl;
     given = refl;
@@ -258,28 +356,19 @@ module _ {D L : Type 0} where
     coming = refl;
     desk = refl;
     logins = refl;
-    lags = inl (record { item = record { connection = connection; session = session }; none = none; some = refl; unlagged = unlagged; rows = refl });
+    lags = inl (record { item = lag; none = none; some = refl; unlagged = unlagged lag refl; rows = refl });
   }
 
-  lags_once_so : (old : OwnerFacts D L) (guest : Guest) (session : Option SessionId) (lagged worked : Bool) (new : OwnerFacts D L) → old.kept.lag ≡ None
-      → (lagged ≡ false → HasUnlagged guest.connection old.guests.rows) → LagsOnce old guest.connection session lagged worked new → LagStays old new
-  lags_once_so old guest None lagged worked new none unlagged rests = lag_as old old new rests.1 (lag_same old)
-  lags_once_so old guest (Some session) true worked new none unlagged rests = lag_as old old new rests.1 (lag_same old)
-  lags_once_so old guest (Some session) false worked new none unlagged lags = lag_as old _ new lags.1 (with_lag_so old guest.connection session none (unlagged refl))
-
-  lags_so : (old : OwnerFacts D L) (guest : Option Guest) (worked : Bool) (new : OwnerFacts D L) → old.kept.lag ≡ None
-      → ((found : Guest) → guest ≡ Some found → found.lagged ≡ false → HasUnlagged found.connection old.guests.rows) → LagsFor old guest worked new → LagStays old new
-  lags_so old None worked new none unlagged rests = lag_as old old new rests.1 (lag_same old)
-  lags_so old (Some guest) worked new none unlagged lags = lags_once_so old guest guest.session guest.lagged worked new none (unlagged guest refl) lags
-
-  presses_so : (b : Bool) (old : OwnerFacts D L) (worked : Bool) (new : OwnerFacts D L) → (b ≡ false → old.kept.lag ≡ None) → PressesWhere b old worked new → LagStays old new
-  presses_so true old worked new none rests = lag_as old old new rests.1 (lag_same old)
-  presses_so false old worked new none lags =
-      lags_so old (blocker old) worked new (none refl) (gone_unlagged (current old.control) (next_slot (current old.control)) old.guests.rows) lags
+  presses_so : (b : Bool) (old : OwnerFacts D L) → (b ≡ false → old.kept.lag ≡ None) → LagStays old (with_lag (cond b None (option_and_then lag_for (blocker old))) old)
+  presses_so true old none = lag_same old
+  presses_so false old none =
+      lag_so old (option_and_then lag_for (blocker old)) (none refl) (λ item so.
+      lag_unlagged (blocker old) old.guests.rows item (gone_unlagged (current old.control) (next_slot (current old.control)) old.guests.rows) so)
 
   pub press_stays : (old : OwnerFacts D L) (worked : Bool) (new : OwnerFacts D L) → Presses old worked new → LagStays old new
   press_stays old worked new presses =
-      presses_so (are_none old.logins || is_some old.kept.lag) old worked new (none_where (are_none old.logins) old.kept.lag) presses
+      lag_as old (with_lag (pressing old) old) new presses.1
+      (presses_so (length old.logins == 0 || is_some old.kept.lag) old (none_where (length old.logins == 0) old.kept.lag))
 
   -- publishing makes no lag item
   pub record PublishStays (old new : OwnerFacts D L) : Type 0 where
@@ -297,28 +386,19 @@ module _ {D L : Type 0} where
   publish_same : (old : OwnerFacts D L) → PublishStays old old
   publish_same old = record { kept = refl; guests = refl; asked = refl; doorway = refl; bells = refl; desk = refl; logins = refl }
 
-  published_so : (b : Bool) (old new : OwnerFacts D L) → PublishesBy b old new → PublishStays old new
-  published_so true old new is = publish_as old _ new is (record { kept = refl; guests = refl; asked = refl; doorway = refl; bells = refl; desk = refl; logins = refl })
-  published_so false old new is = publish_as old old new is (publish_same old)
-
-  publishes_so : (b : Bool) (old : OwnerFacts D L) (worked : Bool) (new : OwnerFacts D L) → PublishesWhere b old worked new → PublishStays old new
-  publishes_so true old worked new rests = publish_as old old new rests.1 (publish_same old)
-  publishes_so false old worked new is = published_so worked old new is
-
   pub publish_stays : (old : OwnerFacts D L) (worked : Bool) (new : OwnerFacts D L) → Publishes old worked new → PublishStays old new
-  publish_stays old worked new publishes = publishes_so (length old.control.publisher.pending == 0) old worked new publishes
+  publish_stays old true new publishes =
+      publish_as old _ new publishes.1 (record { kept = refl; guests = refl; asked = refl; doorway = refl; bells = refl; desk = refl; logins = refl })
+  publish_stays old false new is = publish_as old old new is (publish_same old)
 
   -- ---- posting
 
-  lagged_for_so : (old : OwnerFacts D L) (found : Option Guest) (session : SessionId) → old.kept.lag ≡ None → find (may_lag session) old.guests.rows ≡ found
-      → LagStays old (lagged_for (option_map (λ guest. guest.connection) found) session old)
-  lagged_for_so old None session none so = lag_same old
-  lagged_for_so old (Some guest) session none so = with_lag_so old guest.connection session none (found_lagging session old.guests.rows guest so)
-
-  lagged_so : (answer : Posted) (old : OwnerFacts D L) → old.kept.lag ≡ None → LagStays old (lagged_by answer old)
+  lagged_so : (answer : Posted) (old : OwnerFacts D L) → old.kept.lag ≡ None → LagStays old (with_lag (lag_at answer old.guests.rows) old)
   lagged_so posted.None old none = lag_same old
   lagged_so (posted.Posted session) old none = lag_same old
-  lagged_so (posted.Lagged session) old none = lagged_for_so old (find (may_lag session) old.guests.rows) session none refl
+  lagged_so (posted.Lagged session) old none =
+      lag_so old (lagging session old.guests.rows) none (λ item so.
+      found_connection (find (may_lag session) old.guests.rows) session old.guests.rows item (found_lagging session old.guests.rows) so)
 
   -- the control owner of what was before is of no matter here
   posted_lags : (old new : OwnerFacts D L) (control : ControlFacts) → MakesLag (record old { control = control }) new ⊎ MakesNone (record old { control = control }) new
@@ -329,7 +409,7 @@ module _ {D L : Type 0} where
   posts_one_so : (old : OwnerFacts D L) (worked : Bool) (new : OwnerFacts D L) → old.kept.lag ≡ None → PostsOne old worked new → LagStays old new
   posts_one_so old worked new none posts =
       let mid : OwnerFacts D L = record old { control = posts.after } in
-      let rest : LagStays mid new = lag_as mid (lagged_by posts.answer mid) new posts.others (lagged_so posts.answer mid none) in
+      let rest : LagStays mid new = lag_as mid (with_lag (lag_at posts.answer old.guests.rows) mid) new posts.others (lagged_so posts.answer mid none) in
       record {
         limit = rest.limit;
         asked = rest.asked;
@@ -343,7 +423,7 @@ module _ {D L : Type 0} where
         lags = posted_lags old new posts.after rest.lags;
       }
 
-  posts_so : (b : Bool) (old : OwnerFacts D L) (worked : Bool) (new : OwnerFacts D L) → is_some old.kept.lag ≡ b → PostsWhere b old worked new → LagStays old new
+  posts_so : (b : Bool) (old : OwnerFacts D L) (worked : Bool) (new : OwnerFacts D L) → is_some old.kept.lag ≡ b → MatchBool b (Rests old worked new) (PostsOne old worked new) → LagStays old new
   posts_so true old worked new kept rests = lag_as old old new rests.1 (lag_same old)
   posts_so false old worked new kept posts = posts_one_so old worked new (none_kept old.kept.lag kept) posts
 

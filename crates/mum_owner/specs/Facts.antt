@@ -7,6 +7,7 @@ use Rattle.mum_port.specs.declared.item.DeskItem.{DeskItem}
 use Rattle.mum_published.specs.Facts.{ReplyFacts}
 use Rattle.mum_record.specs.declared.journal.ControlEntry.{ControlEntry}
 use Rattle.mum_session.specs.declared.command.Command.{Command}
+use Rattle.mum_warden.specs.Warden.{WardenFacts}
 use Rattle.mum_owner.specs.Bell.{SideFacts}
 use Rattle.mum_owner.specs.declared.guests.Guest.{Guest}
 use Rattle.mum_owner.specs.declared.kept.Coming.{Coming}
@@ -50,4 +51,5 @@ pub record OwnerFacts (D L : Type 0) : Type 0 where
   -- those that wait for their slot, in the order in which they came
   pub logins : List Command
   pub scribe : ScribeFacts
+  pub warden : WardenFacts
   pub is_ending : Bool

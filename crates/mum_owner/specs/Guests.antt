@@ -1,7 +1,7 @@
 -- The connections that are open.
-use Rattle.std.specs.Prelude.{◌≡◌, ℕ, ◌+◌, ◌≤◌, ◌==◌, ◌&&◌, nat_lt, nat_le, not, Bool, true, false, List, [], ◌∷◌, ◌++◌, length, map, filter, find, Option, Some, None, if◌then◌else◌}
+use Rattle.std.specs.Prelude.{◌≡◌, ℕ, ◌+◌, ◌≤◌, ◌==◌, ◌&&◌, nat_lt, nat_le, not, Bool, true, false, List, [], ◌∷◌, ◌++◌, length, map, filter, find, replicate, Option, Some, None, if◌then◌else◌}
 use Rattle.std.specs.List.{list_any}
-use Rattle.std.specs.Option.{option_map}
+use Rattle.std.specs.Option.{option_and_then, option_map, option_map_or}
 use Rattle.mum_base.specs.declared.number.SessionId.{SessionId}
 use Rattle.mum_base.specs.declared.number.Slot.{Slot}
 use Rattle.mum_base.specs.declared.number.TheConstants.{CONNECTION_LIMIT}
@@ -12,6 +12,7 @@ use Rattle.mum_session.specs.declared.command.Command.{Command}
 use Rattle.mum_state.specs.State.{StateValue}
 use Rattle.mum_owner.specs.Facts.{GuestsFacts}
 use Rattle.mum_owner.specs.declared.guests.Guest.{Guest}
+use Rattle.mum_owner.specs.declared.kept.Lag.{Lag}
 
 abbrev pub is_of : ℕ → Guest → Bool
 is_of connection guest = guest.connection == connection
@@ -19,8 +20,10 @@ is_of connection guest = guest.connection == connection
 abbrev pub is_not_of : ℕ → Guest → Bool
 is_not_of connection guest = not (is_of connection guest)
 
-abbrev pub new_guest : ℕ → Guest
-new_guest connection = record { connection = connection; session = None; slot = None; lagged = false }
+-- a connection whose link has this address
+abbrev pub new_guest : ℕ → List ℕ → Guest
+new_guest connection address =
+    record { connection = connection; address = address; session = None; slot = None; lagged = false }
 
 -- their numbers rise, from this one on and below that one
 abbrev pub RiseWithin : ℕ → ℕ → List Guest → Type 0
@@ -51,10 +54,10 @@ are_all_given guests = nat_le guests.limit guests.given
 abbrev pub have_all_left : GuestsFacts → Bool
 have_all_left guests = guests.closed == guests.given
 
--- one more is given, and gets the next number
-abbrev pub entered : GuestsFacts → GuestsFacts
-entered guests =
-    record guests { rows = guests.rows ++ new_guest (guests.given + 1) ∷ []; given = guests.given + 1 }
+-- one more is given, whose link has this address, and gets the next number
+abbrev pub entered : List ℕ → GuestsFacts → GuestsFacts
+entered address guests =
+    record guests { rows = guests.rows ++ new_guest (guests.given + 1) address ∷ []; given = guests.given + 1 }
 
 -- a connection has closed; nothing changes where it is not open
 abbrev pub left : ℕ → GuestsFacts → GuestsFacts
@@ -62,13 +65,13 @@ left connection guests =
     if list_any (is_of connection) guests.rows
     then record guests { rows = filter (is_not_of connection) guests.rows; closed = guests.closed + 1 } else guests
 
-abbrev pub guest_session : Option Guest → Option SessionId
-guest_session None = None
-guest_session (Some guest) = guest.session
+-- the address of the link of an open connection
+abbrev pub address_of : ℕ → List Guest → List ℕ
+address_of connection rows = option_map_or (λ guest. guest.address) (find (is_of connection) rows) (replicate 16 0)
 
 -- the session that is kept for a connection
 abbrev pub session_of : ℕ → List Guest → Option SessionId
-session_of connection rows = guest_session (find (is_of connection) rows)
+session_of connection rows = option_and_then (λ guest. guest.session) (find (is_of connection) rows)
 
 -- the command, for the session that is kept for its connection; none where that is not open
 abbrev pub owned : List Guest → Command → Option Command
@@ -98,13 +101,22 @@ abbrev pub has_slot : Slot → Option Slot → Bool
 has_slot slot None = false
 has_slot slot (Some kept) = kept.0 == slot.0
 
+-- the open connection that has this session
+abbrev pub guest_with : SessionId → List Guest → Option Guest
+guest_with session rows = find (λ guest. has_session session guest.session) rows
+
 -- it has this session, and no lag item was made for it
 abbrev pub may_lag : SessionId → Guest → Bool
 may_lag session guest = has_session session guest.session && not guest.lagged
 
--- the connection of a session for which no lag item was made
-abbrev pub lagging : SessionId → List Guest → Option ℕ
-lagging session rows = option_map (λ guest. guest.connection) (find (may_lag session) rows)
+-- the lag item of a session for whose connection none was made
+abbrev pub lagging : SessionId → List Guest → Option Lag
+lagging session rows = option_map (λ guest. record { connection = guest.connection; session = session }) (find (may_lag session) rows)
+
+-- the lag item for a connection that has a session, where none was made for it
+abbrev pub lag_for : Guest → Option Lag
+lag_for guest =
+    if guest.lagged then None else option_map (λ session. record { connection = guest.connection; session = session }) guest.session
 
 abbrev pub is_gone_by : StateValue → Option SessionId → Bool
 is_gone_by state None = false

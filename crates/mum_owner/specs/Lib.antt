@@ -2,12 +2,12 @@ pub mod Bell
 pub mod Facts
 pub mod Guests
 pub mod Ringing
-pub mod Waiting
 pub mod Written
 pub mod Decided
-pub mod Offering
+pub mod Given
+pub mod Banning
 pub mod Serving
 pub mod Turned
 pub mod Laws
+pub mod Events
 pub mod Opened
-pub mod Counted

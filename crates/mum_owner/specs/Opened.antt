@@ -14,8 +14,8 @@ abbrev pub opening_of : StateValue → DoorOpening → ℕ → Bool → OwnerOpe
 opening_of state door connections journal =
     record { connections = connections; journal = journal; state = state; door = door }
 
--- the owner is new: it has the control owner and the door, keeps nothing, and its bells are these queues, in order, into
--- which it has put nothing
+-- the owner is new: it has the control owner and the door, keeps nothing, has no bans, and its bells are these queues, in
+-- order, into which it has put nothing
 abbrev pub IsOpened : {D L : Type 0} → ControlFacts → D → ℕ → Bool → List TableId → OwnerFacts D L → Type 0
 IsOpened control door connections journal queues owner =
     owner ≡ record {
@@ -27,5 +27,6 @@ IsOpened control door connections journal queues owner =
       desk = record { pass = owner.desk.pass; leave = None };
       logins = [];
       scribe = record { is_asked = journal; draft = None; entries = []; accepted = 0; no_memory = false };
+      warden = record owner.warden { book = record { bans = []; reserved = None } };
       is_ending = false;
     }

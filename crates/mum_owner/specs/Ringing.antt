@@ -1,10 +1,11 @@
 -- What is put into the bells of the workers.
-use Rattle.std.specs.Prelude.{◌≡◌, ℕ, zero, suc, ◌%◌, ◌||◌, Bool, true, false, List, [], ◌∷◌, ◌++◌, length, slice_get, slice_set, Option, Some, None}
+use Rattle.std.specs.Prelude.{◌≡◌, ℕ, zero, suc, ◌%◌, ◌||◌, Bool, true, false, List, [], ◌∷◌, ◌++◌, length, slice_get, slice_set, Option, Some, None, MatchBool}
 use Rattle.std.specs.List.{list_all}
 use Rattle.mum_outbox.specs.Calls.{one_more}
 use Rattle.mum_published.specs.Bell.{Rung}
-use Rattle.mum_published.specs.Bell.Rung.{NoMore}
+use Rattle.mum_published.specs.Bell.Rung.{Answer, Comes, Lagging, NoMore}
 use Rattle.mum_owner.specs.Bell.{SideFacts}
+use Rattle.mum_owner.specs.Facts.{KeptFacts}
 
 -- ---- one bell
 
@@ -15,18 +16,11 @@ with_put item side = record side { put = side.put ++ item ∷ [] }
 abbrev pub with_full : {L : Type 0} → SideFacts L → SideFacts L
 with_full side = record side { full = one_more side.full }
 
--- it took that no more connections come
-abbrev pub with_end : {L : Type 0} → SideFacts L → SideFacts L
-with_end side = record side { put = side.put ++ NoMore ∷ []; is_told = true }
-
-abbrev pub TellsBy : {L : Type 0} → Bool → SideFacts L → Bool → SideFacts L → Type 0
-TellsBy true side took after = (took ≡ false) × (after ≡ side)
-TellsBy false side true after = after ≡ with_end side
-TellsBy false side false after = after ≡ with_full side
-
 -- the bell is offered once that no more connections come, unless it took that before
 abbrev pub Tells : {L : Type 0} → SideFacts L → Bool → SideFacts L → Type 0
-Tells side took after = TellsBy side.is_told side took after
+Tells side took after =
+    MatchBool side.is_told ((took ≡ false) × (after ≡ side))
+    (MatchBool took (after ≡ record (with_put NoMore side) { is_told = true }) (after ≡ with_full side))
 
 -- ---- the bell of a worker
 
@@ -63,11 +57,25 @@ TellsEach (side ∷ sides) took (after ∷ afters) =
     (one : Bool) × (rest : Bool) × Tells side one after × TellsEach sides rest afters × (took ≡ (one || rest))
 TellsEach sides took afters = ⊥
 
--- the same, where it is so
-abbrev pub TellsWhere : {L : Type 0} → Bool → List (SideFacts L) → Bool → List (SideFacts L) → Type 0
-TellsWhere true bells took after = TellsEach bells took after
-TellsWhere false bells took after = (took ≡ false) × (after ≡ bells)
-
 -- each bell took that no more connections come
 abbrev pub are_told : {L : Type 0} → List (SideFacts L) → Bool
 are_told bells = list_all (λ side. side.is_told) bells
+
+-- ---- what is kept
+
+-- each item that is kept is offered once to its bell, the reply, the lag item and the connection in this order, and
+-- where the bells are to be told, each is offered that no more connections come
+pub record OffersKept {L : Type 0} (bells : List (SideFacts L)) (kept : KeptFacts L) (is_ending took : Bool)
+    (after : List (SideFacts L)) (left : KeptFacts L) : Type 0 where
+  pub reply : Bool
+  pub lag : Bool
+  pub coming : Bool
+  pub told : Bool
+  pub after_reply : List (SideFacts L)
+  pub after_lag : List (SideFacts L)
+  pub after_coming : List (SideFacts L)
+  pub offers_reply : OffersOne (λ reply. reply.connection) Answer bells kept.reply reply after_reply left.reply
+  pub offers_lag : OffersOne (λ lag. lag.connection) (λ lag. Lagging lag.session) after_reply kept.lag lag after_lag left.lag
+  pub offers_coming : OffersOne (λ coming. coming.connection) (λ coming. Comes coming.connection coming.link) after_lag kept.coming coming after_coming left.coming
+  pub tells : MatchBool is_ending (TellsEach after_coming told after) ((told ≡ false) × (after ≡ after_coming))
+  pub so : took ≡ (reply || (lag || (coming || told)))

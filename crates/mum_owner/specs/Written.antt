@@ -1,5 +1,5 @@
 -- What is counted and written down of the commands.
-use Rattle.std.specs.Prelude.{◌≡◌, ◌==◌, ℕ, ◌||◌, Bool, true, false, IsTrue, List, [], ◌∷◌, ◌++◌, is_none, Option, Some, None, IfSome, if◌then◌else◌}
+use Rattle.std.specs.Prelude.{◌≡◌, ◌==◌, ℕ, ◌&&◌, ◌||◌, Bool, true, false, IsTrue, List, [], ◌∷◌, ◌++◌, is_none, Option, Some, None, IfSome, if◌then◌else◌}
 use Rattle.std.specs.Option.{option_map}
 use Rattle.mum_base.specs.declared.reply.Mark.{Mark}
 use Rattle.mum_base.specs.declared.reply.Mark.TheVariants.{Accepted}
@@ -25,12 +25,8 @@ is_join (User (Join login version)) = true
 is_join others = false
 
 -- the login of a connection that has no session
-abbrev pub is_login_by : Bool → Asked → Bool
-is_login_by true what = is_join what
-is_login_by false what = false
-
 abbrev pub is_login : Command → Bool
-is_login command = is_login_by (is_none command.session) command.what
+is_login command = is_none command.session && is_join command.what
 
 -- the report that a connection ended
 abbrev pub is_leave : Asked → Bool

@@ -1,10 +1,10 @@
 //! The bells of the workers.
 
-ghost use Rattle.std.specs.Prelude.{◌≡◌, ◌<◌, ◌||◌, [], length, map, IfOk, MatchOption};
+ghost use Rattle.std.specs.Prelude.{◌≡◌, ◌<◌, ◌||◌, false, [], length, map, IfOk, MatchBool, MatchOption};
 ghost use Rattle.mum_published.specs.Bell.{rung};
 ghost use Rattle.mum_published.specs.Bell.Rung.{Answer, Comes, Lagging};
 ghost use Rattle.mum_owner.specs.Bell.{coming_in, new_side, queues, reply_in};
-ghost use Rattle.mum_owner.specs.Ringing.{OffersOne, Tells, TellsEach, TellsWhere, are_told, at_worker, with_full, with_put, worker_of};
+ghost use Rattle.mum_owner.specs.Ringing.{OffersOne, Tells, TellsEach, are_told, at_worker, with_full, with_put, worker_of};
 
 use crate::kept::{Coming, Lag};
 use mum_base::OutOfMemory;
@@ -191,7 +191,7 @@ impl<L: Drop, N: Naming> Bells<L, N> {
 
     /// Where it is so, offers that no more connections come to each bell that did not take it yet.
     pub(crate) fn tell_where<R: Wait>(&mut self, rt: &R, is_ending: bool) -> bool
-        ensures { TellsWhere is_ending self.old result self.new }
+        ensures { MatchBool is_ending (TellsEach self.old result self.new) ((result ≡ false) × (self.new ≡ self.old)) }
     {
         if is_ending {
             tell_sides(rt, &mut self.sides)

@@ -5,9 +5,10 @@ ghost use Rattle.std.specs.List.{list_any};
 ghost use Rattle.std.specs.Option.{option_copied, option_map};
 ghost use Rattle.std.specs.Vec.{vec_capacity};
 ghost use Rattle.mum_control.specs.Commanded.{current};
-ghost use Rattle.mum_owner.specs.Guests.{are_all_given, entered, has_room, have_all_left, is_gone_by, is_gone_from, is_not_of, is_of, joined_by, lag_noted, lagging, left, no_guests, owned, seated, session_of, with_lag_noted, has_session, has_slot, may_lag};
+ghost use Rattle.mum_owner.specs.Guests.{address_of, are_all_given, entered, guest_with, has_room, have_all_left, is_gone_by, is_gone_from, is_not_of, is_of, joined_by, lag_for, lag_noted, lagging, left, no_guests, owned, seated, session_of, with_lag_noted, has_session, has_slot, may_lag};
 ghost use Rattle.mum_base.specs.declared.reply.ReplyEnd.TheVariants.{Joined};
 
+use crate::kept::Lag;
 use mum_base::{CONNECTION_LIMIT, OutOfMemory, SessionId, Slot};
 use mum_control::Control;
 use mum_published::Naming;
@@ -20,6 +21,8 @@ use std::mem::drop;
 #[derive(Clone, Copy)]
 pub struct Guest {
     pub connection: u32,
+    /// The address of its link.
+    pub address: [u8; 16],
     /// The session that the last accepted login of the connection got, and its slot.
     pub session: Option<SessionId>,
     pub slot: Option<Slot>,
@@ -91,6 +94,22 @@ fn may_lag(guest: &Guest, session: SessionId) -> bool
 {
     let has = has_session(guest.session, session);
     has && !guest.lagged
+}
+
+/// The lag item for a connection that has a session, where none was made for it.
+pub(crate) fn lag_for(guest: &Guest) -> Option<Lag>
+    ensures { result ≡ lag_for guest.now }
+{
+    if guest.lagged {
+        return None;
+    }
+    match guest.session {
+        Some(session) => Some(Lag {
+            connection: guest.connection,
+            session,
+        }),
+        None => None,
+    }
 }
 
 // Whether a session that was kept is gone from the state.
@@ -184,6 +203,18 @@ fn guest_of(rows: &[Guest], connection: u32) -> Option<Guest>
     None
 }
 
+// The guest with this session.
+fn guest_with(rows: &[Guest], session: SessionId) -> Option<Guest>
+    ensures { result ≡ guest_with session rows.now }
+{
+    for guest in rows {
+        if has_session(guest.session, session) {
+            return Some(*guest);
+        }
+    }
+    None
+}
+
 // The guest with this session for which no lag item was made.
 fn lagging_in(rows: &[Guest], session: SessionId) -> Option<Guest>
     ensures { result ≡ find (may_lag session) rows.now }
@@ -259,15 +290,16 @@ impl Guests {
         self.closed == self.given
     }
 
-    /// One more is given. Answers its number.
-    pub(crate) fn enter(&mut self) -> u32
+    /// One more is given, whose link has this address. Answers its number.
+    pub(crate) fn enter(&mut self, address: [u8; 16]) -> u32
         requires { IsTrue (has_room self.old) }
         ensures number { result ≡ self.old.given + 1 }
-        ensures guests { self.new ≡ entered self.old }
+        ensures guests { self.new ≡ entered address self.old }
     {
         let connection = self.given + 1;
         self.rows.push_reserved(Guest {
             connection,
+            address,
             session: None,
             slot: None,
             lagged: false,
@@ -284,6 +316,23 @@ impl Guests {
             let_go(&mut self.rows, connection);
             self.closed += 1;
         }
+    }
+
+    /// The address of the link of an open connection; sixteen zeros where it is not open.
+    pub(crate) fn address_of(&self, connection: u32) -> [u8; 16]
+        ensures { result ≡ address_of connection self.now.rows }
+    {
+        match guest_of(self.rows.as_slice(), connection) {
+            Some(guest) => guest.address,
+            None => [0; 16],
+        }
+    }
+
+    /// The open connection that has this session.
+    pub(crate) fn with_session(&self, session: SessionId) -> Option<Guest>
+        ensures { result ≡ guest_with session self.now.rows }
+    {
+        guest_with(self.rows.as_slice(), session)
     }
 
     /// The session that is kept for a connection.
@@ -311,12 +360,15 @@ impl Guests {
         seat_in(&mut self.rows, connection, session, slot);
     }
 
-    /// The connection of a session for which no lag item was made.
-    pub(crate) fn lagging(&self, session: SessionId) -> Option<u32>
+    /// The lag item of a session for whose connection none was made.
+    pub(crate) fn lagging(&self, session: SessionId) -> Option<Lag>
         ensures { result ≡ lagging session self.now.rows }
     {
         match lagging_in(self.rows.as_slice(), session) {
-            Some(guest) => Some(guest.connection),
+            Some(guest) => Some(Lag {
+                connection: guest.connection,
+                session,
+            }),
             None => None,
         }
     }

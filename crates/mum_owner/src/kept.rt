@@ -1,7 +1,8 @@
 //! What waits for the bell of a worker.
 
 ghost use Rattle.std.specs.Prelude.{◌≡◌, ◌||◌, None, Some, is_some};
-ghost use Rattle.mum_owner.specs.Offering.{OffersKept};
+ghost use Rattle.mum_owner.specs.Banning.{has_note};
+ghost use Rattle.mum_owner.specs.Ringing.{OffersKept};
 
 use crate::bells::{Bells, offer_coming, offer_lag, offer_reply};
 use mum_base::SessionId;
@@ -55,6 +56,16 @@ impl<L: Drop, N: Naming> Kept<L, N> {
         ensures { result ≡ is_some self.now.reply }
     {
         self.reply.is_some()
+    }
+
+    /// Whether a reply with a note is kept.
+    pub(crate) fn has_note(&self) -> bool
+        ensures { result ≡ has_note self.now.reply }
+    {
+        match &self.reply {
+            Some(reply) => reply.note.is_some(),
+            None => false,
+        }
     }
 
     /// Whether a lag item is kept.

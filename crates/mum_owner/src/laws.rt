@@ -1,15 +1,17 @@
 //! What holds of an owner whatever its turns are, from its opening on, over any door. These functions do
 //! nothing: each contract is a theorem.
 
-ghost use Rattle.std.specs.Prelude.{◌≡◌, ◌≢◌, ◌++◌, ◌<◌, [], ℕ, Bool, List, filter, length, map};
+ghost use Rattle.std.specs.Prelude.{◌≡◌, ◌≢◌, ◌++◌, ◌<◌, [], ℕ, Bool, List, filter, length, map, option_to_list};
 ghost use Rattle.std.specs.List.{AllPairs, filter_map};
 ghost use Rattle.atomic_table.specs.Seated.{TableId};
+ghost use Rattle.mum_bans.specs.Book.{bans_of};
 ghost use Rattle.mum_control.specs.Facts.{ControlFacts};
 ghost use Rattle.mum_crew.specs.Turns.{TurnsTo};
 ghost use Rattle.mum_crew.specs.declared.role.Turn.{Turn};
 ghost use Rattle.mum_doorway.specs.Doors.{given_after_all};
+ghost use Rattle.mum_owner.specs.Events.{ban_events};
 ghost use Rattle.mum_owner.specs.Facts.{OwnerFacts};
-ghost use Rattle.mum_owner.specs.Laws.{answered, command_in, connections_given, commands_given, commands_owned, commands_settled, commands_taken, connections_settled, handed, is_of_worker, is_other, items_taken, lags_made, leave_in, leaves_decided, listed, numbers, puts_at, replies_made};
+ghost use Rattle.mum_owner.specs.Laws.{answered, command_in, connections_given, commands_given, commands_owned, commands_settled, commands_taken, connections_settled, handed, is_of_worker, is_other, items_taken, lags_made, leave_in, leaves_decided, numbers, puts_at, replies_made};
 ghost use Rattle.mum_owner.specs.Written.{IsWrittenAs, is_login, version_with};
 ghost use Rattle.mum_session.specs.Action.{action};
 ghost use Rattle.mum_session.specs.Machine.{Machine};
@@ -33,23 +35,23 @@ pub fn connections_are_handed_over_once<D: Entrance>()
     ensures handed { (control : ControlFacts) (door : D) (connections place : ℕ) (journal : Bool) (queues : List TableId)
         (opened owner : OwnerFacts D D.Peer) (turns : List Turn) → 0 < length queues →
         IsOpened control door connections journal queues opened →
-        (all : TurnsTo (OwnerTurned D.facts) opened turns owner) →
+        (all : TurnsTo (OwnerTurned D.facts D.Peer.facts) opened turns owner) →
         filter_map handed (puts_at place owner.bells)
-        ++ filter (λ coming. is_of_worker place (length queues) coming.connection) (listed owner.kept.coming)
+        ++ filter (λ coming. is_of_worker place (length queues) coming.connection) (option_to_list owner.kept.coming)
         ≡ filter (λ coming. is_of_worker place (length queues) coming.connection)
-        (connections_given D.facts opened turns owner all) }
+        (connections_given D.facts D.Peer.facts opened turns owner all) }
     // They are numbered from 1 in the order in which the door gave them.
     ensures numbered { (control : ControlFacts) (door : D) (connections : ℕ) (journal : Bool) (queues : List TableId)
         (opened owner : OwnerFacts D D.Peer) (turns : List Turn) →
         IsOpened control door connections journal queues opened →
-        (all : TurnsTo (OwnerTurned D.facts) opened turns owner) →
-        map (λ coming. coming.connection) (connections_given D.facts opened turns owner all)
+        (all : TurnsTo (OwnerTurned D.facts D.Peer.facts) opened turns owner) →
+        map (λ coming. coming.connection) (connections_given D.facts D.Peer.facts opened turns owner all)
         ≡ numbers owner.guests.given }
     // As many are counted as the door gave.
     ensures given { (control : ControlFacts) (door : D) (connections : ℕ) (journal : Bool) (queues : List TableId)
         (opened owner : OwnerFacts D D.Peer) (turns : List Turn) →
         IsOpened control door connections journal queues opened →
-        TurnsTo (OwnerTurned D.facts) opened turns owner →
+        TurnsTo (OwnerTurned D.facts D.Peer.facts) opened turns owner →
         (D.facts owner.doorway.door).given ≡ given_after_all (D.facts door).given owner.guests.given }
 {}
 
@@ -59,11 +61,11 @@ pub fn replies_are_handed_over_once<D: Entrance>()
     ensures { (control : ControlFacts) (door : D) (connections place : ℕ) (journal : Bool) (queues : List TableId)
         (opened owner : OwnerFacts D D.Peer) (turns : List Turn) → 0 < length queues →
         IsOpened control door connections journal queues opened →
-        (all : TurnsTo (OwnerTurned D.facts) opened turns owner) →
+        (all : TurnsTo (OwnerTurned D.facts D.Peer.facts) opened turns owner) →
         filter_map answered (puts_at place owner.bells)
-        ++ filter (λ reply. is_of_worker place (length queues) reply.connection) (listed owner.kept.reply)
+        ++ filter (λ reply. is_of_worker place (length queues) reply.connection) (option_to_list owner.kept.reply)
         ≡ filter (λ reply. is_of_worker place (length queues) reply.connection)
-        (replies_made D.facts opened turns owner all) }
+        (replies_made D.facts D.Peer.facts opened turns owner all) }
 {}
 
 /// At most one lag item is made for a connection.
@@ -71,52 +73,65 @@ pub fn a_connection_lags_once<D: Entrance>()
     ensures { (control : ControlFacts) (door : D) (connections : ℕ) (journal : Bool) (queues : List TableId)
         (opened owner : OwnerFacts D D.Peer) (turns : List Turn) →
         IsOpened control door connections journal queues opened →
-        (all : TurnsTo (OwnerTurned D.facts) opened turns owner) →
+        (all : TurnsTo (OwnerTurned D.facts D.Peer.facts) opened turns owner) →
         AllPairs (λ one other. one.connection ≢ other.connection)
-        (lags_made D.facts opened turns owner all) }
+        (lags_made D.facts D.Peer.facts opened turns owner all) }
 {}
 
 /// Each command that is taken from the desk while its connection is open is given to the control owner once, or
-/// answered since there was no memory for its entry in the journal, in order: in the turn in which it is taken, or
-/// later where it is a login that waits or a leave for which there was no memory. A login that waits is dropped
-/// instead, where its connection is not open any more. A command of a connection that is not open settles nothing.
+/// answered since memory ran out before it was decided, in order: in the turn in which it is taken, or later where
+/// it is a login that waits or a leave for which there was no memory. A login is refused instead, where its address
+/// is banned; and one that waits is dropped, where its connection is not open any more. A command of a connection
+/// that is not open settles nothing.
 pub fn commands_are_given_once<D: Entrance>()
     // The commands that the turns took are all that lay on the desk, in order.
     ensures taken { (control : ControlFacts) (door : D) (connections : ℕ) (journal : Bool) (queues : List TableId)
         (opened owner : OwnerFacts D D.Peer) (turns : List Turn) →
         IsOpened control door connections journal queues opened → opened.desk.pass.taken ≡ [] →
-        (all : TurnsTo (OwnerTurned D.facts) opened turns owner) →
+        (all : TurnsTo (OwnerTurned D.facts D.Peer.facts) opened turns owner) →
         filter_map command_in (items_taken owner.desk)
-        ≡ commands_taken D.facts opened turns owner all }
+        ≡ commands_taken D.facts D.Peer.facts opened turns owner all }
     // A login may wait for its slot, behind those that came before it.
     ensures logins { (control : ControlFacts) (door : D) (connections : ℕ) (journal : Bool) (queues : List TableId)
         (opened owner : OwnerFacts D D.Peer) (turns : List Turn) →
         IsOpened control door connections journal queues opened →
-        (all : TurnsTo (OwnerTurned D.facts) opened turns owner) →
-        filter is_login (commands_owned D.facts opened turns owner all)
-        ≡ filter is_login (commands_settled D.facts opened turns owner all) ++ owner.logins }
+        (all : TurnsTo (OwnerTurned D.facts D.Peer.facts) opened turns owner) →
+        filter is_login (commands_owned D.facts D.Peer.facts opened turns owner all)
+        ≡ filter is_login (commands_settled D.facts D.Peer.facts opened turns owner all) ++ owner.logins }
     ensures others { (control : ControlFacts) (door : D) (connections : ℕ) (journal : Bool) (queues : List TableId)
         (opened owner : OwnerFacts D D.Peer) (turns : List Turn) →
         IsOpened control door connections journal queues opened →
-        (all : TurnsTo (OwnerTurned D.facts) opened turns owner) →
-        filter is_other (commands_owned D.facts opened turns owner all)
-        ≡ filter is_other (commands_given D.facts opened turns owner all) }
+        (all : TurnsTo (OwnerTurned D.facts D.Peer.facts) opened turns owner) →
+        filter is_other (commands_owned D.facts D.Peer.facts opened turns owner all)
+        ≡ filter is_other (commands_given D.facts D.Peer.facts opened turns owner all) }
     // A leave is given until it is decided, and nothing is taken before.
     ensures leaves { (control : ControlFacts) (door : D) (connections : ℕ) (journal : Bool) (queues : List TableId)
         (opened owner : OwnerFacts D D.Peer) (turns : List Turn) →
         IsOpened control door connections journal queues opened →
-        (all : TurnsTo (OwnerTurned D.facts) opened turns owner) →
-        filter_map leave_in (commands_owned D.facts opened turns owner all)
-        ≡ leaves_decided D.facts opened turns owner all ++ listed owner.desk.leave }
+        (all : TurnsTo (OwnerTurned D.facts D.Peer.facts) opened turns owner) →
+        filter_map leave_in (commands_owned D.facts D.Peer.facts opened turns owner all)
+        ≡ leaves_decided D.facts D.Peer.facts opened turns owner all ++ option_to_list owner.desk.leave }
 {}
 
-/// Each command that is given to the control owner, or answered since memory ran out, and each leave that is decided
-/// makes one reply to its connection, in the order in which that is done, and nothing else makes one.
+/// Each command that is given to the control owner, refused, or answered since memory ran out, each leave that is
+/// decided, and each list of bans makes one reply to its connection, in the order in which that is done, and nothing
+/// else makes one.
 pub fn each_command_has_one_reply<D: Entrance>()
     ensures { (old new : OwnerFacts D D.Peer) (turns : List Turn) →
-        (all : TurnsTo (OwnerTurned D.facts) old turns new) →
-        map (λ reply. reply.connection) (replies_made D.facts old turns new all)
-        ≡ connections_settled D.facts old turns new all }
+        (all : TurnsTo (OwnerTurned D.facts D.Peer.facts) old turns new) →
+        map (λ reply. reply.connection) (replies_made D.facts D.Peer.facts old turns new all)
+        ≡ connections_settled D.facts D.Peer.facts old turns new all }
+{}
+
+/// The bans of an owner are those that the events of its turns leave, in order, from none on. A list of bans sets
+/// them, where its session has Ban on the root and the list is within the limits; a removal with a ban adds one, where
+/// its reply has a note and whom it removes had an open connection. Nothing else changes them.
+pub fn bans_are_of_the_turns<D: Entrance>()
+    ensures { (control : ControlFacts) (door : D) (connections : ℕ) (journal : Bool) (queues : List TableId)
+        (opened owner : OwnerFacts D D.Peer) (turns : List Turn) →
+        IsOpened control door connections journal queues opened →
+        (all : TurnsTo (OwnerTurned D.facts D.Peer.facts) opened turns owner) →
+        owner.warden.book.bans ≡ bans_of (ban_events D.facts D.Peer.facts opened turns owner all) }
 {}
 
 /// A command is written down as a frame of the type of the frame that asked for it, with the version that its

@@ -1,7 +1,8 @@
 //! The owner: it takes connections from the door and hands them to the workers, gives the commands that lie on
-//! the desk to the control owner, and answers by the bells of the workers.
+//! the desk to the control owner unless a ban is against it, and answers by the bells of the workers.
 #![tactic(auto)]
 
+mod banning;
 mod bells;
 pub mod crossing;
 mod desk;
@@ -11,6 +12,7 @@ mod kept;
 pub mod laws;
 mod logins;
 mod owner;
+mod replies;
 mod scribe;
 pub mod serving;
 

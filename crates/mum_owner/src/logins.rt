@@ -1,8 +1,7 @@
 //! Logins that wait for their slot.
 
-ghost use Rattle.std.specs.Prelude.{◌≡◌, ◌<◌, ◌++◌, ◌∷◌, [], nat_lt, length, IfOk, MatchOption};
+ghost use Rattle.std.specs.Prelude.{◌≡◌, ◌<◌, ◌==◌, ◌++◌, ◌∷◌, [], nat_lt, length, IfOk, MatchOption};
 ghost use Rattle.mum_base.specs.declared.number.TheConstants.{CONNECTION_LIMIT};
-ghost use Rattle.mum_owner.specs.Waiting.{are_none};
 ghost use Rattle.mum_owner.specs.Written.{is_join, is_leave, is_login};
 
 use mum_base::{CONNECTION_LIMIT, OutOfMemory};
@@ -66,7 +65,7 @@ impl Logins {
 
     /// Whether none waits.
     pub(crate) fn are_none(&self) -> bool
-        ensures { result ≡ are_none self.now }
+        ensures { result ≡ (length self.now == 0) }
     {
         self.waiting.is_empty()
     }

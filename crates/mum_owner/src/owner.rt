@@ -1,6 +1,6 @@
 //! The owner.
 
-ghost use Rattle.std.specs.Prelude.{◌≡◌, ◌↔◌, ◌<◌, ◌+◌, ◌||◌, [], None, Some, false, IfErr, IfOk, IsTrue, length, map};
+ghost use Rattle.std.specs.Prelude.{◌≡◌, ◌↔◌, ◌⊎◌, ◌<◌, ◌+◌, ◌||◌, [], None, Some, false, true, nat_lt, is_some, IfErr, IfOk, IsTrue, IsSome, MatchOption, length, map};
 ghost use mathlib.Core.List.{IsPrefix};
 ghost use Rattle.mum_base.specs.declared.number.TheConstants.{CONNECTION_LIMIT};
 ghost use Rattle.mum_control.specs.Commanded.{current};
@@ -8,26 +8,30 @@ ghost use Rattle.mum_io.specs.Counts.{NoneFalls, Rose};
 ghost use Rattle.mum_published.specs.Calls.{appended};
 ghost use Rattle.mum_outbox.specs.Calls.{IsNewPass};
 ghost use Rattle.mum_record.specs.Journal.{Each, IsWritableControl};
+ghost use Rattle.mum_owner.specs.Banning.{Answers, IsGivenOrRefused, LacksRoom, Removes, SettlesList, TestsLogin, ban_reply, with_ban, with_warden};
 ghost use Rattle.mum_owner.specs.Decided.{HasWritten};
 ghost use Rattle.mum_doorway.specs.Doors.{NoMoreCome, given_after_all};
+ghost use Rattle.mum_owner.specs.Given.{IsGiven, starved};
 ghost use Rattle.mum_owner.specs.Guests.{entered, has_room, joined_by, lagging, no_guests, owned};
 ghost use Rattle.mum_owner.specs.Opened.{IsOpened, opening_of};
-ghost use Rattle.mum_owner.specs.Serving.{EmptiesFor, GivesOwned, GivesWaiting, GoesWhere, IsGiven, LeaveIsGiven, Receives, ReceivesItem, ReceivesOwned, ServesDesk, TakesItem, blocker, leave_kept, leave_of, may_go, must_wait, refusal};
+ghost use Rattle.mum_owner.specs.Serving.{EmptiesFor, GivesWaiting, LeaveIsGiven, Receives, ReceivesItem, Serves, ServesDesk, TakesItem, blocker, kept_after, leave_after, leave_of, may_go, must_wait, next_by};
 ghost use Rattle.mum_owner.specs.Bell.{new_side, queues};
-ghost use Rattle.mum_owner.specs.Turned.{Asks, LagsFor, Offered, OwnerTurned, PostsNotice, Presses, Publishes, ended, has_ended, is_not_to_ask, is_over, lagged_for, turn_of, with_lag};
+ghost use Rattle.mum_owner.specs.Turned.{Asks, Offered, OwnerTurned, PostsNotice, Presses, Publishes, ended, has_ended, is_not_to_ask, is_over, pressing, turn_of, with_lag};
 
+use crate::banning::{banned_in, reason_in};
 use crate::bells::Bells;
 use crate::desk::{DeskSide, PENDING_LIMIT};
-use crate::guests::{Guest, Guests};
+use crate::guests::{Guest, Guests, lag_for};
 use crate::kept::{Kept, Lag};
 use crate::logins::{Logins, is_leave, is_login};
+use crate::replies::{ban_reply, list_reply, refusal};
 use crate::scribe::Scribe;
 use crate::serving::Serving;
-use mum_base::{Octets, OutOfMemory, ReplyEnd, SessionId};
+use mum_base::{ChannelId, Octets, OutOfMemory, Perm, ReplyEnd, SessionId};
 use mum_control::{Control, Posted};
 use mum_crew::{Role, Turn};
 use mum_doorway::{DoorOpening, Doorway, Entrance};
-use mum_io::Accept;
+use mum_io::{Accept, Clock, Link};
 use mum_outbox::{Bell, Desk};
 use mum_port::DeskItem;
 use mum_published::{BellItem, Naming, Pass, Reply};
@@ -35,6 +39,7 @@ use mum_record::ControlEntry;
 use mum_rules_user::UserMessage;
 use mum_session::{Asked, Command};
 use mum_state::State;
+use mum_warden::Warden;
 use std::alloc::Global;
 use std::marker::Model;
 use std::mem::drop;
@@ -42,8 +47,9 @@ use std::sync::Wait;
 
 /// What an owner leaves.
 #[derive(Drop)]
-pub struct OwnerEnd<D: Drop> {
+pub struct OwnerEnd<D: Drop, K: Drop> {
     pub door: D,
+    pub clock: K,
     /// How many connections the door gave.
     pub connections: u32,
     /// How many edits were accepted.
@@ -68,11 +74,12 @@ pub struct OwnerOpening {
 }
 
 /// The role that takes connections from the door, gives the commands of the desk to the control owner, and
-/// answers by the bells of the workers. Connections are numbered from 1 in the order of their giving;
+/// answers by the bells of the workers. It has the bans of the server: a login from an address that is banned is
+/// refused, and not given. Connections are numbered from 1 in the order of their giving;
 /// connection n belongs to worker (n - 1) modulo the number of workers, and the number 0, which none gets, to
 /// worker 0.
 #[derive(Drop)]
-pub struct Owner<'a, D: Entrance, N: Serving, R: Wait + Copy> {
+pub struct Owner<'a, D: Entrance, K: Clock, N: Serving, R: Wait + Copy> {
     rt: R,
     alloc: Global,
     control: Control<'a, N>,
@@ -83,12 +90,15 @@ pub struct Owner<'a, D: Entrance, N: Serving, R: Wait + Copy> {
     desk: DeskSide,
     logins: Logins,
     scribe: Scribe,
+    warden: Warden<K>,
     // No more connections come, which each bell is to be told.
     is_ending: bool,
 }
 
-impl<'a, D: Entrance, N: Serving, R: Wait + Copy> Model for Owner<'a, D, N, R> {
-    ghost use Rattle.mum_owner.specs.Counted.{HasCounted, HasGiven};
+impl<'a, D: Entrance, K: Clock, N: Serving, R: Wait + Copy> Model for Owner<'a, D, K, N, R> {
+    ghost use Rattle.std.specs.Prelude.{◌≡◌, length};
+    ghost use Rattle.mum_doorway.specs.Doors.{given_after_all};
+    ghost use Rattle.mum_published.specs.Calls.{appended};
     ghost use Rattle.mum_owner.specs.Decided.{HasWritten};
     ghost use Rattle.mum_owner.specs.Facts.{OwnerFacts};
 
@@ -103,10 +113,12 @@ impl<'a, D: Entrance, N: Serving, R: Wait + Copy> Model for Owner<'a, D, N, R> {
       desk = o.desk;
       logins = o.logins;
       scribe = o.scribe;
+      warden = o.warden;
       is_ending = o.is_ending;
     } };
 
-    ghost invariant = { λ o. HasCounted o.control o.scribe × HasGiven N.door.given o.guests (D.facts o.doorway.door).given
+    ghost invariant = { λ o. (o.scribe.accepted ≡ length (appended o.control.publisher))
+        × ((D.facts o.doorway.door).given ≡ given_after_all N.door.given o.guests.given)
         × HasWritten o.control o.scribe };
 }
 
@@ -137,19 +149,6 @@ fn leave_of(connection: u32, session: Option<SessionId>) -> Command
         session,
         what: Asked::User(UserMessage::Leave),
     }
-}
-
-// Memory ran out before a command was decided.
-fn refusal<N: Naming>(alloc: Global, connection: u32) -> Reply<N>
-    ensures { result ≡ refusal connection }
-{
-    Reply::new(
-        connection,
-        ReplyEnd::Decided,
-        None,
-        Octets::from_vec(Vec::new(alloc)),
-        true,
-    )
 }
 
 // What a turn came to.
@@ -184,19 +183,20 @@ fn empty_for<N: Naming, R: Wait>(rt: &R, control: &mut Control<'_, N>, session: 
 }
 
 // A connection came. It is the next one, and is kept.
-fn take_in<L: Drop, N: Naming>(guests: &mut Guests, kept: &mut Kept<L, N>, link: L)
+fn take_in<L: Link, N: Naming>(guests: &mut Guests, kept: &mut Kept<L, N>, link: L)
     requires { IsTrue (has_room guests.old) }
-    ensures guests { guests.new ≡ entered guests.old }
+    ensures guests { guests.new ≡ entered (L.facts link).address guests.old }
     ensures kept { kept.new ≡ record kept.old { coming = Some (record { connection = guests.old.given + 1; link = link }) } }
 {
-    let connection = guests.enter();
+    let address = link.address();
+    let connection = guests.enter(address);
     kept.keep_coming(connection, link);
 }
 
-impl<'a, D: Entrance, N: Serving, R: Wait + Copy> Owner<'a, D, N, R> {
+impl<'a, D: Entrance, K: Clock, N: Serving, R: Wait + Copy> Owner<'a, D, K, N, R> {
     /// Takes the memory for what it keeps of as many connections as may be open at once. At most `connections`
     /// are taken from the door. Its bells are those that are given, in their order: the first is that of worker 0.
-    /// Where memory runs out, the door comes back.
+    /// It has no bans, and asks this clock for them. Where memory runs out, the door and the clock come back.
     pub fn open(
         rt: R,
         alloc: Global,
@@ -204,9 +204,10 @@ impl<'a, D: Entrance, N: Serving, R: Wait + Copy> Owner<'a, D, N, R> {
         desk: Desk<DeskItem>,
         bells: Vec<Bell<BellItem<D::Peer, N>>>,
         door: D,
+        clock: K,
         connections: u32,
         journal: bool,
-    ) -> Result<Owner<'a, D, N, R>, D>
+    ) -> Result<Owner<'a, D, K, N, R>, (D, K)>
         requires opening { control.publisher.opening ≡ N.opening }
         requires fresh { appended control.publisher ≡ [] }
         requires door { record { counts = (D.facts door).counts; given = (D.facts door).given; opened_at = (D.facts door).opened_at } ≡ N.door }
@@ -214,14 +215,15 @@ impl<'a, D: Entrance, N: Serving, R: Wait + Copy> Owner<'a, D, N, R> {
         requires bells { 0 < length bells.items }
         ensures owner { IfOk result (IsOpened control.entry door connections journal (queues bells.items)) }
         ensures desk { IfOk result (λ owner. IsNewPass desk owner.desk.pass) }
-        ensures door { IfErr result (λ back. back ≡ door) }
+        ensures clock { IfOk result (λ owner. (owner.warden.last ≡ K.last clock) × (owner.warden.calls ≡ K.calls clock)) }
+        ensures back { IfErr result (λ back. (back.0 ≡ door) × (back.1 ≡ clock)) }
     {
         let (guests, bells, logins) = match rooms_of(alloc, bells, connections) {
             Ok(rooms) => rooms,
             Err(_) => {
                 drop(control);
                 drop(desk);
-                return Err(door);
+                return Err((door, clock));
             }
         };
         Ok(Owner {
@@ -235,6 +237,7 @@ impl<'a, D: Entrance, N: Serving, R: Wait + Copy> Owner<'a, D, N, R> {
             desk: DeskSide::open(desk),
             logins,
             scribe: Scribe::open(alloc, journal),
+            warden: Warden::new(alloc, clock),
             is_ending: false,
         })
     }
@@ -256,15 +259,16 @@ impl<'a, D: Entrance, N: Serving, R: Wait + Copy> Owner<'a, D, N, R> {
         }
     }
 
-    // Makes a lag item.
-    fn make_lag(&mut self, connection: u32, session: SessionId)
-        ensures { self.new ≡ with_lag connection session self.old }
+    // Makes a lag item, if there is one to make. It is kept.
+    fn make_lag(&mut self, lag: Option<Lag>) -> bool
+        ensures { (result ≡ is_some lag) × (self.new ≡ with_lag lag self.old) }
     {
-        self.guests.note_lag(connection);
-        self.kept.keep_lag(Lag {
-            connection,
-            session,
-        });
+        let Some(lag) = lag else {
+            return false;
+        };
+        self.guests.note_lag(lag.connection);
+        self.kept.keep_lag(lag);
+        true
     }
 
     // Gives a command to the control owner, and keeps the reply.
@@ -282,9 +286,96 @@ impl<'a, D: Entrance, N: Serving, R: Wait + Copy> Owner<'a, D, N, R> {
             }
             Err(_) => {
                 drop(command);
-                self.scribe.refuse();
-                self.kept.keep_reply(refusal(self.alloc, connection));
+                self.starve(connection);
             }
+        }
+    }
+
+    // Memory ran out for what a connection asked.
+    fn starve(&mut self, connection: u32)
+        ensures { self.new ≡ starved connection self.old }
+    {
+        self.scribe.refuse();
+        self.kept.keep_reply(refusal(self.alloc, connection));
+    }
+
+    // A login of a connection without a session is tested before it is given, a removal with a ban makes room for
+    // that, and any other command is given.
+    fn give_or_refuse(&mut self, command: Command)
+        ensures { IsGivenOrRefused self.old command self.new }
+    {
+        if is_login(&command) {
+            return self.test_login(command);
+        }
+        match banned_in(&command) {
+            Some(banned) => self.remove(banned, command),
+            None => self.give(command),
+        }
+    }
+
+    // Asks the clock, and refuses a login from an address that is banned then, or gives it.
+    fn test_login(&mut self, login: Command)
+        ensures { TestsLogin self.old login self.new }
+    {
+        let connection = login.connection;
+        let address = self.guests.address_of(connection);
+        if self.warden.refuses(&address) {
+            drop(login);
+            self.refuse_login(connection);
+        } else {
+            self.give(login);
+        }
+    }
+
+    // Answers a login of somebody who is banned.
+    fn refuse_login(&mut self, connection: u32)
+        ensures { Answers self.old (ban_reply connection) self.new }
+    {
+        match mum_warden::refusal(self.alloc) {
+            Ok(wire) => self.kept.keep_reply(ban_reply(connection, wire)),
+            Err(_) => self.starve(connection),
+        }
+    }
+
+    // Makes room for a ban, gives the removal, and adds the ban where it is to be.
+    fn remove(&mut self, banned: SessionId, command: Command)
+        ensures { LacksRoom self.old command.connection self.new ⊎ Removes self.old banned command self.new }
+    {
+        let connection = command.connection;
+        let guest = self.guests.with_session(banned);
+        match self.warden.prepare(reason_in(&command.what)) {
+            Ok(()) => {
+                self.give(command);
+                self.note_ban(guest);
+            }
+            Err(_) => {
+                drop(command);
+                self.starve(connection);
+            }
+        }
+    }
+
+    // Adds the ban of a connection that was open, where the reply has a note.
+    fn note_ban(&mut self, guest: Option<Guest>)
+        requires { IsSome self.old.warden.book.reserved }
+        ensures { self.new ≡ with_warden (with_ban guest self.old.kept.reply self.old.warden) self.old }
+    {
+        let Some(guest) = guest else {
+            return;
+        };
+        if self.kept.has_note() {
+            self.warden.note(guest.address);
+        }
+    }
+
+    // A list of bans of a session came.
+    fn settle_list(&mut self, connection: u32, session: SessionId, payload: Octets)
+        ensures { SettlesList self.old connection session payload self.new }
+    {
+        let allowed = self.control.holds(session, Perm::BAN, ChannelId::ROOT);
+        match self.warden.settle(allowed, session, payload.as_slice()) {
+            Ok(wire) => self.kept.keep_reply(list_reply(connection, wire)),
+            Err(_) => self.starve(connection),
         }
     }
 
@@ -309,7 +400,10 @@ impl<'a, D: Entrance, N: Serving, R: Wait + Copy> Owner<'a, D, N, R> {
 
     // Keeps the reply to a leave that was decided, or the leave.
     fn keep_leave(&mut self, connection: u32, decided: bool, reply: Reply<N>) -> bool
-        ensures { (result ≡ decided) × (self.new ≡ leave_kept connection decided reply self.old) }
+        ensures { (result ≡ decided) × (self.new ≡ record self.old {
+          kept = kept_after decided reply self.old.kept;
+          desk = record self.old.desk { leave = leave_after decided connection };
+        }) }
     {
         if decided {
             self.desk.keep(None);
@@ -324,7 +418,7 @@ impl<'a, D: Entrance, N: Serving, R: Wait + Copy> Owner<'a, D, N, R> {
     // A command came from the desk. It is dropped where its connection is not open.
     fn receive(&mut self, command: Command)
         requires { length self.old.logins < CONNECTION_LIMIT }
-        ensures { Receives self.old command self.new }
+        ensures { Receives self.old (owned self.old.guests.rows command) self.new }
     {
         if let Some(command) = self.guests.owned(command) {
             self.receive_owned(command);
@@ -334,7 +428,7 @@ impl<'a, D: Entrance, N: Serving, R: Wait + Copy> Owner<'a, D, N, R> {
     // A command of an open connection came, with the session that is kept for it.
     fn receive_owned(&mut self, command: Command)
         requires { length self.old.logins < CONNECTION_LIMIT }
-        ensures { ReceivesOwned self.old (Some command) self.new }
+        ensures { Receives self.old (Some command) self.new }
     {
         if is_leave(&command.what) {
             let connection = command.connection;
@@ -343,7 +437,7 @@ impl<'a, D: Entrance, N: Serving, R: Wait + Copy> Owner<'a, D, N, R> {
         } else if is_login(&command) && self.must_wait() {
             self.logins.wait(command);
         } else {
-            self.give(command);
+            self.give_or_refuse(command);
         }
     }
 
@@ -381,7 +475,7 @@ impl<'a, D: Entrance, N: Serving, R: Wait + Copy> Owner<'a, D, N, R> {
     // What came from the desk, if something did.
     fn receive_item(&mut self, item: Option<DeskItem>) -> bool
         requires { length self.old.logins < CONNECTION_LIMIT }
-        ensures { ReceivesItem self.old item result self.new }
+        ensures { (result ≡ is_some item) × ReceivesItem self.old item self.new }
     {
         match item {
             Some(item) => self.receive_one(item),
@@ -392,7 +486,7 @@ impl<'a, D: Entrance, N: Serving, R: Wait + Copy> Owner<'a, D, N, R> {
     // An item came from the desk.
     fn receive_one(&mut self, item: DeskItem) -> bool
         requires { length self.old.logins < CONNECTION_LIMIT }
-        ensures { ReceivesItem self.old (Some item) result self.new }
+        ensures { (result ≡ true) × ReceivesItem self.old (Some item) self.new }
     {
         match item {
             DeskItem::Closed { connection } => {
@@ -403,16 +497,24 @@ impl<'a, D: Entrance, N: Serving, R: Wait + Copy> Owner<'a, D, N, R> {
                 self.receive(command);
                 true
             }
+            DeskItem::Bans {
+                connection,
+                session,
+                payload,
+            } => {
+                self.settle_list(connection, session, payload);
+                true
+            }
         }
     }
 
-    // Gives a login that waited, with the session that is kept for its connection. It is dropped where that is not
-    // open any more.
+    // Gives or refuses a login that waited, with the session that is kept for its connection. It is dropped where
+    // that is not open any more.
     fn give_login(&mut self, login: Command)
-        ensures { GivesOwned self.old (owned self.old.guests.rows login) self.new }
+        ensures { MatchOption (owned self.old.guests.rows login) (self.new ≡ self.old) (λ own. IsGivenOrRefused self.old own self.new) }
     {
-        if let Some(command) = self.guests.owned(login) {
-            self.give(command);
+        if let Some(own) = self.guests.owned(login) {
+            self.give_or_refuse(own);
         }
     }
 
@@ -433,7 +535,8 @@ impl<'a, D: Entrance, N: Serving, R: Wait + Copy> Owner<'a, D, N, R> {
     // Gives or drops a login that waited, if it may go; or else takes an item from the desk, where one more login may
     // wait.
     fn take_next(&mut self) -> bool
-        ensures { GoesWhere (may_go self.old) self.old result self.new }
+        ensures { Serves (next_by false None false (may_go self.old) (nat_lt (length self.old.logins) CONNECTION_LIMIT))
+            self.old result self.new }
     {
         if self.may_go() {
             return self.give_waiting();
@@ -464,32 +567,25 @@ impl<'a, D: Entrance, N: Serving, R: Wait + Copy> Owner<'a, D, N, R> {
         }
     }
 
-    // Makes a lag item for this connection, unless one was made.
-    fn lag_for(&mut self, guest: Option<Guest>) -> bool
-        ensures { LagsFor self.old guest result self.new }
+    // Where a login waits and no lag item is kept: the one for the connection for which it waits.
+    fn pressing(&self) -> Option<Lag>
+        ensures { result ≡ pressing self.now }
     {
-        let Some(guest) = guest else {
-            return false;
-        };
-        let Some(session) = guest.session else {
-            return false;
-        };
-        if guest.lagged {
-            return false;
+        if self.logins.are_none() || self.kept.has_lag() {
+            return None;
         }
-        self.make_lag(guest.connection, session);
-        true
+        match self.blocker() {
+            Some(guest) => lag_for(&guest),
+            None => None,
+        }
     }
 
     // Where a login waits, makes a lag item for the connection for which it does.
     fn press(&mut self) -> bool
         ensures { Presses self.old result self.new }
     {
-        if self.logins.are_none() || self.kept.has_lag() {
-            return false;
-        }
-        let guest = self.blocker();
-        self.lag_for(guest)
+        let lag = self.pressing();
+        self.make_lag(lag)
     }
 
     // Publishes what a command could not.
@@ -510,11 +606,10 @@ impl<'a, D: Entrance, N: Serving, R: Wait + Copy> Owner<'a, D, N, R> {
 
     // Makes a lag item for the connection of a session that lags, unless one was made.
     fn note_lagged(&mut self, session: SessionId)
-        ensures { self.new ≡ lagged_for (lagging session self.old.guests.rows) session self.old }
+        ensures { self.new ≡ with_lag (lagging session self.old.guests.rows) self.old }
     {
-        if let Some(connection) = self.guests.lagging(session) {
-            self.make_lag(connection, session);
-        }
+        let lag = self.guests.lagging(session);
+        self.make_lag(lag);
     }
 
     // Posts the first notice that is pending.
@@ -550,7 +645,7 @@ impl<'a, D: Entrance, N: Serving, R: Wait + Copy> Owner<'a, D, N, R> {
 
     // Asks the door, where it may.
     fn ask_door(&mut self) -> bool
-        ensures { Asks D.facts self.old result self.new }
+        ensures { Asks D.facts D.Peer.facts (is_not_to_ask self.old) self.old result self.new }
     {
         if self.is_not_to_ask() {
             return false;
@@ -583,12 +678,12 @@ impl<'a, D: Entrance, N: Serving, R: Wait + Copy> Owner<'a, D, N, R> {
     }
 
     /// One turn. It offers each item that it keeps to its bell; gives a kept leave again, or a login that
-    /// waited and whose connection is open, or takes an item from the desk; publishes what is not published; posts a notice; asks the door;
-    /// and, where no more connections come, has that told to each worker. It does each at most once, and where
-    /// it may. What it was opened with stays, and it is done exactly where no more connections come, a `Closed`
+    /// waited and whose connection is open, or takes an item from the desk; publishes what is not published; posts
+    /// a notice; asks the door; and, where no more connections come, has that told to each worker. It does each at
+    /// most once, and where it may. What it was opened with stays, and it is done exactly where no more connections come, a `Closed`
     /// was taken for each, and each bell took that no more come.
     pub fn turn(&mut self) -> Turn
-        ensures turned { OwnerTurned D.facts self.old result self.new }
+        ensures turned { OwnerTurned D.facts D.Peer.facts self.old result self.new }
         ensures opening { opening_of N.opening.state N.door self.new.guests.limit self.new.scribe.is_asked
             ≡ opening_of N.opening.state N.door self.old.guests.limit self.old.scribe.is_asked }
         ensures ended { (result ≡ Turn.Done) ↔ IsTrue (has_ended self.new) }
@@ -598,7 +693,7 @@ impl<'a, D: Entrance, N: Serving, R: Wait + Copy> Owner<'a, D, N, R> {
 
     // The parts of a turn, in their order.
     fn work(&mut self) -> Turn
-        ensures { OwnerTurned D.facts self.old result self.new }
+        ensures { OwnerTurned D.facts D.Peer.facts self.old result self.new }
     {
         let offered = self.offer_kept();
         let served = self.serve_desk();
@@ -622,9 +717,10 @@ impl<'a, D: Entrance, N: Serving, R: Wait + Copy> Owner<'a, D, N, R> {
         self.control.has_shown(&self.rt, pass);
     }
 
-    /// The door, the totals, the state after all accepted edits, and the entries of the journal.
-    pub fn finish(self) -> OwnerEnd<D>
+    /// The door, the clock, the totals, the state after all accepted edits, and the entries of the journal.
+    pub fn finish(self) -> OwnerEnd<D, K>
         ensures door { result.door ≡ self.entry.doorway.door }
+        ensures clock { (K.last result.clock ≡ self.entry.warden.last) × (K.calls result.clock ≡ self.entry.warden.calls) }
         ensures connections { result.connections ≡ self.entry.guests.given }
         ensures accepted { result.accepted ≡ length (appended self.entry.control.publisher) }
         ensures state { result.state ≡ current self.entry.control }
@@ -657,6 +753,7 @@ impl<'a, D: Entrance, N: Serving, R: Wait + Copy> Owner<'a, D, N, R> {
             desk,
             logins,
             scribe,
+            warden,
             is_ending: _,
         } = self;
         let connections = guests.given();
@@ -669,6 +766,7 @@ impl<'a, D: Entrance, N: Serving, R: Wait + Copy> Owner<'a, D, N, R> {
         let (accepted, entries, no_memory) = scribe.close();
         OwnerEnd {
             door,
+            clock: warden.finish(),
             connections,
             accepted,
             state: control.into_state(),
@@ -686,14 +784,14 @@ fn any_of(a: bool, b: bool, c: bool, d: bool, e: bool, f: bool) -> bool
     a || (b || (c || (d || (e || f))))
 }
 
-impl<'a, D: Entrance, N: Serving, R: Wait + Copy> Role for Owner<'a, D, N, R> {
+impl<'a, D: Entrance, K: Clock, N: Serving, R: Wait + Copy> Role for Owner<'a, D, K, N, R> {
     type Opening = OwnerOpening;
 
     ghost opening = { λ owner. opening_of N.opening.state N.door owner.guests.limit owner.scribe.is_asked };
 
     ghost has_ended = { has_ended };
 
-    ghost turned = { OwnerTurned D.facts };
+    ghost turned = { OwnerTurned D.facts D.Peer.facts };
 
     fn turn(&mut self) -> Turn {
         Owner::turn(self)

@@ -1,9 +1,11 @@
 //! Tests of the parts that the server's roles are made of: a port over links that take nothing or all, the control owner over
-//! a box that is full or without memory, and the owner's journal. A module for each crate.
+//! a box that is full or without memory, and the owner's journal.
 #![tactic(auto)]
 
 #[cfg(test)]
 mod control;
+#[cfg(test)]
+mod ends;
 #[cfg(test)]
 mod opening;
 #[cfg(test)]

@@ -42,6 +42,15 @@ pub(crate) fn begin<R: Abort + Wait>(rt: &R, alloc: Global) -> (Publisher, State
     ensures pending { result.0.pending ≡ [] }
 {
     let twin = State::empty(alloc).expect(rt, "memory");
+    begin_at(rt, alloc, twin)
+}
+
+/// A publisher of a state, and that state.
+pub(crate) fn begin_at<R: Abort + Wait>(rt: &R, alloc: Global, twin: State) -> (Publisher, State)
+    ensures state { result.1 ≡ latest result.0 }
+    ensures fresh { appended result.0 ≡ [] }
+    ensures pending { result.0.pending ≡ [] }
+{
     let state = twin.copy(alloc).expect(rt, "memory");
     let (publisher, passes) = open(rt, alloc, state, 1).expect(rt, "memory");
     drop(passes);

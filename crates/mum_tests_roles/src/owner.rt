@@ -5,21 +5,22 @@ ghost use Rattle.mum_base.specs.declared.number.TheConstants.{SLOTS as slots};
 ghost use Rattle.mum_published.specs.Calls.{appended, latest};
 ghost use Rattle.mum_record.specs.Journal.{Each, IsWritableControl};
 
+use crate::ends::{Ends, queues};
 use crate::opening::{begin, boxes_of};
 use mum_base::{Items, Octets};
 use mum_control::Control;
 use mum_frame::whole_frame;
-use mum_io::{Door, DoorEvent, LinkEvent, MemDoor, MemLink};
-use mum_outbox::{Bell, BoxPass, Desk, PostBox};
+use mum_io::{Clock, Door, DoorEvent, LinkEvent, MemClock, MemDoor, MemLink};
+use mum_outbox::PostBox;
 use mum_owner::{Owner, OwnerEnd, Serving};
 use mum_port::DeskItem;
-use mum_published::{BellItem, Naming, Publisher};
+use mum_published::{Naming, Publisher};
 use mum_record::{ControlEntry, Journal, write_journal};
 use mum_rules_user::UserMessage;
 use mum_session::{Action, Asked, Command, Session};
 use mum_state::State;
 use std::alloc::Global;
-use std::marker::{Brand, Model};
+use std::marker::Brand;
 use std::mem::drop;
 use std::process::Abort;
 use std::sync::Wait;
@@ -49,52 +50,14 @@ end
 #[derive(Drop)]
 struct Peer<L: Drop, N: Naming> {
     session: Session,
-    desk: Desk<DeskItem>,
-    to_desk: BoxPass<DeskItem>,
-    bell: Bell<BellItem<L, N>>,
-    from_bell: BoxPass<BellItem<L, N>>,
-}
-
-impl<L: Drop, N: Naming> Model for Peer<L, N> {
-    ghost use Rattle.std.specs.Prelude.{◌≡◌};
-    ghost use Rattle.mum_session.specs.Machine.{Machine};
-
-    ghost Value = { Machine };
-
-    ghost view = { λ p. p.session };
-
-    ghost invariant = { λ p. (p.to_desk.queue ≡ p.desk.queue) × (p.from_bell.queue ≡ p.bell.queue) };
+    ends: Ends<L, N>,
 }
 
 impl<L: Drop, N: Naming> Peer<L, N> {
-    /// The first connection, at one owner of each of its queues.
-    fn new(desk: Desk<DeskItem>, bell: Bell<BellItem<L, N>>) -> Peer<L, N> {
-        let mut desk = desk;
-        let mut bell = bell;
-        let to_desk = desk.pass();
-        let from_bell = bell.pass();
-        Peer {
-            session: Session::new(1, 0),
-            desk,
-            to_desk,
-            bell,
-            from_bell,
-        }
-    }
-
-    fn put<R: Wait>(&mut self, rt: &R, item: DeskItem) {
-        let _offered = self.desk.offer_as(rt, &mut self.to_desk, item);
-    }
-
     /// Takes what the owner put into the bell.
     fn hear<R: Wait>(&mut self, rt: &R) {
-        for _item in 0..4 {
-            let Some(item) = self.bell.take_as(rt, &mut self.from_bell) else {
-                return;
-            };
-            if let BellItem::Reply(reply) = item {
-                self.session.answered(reply.end);
-            }
+        if let Some(reply) = self.ends.reply(rt) {
+            self.session.answered(reply.end);
         }
     }
 
@@ -107,7 +70,7 @@ impl<L: Drop, N: Naming> Peer<L, N> {
         let view = whole_frame(bytes).expect(rt, "a frame");
         let frame = view.to_frame(alloc).expect(rt, "memory");
         match self.session.frame(alloc, frame).expect(rt, "memory") {
-            Action::Ask(command) => self.put(rt, DeskItem::Command(command)),
+            Action::Ask(command) => self.ends.put(rt, DeskItem::Command(command)),
             _ => {}
         }
     }
@@ -120,16 +83,16 @@ impl<L: Drop, N: Naming> Peer<L, N> {
             session: self.session.session(),
             what: Asked::User(UserMessage::Leave),
         };
-        self.put(rt, DeskItem::Command(command));
-        self.put(rt, DeskItem::Closed { connection: 1 });
+        self.ends.put(rt, DeskItem::Command(command));
+        self.ends.put(rt, DeskItem::Closed { connection: 1 });
     }
 }
 
 /// Sends all that the client sends, and leaves.
-fn talk<D: Door, N: Serving, R: Abort + Copy + Wait>(
+fn talk<D: Door, K: Clock, N: Serving, R: Abort + Copy + Wait>(
     rt: &R,
     alloc: Global,
-    owner: &mut Owner<'_, D, N, R>,
+    owner: &mut Owner<'_, D, K, N, R>,
     peer: &mut Peer<D::Conn, N>,
 ) {
     owner.turn();
@@ -164,10 +127,10 @@ fn text_of(rt: &impl Abort, alloc: Global, entries: Vec<ControlEntry>) -> Octets
 }
 
 /// The journal of an owner over these queues, once the client has left.
-fn written<D: Door, N: Serving, R: Abort + Copy + Wait>(
+fn written<D: Door, K: Clock, N: Serving, R: Abort + Copy + Wait>(
     rt: &R,
     alloc: Global,
-    owner: Owner<'_, D, N, R>,
+    owner: Owner<'_, D, K, N, R>,
     peer: Peer<D::Conn, N>,
 ) -> Octets {
     let mut owner = owner;
@@ -176,6 +139,7 @@ fn written<D: Door, N: Serving, R: Abort + Copy + Wait>(
     drop(peer);
     let OwnerEnd {
         door,
+        clock,
         connections: _,
         accepted: _,
         state,
@@ -184,24 +148,9 @@ fn written<D: Door, N: Serving, R: Abort + Copy + Wait>(
         door_failed: _,
     } = owner.finish();
     drop(door);
+    drop(clock);
     drop(state);
     text_of(rt, alloc, entries)
-}
-
-/// A desk, a bell in a list of its own, and the peer at the other ends.
-fn queues<L: Drop, N: Naming>(
-    rt: &impl Abort,
-    alloc: Global,
-) -> (Desk<DeskItem>, Vec<Bell<BellItem<L, N>>>, Peer<L, N>)
-    ensures { length result.1.items ≡ 1 }
-{
-    let mut desk = Desk::new(alloc).expect(rt, "memory");
-    let mut bell = Bell::new(alloc).expect(rt, "memory");
-    let share = desk.share().expect(rt, "memory");
-    let peer = Peer::new(share, bell.share().expect(rt, "memory"));
-    let mut bells = Vec::new(alloc);
-    bells.push(bell).expect(rt, "memory");
-    (desk, bells, peer)
 }
 
 /// The journal of an owner over this door, which gives one connection.
@@ -221,10 +170,15 @@ fn journal_named<D: Door, N: Serving, R: Abort + Copy + Wait>(
     requires door { record { counts = (D.facts door).counts; given = (D.facts door).given; opened_at = (D.facts door).opened_at } ≡ N.door }
 {
     let control = Control::<N>::open(alloc, state, publisher, boxes).expect(rt, "memory");
-    let (desk, bells, peer) = queues::<D::Conn, N>(rt, alloc);
-    match Owner::open(*rt, alloc, control, desk, bells, door, 1, true) {
+    let (desk, bells, ends) = queues::<D::Conn, N>(rt, alloc);
+    let peer = Peer {
+        session: Session::new(1, 0),
+        ends,
+    };
+    let clock = MemClock::new(Vec::new(alloc));
+    match Owner::open(*rt, alloc, control, desk, bells, door, clock, 1, true) {
         Ok(owner) => written(rt, alloc, owner, peer),
-        Err(_door) => panic!(rt; "memory"),
+        Err(_both) => panic!(rt; "memory"),
     }
 }
 

@@ -3,4 +3,4 @@ use Rattle.mum_owner.proofs.laws.a_connection_lags_once.Goals as goal
 
 pub returns : goal.returns
 returns g c control door connections journal queues opened owner turns new all =
-    lags_once g.D.Entrance.facts control door connections journal queues opened owner turns new all
+    lags_once g.D.Entrance.facts g.D.Peer.Link.facts control door connections journal queues opened owner turns new all

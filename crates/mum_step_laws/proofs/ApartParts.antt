@@ -20,7 +20,7 @@ use Rattle.mum_notify.specs.declared.notice.Notice.{Notice}
 use Rattle.mum_record.specs.declared.step.Step.{Step}
 use Rattle.mum_record.specs.declared.step.Step.TheVariants.{Close, Collect, Drain, Edit, End, Frame, Look, Offer, Open, Post, Publish, Tell}
 use Rattle.mum_session.specs.declared.action.Action.{Action}
-use Rattle.mum_session.specs.declared.action.Action.TheVariants.{Ask, Voice, Echo, Keep, Ignore}
+use Rattle.mum_session.specs.declared.action.Action.TheVariants.{Voice}
 use Rattle.mum_voice.specs.Packet.{packet}
 use Rattle.mum_step_laws.specs.Apart.{OwnersAreApart, WorkersAreApart, is_of_owner}
 
@@ -90,11 +90,8 @@ hears_apart core v w None other = refl
 hears_apart core v w (Some held) other = changed_other core.workers v w (λ worker. frame_step.holding held worker) idle (differ v w other)
 
 frame_apart : (core : CoreState) (c w : ℕ) (version : Option ℕ) (a : Action) → ((connection_at core c).worker == w) ≡ false → worker_at (frame_step.does core c version a) w ≡ worker_at core w
-frame_apart core c w version (Ask command) other = refl
 frame_apart core c w version (Voice payload) other = hears_apart core (connection_at core c).worker w (spoken (connection_at core c).seat (packet payload)) other
-frame_apart core c w version (Echo wire) other = refl
-frame_apart core c w version Keep other = refl
-frame_apart core c w version (Ignore why) other = refl
+frame_apart core c w version others other = refl
 
 notes_apart : (core : CoreState) (v w : ℕ) (note : Option ℕ) → (v == w) ≡ false → worker_at (tell_step.notes v note core) w ≡ worker_at core w
 notes_apart core v w None other = refl

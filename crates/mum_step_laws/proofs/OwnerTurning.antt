@@ -1,44 +1,47 @@
 -- What a turn of an owner makes of its control owner is what a run of steps makes of the core.
 use Rattle.std.proofs.Common.{◌≡◌, ◌∙◌, ℕ, Bool, true, false, cond, List, [], ◌∷◌, ◌++◌, length, Option, Some, None, refl, sym, ap, subst, inl, inr}
-use Rattle.std.specs.Prelude.{◌&&◌, ◌||◌, ◌==◌, is_none, is_some, nat_lt}
+use Rattle.std.specs.Prelude.{◌&&◌, is_none, is_some, MatchBool, MatchOption}
 use Rattle.std.specs.List.{AllByRecursion, flat_map}
 use Rattle.std.proofs.lemmas.Grind.{fold-append}
 use Rattle.std.proofs.lemmas.List.{append-nil}
 use Rattle.mum_base.specs.declared.number.SessionId.{SessionId}
 use Rattle.mum_base.specs.declared.number.Slot.{Slot}
-use Rattle.mum_base.specs.declared.number.TheConstants.{CONNECTION_LIMIT}
 use Rattle.mum_control.specs.Commanded.{Commanded, current}
 use Rattle.mum_control.specs.Facts.{ControlFacts}
 use Rattle.mum_control.specs.Kept.{slot_of}
 use Rattle.mum_control.specs.Posting.{EmptiesPost, PostsNext, answer_of}
 use Rattle.mum_control.specs.declared.posted.Posted.{Posted}
-use Rattle.mum_control.specs.declared.posted.Posted.TheVariants as posted
 use Rattle.mum_core.specs.Core.{CoreState}
 use Rattle.mum_core.specs.Laws.{IsRun, ran}
 use Rattle.mum_core.specs.Step.{does}
 use Rattle.mum_io.specs.Door.{DoorFacts}
+use Rattle.mum_io.specs.Link.{LinkFacts}
 use Rattle.mum_notify.specs.declared.notice.Notice.{Notice}
 use Rattle.mum_outbox.specs.declared.parcel.PostParcel.{PostParcel}
 use Rattle.mum_outbox.specs.declared.queue.Offered.{Offered}
 use Rattle.mum_outbox.specs.declared.queue.Offered.TheVariants.{Sent, Full}
+use Rattle.mum_owner.specs.Banning.{Answers, IsGivenOrRefused, ListComesTo, SettledBy, SettlesList, TestedBy, ban_reply, banned_in, book_after, is_banned, list_reply, with_warden}
 use Rattle.mum_owner.specs.Facts.{OwnerFacts}
-use Rattle.mum_owner.specs.Guests.{lagging, owned, session_of}
-use Rattle.mum_owner.specs.Serving.{EmptiesFor, GivesOwned, GoesWhere, IsGiven, LeaveIsGiven, LeavesWhere, PendsWhere, ReceivesBy, ReceivesItem, ReceivesOwned, ServesDesk, ServesWhere, TakesWhere, blocker, leave_of, may_go, must_wait, with_pass}
-use Rattle.mum_owner.specs.Turned.{AsksWhere, LagsFor, LagsOnce, PostsOne, PostsWhere, PressesWhere, PublishesWhere, has_posted, is_not_to_ask, is_over, lagged_by, lagged_for}
-use Rattle.mum_owner.specs.Waiting.{are_none}
+use Rattle.mum_owner.specs.Given.{IsGiven}
+use Rattle.mum_owner.specs.Guests.{owned, session_of}
+use Rattle.mum_owner.specs.Serving.{EmptiesFor, LeaveIsGiven, Next, Receives, ReceivesBy, ReceivesItem, Rests, Serves, ServesDesk, leave_of, must_wait, next, with_pass}
+use Rattle.mum_owner.specs.Serving.Next.{Again, Goes, Rest, Take}
+use Rattle.mum_owner.specs.Turned.{Asks, PostsOne, Publishes, has_posted, is_not_to_ask, is_over, lag_at, pressing, with_lag}
 use Rattle.mum_owner.specs.Written.{is_leave, is_login}
-use Rattle.mum_owner.specs.declared.desk.TheConstants.{PENDING_LIMIT}
-use Rattle.mum_owner.specs.declared.guests.Guest.{Guest}
+use Rattle.mum_owner.specs.declared.kept.Lag.{Lag}
 use Rattle.mum_port.specs.declared.item.DeskItem.{DeskItem}
 use Rattle.mum_port.specs.declared.item.DeskItem.TheVariants as items
 use Rattle.mum_published.specs.Facts.{NoteFacts, ReplyFacts}
 use Rattle.mum_record.specs.declared.step.Step.{Step}
 use Rattle.mum_record.specs.declared.step.Step.TheVariants as steps
 use Rattle.mum_session.specs.declared.command.Command.{Command}
+use Rattle.mum_bans.specs.Book.{Book}
+use Rattle.mum_warden.specs.Answer.{sent}
+use Rattle.mum_warden.specs.Warden.{WardenFacts, verdict_in}
 use Rattle.mum_step_laws.proofs.ControlParts.{dropped_owns, edits_as, posts}
 use Rattle.mum_step_laws.proofs.OwnerParts.{publishes}
 use Rattle.mum_step_laws.specs.ControlSteps.{HasAsked, OwnsAs, published_with}
-use Rattle.mum_step_laws.specs.OwnerTurns.{Decision, OwnersAreOwners, decided_by, decided_given, decided_going, decided_in, decided_item, decided_leave, decided_leaving, decided_owned, decided_pending, decided_receiving, decided_taking, decided_waiting, decided_where, publish_noted, step_where, steps_decided}
+use Rattle.mum_step_laws.specs.OwnerTurns.{Decision, OwnersAreOwners, decided_as, decided_by, decided_command, decided_given, decided_in, decided_item, decided_leave, decided_owned, decided_receiving, decided_settling, decided_tested, decided_waiting, publish_noted, step_where, steps_decided}
 
 -- ---- runs
 
@@ -135,6 +138,38 @@ module _ {D L : Type 0} where
   given_moves old command new (inl gives) = commanded old.control old.control new.control command gives.reply (same_kept old.control old.control refl) gives.commanded
   given_moves old command new (inr drops) = rests old.control new.control (ap (λ (o : OwnerFacts D L). o.control) drops.others)
 
+  -- a reply that the owner makes itself
+  replied_moves : (old : OwnerFacts D L) (reply : ReplyFacts) (new : OwnerFacts D L) → Answers old reply new → Moves old new []
+  replied_moves old reply new (inl is) = rests old.control new.control (ap (λ (o : OwnerFacts D L). o.control) is)
+  replied_moves old reply new (inr is) = rests old.control new.control (ap (λ (o : OwnerFacts D L). o.control) is)
+
+  tested_moves : (banned : Bool) (old : OwnerFacts D L) (login : Command) (new : OwnerFacts D L) (tested : TestedBy banned old login new) → Moves old new (decided_tested banned old login new tested)
+  tested_moves true old login new answers = replied_moves old (ban_reply login.connection) new answers
+  tested_moves false old login new given = given_moves old login new given
+
+  settling_moves : (login : Bool) (banned : Option SessionId) (old : OwnerFacts D L) (command : Command) (new : OwnerFacts D L) (given : SettledBy login banned old command new)
+      → Moves old new (decided_settling login banned old command new given)
+  settling_moves true banned old command new tests =
+      tested_moves (is_banned old command tests.warden.last) (with_warden tests.warden old) command new tests.tested
+  settling_moves false (Some banned) old command new (inl lacks) = rests old.control new.control (ap (λ (o : OwnerFacts D L). o.control) lacks.others)
+  settling_moves false (Some banned) old command new (inr removes) =
+      let decisions : List Decision = decided_given (with_warden removes.warden old) command removes.after removes.given in
+      subst (λ (k : ControlFacts). Leads old.control k decisions (flat_map steps_decided decisions)) (sym (ap (λ (o : OwnerFacts D L). o.control) removes.others))
+      (given_moves (with_warden removes.warden old) command removes.after removes.given)
+  settling_moves false None old command new given = given_moves old command new given
+
+  command_moves : (old : OwnerFacts D L) (command : Command) (new : OwnerFacts D L) (given : IsGivenOrRefused old command new) → Moves old new (decided_command old command new given)
+  command_moves old command new given = settling_moves (is_login command) (banned_in command) old command new given
+
+  list_comes_moves : (warden : WardenFacts) (old : OwnerFacts D L) (reply : ReplyFacts) (book : Book) (new : OwnerFacts D L) → ListComesTo warden old reply book new → Moves old new []
+  list_comes_moves warden old reply book new (inl both) = rests old.control new.control (ap (λ (o : OwnerFacts D L). o.control) both.1)
+  list_comes_moves warden old reply book new (inr both) = rests old.control new.control (ap (λ (o : OwnerFacts D L). o.control) both.1)
+
+  list_moves : (old : OwnerFacts D L) (connection : ℕ) (session : SessionId) (payload : List ℕ) (new : OwnerFacts D L) → SettlesList old connection session payload new → Moves old new []
+  list_moves old connection session payload new settles =
+      list_comes_moves settles.warden old (list_reply connection (sent session (verdict_in old.warden.book settles.allowed payload)))
+      (book_after old.warden.book settles.allowed payload settles.warden.last) new settles.comes_to
+
   leave_moves : (old : OwnerFacts D L) (connection : ℕ) (decided : Bool) (new : OwnerFacts D L) (given : LeaveIsGiven old connection decided new) → Moves old new (decided_leave old connection decided new given)
   leave_moves old connection decided new (inl gives) =
       commanded old.control gives.emptied new.control (leave_of connection (session_of connection old.guests.rows)) gives.reply
@@ -145,86 +180,52 @@ module _ {D L : Type 0} where
       → Moves old new (decided_receiving leave waits old command new received)
   receiving_moves true waits old command new received = leave_moves old command.connection received.0 new received.1
   receiving_moves false true old command new received = rests old.control new.control (ap (λ (o : OwnerFacts D L). o.control) received)
-  receiving_moves false false old command new received = given_moves old command new received
+  receiving_moves false false old command new received = command_moves old command new received
 
-  owned_moves : (own : Option Command) (old new : OwnerFacts D L) (received : ReceivesOwned old own new) → Moves old new (decided_owned own old new received)
+  owned_moves : (own : Option Command) (old new : OwnerFacts D L) (received : Receives old own new) → Moves old new (decided_owned own old new received)
   owned_moves None old new received = still old new received
   owned_moves (Some command) old new received = receiving_moves (is_leave command.what) (is_login command && must_wait old) old command new received
 
-  item_moves : (old : OwnerFacts D L) (item : Option DeskItem) (worked : Bool) (new : OwnerFacts D L) (received : ReceivesItem old item worked new) → Moves old new (decided_item old item worked new received)
-  item_moves old None worked new received = still old new received.1
-  item_moves old (Some (items.Closed connection)) worked new received = rests old.control new.control (ap (λ (o : OwnerFacts D L). o.control) received.1)
-  item_moves old (Some (items.Command command)) worked new received = owned_moves (owned old.guests.rows command) old new received.1
+  item_moves : (old : OwnerFacts D L) (item : Option DeskItem) (new : OwnerFacts D L) (received : ReceivesItem old item new) → Moves old new (decided_item old item new received)
+  item_moves old None new received = still old new received
+  item_moves old (Some (items.Closed connection)) new received = rests old.control new.control (ap (λ (o : OwnerFacts D L). o.control) received)
+  item_moves old (Some (items.Command command)) new received = owned_moves (owned old.guests.rows command) old new received
+  item_moves old (Some (items.Bans connection session payload)) new received = list_moves old connection session payload new received
 
-  taking_moves : (b : Bool) (old : OwnerFacts D L) (worked : Bool) (new : OwnerFacts D L) (takes : TakesWhere b old worked new) → Moves old new (decided_taking b old worked new takes)
-  taking_moves true old worked new takes = item_moves (with_pass takes.pass old) takes.item worked new takes.received
-  taking_moves false old worked new (so, same) = still old new same
-
-  waiting_moves : (own : Option Command) (old new : OwnerFacts D L) (given : GivesOwned old own new) → Moves old new (decided_waiting own old new given)
+  waiting_moves : (own : Option Command) (old new : OwnerFacts D L) (given : MatchOption own (new ≡ old) (λ command. IsGivenOrRefused old command new)) → Moves old new (decided_waiting own old new given)
   waiting_moves None old new given = still old new given
-  waiting_moves (Some command) old new given = given_moves old command new given
+  waiting_moves (Some command) old new given = command_moves old command new given
 
-  going_moves : (b : Bool) (old : OwnerFacts D L) (worked : Bool) (new : OwnerFacts D L) (goes : GoesWhere b old worked new) → Moves old new (decided_going b old worked new goes)
-  going_moves true old worked new gives = waiting_moves (owned old.guests.rows gives.login) (record old { logins = gives.rest }) new gives.given
-  going_moves false old worked new takes = taking_moves (nat_lt (length old.logins) CONNECTION_LIMIT) old worked new takes
-
-  pending_moves : (b : Bool) (old : OwnerFacts D L) (worked : Bool) (new : OwnerFacts D L) (pends : PendsWhere b old worked new) → Moves old new (decided_pending b old worked new pends)
-  pending_moves true old worked new (so, same) = still old new same
-  pending_moves false old worked new goes = going_moves (may_go old) old worked new goes
-
-  leaving_moves : (leave : Option ℕ) (old : OwnerFacts D L) (worked : Bool) (new : OwnerFacts D L) (leaves : LeavesWhere leave old worked new) → Moves old new (decided_leaving leave old worked new leaves)
-  leaving_moves (Some connection) old worked new given = leave_moves old connection worked new given
-  leaving_moves None old worked new pends = pending_moves (nat_lt PENDING_LIMIT (length old.control.pending)) old worked new pends
-
-  where_moves : (b : Bool) (old : OwnerFacts D L) (worked : Bool) (new : OwnerFacts D L) (serves : ServesWhere b old worked new) → Moves old new (decided_where b old worked new serves)
-  where_moves true old worked new (so, same) = still old new same
-  where_moves false old worked new leaves = leaving_moves old.desk.leave old worked new leaves
+  moves_as : (next : Next) (old : OwnerFacts D L) (worked : Bool) (new : OwnerFacts D L) (serves : Serves next old worked new) → Moves old new (decided_as next old worked new serves)
+  moves_as Rest old worked new (so, same) = still old new same
+  moves_as (Again connection) old worked new given = leave_moves old connection worked new given
+  moves_as Goes old worked new gives = waiting_moves (owned old.guests.rows gives.login) (record old { logins = gives.rest }) new gives.given
+  moves_as Take old worked new takes = item_moves (with_pass takes.pass old) takes.item new takes.received
 
   desk_moves : (old : OwnerFacts D L) (worked : Bool) (new : OwnerFacts D L) (serves : ServesDesk old worked new) → Moves old new (decided_in old worked new serves)
-  desk_moves old worked new serves = where_moves (is_some old.kept.reply) old worked new serves
+  desk_moves old worked new serves = moves_as (next old) old worked new serves
 
-  -- ---- lag items
-
-  lags_once : (old : OwnerFacts D L) (connection : ℕ) (session : Option SessionId) (lagged worked : Bool) (new : OwnerFacts D L) → LagsOnce old connection session lagged worked new → new.control ≡ old.control
-  lags_once old connection None lagged worked new lags = ap (λ (o : OwnerFacts D L). o.control) lags.1
-  lags_once old connection (Some session) true worked new lags = ap (λ (o : OwnerFacts D L). o.control) lags.1
-  lags_once old connection (Some session) false worked new lags = ap (λ (o : OwnerFacts D L). o.control) lags.1
-
-  lags_for : (old : OwnerFacts D L) (guest : Option Guest) (worked : Bool) (new : OwnerFacts D L) → LagsFor old guest worked new → new.control ≡ old.control
-  lags_for old None worked new lags = ap (λ (o : OwnerFacts D L). o.control) lags.1
-  lags_for old (Some guest) worked new lags = lags_once old guest.connection guest.session guest.lagged worked new lags
-
-  presses_where : (b : Bool) (old : OwnerFacts D L) (worked : Bool) (new : OwnerFacts D L) → PressesWhere b old worked new → new.control ≡ old.control
-  presses_where true old worked new presses = ap (λ (o : OwnerFacts D L). o.control) presses.1
-  presses_where false old worked new presses = lags_for old (blocker old) worked new presses
-
-  lag_keeps : (connection : Option ℕ) (session : SessionId) (owner : OwnerFacts D L) → (lagged_for connection session owner).control ≡ owner.control
-  lag_keeps None session owner = refl
-  lag_keeps (Some connection) session owner = refl
-
-  answer_keeps : (answer : Posted) (owner : OwnerFacts D L) → (lagged_by answer owner).control ≡ owner.control
-  answer_keeps posted.None owner = refl
-  answer_keeps (posted.Posted session) owner = refl
-  answer_keeps (posted.Lagged session) owner = lag_keeps (lagging session owner.guests.rows) session owner
+  -- a lag item changes nothing of the control owner
+  lag_keeps : (lag : Option Lag) (owner : OwnerFacts D L) → (with_lag lag owner).control ≡ owner.control
+  lag_keeps None owner = refl
+  lag_keeps (Some lag) owner = refl
 
   -- ---- publishing and posting
 
-  published_moves : (b : Bool) (old : OwnerFacts D L) (worked : Bool) (new : OwnerFacts D L) → PublishesWhere b old worked new → Leads old.control new.control [] (step_where worked steps.Publish)
-  published_moves true old worked new (so, same) =
-      subst (λ (w : Bool). Leads old.control new.control [] (step_where w steps.Publish)) (sym so) (still old new same)
-  published_moves false old true new done = record {
-    leads = λ core owns asked. let shown = publishes old new done core owns in ((shown.0, tt), shown.1);
+  published_moves : (old : OwnerFacts D L) (worked : Bool) (new : OwnerFacts D L) → Publishes old worked new → Leads old.control new.control [] (step_where worked steps.Publish)
+  published_moves old true new done = record {
+    leads = λ core owns asked. let shown = publishes old new done.1 core owns in ((shown.0, tt), shown.1);
   }
-  published_moves false old false new same = still old new same
+  published_moves old false new same = still old new same
 
   posted_one : (old : OwnerFacts D L) (worked : Bool) (new : OwnerFacts D L) → PostsOne old worked new → Leads old.control new.control [] (step_where worked steps.Post)
   posted_one old worked new one =
-      let control : new.control ≡ one.after = ap (λ (o : OwnerFacts D L). o.control) one.others ∙ answer_keeps one.answer (record old { control = one.after }) in
+      let control : new.control ≡ one.after = ap (λ (o : OwnerFacts D L). o.control) one.others ∙ lag_keeps (lag_at one.answer old.guests.rows) (record old { control = one.after }) in
       subst (λ (k : ControlFacts). Leads old.control k [] (step_where worked steps.Post)) (sym control)
       (subst (λ (b : Bool). Leads old.control one.after [] (step_where b steps.Post)) (sym one.so)
       (posts_next old.control old.control.pending one.answer one.after refl one.posts))
 
-  posted_moves : (b : Bool) (old : OwnerFacts D L) (worked : Bool) (new : OwnerFacts D L) → PostsWhere b old worked new → Leads old.control new.control [] (step_where worked steps.Post)
+  posted_moves : (b : Bool) (old : OwnerFacts D L) (worked : Bool) (new : OwnerFacts D L) → MatchBool b (Rests old worked new) (PostsOne old worked new) → Leads old.control new.control [] (step_where worked steps.Post)
   posted_moves true old worked new (so, same) =
       subst (λ (w : Bool). Leads old.control new.control [] (step_where w steps.Post)) (sym so) (still old new same)
   posted_moves false old worked new one = posted_one old worked new one
@@ -235,12 +236,12 @@ module _ {D L : Type 0} where
   ended_keeps true owner = refl
   ended_keeps false owner = refl
 
-module _ {D L : Type 0} (door_facts : D → DoorFacts) where
-  asks_keep : (b : Bool) (old : OwnerFacts D L) (worked : Bool) (new : OwnerFacts D L) → AsksWhere door_facts b old worked new → new.control ≡ old.control
+module _ {D L : Type 0} (door_facts : D → DoorFacts) (link_facts : L → LinkFacts) where
+  asks_keep : (b : Bool) (old : OwnerFacts D L) (worked : Bool) (new : OwnerFacts D L) → Asks door_facts link_facts b old worked new → new.control ≡ old.control
   asks_keep true old worked new rests = ap (λ (o : OwnerFacts D L). o.control) rests.1
   asks_keep false old worked new asks = ap (λ (o : OwnerFacts D L). o.control) asks.others
 
-  pub owners : OwnersAreOwners D L door_facts
+  pub owners : OwnersAreOwners D L door_facts link_facts
   owners old turn new turned core owns asked =
       let first : turned.after_offers.control ≡ old.control = ap (λ (o : OwnerFacts D L). o.control) turned.offers.others in
       let desk = (desk_moves turned.after_offers turned.served turned.after_desk turned.serves).leads core
@@ -248,8 +249,8 @@ module _ {D L : Type 0} (door_facts : D → DoorFacts) where
       let decided = flat_map steps_decided (decided_in turned.after_offers turned.served turned.after_desk turned.serves) in
       let mid = ran core decided in
       let pressed : turned.after_press.control ≡ turned.after_desk.control =
-      presses_where (are_none turned.after_desk.logins || is_some turned.after_desk.kept.lag) turned.after_desk turned.pressed turned.after_press turned.presses in
-      let shown = (published_moves (length turned.after_press.control.publisher.pending == 0) turned.after_press turned.published turned.after_publish turned.publishes).leads mid
+      ap (λ (o : OwnerFacts D L). o.control) turned.presses.1 ∙ lag_keeps (pressing turned.after_desk) turned.after_desk in
+      let shown = (published_moves turned.after_press turned.published turned.after_publish turned.publishes).leads mid
       (owns_on turned.after_desk.control turned.after_press.control mid (same_kept turned.after_desk.control turned.after_press.control pressed) desk.1) tt in
       let later = ran mid (step_where turned.published steps.Publish) in
       let sent = (posted_moves (is_some turned.after_publish.kept.lag) turned.after_publish turned.posted turned.after_post turned.posts).leads later shown.1 tt in

@@ -44,13 +44,14 @@ use Rattle.mum_fields.specs.Table.{decoded}
 use Rattle.mum_notify.specs.declared.notice.Notice.{Notice}
 use Rattle.mum_outbox.specs.declared.parcel.PostParcel.{PostParcel}
 use Rattle.mum_outbox.specs.declared.parcel.VoiceParcel.{VoiceParcel}
+use Rattle.mum_port.proofs.Awaiting.{awaits-after_frame}
 use Rattle.mum_port.proofs.BoxParts.{post-leaves, voice-leaves}
-use Rattle.mum_port.proofs.Machines.{stage-after_frame, worker-after_frame}
+use Rattle.mum_port.proofs.Machines.{connection-after_frame, stage-after_frame, worker-after_frame}
 use Rattle.mum_port.specs.Did.{is_last, post_bytes, stray_posts, stray_voices, voice_bytes}
-use Rattle.mum_port.specs.Facts.{PortFacts, may_handle, new_port, next_word}
-use Rattle.mum_port.specs.Handling.{Acts}
+use Rattle.mum_port.specs.Facts.{PortFacts, item_of, may_handle, new_port, next_word, waiting_after as waits_with}
+use Rattle.mum_port.specs.Handling.{Acts, Sinks}
 use Rattle.mum_port.specs.Stage.{is_live}
-use Rattle.mum_port.specs.Steps.{CollectsPost, DrainsVoice}
+use Rattle.mum_port.specs.Steps.{CollectsPost, DrainsVoice, sinks}
 use Rattle.mum_port.specs.Taking.{TakesPost, TakesVoice, foreign_count, has_taken, stage_after_post}
 use Rattle.mum_port.specs.declared.item.DeskItem.{DeskItem}
 use Rattle.mum_port.specs.declared.passes.Passes.{Passes}
@@ -62,10 +63,12 @@ use Rattle.mum_published.specs.Facts.{Opening}
 use Rattle.mum_record.specs.declared.step.Step.TheVariants as steps
 use Rattle.mum_session.proofs.Frames.{version-asks}
 use Rattle.mum_session.specs.Action.{Decoded, action, after_frame, asks, ignore, kept_version, version_action, version_after}
-use Rattle.mum_session.specs.Machine.{Machine, answered as machine_answered, fresh, is_rejected, session_of, stage_after}
+use Rattle.mum_session.specs.Machine.{Machine, answered as machine_answered, fresh_with_bans, is_rejected, session_of, stage_after}
 use Rattle.mum_session.specs.Reply.{mark, reply_end}
 use Rattle.mum_session.specs.declared.action.Action.{Action}
-use Rattle.mum_session.specs.declared.action.Action.TheVariants.{Ask, Voice, Echo, Keep, Ignore}
+use Rattle.mum_session.specs.declared.action.Action.TheVariants.{Ask, Voice, Echo, Keep, Ignore, Bans}
+use Rattle.mum_session.specs.declared.action.TheConstants.{BAN_LIST}
+use Rattle.mum_session.proofs.Lists.{alike, sends}
 use Rattle.mum_session.specs.declared.command.Asked.{Asked}
 use Rattle.mum_session.specs.declared.session.Stage.TheVariants as stages
 use Rattle.mum_state.specs.declared.edit.Edit.{Edit}
@@ -76,7 +79,7 @@ use Rattle.mum_voice.specs.Packet.{Parts, packet}
 use Rattle.mum_voice.specs.declared.fault.BadVoice.{BadVoice}
 use Rattle.mum_worker.specs.Routing.{CommonFacts, RoutesPacket}
 use Rattle.mum_worker_laws.specs.Lives.{said_by, said_of}
-use Rattle.mum_step_laws.specs.PortSteps.{ClosesAreCloses, ConnectionsAreOpened, FramesAreFrames, IsKnownAs, IsSeated, KickedMayClose, KnowsCause, MayNote, NoticesAreCollected, RepliesAreTold, SpeechIsDrained, asked_in, held_of, totals_after}
+use Rattle.mum_step_laws.specs.PortSteps.{ClosesAreCloses, ConnectionsAreOpened, FramesAreFrames, IsKnownAs, IsOpenAs, IsSeated, KickedMayClose, KnowsCause, ListsAreNoSteps, MayNote, NoticesAreCollected, RepliesAreTold, SpeechIsDrained, asked_in, held_of, totals_after}
 use Rattle.mum_step_laws.specs.WorkerSteps.{parcel_in}
 use Rattle.mum_step_laws.proofs.ControlParts.{changed_connection}
 use Rattle.mum_step_laws.proofs.KickParts.{kicked_cause}
@@ -86,7 +89,7 @@ use Rattle.mum_step_laws.proofs.WorkerParts.{no_less, passes as passes_on, there
 
 -- a port that may look at its boxes, with these passes
 abbrev looking : SessionId → Passes → PortFacts ℕ
-looking session passes = record (new_port 0 0 0) { machine = record (fresh 0 0) { stage = stages.LoggedIn session }; passes = Some passes }
+looking session passes = record (new_port 0 0 0) { machine = record (fresh_with_bans 0 0) { stage = stages.LoggedIn session }; passes = Some passes }
 
 voice_counts : (session : SessionId) (passes : Passes) (took : _) (after : Passes) (out : List ℕ) (takes : TakesVoice session passes took after out)
     → (out ≡ voice_bytes (Some session) takes.parcel) × (foreign_count took ≡ stray_voices (Some session) takes.parcel)
@@ -211,16 +214,16 @@ module _ {L : Type 0} where
           record {
             opened = opened;
             not_closed = ap (λ (x : Connection). x.closed) is;
-            known = subst (IsKnownAs (fresh connection number)) (sym is) (record { worker_is = refl; version_is = refl; stage_is = refl; awaits_is = refl });
+            known = subst (IsKnownAs (fresh_with_bans connection number)) (sym is) (record { worker_is = refl; version_is = refl; stage_is = refl; awaits_is = refl });
           },
         ),
       )
 
 -- ---- a frame
 
-awaits-after_frame : (machine : Machine) (kind : ℕ) (payload : List ℕ) → (after_frame machine kind payload).awaits ≡ asks (action machine kind payload)
+bans-after_frame : (machine : Machine) (kind : ℕ) (payload : List ℕ) → (after_frame machine kind payload).bans ≡ machine.bans
 unfolding after_frame
-awaits-after_frame machine kind payload = refl
+bans-after_frame machine kind payload = refl
 
 version-after_frame : (machine : Machine) (kind : ℕ) (payload : List ℕ) → (after_frame machine kind payload).version ≡ kept_version machine kind payload
 unfolding after_frame
@@ -282,24 +285,30 @@ module _ (core : CoreState) (machine : Machine) (known : IsKnownAs machine (conn
   abbrev conn : Connection
   conn = connection_at core c
 
-  machine_is : machine_of c conn ≡ machine
-  machine_is = λ i. record { connection = c; worker = known.worker_is i; version = known.version_is i; stage = known.stage_is i; awaits = sym free i }
+  -- the machine of a recording reads no lists of bans
+  abbrev recorded : Machine
+  recorded = record machine { bans = false }
 
-  module _ (frame : Frame) (whole : IsFrame frame) where
+  machine_is : machine_of c conn ≡ recorded
+  machine_is = λ i. record { connection = c; worker = known.worker_is i; version = known.version_is i; stage = known.stage_is i; awaits = sym free i; bans = false }
+
+  module _ (frame : Frame) (whole : IsFrame frame) (other : frame.kind ≡ BAN_LIST → ⊥) where
     abbrev spelled : List ℕ
     spelled = frame_spelling frame
 
     action_is : frame_action core c spelled ≡ action machine frame.kind frame.payload
     action_is =
         ap (λ (m : Machine). action m (kind_of spelled) (payload_of spelled)) machine_is
-        ∙ ap (λ (k : ℕ). action machine k (payload_of spelled)) (kind_of-spelling frame whole)
-        ∙ ap (λ (p : List ℕ). action machine frame.kind p) (payload_of-spelling frame)
+        ∙ ap (λ (k : ℕ). action recorded k (payload_of spelled)) (kind_of-spelling frame whole)
+        ∙ ap (λ (p : List ℕ). action recorded frame.kind p) (payload_of-spelling frame)
+        ∙ sym (alike machine frame.kind frame.payload other)
 
     frame_version_is : frame_version core c spelled ≡ (after_frame machine frame.kind frame.payload).version
     frame_version_is =
         ap (λ (m : Machine). (after_frame m (kind_of spelled) (payload_of spelled)).version) machine_is
-        ∙ ap (λ (k : ℕ). (after_frame machine k (payload_of spelled)).version) (kind_of-spelling frame whole)
-        ∙ ap (λ (p : List ℕ). (after_frame machine frame.kind p).version) (payload_of-spelling frame)
+        ∙ ap (λ (k : ℕ). (after_frame recorded k (payload_of spelled)).version) (kind_of-spelling frame whole)
+        ∙ ap (λ (p : List ℕ). (after_frame recorded frame.kind p).version) (payload_of-spelling frame)
+        ∙ version-after_frame recorded frame.kind frame.payload ∙ sym (version-after_frame machine frame.kind frame.payload)
 
   -- nothing of the connection waits
   untold_none : is_untold conn ≡ false
@@ -311,10 +320,8 @@ module _ (core : CoreState) (machine : Machine) (known : IsKnownAs machine (conn
   -- the connection after a frame that asks for this
   abbrev conn_after : (version : Option ℕ) (a : Action) → Connection
   conn_after version (Ask command) = asking command.what conn
-  conn_after version (Voice payload) = conn
-  conn_after version (Echo wire) = conn
   conn_after version Keep = record conn { version = version }
-  conn_after version (Ignore why) = conn
+  conn_after version others = conn
 
   heard_conn : (w : ℕ) (held : Option HeldPacket) → connection_at (frame_step.hears core w held) c ≡ conn
   heard_conn w None = refl
@@ -323,11 +330,10 @@ module _ (core : CoreState) (machine : Machine) (known : IsKnownAs machine (conn
   conn_done : (version : Option ℕ) (a : Action) → connection_at (frame_step.does core c version a) c ≡ conn_after version a
   conn_done version (Ask command) = changed_connection core c (asking command.what) opened
   conn_done version (Voice payload) = heard_conn conn.worker (spoken conn.seat (packet payload))
-  conn_done version (Echo wire) = refl
   conn_done version Keep = changed_connection core c (λ connection. record connection { version = version }) opened
-  conn_done version (Ignore why) = refl
+  conn_done version others = refl
 
-  module _ (kind : ℕ) (payload : List ℕ) where
+  module _ (kind : ℕ) (payload : List ℕ) (other : kind ≡ BAN_LIST → ⊥) where
     kept : (a : Action) → a ≡ action machine kind payload → (a ≡ Keep → ⊥) → (after_frame machine kind payload).version ≡ machine.version
     kept a is never = version-after_frame machine kind payload ∙ version_kept machine kind payload (λ keep. never (is ∙ keep))
 
@@ -358,6 +364,7 @@ module _ (core : CoreState) (machine : Machine) (known : IsKnownAs machine (conn
       awaits_is = untold_none ∙ ap asks is ∙ sym (awaits-after_frame machine kind payload);
     }
     known_after version (Ignore why) is number = quiet (Ignore why) is (λ same. cc same) refl
+    known_after version (Bans list) is number = absurd (other (sends machine kind payload list (sym is)).kind_is)
 
     -- who is rejected says nothing
     speaks : (said : List ℕ) → Voice said ≡ action machine kind payload → conn.rejected ≡ false
@@ -370,27 +377,30 @@ module _ (core : CoreState) (machine : Machine) (known : IsKnownAs machine (conn
             let nothing : Voice said ≡ ignore Gone = is ∙ gone machine kind payload (ap is_rejected (sym stage)) in
             absurd (cc nothing)
 
+    -- a list of bans is no command
+    no_command : (session : Option SessionId) (list : List ℕ) → option_and_then asked_in (waits_with (item_of c session (Bans list)) None) ≡ None
+    no_command None list = refl
+    no_command (Some own) list = refl
+
     -- what waits to be decided then is what waits for the desk
-    waits_after : (version : Option ℕ) (a : Action) (opening : Opening) (out : List ℕ) (router : CommonFacts) (went : _) (waiting_after : Option DeskItem) (out_after : List ℕ) (router_after : CommonFacts)
-        → Acts (RoutesPacket opening) c (session_of machine.stage) a None out router went waiting_after out_after router_after
-        → (conn_after version a).waiting ≡ option_and_then asked_in waiting_after
-    waits_after version (Ask command) opening out router went waiting out_after router_after acts = sym (ap (option_and_then asked_in) acts.1)
-    waits_after version (Voice said) opening out router went waiting out_after router_after acts = waiting_none ∙ sym (ap (option_and_then asked_in) acts.1)
-    waits_after version (Echo wire) opening out router went waiting out_after router_after acts = waiting_none ∙ sym (ap (option_and_then asked_in) acts.1)
-    waits_after version Keep opening out router went waiting out_after router_after acts = waiting_none ∙ sym (ap (option_and_then asked_in) acts.1)
-    waits_after version (Ignore why) opening out router went waiting out_after router_after acts = waiting_none ∙ sym (ap (option_and_then asked_in) acts.1)
+    waits_after : (version : Option ℕ) (a : Action) (opening : Opening) (old : Sinks CommonFacts) (went : _) (new : Sinks CommonFacts) → old.waiting ≡ None
+        → Acts (RoutesPacket opening) c (session_of machine.stage) a old went new
+        → (conn_after version a).waiting ≡ option_and_then asked_in new.waiting
+    waits_after version (Ask command) opening old went new none acts = sym (ap (λ (s : Sinks CommonFacts). option_and_then asked_in s.waiting) acts.1)
+    waits_after version (Bans list) opening old went new none acts =
+        waiting_none ∙ sym (ap (λ (s : Sinks CommonFacts). option_and_then asked_in s.waiting) acts.1
+        ∙ (ap (λ (w : Option DeskItem). option_and_then asked_in (waits_with (item_of c (session_of machine.stage) (Bans list)) w)) none ∙ no_command (session_of machine.stage) list))
+    waits_after version (Echo wire) opening old went new none acts = waiting_none ∙ sym (ap (λ (s : Sinks CommonFacts). option_and_then asked_in s.waiting) acts.0 ∙ ap (option_and_then asked_in) none)
+    waits_after version others opening old went new none acts = waiting_none ∙ sym (ap (λ (s : Sinks CommonFacts). option_and_then asked_in s.waiting) acts.1 ∙ ap (option_and_then asked_in) none)
 
     -- what the worker holds then is the packet that goes to the router
     holds_after : machine.worker < length core.workers → (worker_at core machine.worker).held ≡ None → (version : Option ℕ) (a : Action) → a ≡ action machine kind payload
         → option_to_list (worker_at (frame_step.does core c version a) machine.worker).held ≡ map held_of (said_by machine (Some a))
-    holds_after within none version (Ask command) is = ap option_to_list none
     holds_after within none version (Voice said) is =
         ap (λ (w : ℕ). option_to_list (worker_at (frame_step.hears core w (spoken conn.seat (packet said))) machine.worker).held) known.worker_is
         ∙ (said_held core machine.worker within none conn.seat (packet said)
         ∙ ap (λ (s : Option SessionId). map held_of (said_of s (packet said))) (sym (seat_session conn.rejected conn.seat (speaks said is)) ∙ ap session_of known.stage_is))
-    holds_after within none version (Echo wire) is = ap option_to_list none
-    holds_after within none version Keep is = ap option_to_list none
-    holds_after within none version (Ignore why) is = ap option_to_list none
+    holds_after within none version others is = ap option_to_list none
 
 -- a port that may handle a frame awaits nothing
 module _ {L : Type 0} where
@@ -406,19 +416,18 @@ module _ {L : Type 0} where
       none_is (Some item) is = absurd (false≢true is)
 
   pub frames : FramesAreFrames L
-  frames opening old router went machine_after kept_after waiting_after out_after router_after may first core is_open within idle_worker =
+  frames opening old router went machine_after kept_after after may first other core is_open within idle_worker =
       let machine = old.machine in
       let frame = first.frame in
       let whole = first.whole in
       let handled = first.handled in
       let can = may_parts old may in
       let known = is_open.known in
-      let asked = action_is core machine known is_open.opened can.0 frame whole in
-      let number = frame_version_is core machine known is_open.opened can.0 frame whole in
+      let asked = action_is core machine known is_open.opened can.0 frame whole other in
+      let number = frame_version_is core machine known is_open.opened can.0 frame whole other in
       let version = frame_version core machine.connection (frame_spelling frame) in
       let a : Action = frame_action core machine.connection (frame_spelling frame) in
       let none_held = nothing_held (worker_at core machine.worker).held (length (worker_at core machine.worker).copies) idle_worker in
-      let acts = subst (λ (w : Option DeskItem). Acts (RoutesPacket opening) machine.connection (session_of machine.stage) (action machine frame.kind frame.payload) w old.out router went waiting_after out_after router_after) can.1 handled.acts in
       let done = conn_done core machine known is_open.opened can.0 version a in record {
         allowed =
             passes_on (not (is_opened core machine.connection)) _ _ (ap not is_open.opened)
@@ -430,12 +439,42 @@ module _ {L : Type 0} where
         known =
             subst (λ (m : Machine). IsKnownAs m (connection_at (does core (steps.Frame machine.connection (frame_spelling frame))) machine.connection)) (sym handled.taken)
             (subst (IsKnownAs (after_frame machine frame.kind frame.payload)) (sym done)
-            (known_after core machine known is_open.opened can.0 frame.kind frame.payload version a asked number));
+            (known_after core machine known is_open.opened can.0 frame.kind frame.payload other version a asked number));
         waits = ap (λ (x : Connection). x.waiting) done
             ∙ ap (λ (x : Action). (conn_after core machine known is_open.opened can.0 version x).waiting) asked
-            ∙ waits_after core machine known is_open.opened can.0 frame.kind frame.payload version (action machine frame.kind frame.payload) opening old.out router went waiting_after out_after router_after acts;
-        holds = holds_after core machine known is_open.opened can.0 frame.kind frame.payload within none_held version a asked
+            ∙ waits_after core machine known is_open.opened can.0 frame.kind frame.payload other version (action machine frame.kind frame.payload) opening (sinks old router) went after can.1 handled.acts;
+        holds = holds_after core machine known is_open.opened can.0 frame.kind frame.payload other within none_held version a asked
             ∙ ap (λ (x : Action). map held_of (said_by machine (Some x))) asked;
+      }
+
+  pub lists : ListsAreNoSteps L
+  lists opening old router went machine_after kept_after after may first is core is_open =
+      let machine = old.machine in
+      let taken = first.handled.taken in
+      let known = is_open.known in
+      let can = may_parts old may in
+      let connection : machine_after.connection ≡ machine.connection = ap (λ (m : Machine). m.connection) taken ∙ connection-after_frame machine first.frame.kind first.frame.payload in
+      let version : machine_after.version ≡ machine.version =
+      ap (λ (m : Machine). m.version) taken ∙ (ap (λ (k : ℕ). (after_frame machine k first.frame.payload).version) is
+      ∙ (version-after_frame machine BAN_LIST first.frame.payload ∙ same_version (is_rejected machine.stage) machine.version)) in
+      subst (λ (m : Machine). IsOpenAs m core) (sym (machine_same machine machine_after connection
+      (ap (λ (m : Machine). m.worker) taken ∙ worker-after_frame machine first.frame.kind first.frame.payload) version
+      (ap (λ (m : Machine). m.stage) taken ∙ stage-after_frame machine first.frame.kind first.frame.payload)
+      (ap (λ (m : Machine). m.bans) taken ∙ bans-after_frame machine first.frame.kind first.frame.payload) can.0)) is_open
+    where
+      same_version : (rejected : Bool) (told : Option ℕ) → cond rejected told told ≡ told
+      same_version true told = refl
+      same_version false told = refl
+
+      machine_same : (old new : Machine) → new.connection ≡ old.connection → new.worker ≡ old.worker → new.version ≡ old.version → new.stage ≡ old.stage
+          → new.bans ≡ old.bans → old.awaits ≡ false → machine_answered ends.Decided new ≡ old
+      machine_same old new connection worker version stage bans awaits = λ i. record {
+        connection = connection i;
+        worker = worker i;
+        version = version i;
+        stage = stage i;
+        awaits = sym awaits i;
+        bans = bans i;
       }
 
 -- ---- a reply

@@ -30,7 +30,7 @@ use Rattle.mum_router.specs.Offering.{Delivery}
 use Rattle.mum_router.specs.Routing.{RoutesAt}
 use Rattle.mum_router.specs.declared.offering.Routed.{Routed}
 use Rattle.mum_session.specs.declared.action.Action.{Action}
-use Rattle.mum_session.specs.declared.action.Action.TheVariants.{Ask, Voice, Echo, Keep, Ignore}
+use Rattle.mum_session.specs.declared.action.Action.TheVariants.{Voice}
 use Rattle.mum_state.specs.After.{at, led_to}
 use Rattle.mum_state.specs.State.{StateValue}
 use Rattle.mum_state.specs.declared.edit.Edit.{Edit}
@@ -88,14 +88,11 @@ module _ (core : CoreState) (w : ℕ) (within : w < length core.workers) where
   heard_worker : (c : ℕ) (version : Option ℕ) (a : Action) (held : HeldPacket) → (connection_at core c).worker ≡ w
       → packet_in (connection_at core c).seat a ≡ Some held
       → worker_at (frame_step.does core c version a) w ≡ frame_step.holding held (worker_at core w)
-  heard_worker c version (Ask command) held at is = absurd (cc is)
   heard_worker c version (Voice payload) held at is =
       ap (λ (o : Option HeldPacket). worker_at (frame_step.hears core (connection_at core c).worker o) w) is
       ∙ ap (λ (n : ℕ). worker_at (frame_step.hears core n (Some held)) w) at
       ∙ changed_same core.workers w (λ worker. frame_step.holding held worker) idle within
-  heard_worker c version (Echo wire) held at is = absurd (cc is)
-  heard_worker c version Keep held at is = absurd (cc is)
-  heard_worker c version (Ignore why) held at is = absurd (cc is)
+  heard_worker c version others held at is = absurd (cc is)
 
   frame_is : (c : ℕ) (bytes : List ℕ) (held : HeldPacket) → (connection_at core c).worker ≡ w
       → packet_in (connection_at core c).seat (frame_action core c bytes) ≡ Some held → MaySpeak core c

@@ -6,20 +6,18 @@ use Rattle.mum_crew.specs.Along.{Along}
 use Rattle.mum_crew.specs.Turns.{TurnsTo}
 use Rattle.mum_crew.specs.declared.role.Turn.{Turn}
 use Rattle.mum_io.specs.Link.{LinkFacts}
+use Rattle.mum_port.specs.Did.{action_of}
 use Rattle.mum_port.specs.Facts.{PortFacts}
-use Rattle.mum_port.specs.Handling.{Acts, HandlesKept, Routes as PortRoutes}
-use Rattle.mum_port.specs.Steps.{Handles}
-use Rattle.mum_port.specs.declared.item.DeskItem.{DeskItem}
+use Rattle.mum_port.specs.Turn.{RoutesPacket as PortRoutes}
 use Rattle.mum_published.specs.Bell.{Rung, Answer, Comes, Lagging, NoMore}
 use Rattle.mum_published.specs.Facts.{Opening, PassFacts, ReplyFacts}
 use Rattle.mum_router.specs.Facts.{RouterFacts}
 use Rattle.mum_router.specs.Offering.{Delivery}
 use Rattle.mum_router.specs.Routing.{RoutesAt}
 use Rattle.mum_router.specs.declared.offering.Routed.{Routed}
-use Rattle.mum_session.specs.Action.{action}
-use Rattle.mum_session.specs.Machine.{Machine, session_of}
+use Rattle.mum_session.specs.Machine.{session_of}
 use Rattle.mum_session.specs.declared.action.Action.{Action}
-use Rattle.mum_session.specs.declared.action.Action.TheVariants.{Ask, Voice, Echo, Keep, Ignore}
+use Rattle.mum_session.specs.declared.action.Action.TheVariants.{Voice}
 use Rattle.mum_state.specs.declared.edit.Edit.{Edit}
 use Rattle.mum_voice.specs.Packet.{Parts}
 use Rattle.mum_worker.specs.Boxes.{BoxesFacts}
@@ -28,7 +26,7 @@ use Rattle.mum_worker.specs.Hearing.{Hears, LearnsGiven}
 use Rattle.mum_worker.specs.Routing.{CommonFacts, RoutesPacket}
 use Rattle.mum_worker.specs.Stepping.{PortSteps, Shares}
 use Rattle.mum_worker.specs.Turning.{Turned, WorkerTurned, shares_of}
-use Rattle.mum_worker_laws.specs.Laws.{Moment, Told, Looked, history, look_acted, look_handled, look_kept, look_made, look_of_session, look_stepped, looks_along, moments_of, told_by}
+use Rattle.mum_worker_laws.specs.Laws.{Moment, Told, Looked, history, look_asked, look_made, look_stepped, looks_along, moments_of, told_by}
 use Rattle.mum_step_laws.specs.WorkerRuns.{WorkersAreWorkers}
 use Rattle.mum_step_laws.proofs.WorkerRunning.{Leads, leads_on, leads_same, leads_saw, leads_told}
 
@@ -52,34 +50,10 @@ module _ (opening : Opening) (R : RouterFacts → RouterFacts → List Moment �
   same_common : (old new : CommonFacts) → new ≡ old → R old.router new.router []
   same_common old new is = walks.same old.router new.router (ap (λ (c : CommonFacts). c.router) is)
 
-  of_session : (old : CommonFacts) (connection : ℕ) (session : Option SessionId) (bytes : List ℕ) (new : CommonFacts) (routes : PortRoutes (RoutesPacket opening) connection session bytes old new)
-      → R old.router new.router (look_of_session opening old connection session bytes new routes)
-  of_session old connection None bytes new is = same_common old new is
-  of_session old connection (Some speaker) bytes new routes = made old connection speaker bytes new routes
-
-  acted : (connection : ℕ) (session : Option SessionId) (asked : Action) (waiting : Option DeskItem) (out : List ℕ) (old : CommonFacts) (went : _) (waiting_after : Option DeskItem) (out_after : List ℕ) (new : CommonFacts)
-      (acts : Acts (RoutesPacket opening) connection session asked waiting out old went waiting_after out_after new)
-      → R old.router new.router (look_acted opening connection session asked waiting out old went waiting_after out_after new acts)
-  acted connection session (Ask command) waiting out old went waiting_after out_after new acts = same_common old new acts.3
-  acted connection session (Voice packet) waiting out old went waiting_after out_after new acts = of_session old connection session packet new acts.3
-  acted connection session (Echo wire) waiting out old went waiting_after out_after new acts = same_common old new acts.2
-  acted connection session Keep waiting out old went waiting_after out_after new acts = same_common old new acts.3
-  acted connection session (Ignore why) waiting out old went waiting_after out_after new acts = same_common old new acts.3
-
-  kept : (machine : Machine) (bytes : List ℕ) (waiting : Option DeskItem) (out : List ℕ) (old : CommonFacts) (went : _) (machine_after : Machine) (bytes_after : List ℕ) (waiting_after : Option DeskItem) (out_after : List ℕ) (new : CommonFacts)
-      (handles : HandlesKept (RoutesPacket opening) machine bytes waiting out old went machine_after bytes_after waiting_after out_after new)
-      → R old.router new.router (look_kept opening machine bytes waiting out old went machine_after bytes_after waiting_after out_after new handles)
-  kept machine bytes waiting out old went machine_after bytes_after waiting_after out_after new (inl (has, inl first)) =
-      acted machine.connection (session_of machine.stage) (action machine first.frame.kind first.frame.payload) waiting out old went waiting_after out_after new first.handled.acts
-  kept machine bytes waiting out old went machine_after bytes_after waiting_after out_after new (inl (has, inr lacks)) = same_common old new lacks.router_same
-  kept machine bytes waiting out old went machine_after bytes_after waiting_after out_after new (inr none) = same_common old new none.router_same
-
-  module _ {L : Type 0} where
-    handled : (old : PortFacts L) (router : CommonFacts) (went : _) (new : PortFacts L) (after : CommonFacts) (handles : Handles (RoutesPacket opening) old router went new after)
-        → R router.router after.router (look_handled opening old router went new after handles)
-    handled old router went new after (inl none) = same_common router after none.1
-    handled old router went new after (inr one) =
-        kept old.machine old.framer.kept old.waiting old.out router went new.machine new.framer.kept new.waiting new.out after one.handled
+  of_asked : (connection : ℕ) (session : Option SessionId) (asked : Option Action) (old new : CommonFacts) (routes : PortRoutes (RoutesPacket opening) connection session asked old new)
+      → R old.router new.router (look_asked opening connection session asked old new routes)
+  of_asked connection session (Some (Voice packet)) old new routes = made old connection routes.0 packet new routes.2
+  of_asked connection session others old new is = same_common old new is
 
   module _ {L : Type 0} (facts : L → LinkFacts) where
     stepped : (boxes : BoxesFacts) (old : PortFacts L) (before : Shares) (new : PortFacts L) (after : Shares) (steps : PortSteps facts opening boxes old before new after)
@@ -87,7 +61,7 @@ module _ (opening : Opening) (R : RouterFacts → RouterFacts → List Moment �
     stepped boxes old before new after steps =
         subst (λ (r : RouterFacts). R before.common.router r (look_stepped opening facts boxes old before new after steps))
         (sym (ap (λ (c : CommonFacts). c.router) steps.noted))
-        (handled steps.chain.after_read before.common steps.chain.handled steps.chain.after_handle steps.routed steps.chain.handles)
+        (of_asked old.machine.connection (session_of old.machine.stage) (action_of old.machine steps.turned.0.handled) before.common steps.routed steps.turned.1.routes)
 
     along_all : (boxes : BoxesFacts) (olds : List (PortFacts L)) (before : Shares) (news : List (PortFacts L)) (after : Shares) (along : Along (PortSteps facts opening boxes) olds before news after)
         → R before.common.router after.common.router (looks_along opening facts boxes olds before news after along)

@@ -1,5 +1,5 @@
 -- What a port of a worker does as steps of the core.
-use Rattle.std.specs.Prelude.{◌≡◌, ◌==◌, ℕ, ◌+◌, ◌<◌, ◌≤◌, ⊤, true, false, IsTrue, List, [], ◌∷◌, ◌++◌, Option, Some, None, is_some, length, map, option_and_then, option_to_list, slice_get, if◌then◌else◌}
+use Rattle.std.specs.Prelude.{◌≡◌, ◌≢◌, ◌==◌, ℕ, ◌+◌, ◌<◌, ◌≤◌, ⊤, true, false, IsTrue, List, [], ◌∷◌, ◌++◌, Option, Some, None, is_some, length, map, option_and_then, option_to_list, slice_get, if◌then◌else◌}
 use Rattle.std.specs.List.{flat_map}
 use Rattle.std.specs.Option.{option_map}
 use Rattle.mum_base.specs.declared.number.Cause.{Cause}
@@ -7,6 +7,7 @@ use Rattle.mum_base.specs.declared.number.Cause.TheVariants.{Rejected, Kicked, L
 use Rattle.mum_base.specs.declared.number.SessionId.{SessionId}
 use Rattle.mum_base.specs.declared.number.Slot.{Slot}
 use Rattle.mum_base.specs.declared.number.TheConstants.{SLOTS}
+use Rattle.mum_base.specs.declared.reply.ReplyEnd.TheVariants.{Decided}
 use Rattle.mum_control.specs.Posting.{parcel_of}
 use Rattle.mum_core.specs.Connection.{is_untold, leave_waiting, wire_of}
 use Rattle.mum_core.specs.Core.{CoreState, connection_at, is_opened, outbox_at, posts_at, start, up, worker_at}
@@ -26,9 +27,9 @@ use Rattle.mum_frame.specs.Frame.{frame_spelling}
 use Rattle.mum_frame.specs.declared.frame.Frame.{Frame}
 use Rattle.mum_io.specs.Link.{LinkFacts}
 use Rattle.mum_port.specs.Facts.{PortFacts, may_handle, next_word}
-use Rattle.mum_port.specs.Handling.{HandlesFirst}
+use Rattle.mum_port.specs.Handling.{HandlesFirst, Sinks}
 use Rattle.mum_port.specs.Replies.{TakesReply}
-use Rattle.mum_port.specs.Steps.{ClosesFor}
+use Rattle.mum_port.specs.Steps.{ClosesFor, sinks}
 use Rattle.mum_port.specs.Taking.{TakesPost, TakesVoice, foreign_count}
 use Rattle.mum_port.specs.declared.item.DeskItem.{DeskItem}
 use Rattle.mum_port.specs.declared.item.DeskItem.TheVariants as items
@@ -41,8 +42,9 @@ use Rattle.mum_record.specs.declared.head.Version.{Version}
 use Rattle.mum_record.specs.declared.step.Step.{Step}
 use Rattle.mum_record.specs.declared.step.Step.TheVariants.{Close, Collect, Drain, Frame as FrameStep, Open, Tell}
 use Rattle.mum_session.specs.Action.{action}
-use Rattle.mum_session.specs.Machine.{Machine}
+use Rattle.mum_session.specs.Machine.{Machine, answered}
 use Rattle.mum_session.specs.Reply.{reply_end, wire}
+use Rattle.mum_session.specs.declared.action.TheConstants.{BAN_LIST}
 use Rattle.mum_session.specs.declared.command.Asked.{Asked}
 use Rattle.mum_session.specs.declared.session.Stage.TheVariants as stages
 use Rattle.mum_state.specs.State.{StateValue}
@@ -87,7 +89,7 @@ ConnectionsAreOpened L =
 -- the command in an item of the desk
 abbrev pub asked_in : DeskItem → Option Asked
 asked_in (items.Command command) = Some command.what
-asked_in (items.Closed connection) = None
+asked_in others = None
 
 -- a packet that is said, as a worker of the core holds it
 abbrev pub held_of : Said → HeldPacket
@@ -109,16 +111,25 @@ pub record TakesAsFrame (machine : Machine) (frame : Frame) (machine_after : Mac
       ≡ map held_of (said_by machine (Some (action machine frame.kind frame.payload)))
 
 -- the first frame that a port keeps, which it handles, is the step Frame of its connection, where its worker has
--- nothing in hand
+-- nothing in hand. A list of bans is another thing: no step brings one
 abbrev pub FramesAreFrames : Type 0 → Type 0
 FramesAreFrames L =
-    (opening : Opening) (old : PortFacts L) (router : CommonFacts) (went : _)
-    (machine_after : Machine) (kept_after : List ℕ) (waiting_after : Option DeskItem) (out_after : List ℕ) (router_after : CommonFacts) → IsTrue (may_handle old)
-    → (first : HandlesFirst (RoutesPacket opening) old.machine old.framer.kept old.waiting old.out router went
-    machine_after kept_after waiting_after out_after router_after)
+    (opening : Opening) (old : PortFacts L) (router : CommonFacts) (went : _) (machine_after : Machine)
+    (kept_after : List ℕ) (after : Sinks CommonFacts) → IsTrue (may_handle old)
+    → (first : HandlesFirst (RoutesPacket opening) old.machine old.framer.kept (sinks old router) went machine_after
+    kept_after after) → first.frame.kind ≢ BAN_LIST
     → (core : CoreState) → IsOpenAs old.machine core
     → old.machine.worker < length core.workers → in_hand (worker_at core old.machine.worker) ≡ 0
-    → TakesAsFrame old.machine first.frame machine_after waiting_after core
+    → TakesAsFrame old.machine first.frame machine_after after.waiting core
+
+-- a list of bans is no step: once its reply came, which is that it was decided, the core still knows the connection as it is
+abbrev pub ListsAreNoSteps : Type 0 → Type 0
+ListsAreNoSteps L =
+    (opening : Opening) (old : PortFacts L) (router : CommonFacts) (went : _) (machine_after : Machine)
+    (kept_after : List ℕ) (after : Sinks CommonFacts) → IsTrue (may_handle old)
+    → (first : HandlesFirst (RoutesPacket opening) old.machine old.framer.kept (sinks old router) went machine_after
+    kept_after after) → first.frame.kind ≡ BAN_LIST
+    → (core : CoreState) → IsOpenAs old.machine core → IsOpenAs (answered Decided machine_after) core
 
 -- ---- a reply
 

@@ -14,5 +14,5 @@ pub fn publishes_are_published<D: Entrance>()
 /// control owner has: an edit where a command was decided, a publish where it was published, and so on in the order
 /// of the turn.
 pub fn a_turn_of_the_owner_is_steps<D: Entrance>()
-    ensures { OwnersAreOwners D D.Peer D.facts }
+    ensures { OwnersAreOwners D D.Peer D.facts D.Peer.facts }
 {}

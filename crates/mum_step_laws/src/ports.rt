@@ -1,6 +1,6 @@
 //! What the ports of a worker do as steps of the core. These functions do nothing: each contract is a theorem.
 
-ghost use Rattle.mum_step_laws.specs.PortSteps.{ClosesAreCloses, ConnectionsAreOpened, FramesAreFrames, KickedMayClose, NoticesAreCollected, RepliesAreTold, SpeechIsDrained};
+ghost use Rattle.mum_step_laws.specs.PortSteps.{ClosesAreCloses, ConnectionsAreOpened, FramesAreFrames, KickedMayClose, ListsAreNoSteps, NoticesAreCollected, RepliesAreTold, SpeechIsDrained};
 
 use mum_io::Link;
 
@@ -9,9 +9,15 @@ pub fn connections_are_opened<L: Link>()
     ensures { ConnectionsAreOpened L }
 {}
 
-/// A frame that a port handles is the step Frame of its connection: it asks for the same, and leaves the same.
+/// A frame that a port handles, if it is no list of bans, is the step Frame of its connection: it asks for the same,
+/// and leaves the same.
 pub fn frames_are_frames<L: Link>()
     ensures { FramesAreFrames L }
+{}
+
+/// A list of bans is no step: once its reply came, the core still knows the connection of the port as it is.
+pub fn lists_are_no_steps<L: Link>()
+    ensures { ListsAreNoSteps L }
 {}
 
 /// A reply that an open port takes is told by the step Tell: the connection is the same after it, and so are the bytes.

@@ -17,6 +17,7 @@ use Rattle.mum_state.specs.declared.edit.Edit.{Edit}
 use Rattle.mum_viewer.specs.Viewer.{ViewerFacts, has_ended as viewer_has_ended}
 use Rattle.mum_worker.specs.Facts.{WorkerFacts, is_done}
 use Rattle.mum_worker.specs.Turning.{WorkerTurned}
+use Rattle.mum_serve.specs.Clocks.{ClockFacts}
 use Rattle.mum_serve.specs.Journals.{entries_of}
 use Rattle.mum_serve.specs.OneList.{AreWithin, IsWithin}
 use Rattle.mum_serve.specs.Roles.{has_ended, roles_of, viewers_of, with_workers}
@@ -91,8 +92,8 @@ module _ {D L : Type 0} where
   abbrev ViewerEnded : Option (ViewerFacts D L) → Type 0
   ViewerEnded viewer = (one : ViewerFacts D L) → viewer ≡ Some one → viewer_has_ended one ≡ true
 
-module _ {D G N R L : Type 0} where
-  abbrev Ended : Roles D G N R L → Type 0
+module _ {D K G N R L : Type 0} where
+  abbrev Ended : Roles D K G N R L → Type 0
   Ended role = IsTrue (has_ended role)
 
   all_done : (crew : List (WorkerFacts L)) (viewer : Option (ViewerFacts D L)) → All Ended (map roles.Worker crew ++ viewers_of viewer)
@@ -108,30 +109,30 @@ module _ {D G N R L : Type 0} where
       let rest = all_done crew viewer (All-tail Ended (roles.Worker worker) (map roles.Worker crew ++ viewers_of viewer) ended) in
       ((All-head Ended (roles.Worker worker) (map roles.Worker crew ++ viewers_of viewer) ended, rest.0), rest.1)
 
-  pub owner_done : (owner : OwnerFacts D L) (crew : List (WorkerFacts L)) (viewer : Option (ViewerFacts D L)) (back : List (Roles D G N R L)) → back ≡ roles_of owner crew viewer → All (λ role. IsTrue (has_ended role)) back
+  pub owner_done : (owner : OwnerFacts D L) (crew : List (WorkerFacts L)) (viewer : Option (ViewerFacts D L)) (back : List (Roles D K G N R L)) → back ≡ roles_of owner crew viewer → All (λ role. IsTrue (has_ended role)) back
       → owner_has_ended owner ≡ true
   owner_done owner crew viewer back are ended =
       All-head Ended (roles.Owner owner) (map roles.Worker crew ++ viewers_of viewer)
-      (subst (λ (xs : List (Roles D G N R L)). All (λ role. IsTrue (has_ended role)) xs) are ended)
+      (subst (λ (xs : List (Roles D K G N R L)). All (λ role. IsTrue (has_ended role)) xs) are ended)
 
-  others_done : (owner : OwnerFacts D L) (crew : List (WorkerFacts L)) (viewer : Option (ViewerFacts D L)) (back : List (Roles D G N R L)) → back ≡ roles_of owner crew viewer → All (λ role. IsTrue (has_ended role)) back
+  others_done : (owner : OwnerFacts D L) (crew : List (WorkerFacts L)) (viewer : Option (ViewerFacts D L)) (back : List (Roles D K G N R L)) → back ≡ roles_of owner crew viewer → All (λ role. IsTrue (has_ended role)) back
       → AllByRecursion (λ worker. is_done worker ≡ true) crew × ViewerEnded viewer
   others_done owner crew viewer back are ended =
       all_done crew viewer (All-tail Ended (roles.Owner owner) (map roles.Worker crew ++ viewers_of viewer)
-      (subst (λ (xs : List (Roles D G N R L)). All (λ role. IsTrue (has_ended role)) xs) are ended))
+      (subst (λ (xs : List (Roles D K G N R L)). All (λ role. IsTrue (has_ended role)) xs) are ended))
 
-  pub crew_done : (owner : OwnerFacts D L) (crew : List (WorkerFacts L)) (viewer : Option (ViewerFacts D L)) (back : List (Roles D G N R L)) → back ≡ roles_of owner crew viewer → All (λ role. IsTrue (has_ended role)) back
+  pub crew_done : (owner : OwnerFacts D L) (crew : List (WorkerFacts L)) (viewer : Option (ViewerFacts D L)) (back : List (Roles D K G N R L)) → back ≡ roles_of owner crew viewer → All (λ role. IsTrue (has_ended role)) back
       → AllByRecursion (λ worker. is_done worker ≡ true) crew
   crew_done owner crew viewer back are ended = (others_done owner crew viewer back are ended).0
 
-  pub viewer_done : (owner : OwnerFacts D L) (crew : List (WorkerFacts L)) (viewer : Option (ViewerFacts D L)) (back : List (Roles D G N R L)) → back ≡ roles_of owner crew viewer → All (λ role. IsTrue (has_ended role)) back
+  pub viewer_done : (owner : OwnerFacts D L) (crew : List (WorkerFacts L)) (viewer : Option (ViewerFacts D L)) (back : List (Roles D K G N R L)) → back ≡ roles_of owner crew viewer → All (λ role. IsTrue (has_ended role)) back
       → (one : ViewerFacts D L) → viewer ≡ Some one → viewer_has_ended one ≡ true
   viewer_done owner crew viewer back are ended = (others_done owner crew viewer back are ended).1
 
 -- there is a list of each worker
-pub as_many_lists : {D L : Type 0} (facts : L → LinkFacts) (door_facts : D → DoorFacts) (opening : Opening) (door : D) (journal : Bool) (connections workers : ℕ) (owner : OwnerFacts D L) (crew : List (WorkerFacts L))
-    (lists : List (List WorkerEntry)) → lists ≡ map entries_of crew → HaveTurned facts door_facts opening door journal connections workers owner crew → length lists ≡ workers
-as_many_lists facts door_facts opening door journal connections workers owner crew lists is turned =
+pub as_many_lists : {D L : Type 0} (facts : L → LinkFacts) (door_facts : D → DoorFacts) (opening : Opening) (door : D) (clock : ClockFacts) (journal : Bool) (connections workers : ℕ) (owner : OwnerFacts D L) (crew : List (WorkerFacts L))
+    (lists : List (List WorkerEntry)) → lists ≡ map entries_of crew → HaveTurned facts door_facts opening door clock journal connections workers owner crew → length lists ≡ workers
+as_many_lists facts door_facts opening door clock journal connections workers owner crew lists is turned =
     ap (λ (ls : List (List WorkerEntry)). length ls) is ∙ length-map crew entries_of
     ∙ AllZip-long (TurnsLead (WorkerTurned facts opening)) turned.first_crew crew turned.crew_turned
     ∙ turned.begun.crew_begins.many

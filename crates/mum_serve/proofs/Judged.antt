@@ -141,10 +141,10 @@ no_crew_fault : (asked : Option Journal) (summary : Summary) (old new : Option (
 no_crew_fault None summary old new writes = writes
 no_crew_fault (Some journal) summary old new writes = writes.1
 
-module _ {D L : Type 0} (facts : L → LinkFacts) (door_facts : D → DoorFacts) where
+module _ {D K L : Type 0} (facts : L → LinkFacts) (door_facts : D → DoorFacts) (last calls : K → ℕ) where
   -- where all were served the run ends so
-  pub all_served : (asked : Service) (input : Input) (end : ServerEnd) (doors left : Lent D) (old new : Option (List ℕ)) (before after : CrewCounts)
-      → HasServed facts door_facts asked input end doors left old new before after → EndsWith facts door_facts asked input end doors left old new before after
+  pub all_served : (asked : Service) (input : Input) (end : ServerEnd) (doors left : Lent D K) (old new : Option (List ℕ)) (before after : CrewCounts)
+      → HasServed facts door_facts last calls asked input end doors left old new before after → EndsWith facts door_facts last calls asked input end doors left old new before after
   all_served asked input ends.Finished doors left old new before after served = served
   all_served asked input (ends.AuditWrong line given defined) doors left old new before after served = served
   all_served asked input ends.CrewFault doors left old new before after served =

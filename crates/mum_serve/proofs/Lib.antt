@@ -8,3 +8,5 @@ mod Opening
 mod Turning
 mod Ending
 mod Viewing
+mod Clocking
+mod Readied

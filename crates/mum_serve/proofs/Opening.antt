@@ -13,6 +13,7 @@ use Rattle.mum_published.specs.Facts.{Opening, PassFacts as Pass, PublisherFacts
 use Rattle.mum_worker.specs.Facts.{WorkerFacts}
 use Rattle.mum_worker.specs.Opening.{HasOpened, JoinsShared}
 use Rattle.mum_worker.specs.declared.worker.Shared.{Shared}
+use Rattle.mum_serve.specs.Clocks.{ClockFacts, clock_of}
 use Rattle.mum_serve.specs.Opened.{AreOpenedFrom, ControlBegins, OwnerBegins, WorkerBegins}
 
 -- a control owner that was opened over a published state, to which nothing was appended, is new
@@ -29,10 +30,10 @@ control_begins opening publisher posts control of nothing opened =
 
 module _ {D L : Type 0} where
   -- and so is the owner that was opened over it
-  pub owner_begins : (opening : Opening) (control : ControlFacts) (door : D) (journal : Bool) (connections : ℕ) (bells : List TableId) (desk : QueueFacts) (owner : OwnerFacts D L)
+  pub owner_begins : (opening : Opening) (control : ControlFacts) (door : D) (clock : ClockFacts) (journal : Bool) (connections : ℕ) (bells : List TableId) (desk : QueueFacts) (owner : OwnerFacts D L)
       → ControlBegins opening control → IsOpened control door connections journal bells owner → IsNewPass desk owner.desk.pass
-      → OwnerBegins opening door journal connections owner
-  owner_begins opening control door journal connections bells desk owner begins opened new =
+      → clock_of owner ≡ clock → OwnerBegins opening door clock journal connections owner
+  owner_begins opening control door clock journal connections bells desk owner begins opened new asks =
       let is = ap (λ (o : OwnerFacts D L). o.control) opened in
       record {
         bells = bells;
@@ -40,6 +41,7 @@ module _ {D L : Type 0} where
         control = subst (ControlBegins opening) (sym is) begins;
         desk = desk;
         nothing_taken = new;
+        clock_is = asks;
       }
 
 module _ {L : Type 0} where

@@ -29,9 +29,10 @@ service asked = record {
 }
 
 -- the places in which a caller keeps what it lends
-pub record Lent (D : Type 0) : Type 0 where
+pub record Lent (D K : Type 0) : Type 0 where
   pub door : Option D
   pub view : Option D
+  pub clock : Option K
 
-abbrev pub lent : {D : Type 0} → Objects D → Lent D
-lent objects = record { door = Some objects.door; view = Some objects.view }
+abbrev pub lent : {D K : Type 0} → Objects D K → Lent D K
+lent objects = record { door = Some objects.door; view = Some objects.view; clock = Some objects.clock }

@@ -7,7 +7,7 @@ use Rattle.mum_state.specs.Proper.{IsProper}
 use Rattle.mum_serve.specs.Asked.{service}
 use Rattle.mum_serve.specs.Views.{passes_for}
 use Rattle.mum_serve.specs.declared.asked.Asked.{Asked}
-use Rattle.mum_serve.specs.declared.server.Beginning.{Beginning}
+use Rattle.mum_serve.specs.declared.start.Beginning.{Beginning}
 
 -- nothing was published or appended yet, the state is that of the publisher, and there is a fresh pass for each worker and
 -- for the viewer, where views are asked for

@@ -1,4 +1,5 @@
 pub mod Asked
+pub mod Clocks
 pub mod OneList
 pub mod Opened
 pub mod Queues
@@ -10,4 +11,5 @@ pub mod Running
 pub mod Views
 pub mod Beginning
 pub mod Serving
+pub mod Ready
 pub mod Program

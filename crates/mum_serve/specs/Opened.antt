@@ -14,6 +14,7 @@ use Rattle.mum_published.specs.Calls.{appended}
 use Rattle.mum_published.specs.Facts.{Opening, PassFacts}
 use Rattle.mum_worker.specs.Facts.{WorkerFacts}
 use Rattle.mum_worker.specs.Opening.{HasOpened, IsUnused}
+use Rattle.mum_serve.specs.Clocks.{ClockFacts, clock_of}
 
 -- the control owner is new, of this published state, to which nothing was appended
 pub record ControlBegins (opening : Opening) (control : ControlFacts) : Type 0 where
@@ -23,13 +24,15 @@ pub record ControlBegins (opening : Opening) (control : ControlFacts) : Type 0 w
   pub nothing : appended control.publisher ≡ []
 
 module _ {D L : Type 0} where
-  -- the owner is new, over this door, and so are its control owner and its pass of the desk
-  pub record OwnerBegins (opening : Opening) (door : D) (journal : Bool) (connections : ℕ) (owner : OwnerFacts D L) : Type 0 where
+  -- the owner is new, over this door, and so are its control owner and its pass of the desk; it asks a clock that has
+  -- counted this
+  pub record OwnerBegins (opening : Opening) (door : D) (clock : ClockFacts) (journal : Bool) (connections : ℕ) (owner : OwnerFacts D L) : Type 0 where
     pub bells : List TableId
     pub opened : IsOpened owner.control door connections journal bells owner
     pub control : ControlBegins opening owner.control
     pub desk : QueueFacts
     pub nothing_taken : IsNewPass desk owner.desk.pass
+    pub clock_is : clock_of owner ≡ clock
 
 -- the pass of a worker that has seen, learnt and asked nothing
 abbrev pub fresh_pass : Opening → PassFacts

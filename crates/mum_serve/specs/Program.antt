@@ -149,24 +149,24 @@ WritesAll None summary end old new = WritesText (last_lines summary) summary.no_
 
 -- ---- how it ends
 
-module _ {D L : Type 0} (facts : L → LinkFacts) (door_facts : D → DoorFacts) where
+module _ {D K L : Type 0} (facts : L → LinkFacts) (door_facts : D → DoorFacts) (last calls : K → ℕ) where
   -- all were served, from the state that the configuration describes, in a run that the crew counted, and this is what was
   -- written of it
-  pub record HasServed (asked : Service) (input : Input) (end : ServerEnd) (doors left : Lent D) (old new : Option (List ℕ)) (crew crew_after : CrewCounts) : Type 0 where
+  pub record HasServed (asked : Service) (input : Input) (end : ServerEnd) (doors left : Lent D K) (old new : Option (List ℕ)) (crew crew_after : CrewCounts) : Type 0 where
     pub summary : Summary
     pub entries : Entries
-    pub serves : ServesOver facts door_facts (opening greatest_limits input.document) asked input.config.workers doors (Whole summary entries) left
+    pub serves : ServesOver facts door_facts last calls (opening greatest_limits input.document) asked input.config.workers doors (Whole summary entries) left
     pub ran : RunCounts Ran crew crew_after
     pub writes : WritesAll (where_asked asked.journal (journal_of input.config.workers input.document entries)) summary end old new
 
   -- nobody was served, which is what it came to, and nothing is written
-  pub record ServesNobody (asked : Service) (input : Input) (served : Served) (doors left : Lent D) (old new : Option (List ℕ)) (crew crew_after : CrewCounts) : Type 0 where
-    pub serves : ServesOver facts door_facts (opening greatest_limits input.document) asked input.config.workers doors served left
+  pub record ServesNobody (asked : Service) (input : Input) (served : Served) (doors left : Lent D K) (old new : Option (List ℕ)) (crew crew_after : CrewCounts) : Type 0 where
+    pub serves : ServesOver facts door_facts last calls (opening greatest_limits input.document) asked input.config.workers doors served left
     pub counted : RunsCounted served crew crew_after
     pub keeps : Keeps old new
 
   -- all were served; or a door did not open, the crew did not start, or memory ran out, and nothing is written
-  abbrev pub EndsWith : Service → Input → ServerEnd → Lent D → Lent D → Option (List ℕ) → Option (List ℕ) → CrewCounts → CrewCounts → Type 0
+  abbrev pub EndsWith : Service → Input → ServerEnd → Lent D K → Lent D K → Option (List ℕ) → Option (List ℕ) → CrewCounts → CrewCounts → Type 0
   EndsWith asked input DoorFault doors left old new crew crew_after =
       HasServed asked input DoorFault doors left old new crew crew_after
       ⊎ ServesNobody asked input DoorStaysShut doors left old new crew crew_after
@@ -180,7 +180,7 @@ module _ {D L : Type 0} (facts : L → LinkFacts) (door_facts : D → DoorFacts)
 
   -- the input describes a configuration, and the run ends with it; or it names a fault, the input failed or memory ran
   -- out, and nothing else happened
-  abbrev pub EndsAt : Service → Option (List ℕ) → ServerEnd → Lent D → Lent D → Option (List ℕ) → Option (List ℕ) → CrewCounts → CrewCounts → Type 0
+  abbrev pub EndsAt : Service → Option (List ℕ) → ServerEnd → Lent D K → Lent D K → Option (List ℕ) → Option (List ℕ) → CrewCounts → CrewCounts → Type 0
   EndsAt asked bytes end doors left old new crew crew_after =
       ((input : Input) × IsInput bytes input × EndsWith asked input end doors left old new crew crew_after)
       ⊎ (IsRefusal end × IfSome bytes (λ all. NamesFault end (document_fault all)) × (left ≡ doors) × Keeps old new × (crew_after ≡ crew))

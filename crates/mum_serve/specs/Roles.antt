@@ -28,25 +28,35 @@ use Rattle.mum_serve.specs.declared.totals.WorkerTotals.{WorkerTotals}
 
 -- ---- who they are
 
-module _ {D G N R L : Type 0} where
+module _ {D K G N R L : Type 0} where
   -- a viewer, where there is one
-  abbrev pub viewers_of : Option (ViewerFacts D L) → List (Roles D G N R L)
+  abbrev pub viewers_of : Option (ViewerFacts D L) → List (Roles D K G N R L)
   viewers_of None = []
   viewers_of (Some viewer) = roles.Viewer viewer ∷ []
 
-  -- all roles of a server: its owner, the workers behind it, and the viewer behind these
-  abbrev pub roles_of : OwnerFacts D L → List (WorkerFacts L) → Option (ViewerFacts D L) → List (Roles D G N R L)
+  -- workers, and the viewer behind them
+  abbrev pub others_of : List (WorkerFacts L) → Option (ViewerFacts D L) → List (Roles D K G N R L)
+  others_of crew viewer = map roles.Worker crew ++ viewers_of viewer
+
+  -- all roles of a server: its owner, and the others behind it
+  abbrev pub roles_of : OwnerFacts D L → List (WorkerFacts L) → Option (ViewerFacts D L) → List (Roles D K G N R L)
   roles_of owner crew viewer = roles.Owner owner ∷ (map roles.Worker crew ++ viewers_of viewer)
 
-  -- they are such roles
-  pub record AreRoles (all : List (Roles D G N R L)) : Type 0 where
+  -- they are workers and a viewer
+  pub record AreOthers (rest : List (Roles D K G N R L)) : Type 0 where
+    pub crew : List (WorkerFacts L)
+    pub viewer : Option (ViewerFacts D L)
+    pub are : rest ≡ others_of crew viewer
+
+  -- they are the roles of a server
+  pub record AreRoles (all : List (Roles D K G N R L)) : Type 0 where
     pub owner : OwnerFacts D L
     pub crew : List (WorkerFacts L)
     pub viewer : Option (ViewerFacts D L)
     pub are : all ≡ roles_of owner crew viewer
 
   -- with what it was opened, where the published state began at this one and the doors had counted this
-  abbrev pub opening_of : StateValue → DoorOpening → DoorOpening → Roles D G N R L → RoleOpening
+  abbrev pub opening_of : StateValue → DoorOpening → DoorOpening → Roles D K G N R L → RoleOpening
   opening_of state door view (roles.Owner owner) =
       openings.Owner (owner_opening state door owner.guests.limit owner.scribe.is_asked)
   opening_of state door view (roles.Worker worker) =
@@ -54,17 +64,17 @@ module _ {D G N R L : Type 0} where
   opening_of state door view (roles.Viewer viewer) = openings.Viewer (viewer_opening view viewer.limit)
 
   -- it has nothing more to do
-  abbrev pub has_ended : Roles D G N R L → Bool
+  abbrev pub has_ended : Roles D K G N R L → Bool
   has_ended (roles.Owner owner) = owner_has_ended owner
   has_ended (roles.Worker worker) = is_done worker
   has_ended (roles.Viewer viewer) = viewer_has_ended viewer
 
 -- ---- their turns
 
-module _ {D G N R L : Type 0} (facts : L → LinkFacts) (door_facts : D → DoorFacts) (opening : Opening) where
+module _ {D K G N R L : Type 0} (facts : L → LinkFacts) (door_facts : D → DoorFacts) (opening : Opening) where
   -- a turn of the owner is one of an owner, one of a worker is one of a worker, and one of the viewer is one of a viewer
-  abbrev pub RoleTurned : Roles D G N R L → Turn → Roles D G N R L → Type 0
-  RoleTurned (roles.Owner old) answer (roles.Owner new) = OwnerTurned door_facts old answer new
+  abbrev pub RoleTurned : Roles D K G N R L → Turn → Roles D K G N R L → Type 0
+  RoleTurned (roles.Owner old) answer (roles.Owner new) = OwnerTurned door_facts facts old answer new
   RoleTurned (roles.Worker old) answer (roles.Worker new) = WorkerTurned facts opening old answer new
   RoleTurned (roles.Viewer old) answer (roles.Viewer new) = ViewerTurned door_facts facts old answer new
   RoleTurned old answer new = ⊥

@@ -1,5 +1,5 @@
 -- How a server comes to its end.
-use Rattle.std.specs.Prelude.{◌≡◌, ◌⊎◌, ◌||◌, ℕ, true, List, Option, Some, None, IfSome, is_some}
+use Rattle.std.specs.Prelude.{◌≡◌, ⊤, ◌⊎◌, ◌||◌, ℕ, true, List, Option, Some, None, IfSome, is_some}
 use Rattle.std.specs.List.{AllByRecursion}
 use Rattle.mum_crew.specs.Crew.{CrewCounts, RunCounts}
 use Rattle.mum_crew.specs.declared.crew.CrewEnd.TheVariants.{Ran, Refused}
@@ -14,6 +14,7 @@ use Rattle.mum_state.specs.State.{StateValue}
 use Rattle.mum_viewer.specs.Viewer.{ViewerFacts}
 use Rattle.mum_worker.specs.Facts.{WorkerFacts, is_done}
 use Rattle.mum_serve.specs.Asked.{Lent, Service, ViewService, lent}
+use Rattle.mum_serve.specs.Clocks.{clock_at, clock_of}
 use Rattle.mum_serve.specs.Roles.{CameTo, ran_out}
 use Rattle.mum_serve.specs.OneList.{AreWithin}
 use Rattle.mum_serve.specs.Running.{HaveTurned}
@@ -48,7 +49,7 @@ module _ {D : Type 0} (door_facts : D → DoorFacts) where
   OpensView (Some view) door opened = OpensAt view.address door opened
 
   -- the doors were opened
-  pub record Opens (asked : Service) (doors opened : Objects D) : Type 0 where
+  pub record Opens {K : Type 0} (asked : Service) (doors opened : Objects D K) : Type 0 where
     pub door : OpensAt asked.address doors.door opened.door
     pub view : OpensView asked.view doors.view opened.view
 
@@ -64,22 +65,28 @@ module _ {D : Type 0} (door_facts : D → DoorFacts) where
 
   -- one of the doors did not open: the first, and then the second is as it was; or the second, where one is asked for, and
   -- then nobody asked the first for a connection
-  abbrev pub OneStaysShut : Service → Objects D → Objects D → Type 0
+  abbrev pub OneStaysShut : {K : Type 0} → Service → Objects D K → Objects D K → Type 0
   OneStaysShut asked doors left =
       (StaysShut doors.door left.door × (left.view ≡ doors.view))
       ⊎ ((is_some asked.view ≡ true) × IsUnasked doors.door left.door × StaysShut doors.view left.view)
 
-module _ {D L : Type 0} (facts : L → LinkFacts) (door_facts : D → DoorFacts) where
+module _ {K : Type 0} (last calls : K → ℕ) where
+  -- where all were served, what became of the clock is said of its owner; else nobody asked it
+  abbrev pub LeavesClock : Served → K → K → Type 0
+  LeavesClock (Whole summary entries) clock left = ⊤
+  LeavesClock others clock left = clock_at last calls left ≡ clock_at last calls clock
+
+module _ {D K L : Type 0} (facts : L → LinkFacts) (door_facts : D → DoorFacts) (last calls : K → ℕ) where
   -- an owner and workers were opened from this state over a door that was open, with a journal or without one, and a viewer
   -- over a second one where views are asked for; turns led each of them to its end, this is what they came to, and what
-  -- the workers and the viewer saw begins what was published
-  pub record HasRun (state : StateValue) (asked : Service) (workers : ℕ) (opened : Objects D) (summary : Summary) (entries : Entries) (left : Objects D) : Type 0 where
+  -- the workers and the viewer saw begins what was published. The owner asked the clock that was lent, which comes back
+  pub record HasRun (state : StateValue) (asked : Service) (workers : ℕ) (opened : Objects D K) (summary : Summary) (entries : Entries) (left : Objects D K) : Type 0 where
     pub owner : OwnerFacts D L
     pub crew : List (WorkerFacts L)
     pub viewer : Option (ViewerFacts D L)
     pub began : Opening
     pub began_at : began.state ≡ state
-    pub turned : HaveTurned facts door_facts began opened.door asked.journal asked.connections workers owner crew
+    pub turned : HaveTurned facts door_facts began opened.door (clock_at last calls opened.clock) asked.journal asked.connections workers owner crew
     pub viewed : HasViewed facts door_facts began asked.view opened.view viewer
     pub owner_ended : owner_has_ended owner ≡ true
     pub crew_ended : AllByRecursion (λ worker. is_done worker ≡ true) crew
@@ -89,30 +96,33 @@ module _ {D L : Type 0} (facts : L → LinkFacts) (door_facts : D → DoorFacts)
     pub failed : summary.door_failed ≡ (owner.doorway.failed || viewer_failed viewer)
     pub one_list : AreWithin owner.control.publisher.published crew
     pub views_of_it : SeesWithin owner.control.publisher.published viewer
+    pub clock_back : clock_at last calls left.clock ≡ clock_of owner
 
   -- where all were served, the roles have run, and else the doors are as they were
-  abbrev pub Runs : StateValue → Service → ℕ → Objects D → Served → Objects D → Type 0
+  abbrev pub Runs : StateValue → Service → ℕ → Objects D K → Served → Objects D K → Type 0
   Runs state asked workers opened (Whole summary entries) left = HasRun state asked workers opened summary entries left
   Runs state asked workers opened DoorFault left = ⊥
-  Runs state asked workers opened others left = left ≡ opened
+  Runs state asked workers opened others left = (left.door ≡ opened.door) × (left.view ≡ opened.view)
 
   -- the doors were opened, and the roles have run over them
-  pub record OpensAndRuns (state : StateValue) (asked : Service) (workers : ℕ) (doors : Objects D) (summary : Summary) (entries : Entries) (left : Objects D) : Type 0 where
-    pub opened : Objects D
+  pub record OpensAndRuns (state : StateValue) (asked : Service) (workers : ℕ) (doors : Objects D K) (summary : Summary) (entries : Entries) (left : Objects D K) : Type 0 where
+    pub opened : Objects D K
     pub opens : Opens door_facts asked doors opened
+    pub clock : opened.clock ≡ doors.clock
     pub run : HasRun state asked workers opened summary entries left
 
   -- where all were served, the doors were opened and the roles have run over them; or one of them did not open; or nobody
   -- asked them for a connection
-  abbrev pub Serves : StateValue → Service → ℕ → Objects D → Served → Objects D → Type 0
+  abbrev pub Serves : StateValue → Service → ℕ → Objects D K → Served → Objects D K → Type 0
   Serves state asked workers doors (Whole summary entries) left = OpensAndRuns state asked workers doors summary entries left
   Serves state asked workers doors DoorFault left = OneStaysShut door_facts asked doors left
   Serves state asked workers doors others left = IsUnasked door_facts doors.door left.door × IsUnasked door_facts doors.view left.view
 
-  -- the doors are there, before and after
-  pub record ServesOver (state : StateValue) (asked : Service) (workers : ℕ) (old : Lent D) (served : Served) (new : Lent D) : Type 0 where
-    pub doors : Objects D
-    pub left : Objects D
+  -- the doors and the clock are there, before and after
+  pub record ServesOver (state : StateValue) (asked : Service) (workers : ℕ) (old : Lent D K) (served : Served) (new : Lent D K) : Type 0 where
+    pub doors : Objects D K
+    pub left : Objects D K
     pub was : old ≡ lent doors
     pub is : new ≡ lent left
     pub serves : Serves state asked workers doors served left
+    pub clock : LeavesClock last calls served doors.clock left.clock

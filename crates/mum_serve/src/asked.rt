@@ -23,9 +23,11 @@ pub struct Asked<'a> {
 
 /// What a server is lent for its run.
 #[derive(Drop)]
-pub struct Objects<D> {
+pub struct Objects<D, K> {
     /// The door of the connections.
     pub door: D,
     /// The door of the views. It is opened where views are asked for.
     pub view: D,
+    /// The clock by which bans start and end.
+    pub clock: K,
 }

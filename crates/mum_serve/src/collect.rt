@@ -2,6 +2,7 @@
 
 ghost use Rattle.std.specs.Prelude.{◌≡◌, ◌||◌, false, is_some, length, map, true};
 ghost use Rattle.mum_record.specs.Journal.{Each, IsWritableEntry};
+ghost use Rattle.mum_serve.specs.Clocks.{clock_at, clock_of};
 ghost use Rattle.mum_serve.specs.Journals.{entries_of};
 ghost use Rattle.mum_serve.specs.OneList.{AreWithin};
 ghost use Rattle.mum_serve.specs.Opened.{HasRoom};
@@ -17,7 +18,7 @@ use crate::totals::{Totals, WorkerTotals};
 use crate::views::{Viewed, end_viewer};
 use mum_base::Items;
 use mum_crew::Gate;
-use mum_io::{Door, Link};
+use mum_io::{Clock, Door, Link};
 use mum_owner::{Entrance, Owner, OwnerEnd, Serving};
 use mum_published::Naming;
 use mum_record::WorkerEntry;
@@ -28,15 +29,15 @@ use std::sync::Wait;
 
 /// What the roles of a server came to, and what they were given.
 #[derive(Drop)]
-pub(crate) struct Collected<D: Drop> {
+pub(crate) struct Collected<D: Drop, K: Drop> {
     pub(crate) summary: Summary,
     pub(crate) entries: Entries,
-    pub(crate) objects: Objects<D>,
+    pub(crate) objects: Objects<D, K>,
 }
 
 // Compares what each of these workers saw and learnt with what the owner published, which begins with it.
-fn compare<D: Entrance, G: Gate, N: Serving, R: Wait + Copy>(
-    owner: &Owner<'_, D, N, R>,
+fn compare<D: Entrance, K: Clock, G: Gate, N: Serving, R: Wait + Copy>(
+    owner: &Owner<'_, D, K, N, R>,
     workers: &[Worker<D::Peer, G, N, R>],
 )
     ensures { AreWithin owner.now.control.publisher.published workers.now }
@@ -47,8 +48,8 @@ fn compare<D: Entrance, G: Gate, N: Serving, R: Wait + Copy>(
 }
 
 // The same of the viewer, where there is one.
-fn compare_views<D: Entrance, N: Serving + Viewing, R: Wait + Copy>(
-    owner: &Owner<'_, D, N, R>,
+fn compare_views<D: Entrance, K: Clock, N: Serving + Viewing, R: Wait + Copy>(
+    owner: &Owner<'_, D, K, N, R>,
     viewer: &Option<Viewer<D, N, R>>,
 )
     ensures { SeesWithin owner.now.control.publisher.published viewer.now }
@@ -84,11 +85,17 @@ fn either(one: bool, other: bool) -> bool
 
 /// Compares what the workers and the viewer saw with what the owner published, and ends all. There is room for what
 /// each worker wrote down. Without a viewer its door was not used.
-pub(crate) fn collect<D: Door + Send, G: Gate, N: Serving + Viewing, R: Wait + Copy + Send>(
-    roles: Parted<'_, D, G, N, R>,
+pub(crate) fn collect<
+    D: Door + Send,
+    K: Clock + Send,
+    G: Gate,
+    N: Serving + Viewing,
+    R: Wait + Copy + Send,
+>(
+    roles: Parted<'_, D, K, G, N, R>,
     unused: Option<D>,
     room: Vec<Items<WorkerEntry>>,
-) -> Collected<D>
+) -> Collected<D, K>
     requires room { HasRoom (length roles.workers.items) room }
     requires unused { is_some roles.viewer ≡ false → is_some unused ≡ true }
     ensures came { CameTo D.facts N.opening.state N.door roles.entry.owner roles.entry.workers.items
@@ -100,6 +107,7 @@ pub(crate) fn collect<D: Door + Send, G: Gate, N: Serving + Viewing, R: Wait + C
     ensures failed { result.summary.door_failed ≡ (roles.entry.owner.doorway.failed || viewer_failed
         roles.entry.viewer) }
     ensures one_list { AreWithin roles.entry.owner.control.publisher.published roles.entry.workers.items }
+    ensures clock { clock_at K.last K.calls result.objects.clock ≡ clock_of roles.entry.owner }
     ensures views_of_it { SeesWithin roles.entry.owner.control.publisher.published roles.entry.viewer }
 {
     let Parted {
@@ -111,6 +119,7 @@ pub(crate) fn collect<D: Door + Send, G: Gate, N: Serving + Viewing, R: Wait + C
     compare_views(&owner, &viewer);
     let OwnerEnd {
         door,
+        clock,
         connections,
         accepted,
         state,
@@ -135,6 +144,7 @@ pub(crate) fn collect<D: Door + Send, G: Gate, N: Serving + Viewing, R: Wait + C
         objects: Objects {
             door,
             view: views.door,
+            clock,
         },
     }
 }

@@ -8,6 +8,7 @@ pub mod entries;
 mod judge;
 pub mod program;
 mod queues;
+mod ready;
 mod roles;
 mod server;
 mod start;

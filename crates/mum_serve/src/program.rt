@@ -22,7 +22,7 @@ use crate::totals::Totals;
 use mum_base::{Octets, OutOfMemory, Text};
 use mum_config::{BadConfig, Config, DOCUMENT_LIMIT};
 use mum_crew::Crew;
-use mum_io::{Door, ReadFault, Sink, Source, read_up_to, write_all};
+use mum_io::{Clock, Door, ReadFault, Sink, Source, read_up_to, write_all};
 use mum_opening::read_document;
 use mum_record::{Journal, Word, push_line};
 use std::alloc::Global;
@@ -249,7 +249,7 @@ fn write_out<O: Sink>(
 }
 
 // Serves a configuration, and writes what came of it.
-fn serve_input<R: Wait + Copy + Send, O: Sink, D: Door + Send, C: Crew>(
+fn serve_input<R: Wait + Copy + Send, O: Sink, D: Door + Send, C: Crew, K: Clock + Send>(
     rt: &R,
     alloc: Global,
     said: Input,
@@ -258,6 +258,7 @@ fn serve_input<R: Wait + Copy + Send, O: Sink, D: Door + Send, C: Crew>(
     door: &mut Option<D>,
     view: &mut Option<D>,
     crew: &mut C,
+    clock: &mut Option<K>,
 ) -> ServerEnd
     requires fit { IsTrue (all_fit empty_state said.config.edits) }
     requires limited { FitAfterLimits said.config.edits }
@@ -265,16 +266,18 @@ fn serve_input<R: Wait + Copy + Send, O: Sink, D: Door + Send, C: Crew>(
     requires described { DescribesConfig said.document said.config }
     requires door { is_some door.old ≡ true }
     requires view { is_some view.old ≡ true }
+    requires clock { is_some clock.old ≡ true }
     requires connections { 0 < asked.now.connections }
     ensures ends { EndsWith D.Conn.facts
-        D.facts (service asked.now) said result (record { door = door.old; view = view.old })
-        (record { door = door.new; view = view.new })
+        D.facts K.last K.calls (service asked.now) said result
+        (record { door = door.old; view = view.old; clock = clock.old })
+        (record { door = door.new; view = view.new; clock = clock.new })
         (O.written output.old) (O.written output.new) (C.counts crew.old) (C.counts crew.new) }
     ensures runs { RunsInCrew result (C.counts crew.old) (C.counts crew.new) }
     ensures writes { WritesCounted result (O.faults output.old) (O.faults output.new) }
 {
     let Input { config, document } = said;
-    match serve(rt, alloc, &config, asked, door, view, crew) {
+    match serve(rt, alloc, &config, asked, door, view, crew, clock) {
         Served::Whole { summary, entries } => {
             let journal = journal_asked(asked.journal, config.workers, document, entries);
             write_out(alloc, journal, &summary, output)
@@ -287,8 +290,16 @@ fn serve_input<R: Wait + Copy + Send, O: Sink, D: Door + Send, C: Crew>(
 
 /// Does what a server is asked to do, from the configuration that the input is, and writes the journal, where one is
 /// asked for, the line of the totals, and the line of the views, where they are asked for. The journal holds each command
-/// and each packet, from the first connection on, in memory until all have closed. The doors are back at every return.
-pub fn run_server<R: Wait + Copy + Send, I: Source, O: Sink, D: Door + Send, C: Crew>(
+/// and each packet, from the first connection on, in memory until all have closed. The doors and the
+/// clock are back at every return.
+pub fn run_server<
+    R: Wait + Copy + Send,
+    I: Source,
+    O: Sink,
+    D: Door + Send,
+    C: Crew,
+    K: Clock + Send,
+>(
     rt: &R,
     alloc: Global,
     asked: &Asked<'_>,
@@ -297,20 +308,23 @@ pub fn run_server<R: Wait + Copy + Send, I: Source, O: Sink, D: Door + Send, C: 
     door: &mut Option<D>,
     view: &mut Option<D>,
     crew: &mut C,
+    clock: &mut Option<K>,
 ) -> ServerEnd
     requires door { is_some door.old ≡ true }
     requires view { is_some view.old ≡ true }
+    requires clock { is_some clock.old ≡ true }
     requires connections { 0 < asked.now.connections }
     ensures ends { EndsAt D.Conn.facts
-        D.facts (service asked.now) (I.left input.old) result (record { door = door.old; view = view.old })
-        (record { door = door.new; view = view.new })
+        D.facts K.last K.calls (service asked.now) (I.left input.old) result
+        (record { door = door.old; view = view.old; clock = clock.old })
+        (record { door = door.new; view = view.new; clock = clock.new })
         (O.written output.old) (O.written output.new) (C.counts crew.old) (C.counts crew.new) }
     ensures runs { RunsInCrew result (C.counts crew.old) (C.counts crew.new) }
     ensures reads { ReadsCounted result (I.faults input.old) (I.faults input.new) }
     ensures writes { WritesCounted result (O.faults output.old) (O.faults output.new) }
 {
     match input_in(alloc, input) {
-        Ok(said) => serve_input(rt, alloc, said, asked, output, door, view, crew),
+        Ok(said) => serve_input(rt, alloc, said, asked, output, door, view, crew, clock),
         Err(end) => end,
     }
 }

@@ -1,6 +1,6 @@
 //! The queues between the roles of a server.
 
-ghost use Rattle.std.specs.Prelude.{◌≡◌, ◌+◌, ◌<◌, IfOk, OnOk, length};
+ghost use Rattle.std.specs.Prelude.{◌≡◌, ◌+◌, ◌<◌, [], ◌∷◌, ◌++◌, IfOk, OnErr, OnOk, length};
 ghost use Rattle.std.specs.List.{All, AllByRecursion};
 ghost use Rattle.mum_base.specs.declared.number.TheConstants.{SLOTS};
 ghost use Rattle.mum_serve.specs.Queues.{AreFor, HasBoxes, SharesQueues, bells_of};
@@ -10,7 +10,8 @@ use mum_base::{OutOfMemory, SLOTS};
 use mum_outbox::{Bell, Desk, PostBox, Queue, VoiceBox};
 use mum_published::{BellItem, Naming};
 use mum_worker::{DeskItem, Shared, share_each};
-use std::alloc::Global;
+use std::alloc::{AllocError, Global};
+use std::mem::drop;
 
 /// Owners of all queues: what the owner of the connections and the control owner hold, and what each worker does.
 #[derive(Drop)]
@@ -24,6 +25,21 @@ pub struct Queues<L, N: Naming> {
     pub shared: Vec<Shared<L, N>>,
 }
 
+// Adds a box for each slot.
+fn add_boxes<I: Drop, const CAPACITY: usize>(
+    alloc: Global,
+    boxes: &mut Vec<Queue<I, CAPACITY>>,
+) -> Result<(), OutOfMemory>
+    requires capacity { 0 < CAPACITY }
+    requires none { boxes.old.items ≡ [] }
+    ensures { OnOk result (length boxes.new.items ≡ SLOTS) }
+{
+    'boxes: for _slot in 0..SLOTS {
+        boxes.push(Queue::new(alloc)?)?;
+    }
+    Ok(())
+}
+
 // A box for each slot.
 fn boxes<I: Drop, const CAPACITY: usize>(
     alloc: Global,
@@ -32,10 +48,13 @@ fn boxes<I: Drop, const CAPACITY: usize>(
     ensures { IfOk result (λ boxes. length boxes.items ≡ SLOTS) }
 {
     let mut boxes = Vec::new(alloc);
-    'boxes: for _slot in 0..SLOTS {
-        boxes.push(Queue::new(alloc)?)?;
+    match add_boxes(alloc, &mut boxes) {
+        Ok(()) => Ok(boxes),
+        Err(error) => {
+            drop(boxes);
+            Err(error)
+        }
     }
-    Ok(boxes)
 }
 
 // The ends of the queues while workers get theirs: a box of each kind for each slot, and the desk.
@@ -44,6 +63,47 @@ struct Ends {
     voices: Vec<VoiceBox>,
     posts: Vec<PostBox>,
     desk: Desk<DeskItem>,
+}
+
+// Boxes, and those that one worker shares with them.
+#[derive(Drop)]
+struct SharedBoxes {
+    voices: Vec<VoiceBox>,
+    posts: Vec<PostBox>,
+    voice: Vec<VoiceBox>,
+    post: Vec<PostBox>,
+}
+
+fn share_boxes(
+    alloc: Global,
+    voices: Vec<VoiceBox>,
+    posts: Vec<PostBox>,
+) -> Result<SharedBoxes, OutOfMemory>
+    ensures voices { IfOk result (λ boxes. queues_of boxes.voices.items ≡ queues_of voices.items) }
+    ensures posts { IfOk result (λ boxes. queues_of boxes.posts.items ≡ queues_of posts.items) }
+    ensures voice { IfOk result (λ boxes. queues_of boxes.voice.items ≡ queues_of voices.items) }
+    ensures post { IfOk result (λ boxes. queues_of boxes.post.items ≡ queues_of posts.items) }
+{
+    let (voices, voice) = match share_each(alloc, voices) {
+        Ok(both) => both,
+        Err(error) => {
+            drop(posts);
+            return Err(error);
+        }
+    };
+    match share_each(alloc, posts) {
+        Ok((posts, post)) => Ok(SharedBoxes {
+            voices,
+            posts,
+            voice,
+            post,
+        }),
+        Err(error) => {
+            drop(voices);
+            drop(voice);
+            Err(error)
+        }
+    }
 }
 
 // What one worker shares: these queues, and this bell.
@@ -67,23 +127,81 @@ fn share<L: Drop, N: Naming>(
     let Ends {
         voices,
         posts,
-        desk,
+        mut desk,
     } = ends;
-    let mut desk = desk;
-    let (voices, voice) = share_each(alloc, voices)?;
-    let (posts, post) = share_each(alloc, posts)?;
-    let shared = Shared {
-        voice,
-        posts: post,
-        desk: desk.share()?,
-        bell,
+    let end = match desk.share() {
+        Ok(end) => end,
+        Err(error) => {
+            drop(voices);
+            drop(posts);
+            drop(desk);
+            drop(bell);
+            return Err(error);
+        }
     };
-    let ends = Ends {
-        voices,
-        posts,
-        desk,
-    };
-    Ok((ends, shared))
+    match share_boxes(alloc, voices, posts) {
+        Ok(
+            SharedBoxes {
+                voices,
+                posts,
+                voice,
+                post,
+            },
+        ) => Ok((
+            Ends {
+                voices,
+                posts,
+                desk,
+            },
+            Shared {
+                voice,
+                posts: post,
+                desk: end,
+                bell,
+            },
+        )),
+        Err(error) => {
+            drop(desk);
+            drop(end);
+            drop(bell);
+            Err(error)
+        }
+    }
+}
+
+// A bell, twice.
+fn new_bell<I: Drop>(alloc: Global) -> Result<(Bell<I>, Bell<I>), OutOfMemory>
+    ensures { IfOk result (λ both. both.1.queue ≡ both.0.queue) }
+{
+    let mut bell = Bell::new(alloc)?;
+    match bell.share() {
+        Ok(end) => Ok((bell, end)),
+        Err(error) => {
+            drop(bell);
+            Err(error)
+        }
+    }
+}
+
+// Pushes one to each of these.
+fn push_both<A: Drop, B: Drop>(
+    some: &mut Vec<A>,
+    a: A,
+    others: &mut Vec<B>,
+    b: B,
+) -> Result<(), OutOfMemory>
+    ensures some { OnOk result (some.new.items ≡ some.old.items ++ a ∷ []) }
+    ensures others { OnOk result (others.new.items ≡ others.old.items ++ b ∷ []) }
+    ensures left { OnErr result (others.new.items ≡ others.old.items) }
+{
+    if some.push(a).is_err() {
+        drop(b);
+        return Err(AllocError);
+    }
+    match others.push(b) {
+        Ok(()) => Ok(()),
+        Err(_) => Err(AllocError),
+    }
 }
 
 // One bell more, and what its worker shares.
@@ -109,11 +227,27 @@ fn add_worker<L: Drop, N: Naming>(
     ensures one_bell { OnOk result (length bells.new.items ≡ length bells.old.items + 1) }
     ensures one_more { OnOk result (length shared.new.items ≡ length shared.old.items + 1) }
 {
-    let mut bell = Bell::new(alloc)?;
-    let (ends, one) = share(alloc, ends, bell.share()?)?;
-    bells.push(bell)?;
-    shared.push(one)?;
-    Ok(ends)
+    let (bell, end) = match new_bell(alloc) {
+        Ok(both) => both,
+        Err(error) => {
+            drop(ends);
+            return Err(error);
+        }
+    };
+    let (ends, one) = match share(alloc, ends, end) {
+        Ok(both) => both,
+        Err(error) => {
+            drop(bell);
+            return Err(error);
+        }
+    };
+    match push_both(bells, bell, shared, one) {
+        Ok(()) => Ok(ends),
+        Err(error) => {
+            drop(ends);
+            Err(error)
+        }
+    }
 }
 
 impl<L: Drop, N: Naming> Queues<L, N> {

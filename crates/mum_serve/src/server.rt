@@ -5,25 +5,25 @@ ghost use Rattle.mum_config.specs.Limits.{FitAfterLimits};
 ghost use Rattle.mum_opening.specs.Opening.{served_edits};
 ghost use Rattle.mum_serve.specs.Asked.{service};
 ghost use Rattle.mum_serve.specs.Beginning.{Begins};
-ghost use Rattle.mum_serve.specs.Serving.{opening_at, OneStaysShut, Opens, Runs, RunsCounted, Serves, ServesOver};
+ghost use Rattle.mum_serve.specs.Ready.{ending_of};
+ghost use Rattle.mum_serve.specs.Serving.{opening_at, LeavesClock, OneStaysShut, Opens, Runs, RunsCounted, Serves, ServesOver};
 ghost use Rattle.mum_serve.specs.Views.{passes_for};
 ghost use Rattle.mum_state.specs.After.{after, all_fit};
 ghost use Rattle.mum_state.specs.State.{empty_state};
 
 use crate::asked::{Asked, Objects};
-use crate::collect::{Collected, collect};
+use crate::collect::Collected;
 use crate::entries::Entries;
-use crate::roles::{apart, together};
-use crate::start::{Started, start};
+use crate::ready::{Ready, end_roles, open_roles};
+use crate::start::Beginning;
 use crate::summary::Summary;
-use crate::views::{ViewDoor, Viewed, end_viewer, open_viewer};
 use mum_base::OutOfMemory;
 use mum_config::Config;
 use mum_crew::{Crew, CrewEnd};
-use mum_io::{Door, DoorOpen};
+use mum_io::{Clock, Door, DoorOpen};
 use mum_opening::opening_state;
 use mum_owner::Serving;
-use mum_published::{Pass, Publisher, open};
+use mum_published::{Publisher, open};
 use mum_record::Limits;
 use mum_state::{Edit, State};
 use mum_viewer::Viewing;
@@ -45,26 +45,39 @@ pub enum Served {
     OutOfMemory,
 }
 
-/// Where a server begins.
-#[derive(Drop)]
-struct Beginning {
-    /// The state that is published.
-    state: State,
-    workers: u8,
-    /// One for each worker, and one for the viewer where views are asked for.
-    passes: Vec<Pass>,
+// How a server ends whose roles a crew was given.
+fn ending_of(end: CrewEnd, summary: Summary, entries: Entries) -> Served
+    ensures { result ≡ ending_of end summary entries }
+{
+    match end {
+        CrewEnd::Ran => Served::Whole { summary, entries },
+        CrewEnd::Refused => {
+            drop(entries);
+            Served::CrewFault
+        }
+        CrewEnd::NoMemory => {
+            drop(entries);
+            Served::OutOfMemory
+        }
+    }
 }
 
 // Runs all roles, over doors that are open, and takes the doors back.
-fn run<N: Serving + Viewing + Send, R: Wait + Copy + Send, D: Door + Send, C: Crew>(
+fn run<
+    N: Serving + Viewing + Send,
+    R: Wait + Copy + Send,
+    D: Door + Send,
+    C: Crew,
+    K: Clock + Send,
+>(
     rt: &R,
     alloc: Global,
     asked: &Asked<'_>,
     publisher: &mut Publisher,
     beginning: Beginning,
-    objects: Objects<D>,
+    objects: Objects<D, K>,
     crew: &mut C,
-) -> (Served, Objects<D>)
+) -> (Served, Objects<D, K>)
     requires opening { publisher.old.opening ≡ N.opening }
     requires begins { Begins publisher.old asked.now beginning }
     requires door { opening_at D.facts objects.door ≡ N.door }
@@ -72,68 +85,22 @@ fn run<N: Serving + Viewing + Send, R: Wait + Copy + Send, D: Door + Send, C: Cr
     requires connections { 0 < asked.now.connections }
     ensures counts { RunsCounted result.0 (C.counts crew.old) (C.counts crew.new) }
     ensures runs { Runs D.Conn.facts
-        D.facts N.opening.state (service asked.now) beginning.workers objects result.0 result.1 }
+        D.facts K.last K.calls N.opening.state (service asked.now) beginning.workers objects result.0 result.1 }
+    ensures clock { LeavesClock K.last K.calls result.0 objects.clock result.1.clock }
 {
-    let Objects { door, view } = objects;
-    let Beginning {
-        state,
-        workers,
-        mut passes,
-    } = beginning;
-    let ViewDoor { viewer, unused } = match open_viewer::<D, N, R>(
-        rt,
-        alloc,
-        asked.view,
-        &mut passes,
-        view,
+    let Ready { roles, reserved } = match open_roles::<D, K, N, R>(
+        rt, alloc, asked, publisher, beginning, objects,
     ) {
-        Ok(view) => view,
-        Err(view) => {
-            drop(state);
-            drop(passes);
-            return (Served::OutOfMemory, Objects { door, view });
-        }
+        Ok(ready) => ready,
+        Err(objects) => return (Served::OutOfMemory, objects),
     };
-    let started = match start::<D, N, R>(
-        rt,
-        alloc,
-        publisher,
-        state,
-        workers,
-        passes,
-        door,
-        asked.journal,
-        asked.connections,
-    ) {
-        Ok(started) => started,
-        Err(door) => {
-            let Viewed { door: view, .. } = end_viewer(viewer, unused);
-            return (Served::OutOfMemory, Objects { door, view });
-        }
-    };
-    let Started {
-        owner,
-        workers,
-        room,
-    } = started;
-    let run = crew.run(alloc, together(owner, workers, viewer, room.roles));
-    let roles = apart(run.roles, room.workers);
+    let run = crew.run(alloc, roles);
     let Collected {
         summary,
         entries,
         objects,
-    } = collect(roles, unused, room.entries);
-    match run.end {
-        CrewEnd::Ran => (Served::Whole { summary, entries }, objects),
-        CrewEnd::Refused => {
-            drop(entries);
-            (Served::CrewFault, objects)
-        }
-        CrewEnd::NoMemory => {
-            drop(entries);
-            (Served::OutOfMemory, objects)
-        }
-    }
+    } = end_roles(run.roles, reserved);
+    (ending_of(run.end, summary, entries), objects)
 }
 
 // The state at which a server begins, twice.
@@ -154,28 +121,31 @@ fn states(alloc: Global, edits: &[Edit]) -> Result<(State, State), OutOfMemory>
 }
 
 // Serves over what was opened at a state, and over doors that are open.
-fn run_opened<R: Wait + Copy + Send, D: Door + Send, C: Crew>(
+fn run_opened<R: Wait + Copy + Send, D: Door + Send, C: Crew, K: Clock + Send>(
     rt: &R,
     alloc: Global,
     asked: &Asked<'_>,
     publisher: &mut Publisher,
     beginning: Beginning,
-    objects: Objects<D>,
+    objects: Objects<D, K>,
     crew: &mut C,
-) -> (Served, Objects<D>)
+) -> (Served, Objects<D, K>)
     requires begins { Begins publisher.old asked.now beginning }
     requires connections { 0 < asked.now.connections }
     ensures counts { RunsCounted result.0 (C.counts crew.old) (C.counts crew.new) }
     ensures runs { Runs D.Conn.facts
-        D.facts publisher.old.opening.state (service asked.now) beginning.workers objects result.0 result.1 }
+        D.facts K.last K.calls publisher.old.opening.state (service asked.now) beginning.workers objects result.0
+        result.1 }
+    ensures clock { LeavesClock K.last K.calls result.0 objects.clock result.1.clock }
 {
-    run::<Brand, R, D, C>(rt, alloc, asked, publisher, beginning, objects, crew)
+    run::<Brand, R, D, C, K>(rt, alloc, asked, publisher, beginning, objects, crew)
 }
 
 // Opens the doors that are asked for. Answers whether they are open.
-fn open_doors<D: Door + Send>(asked: &Asked<'_>, objects: &mut Objects<D>) -> bool
+fn open_doors<D: Door + Send, K: Clock>(asked: &Asked<'_>, objects: &mut Objects<D, K>) -> bool
     ensures opened { result ≡ true → Opens D.facts (service asked.now) objects.old objects.new }
     ensures shut { result ≡ false → OneStaysShut D.facts (service asked.now) objects.old objects.new }
+    ensures clock { objects.new.clock ≡ objects.old.clock }
 {
     if objects.door.open(asked.address) == DoorOpen::Failed {
         return false;
@@ -187,20 +157,22 @@ fn open_doors<D: Door + Send>(asked: &Asked<'_>, objects: &mut Objects<D>) -> bo
 }
 
 // Serves over what was opened at a state, and over doors that are not open yet.
-fn serve_at<R: Wait + Copy + Send, D: Door + Send, C: Crew>(
+fn serve_at<R: Wait + Copy + Send, D: Door + Send, C: Crew, K: Clock + Send>(
     rt: &R,
     alloc: Global,
     asked: &Asked<'_>,
     publisher: &mut Publisher,
     beginning: Beginning,
-    objects: Objects<D>,
+    objects: Objects<D, K>,
     crew: &mut C,
-) -> (Served, Objects<D>)
+) -> (Served, Objects<D, K>)
     requires begins { Begins publisher.old asked.now beginning }
     requires connections { 0 < asked.now.connections }
     ensures counts { RunsCounted result.0 (C.counts crew.old) (C.counts crew.new) }
     ensures serves { Serves D.Conn.facts
-        D.facts publisher.old.opening.state (service asked.now) beginning.workers objects result.0 result.1 }
+        D.facts K.last K.calls publisher.old.opening.state (service asked.now) beginning.workers objects result.0
+        result.1 }
+    ensures clock { LeavesClock K.last K.calls result.0 objects.clock result.1.clock }
 {
     let mut objects = objects;
     if !open_doors(asked, &mut objects) {
@@ -223,22 +195,23 @@ fn passes_of(workers: u8, asked: &Asked<'_>) -> u8
 }
 
 // Serves over doors that are not open yet.
-fn serve_over<R: Wait + Copy + Send, D: Door + Send, C: Crew>(
+fn serve_over<R: Wait + Copy + Send, D: Door + Send, C: Crew, K: Clock + Send>(
     rt: &R,
     alloc: Global,
     config: &Config,
     asked: &Asked<'_>,
-    objects: Objects<D>,
+    objects: Objects<D, K>,
     crew: &mut C,
-) -> (Served, Objects<D>)
+) -> (Served, Objects<D, K>)
     requires fit { IsTrue (all_fit empty_state config.now.edits) }
     requires limited { FitAfterLimits config.now.edits }
     requires workers { (0 < config.now.workers) × (config.now.workers ≤ 8) }
     requires connections { 0 < asked.now.connections }
     ensures counts { RunsCounted result.0 (C.counts crew.old) (C.counts crew.new) }
     ensures serves { Serves D.Conn.facts
-        D.facts (after (served_edits config.now.edits)) (service asked.now) config.now.workers objects result.0
-        result.1 }
+        D.facts K.last K.calls (after (served_edits config.now.edits)) (service asked.now) config.now.workers objects
+        result.0 result.1 }
+    ensures clock { LeavesClock K.last K.calls result.0 objects.clock result.1.clock }
 {
     let Ok((state, copy)) = states(alloc, config.edits.as_slice()) else {
         return (Served::OutOfMemory, objects);
@@ -262,10 +235,10 @@ fn serve_over<R: Wait + Copy + Send, D: Door + Send, C: Crew>(
 
 /// Serves the connections that come to a door: as many as are asked for, or fewer where the door ends or fails. It
 /// returns when all are closed. Where views are asked for, a viewer gives them over a second door, until as many were
-/// given as are asked for, or that door ends or fails. The doors are back at every return. A server has room for 512
+/// given as are asked for, or that door ends or fails. The doors and the clock are back at every return. A server has room for 512
 /// sessions and 2,048 channels; these limits are set before what the configuration describes. Where a journal is asked
 /// for, the roles write down what they do, and keep it in memory.
-pub fn serve<R: Wait + Copy + Send, D: Door + Send, C: Crew>(
+pub fn serve<R: Wait + Copy + Send, D: Door + Send, C: Crew, K: Clock + Send>(
     rt: &R,
     alloc: Global,
     config: &Config,
@@ -273,27 +246,36 @@ pub fn serve<R: Wait + Copy + Send, D: Door + Send, C: Crew>(
     door: &mut Option<D>,
     view: &mut Option<D>,
     crew: &mut C,
+    clock: &mut Option<K>,
 ) -> Served
     requires fit { IsTrue (all_fit empty_state config.now.edits) }
     requires limited { FitAfterLimits config.now.edits }
     requires workers { (0 < config.now.workers) × (config.now.workers ≤ 8) }
     requires door { is_some door.old ≡ true }
     requires view { is_some view.old ≡ true }
+    requires clock { is_some clock.old ≡ true }
     requires connections { 0 < asked.now.connections }
     ensures counts { RunsCounted result (C.counts crew.old) (C.counts crew.new) }
     ensures serves { ServesOver D.Conn.facts
-        D.facts (after (served_edits config.now.edits)) (service asked.now) config.now.workers
-        (record { door = door.old; view = view.old }) result (record { door = door.new; view = view.new }) }
+        D.facts K.last K.calls (after (served_edits config.now.edits)) (service asked.now) config.now.workers
+        (record { door = door.old; view = view.old; clock = clock.old }) result
+        (record { door = door.new; view = view.new; clock = clock.new }) }
 {
-    let (Some(lent_door), Some(lent_view)) = (door.take(), view.take()) else {
+    let (Some(lent_door), Some(lent_view), Some(lent_clock)) = (
+        door.take(),
+        view.take(),
+        clock.take(),
+    ) else {
         unreachable!()
     };
     let objects = Objects {
         door: lent_door,
         view: lent_view,
+        clock: lent_clock,
     };
     let (served, objects) = serve_over(rt, alloc, config, asked, objects, crew);
     *door = Some(objects.door);
     *view = Some(objects.view);
+    *clock = Some(objects.clock);
     served
 }

@@ -3,7 +3,7 @@
 use crate::totals::Totals;
 
 /// What a server came to.
-#[derive(Clone, Copy, Debug, PartialEq, Eq)]
+#[derive(Clone, Copy)]
 pub struct Summary {
     pub totals: Totals,
     /// How many views were written whole, where a door for views was asked for.

@@ -15,7 +15,7 @@ use std::sync::Wait;
 
 /// The totals of a server that has ended: what its owner counted, and sums over its workers. A sum above the last
 /// number of its type is that number.
-#[derive(Clone, Copy, Debug, PartialEq, Eq)]
+#[derive(Clone, Copy)]
 pub struct Totals {
     /// How many connections the door gave.
     pub connections: u32,
@@ -32,7 +32,7 @@ pub struct Totals {
 }
 
 /// What workers came to.
-#[derive(Clone, Copy, Debug)]
+#[derive(Clone, Copy)]
 pub(crate) struct WorkerTotals {
     pub(crate) looks: u64,
     pub(crate) copies: u64,

@@ -3,7 +3,11 @@ use Rattle.std.proofs.Common.{◌≡◌, ◌∙◌, ℕ, true, ap, refl, subst}
 use Rattle.mum_doorway.specs.Doors.{NoMoreCome, given_after_all}
 use Rattle.mum_owner.specs.Turned.{has_ended}
 use Rattle.mum_published.specs.Facts.{Opening}
+use Rattle.mum_serve.proofs.Clocking.{clock_comes_back}
 use Rattle.mum_serve.proofs.collect.collect.Goals as goal
+
+pub returns-clause-clock : goal.returns-clause-clock
+returns-clause-clock g c = clock_comes_back g.K.Clock.last g.K.Clock.calls c.finish-door.result.clock c.args.roles.owner c.finish-door.ensures.clock
 
 pub returns-clause-came : goal.returns-clause-came
 returns-clause-came g c =

@@ -1,5 +1,5 @@
 -- Where nobody was served nothing is written.
-use Rattle.std.proofs.Common.{Option, inr, subst}
+use Rattle.std.proofs.Common.{ℕ, Option, inr, subst}
 use Rattle.mum_io.specs.Door.{DoorFacts}
 use Rattle.mum_io.specs.Link.{LinkFacts}
 use Rattle.mum_opening.specs.Opening.{greatest_limits, opening, served_edits}
@@ -18,17 +18,17 @@ use Rattle.mum_serve.proofs.Refused.{keeps_same}
 use Rattle.mum_serve.proofs.program.serve_input.Goals as goal
 
 -- the server begins where the entries of its journal do
-opens_so : {D L : Type 0} (facts : L → LinkFacts) (door_facts : D → DoorFacts) (asked : Service) (input : Input) (doors left : Lent D) (served : Served) → DescribesConfig input.document input.config
-    → ServesOver facts door_facts (after (served_edits input.config.edits)) asked input.config.workers doors served left
-    → ServesOver facts door_facts (opening greatest_limits input.document) asked input.config.workers doors served left
-opens_so facts door_facts asked input doors left served describes serves =
-    subst (λ (state : StateValue). ServesOver facts door_facts state asked input.config.workers doors served left)
+opens_so : {D K L : Type 0} (facts : L → LinkFacts) (door_facts : D → DoorFacts) (last calls : K → ℕ) (asked : Service) (input : Input) (doors left : Lent D K) (served : Served) → DescribesConfig input.document input.config
+    → ServesOver facts door_facts last calls (after (served_edits input.config.edits)) asked input.config.workers doors served left
+    → ServesOver facts door_facts last calls (opening greatest_limits input.document) asked input.config.workers doors served left
+opens_so facts door_facts last calls asked input doors left served describes serves =
+    subst (λ (state : StateValue). ServesOver facts door_facts last calls state asked input.config.workers doors served left)
     (opens_alike input.document input.config describes.1) serves
 
 pub returns-in-DoorFault-clause-ends : goal.returns-in-DoorFault-clause-ends
 returns-in-DoorFault-clause-ends g c =
     inr (record {
-      serves = opens_so g.D.Conn.Link.facts g.D.Door.facts (service c.args.asked.now) c.args.said _ _ _ c.requires.described c.in-DoorFault.ensures.serves;
+      serves = opens_so g.D.Conn.Link.facts g.D.Door.facts g.K.Clock.last g.K.Clock.calls (service c.args.asked.now) c.args.said _ _ _ c.requires.described c.in-DoorFault.ensures.serves;
       counted = c.in-DoorFault.ensures.counts;
       keeps = keeps_same (g.O.Sink.written c.args.output.now);
     })
@@ -36,7 +36,7 @@ returns-in-DoorFault-clause-ends g c =
 pub returns-in-CrewFault-clause-ends : goal.returns-in-CrewFault-clause-ends
 returns-in-CrewFault-clause-ends g c =
     record {
-      serves = opens_so g.D.Conn.Link.facts g.D.Door.facts (service c.args.asked.now) c.args.said _ _ _ c.requires.described c.in-CrewFault.ensures.serves;
+      serves = opens_so g.D.Conn.Link.facts g.D.Door.facts g.K.Clock.last g.K.Clock.calls (service c.args.asked.now) c.args.said _ _ _ c.requires.described c.in-CrewFault.ensures.serves;
       counted = c.in-CrewFault.ensures.counts;
       keeps = keeps_same (g.O.Sink.written c.args.output.now);
     }
@@ -44,7 +44,7 @@ returns-in-CrewFault-clause-ends g c =
 pub returns-clause-ends : goal.returns-clause-ends
 returns-clause-ends g c =
     inr (record {
-      serves = opens_so g.D.Conn.Link.facts g.D.Door.facts (service c.args.asked.now) c.args.said _ _ _ c.requires.described c.in-OutOfMemory.ensures.serves;
+      serves = opens_so g.D.Conn.Link.facts g.D.Door.facts g.K.Clock.last g.K.Clock.calls (service c.args.asked.now) c.args.said _ _ _ c.requires.described c.in-OutOfMemory.ensures.serves;
       counted = c.in-OutOfMemory.ensures.counts;
       keeps = keeps_same (g.O.Sink.written c.args.output.now);
     })
@@ -56,11 +56,11 @@ returns-in-Whole-clause-ends g c =
     let old = g.O.Sink.written c.args.output.now in
     let new = g.O.Sink.written c.write_out.new.output in
     let whole = c.in-Whole in
-    all_served g.D.Conn.Link.facts g.D.Door.facts (service c.args.asked.now) c.args.said c.write_out.result _ _ old new (g.C.Crew.counts c.args.crew.now) (g.C.Crew.counts c.serve.new.crew)
+    all_served g.D.Conn.Link.facts g.D.Door.facts g.K.Clock.last g.K.Clock.calls (service c.args.asked.now) c.args.said c.write_out.result _ _ old new (g.C.Crew.counts c.args.crew.now) (g.C.Crew.counts c.serve.new.crew)
     (record {
       summary = whole.summary;
       entries = whole.entries;
-      serves = opens_so g.D.Conn.Link.facts g.D.Door.facts (service c.args.asked.now) c.args.said _ _ _ c.requires.described whole.ensures.serves;
+      serves = opens_so g.D.Conn.Link.facts g.D.Door.facts g.K.Clock.last g.K.Clock.calls (service c.args.asked.now) c.args.said _ _ _ c.requires.described whole.ensures.serves;
       ran = whole.ensures.counts;
       writes =
           subst (λ (asked : Option Journal). WritesAll asked whole.summary c.write_out.result old new)
@@ -71,4 +71,4 @@ returns-in-Whole-clause-ends g c =
 pub journal_asked-journal-requires-clause-lists : goal.journal_asked-journal-requires-clause-lists
 journal_asked-journal-requires-clause-lists g c =
     let run = c.in-Whole.ensures.serves.serves.run in
-    as_many_lists g.D.Conn.Link.facts g.D.Door.facts run.began _ c.args.asked.now.journal c.args.asked.now.connections c.args.said.config.workers run.owner run.crew c.in-Whole.entries.by_worker run.came.by_worker run.turned
+    as_many_lists g.D.Conn.Link.facts g.D.Door.facts run.began _ _ c.args.asked.now.journal c.args.asked.now.connections c.args.said.config.workers run.owner run.crew c.in-Whole.entries.by_worker run.came.by_worker run.turned

@@ -4,24 +4,24 @@ use Rattle.mum_outbox.specs.Facts.{QueueFacts}
 use Rattle.mum_serve.proofs.Sharing.{as_many}
 use Rattle.mum_serve.proofs.queues.share.Goals as goal
 
-pub returns-clause-voices : goal.returns-clause-voices
-returns-clause-voices g c = as_many _ _ c.in_ok-voices.ensures.owners ∙ c.requires.voices
+pub returns-in-Ok-share_boxes-clause-voices : goal.returns-in-Ok-share_boxes-clause-voices
+returns-in-Ok-share_boxes-clause-voices g c = as_many _ _ c.in-Ok-share_boxes.ensures.voices ∙ c.requires.voices
 
-pub returns-clause-posts : goal.returns-clause-posts
-returns-clause-posts g c = as_many _ _ c.in_ok-posts.ensures.owners ∙ c.requires.posts
+pub returns-in-Ok-share_boxes-clause-posts : goal.returns-in-Ok-share_boxes-clause-posts
+returns-in-Ok-share_boxes-clause-posts g c = as_many _ _ c.in-Ok-share_boxes.ensures.posts ∙ c.requires.posts
 
-pub returns-clause-boxes : goal.returns-clause-boxes
-returns-clause-boxes g c = record {
-  voice = as_many _ _ c.in_ok-voices.ensures.shares ∙ c.requires.voices;
-  posts = as_many _ _ c.in_ok-posts.ensures.shares ∙ c.requires.posts;
+pub returns-in-Ok-share_boxes-clause-boxes : goal.returns-in-Ok-share_boxes-clause-boxes
+returns-in-Ok-share_boxes-clause-boxes g c = record {
+  voice = as_many _ _ c.in-Ok-share_boxes.ensures.voice ∙ c.requires.voices;
+  posts = as_many _ _ c.in-Ok-share_boxes.ensures.post ∙ c.requires.posts;
 }
 
-pub returns-clause-same_desk : goal.returns-clause-same_desk
-returns-clause-same_desk g c = ap (λ (owner : QueueFacts). owner.queue) c.in_ok-share.ensures.0
+pub returns-in-Ok-share_boxes-clause-same_desk : goal.returns-in-Ok-share_boxes-clause-same_desk
+returns-in-Ok-share_boxes-clause-same_desk g c = ap (λ (owner : QueueFacts). owner.queue) c.in-Ok.ensures.0
 
-pub returns-clause-shared : goal.returns-clause-shared
-returns-clause-shared g c = record {
-  posts_are = c.in_ok-posts.ensures.shares;
-  voices_are = c.in_ok-voices.ensures.shares;
-  desk_is = ap (λ (owner : QueueFacts). owner.queue) c.in_ok-share.ensures.1;
+pub returns-in-Ok-share_boxes-clause-shared : goal.returns-in-Ok-share_boxes-clause-shared
+returns-in-Ok-share_boxes-clause-shared g c = record {
+  posts_are = c.in-Ok-share_boxes.ensures.post;
+  voices_are = c.in-Ok-share_boxes.ensures.voice;
+  desk_is = ap (λ (owner : QueueFacts). owner.queue) c.in-Ok.ensures.1;
 }

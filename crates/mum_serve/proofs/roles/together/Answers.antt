@@ -16,7 +16,7 @@ loop-worker-preserved g c =
     let pushed = c.push_reserved-in-loop-worker.ensures.items in
     let longer = ap length pushed in
     let same = c.push_reserved-in-loop-worker.ensures.capacity in (
-      put_one _ c.loop-worker.roles.items c.push_reserved-in-loop-worker.new.self.items _ (into_iter_items c.next.new.self) c.in-Some.worker steps.0 pushed c.loop-worker.invariant.0,
+      put_one _ c.loop-worker.list.items c.push_reserved-in-loop-worker.new.self.items _ (into_iter_items c.next.new.self) c.in-Some.worker steps.0 pushed c.loop-worker.invariant.0,
       omega (arith, was, gone, short),
       omega (arith, longer, short, room, same),
     )
@@ -25,14 +25,14 @@ pub returns-in-Some-viewer : goal.returns-in-Some-viewer
 returns-in-Some-viewer g c =
     let was = c.loop-worker.invariant.1 in
     let none = c.in-None.ensures.steps.0 in
-    let all = put_all _ c.loop-worker.roles.items (into_iter_items c.loop-worker.worker-iterator) (omega (arith, was, none)) c.loop-worker.invariant.0 in
-    put_viewer c.loop-worker.roles.items c.push_reserved-in-Some-viewer.new.self.items c.args.owner c.args.workers.items c.in-Some-viewer.viewer all c.push_reserved-in-Some-viewer.ensures.items
-    ∙ ap (λ (viewer : Option (ViewerFacts _ _)). roles_of c.args.owner c.args.workers.items viewer) (sym c.in-Some-viewer.is)
+    let all = put_all _ c.loop-worker.list.items (into_iter_items c.loop-worker.worker-iterator) (omega (arith, was, none)) c.loop-worker.invariant.0 in
+    put_viewer c.loop-worker.list.items c.push_reserved-in-Some-viewer.new.self.items c.args.roles.owner c.args.roles.workers.items c.in-Some-viewer.viewer all c.push_reserved-in-Some-viewer.ensures.items
+    ∙ ap (λ (viewer : Option (ViewerFacts _ _)). roles_of c.args.roles.owner c.args.roles.workers.items viewer) (sym c.in-Some-viewer.is)
 
 pub returns-in_default : goal.returns-in_default
 returns-in_default g c =
     let was = c.loop-worker.invariant.1 in
     let none = c.in-None.ensures.steps.0 in
-    let all = put_all _ c.loop-worker.roles.items (into_iter_items c.loop-worker.worker-iterator) (omega (arith, was, none)) c.loop-worker.invariant.0 in
-    put_none c.loop-worker.roles.items c.args.owner c.args.workers.items all
-    ∙ ap (λ (viewer : Option (ViewerFacts _ _)). roles_of c.args.owner c.args.workers.items viewer) (sym (none_of c.args.viewer c.in_default.not-Some))
+    let all = put_all _ c.loop-worker.list.items (into_iter_items c.loop-worker.worker-iterator) (omega (arith, was, none)) c.loop-worker.invariant.0 in
+    put_none c.loop-worker.list.items c.args.roles.owner c.args.roles.workers.items all
+    ∙ ap (λ (viewer : Option (ViewerFacts _ _)). roles_of c.args.roles.owner c.args.roles.workers.items viewer) (sym (none_of c.args.roles.viewer c.in_default.not-Some))

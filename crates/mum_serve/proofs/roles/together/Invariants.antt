@@ -6,6 +6,6 @@ use Rattle.mum_serve.proofs.roles.together.Given as goal
 
 abbrev pub invariant-loop-worker : goal.invariant-loop-worker
 invariant-loop-worker g l =
-    (l.roles.items ++ map kinds.Worker (into_iter_items l.worker-iterator) ≡ kinds.Owner l.fn.owner ∷ map kinds.Worker l.fn.workers.items)
+    (l.list.items ++ map kinds.Worker (into_iter_items l.worker-iterator) ≡ kinds.Owner l.fn.roles.owner ∷ map kinds.Worker l.fn.roles.workers.items)
     × (into_iter_len l.worker-iterator ≡ length (into_iter_items l.worker-iterator))
-    × (length l.roles.items + length (into_iter_items l.worker-iterator) + 1 ≤ vec_capacity l.roles)
+    × (length l.list.items + length (into_iter_items l.worker-iterator) + 1 ≤ vec_capacity l.list)

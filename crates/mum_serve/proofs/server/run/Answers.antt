@@ -1,107 +1,54 @@
 -- What the crew gives back is what it was given, and has run where the crew did.
-use Rattle.std.proofs.Common.{◌∙◌, ◌+◌, ap, refl, sym, subst, arith}
+use Rattle.std.proofs.Common.{◌≡◌, ℕ, List, Option, subst, sym}
 use Rattle.mum_doorway.specs.declared.opening.DoorOpening.{DoorOpening}
+use Rattle.mum_io.specs.Door.{DoorFacts}
+use Rattle.mum_state.specs.State.{StateValue}
 use Rattle.mum_serve.specs.Asked.{service}
-use Rattle.mum_serve.specs.Roles.{CameTo}
-use Rattle.mum_serve.proofs.Ending.{crew_done, owner_done, viewer_done}
-use Rattle.mum_serve.proofs.Turning.{as_many_workers, door_back, few_back, have_turned, none_back, roles_back, viewer_back, viewer_turned}
-use Rattle.mum_serve.proofs.Viewing.{door_kept, has_viewed, view_back, views_came}
+use Rattle.mum_serve.specs.Ready.{ComeTo}
+use Rattle.mum_serve.specs.declared.asked.Objects.{Objects}
+use Rattle.mum_serve.specs.declared.entries.Entries.{Entries}
+use Rattle.mum_serve.specs.declared.roles.Roles.{Roles}
+use Rattle.mum_serve.specs.declared.summary.Summary.{Summary}
+use Rattle.mum_serve.proofs.Readied.{are_back, counted_so, gives_back, leaves_so, runs_so}
 use Rattle.mum_serve.proofs.server.run.Goals as goal
 
-pub together-requires : goal.together-requires
-together-requires g c =
-    let many = c.in-Ok-start.ensures.begun.crew_begins.many in
-    let room = c.in-Ok-start.ensures.roles in
-    let capacity = room.1 in
-    record { room = (room.0, omega (arith, many, capacity)) }
+pub end_roles-entries-requires-after_bounds : goal.end_roles-entries-requires-after_bounds
+end_roles-entries-requires-after_bounds g c κs within =
+    let run = c.run-run.ensures in
+    let ready = c.in-Ok.ensures in (
+      c.args.beginning.workers,
+      are_back g.D.Conn.Link.facts g.D.Door.facts g.N.Naming.opening (service c.args.asked.now) c.args.beginning.workers c.args.objects.door c.args.objects.view _ _ c.run-run.result.end _ _ ready.ready run.turned run.refused run.no_memory,
+      ready.workers,
+      ready.entries,
+    )
 
-pub apart-roles-requires-clause-roles : goal.apart-roles-requires-clause-roles
-apart-roles-requires-clause-roles g c =
-    let run = c.run-run in
-    roles_back _ _ _ g.D.Conn.Link.facts g.D.Door.facts g.N.Naming.opening run.result.end _ _ _ _ run.result.roles.items c.together.ensures run.ensures.turned run.ensures.refused run.ensures.no_memory
+pub returns-clause-counts : goal.returns-clause-counts
+returns-clause-counts g c = counted_so c.run-run.result.end _ _ _ _ _ c.ending_of.ensures c.run-run.ensures.counts
 
-pub apart-roles-requires-clause-room : goal.apart-roles-requires-clause-room
-apart-roles-requires-clause-room g c =
-    let run = c.run-run in
-    let begun = c.in-Ok-start.ensures.begun in
-    let few = few_back _ _ _ g.D.Conn.Link.facts g.D.Door.facts g.N.Naming.opening run.result.end _ _ _ c.args.beginning.workers _ run.result.roles.items begun.crew_begins.many c.together.ensures run.ensures.turned
-    run.ensures.refused run.ensures.no_memory in
-    (c.args.beginning.workers + 1, omega (arith, few), c.in-Ok-start.ensures.workers)
+-- what came of the roles, by what the doors had counted
 
-pub collect-entries-requires-clause-room : goal.collect-entries-requires-clause-room
-collect-entries-requires-clause-room g c κs within =
-    let run = c.run-run in
-    let back = c.apart-roles in
-    let begun = c.in-Ok-start.ensures.begun in
-    let room = c.in-Ok-start.ensures.entries in
-    let capacity = room.1 in
-    let many = begun.crew_begins.many in
-    let same = as_many_workers _ _ _ g.D.Conn.Link.facts g.D.Door.facts g.N.Naming.opening run.result.end _ _ _ _ _ _ _ run.result.roles.items c.together.ensures back.ensures run.ensures.turned run.ensures.refused
-    run.ensures.no_memory in
-    (room.0, omega (arith, same, many, capacity))
+come : {D K G N R L : Type 0} (door_facts : D → DoorFacts) (last calls : K → ℕ) (state : StateValue) (door view at_door at_view : DoorOpening) (unused : Option D) (all : List (Roles D K G N R L)) (summary : Summary) (entries : Entries) (left : Objects D K)
+    → at_door ≡ door → at_view ≡ view → ComeTo door_facts last calls state door view unused all summary entries left → ComeTo door_facts last calls state at_door at_view unused all summary entries left
+come door_facts last calls state door view at_door at_view unused all summary entries left same_door same_view comes =
+    subst (λ (d : DoorOpening). ComeTo door_facts last calls state d at_view unused all summary entries left) (sym same_door)
+    (subst (λ (v : DoorOpening). ComeTo door_facts last calls state door v unused all summary entries left) (sym same_view) comes)
 
-pub collect-entries-requires-clause-unused : goal.collect-entries-requires-clause-unused
-collect-entries-requires-clause-unused g c κs within =
-    let run = c.run-run in
-    door_kept g.N.Naming.opening (service c.args.asked.now).view c.args.objects.view _ _ _ c.in-Ok.ensures.opened
-    (none_back _ _ _ g.D.Conn.Link.facts g.D.Door.facts g.N.Naming.opening run.result.end _ _ _ _ _ _ _ run.result.roles.items c.together.ensures c.apart-roles.ensures run.ensures.turned run.ensures.refused
-    run.ensures.no_memory)
+pub returns-clause-runs : goal.returns-clause-runs
+returns-clause-runs g c =
+    let run = c.run-run.ensures in
+    let ready = c.in-Ok.ensures.ready in
+    let opening = g.N.Naming.opening in
+    let back = c.run-run.result in
+    runs_so g.D.Conn.Link.facts g.D.Door.facts opening g.K.Clock.last g.K.Clock.calls (service c.args.asked.now) c.args.beginning.workers c.args.objects c.end_roles-entries.result.objects _ _ _ back.end c.ending_of.result _ back.roles.items
+    c.ending_of.ensures ready (gives_back g.D.Conn.Link.facts g.D.Door.facts opening back.end _ back.roles.items run.turned run.ended run.refused run.no_memory)
+    (come g.D.Door.facts g.K.Clock.last g.K.Clock.calls opening.state _ _ _ _ _ back.roles.items _ _ _ c.requires.door c.requires.view c.end_roles-entries.ensures)
 
-pub returns-in-Ran-clause-runs : goal.returns-in-Ran-clause-runs
-returns-in-Ran-clause-runs g c =
-    let run = c.run-run in
-    let started = c.in-Ok-start in
-    let back = c.apart-roles in
-    let all = c.collect-entries in
-    let turned = run.ensures.turned c.in-Ran.is in
-    let ended = run.ensures.ended c.in-Ran.is in
-    let view = viewer_turned _ _ _ g.D.Conn.Link.facts g.D.Door.facts g.N.Naming.opening _ _ _ _ _ _ _ run.result.roles.items c.together.ensures back.ensures turned in
-    record {
-      owner = back.result.owner;
-      crew = back.result.workers.items;
-      viewer = back.result.viewer;
-      began = g.N.Naming.opening;
-      began_at = refl;
-      turned =
-          have_turned _ _ _ g.D.Conn.Link.facts g.D.Door.facts g.N.Naming.opening c.args.objects.door c.args.asked.now.journal c.args.asked.now.connections c.args.beginning.workers _ _ _ _ _ _ _ run.result.roles.items
-          c.together.ensures back.ensures started.ensures.begun turned;
-      viewed =
-          has_viewed g.D.Conn.Link.facts g.D.Door.facts g.N.Naming.opening (service c.args.asked.now).view c.args.objects.view _ _ _ c.in-Ok.ensures.opened view
-          (viewer_done _ _ _ run.result.roles.items back.ensures ended);
-      owner_ended = owner_done _ _ _ run.result.roles.items back.ensures ended;
-      crew_ended = crew_done _ _ _ run.result.roles.items back.ensures ended;
-      came =
-          subst (λ (o : DoorOpening). CameTo g.D.Door.facts g.N.Naming.opening.state o back.result.owner back.result.workers.items all.result.summary.totals all.result.entries all.result.objects.door) (sym c.requires.door) all.ensures.came;
-      views_came =
-          views_came g.D.Conn.Link.facts g.D.Door.facts _ _ g.N.Naming.opening (service c.args.asked.now).view c.args.objects.view _ _ _ _ _ c.requires.view c.in-Ok.ensures.opened view all.ensures.views_came;
-      memory = all.ensures.memory;
-      failed = all.ensures.failed;
-      one_list = all.ensures.one_list;
-      views_of_it = all.ensures.views_of_it;
-    }
-
--- the doors come back as they were
-
-pub returns-in-Refused-clause-runs : goal.returns-in-Refused-clause-runs
-returns-in-Refused-clause-runs g c =
-    let run = c.run-run in
-    let same = run.ensures.refused c.in-Refused.is in
-    let back = c.apart-roles in
-    let all = c.collect-entries in
-    let door = door_back _ _ _ g.D.Conn.Link.facts g.D.Door.facts g.N.Naming.opening c.args.objects.door c.args.asked.now.journal c.args.asked.now.connections c.args.beginning.workers _ _ _ _ _ _ _ run.result.roles.items
-    all.result.objects.door c.together.ensures back.ensures c.in-Ok-start.ensures.begun same all.ensures.came.door_is in
-    let viewer = viewer_back _ _ _ g.D.Conn.Link.facts g.D.Door.facts g.N.Naming.opening _ _ _ _ _ _ _ run.result.roles.items c.together.ensures back.ensures same in
-    let view = view_back g.D.Door.facts g.N.Viewing.view g.N.Naming.opening (service c.args.asked.now).view c.args.objects.view _ _ _ _ _ c.in-Ok.ensures.opened viewer all.ensures.views_came in
-    ap (λ (d : _). record { door = d; view = all.result.objects.view }) door ∙ ap (λ (v : _). record { door = c.args.objects.door; view = v }) view
-
-pub returns-in-NoMemory-clause-runs : goal.returns-in-NoMemory-clause-runs
-returns-in-NoMemory-clause-runs g c =
-    let run = c.run-run in
-    let same = run.ensures.no_memory c.in-NoMemory.is in
-    let back = c.apart-roles in
-    let all = c.collect-entries in
-    let door = door_back _ _ _ g.D.Conn.Link.facts g.D.Door.facts g.N.Naming.opening c.args.objects.door c.args.asked.now.journal c.args.asked.now.connections c.args.beginning.workers _ _ _ _ _ _ _ run.result.roles.items
-    all.result.objects.door c.together.ensures back.ensures c.in-Ok-start.ensures.begun same all.ensures.came.door_is in
-    let viewer = viewer_back _ _ _ g.D.Conn.Link.facts g.D.Door.facts g.N.Naming.opening _ _ _ _ _ _ _ run.result.roles.items c.together.ensures back.ensures same in
-    let view = view_back g.D.Door.facts g.N.Viewing.view g.N.Naming.opening (service c.args.asked.now).view c.args.objects.view _ _ _ _ _ c.in-Ok.ensures.opened viewer all.ensures.views_came in
-    ap (λ (d : _). record { door = d; view = all.result.objects.view }) door ∙ ap (λ (v : _). record { door = c.args.objects.door; view = v }) view
+pub returns-clause-clock : goal.returns-clause-clock
+returns-clause-clock g c =
+    let run = c.run-run.ensures in
+    let ready = c.in-Ok.ensures.ready in
+    let opening = g.N.Naming.opening in
+    let back = c.run-run.result in
+    leaves_so g.D.Conn.Link.facts g.D.Door.facts opening g.K.Clock.last g.K.Clock.calls (service c.args.asked.now) c.args.beginning.workers c.args.objects c.end_roles-entries.result.objects _ _ _ back.end c.ending_of.result _ back.roles.items
+    c.ending_of.ensures ready (gives_back g.D.Conn.Link.facts g.D.Door.facts opening back.end _ back.roles.items run.turned run.ended run.refused run.no_memory)
+    (come g.D.Door.facts g.K.Clock.last g.K.Clock.calls opening.state _ _ _ _ _ back.roles.items _ _ _ c.requires.door c.requires.view c.end_roles-entries.ensures)

@@ -4,13 +4,18 @@ use Rattle.mum_serve.proofs.server.serve.Goals as goal
 
 pub returns-clause-serves : goal.returns-clause-serves
 returns-clause-serves g c =
-    let both = c.in-Some-Some in
-    let door = sym (c.take.ensures.value) ∙ both.is-0 in
-    let view = sym (c.take-2.ensures.value) ∙ both.is-1 in
+    let all = c.in-Some-Some-Some in
+    let door = sym (c.take.ensures.value) ∙ all.is-0 in
+    let view = sym (c.take-2.ensures.value) ∙ all.is-1 in
+    let clock = sym (c.take-3.ensures.value) ∙ all.is-2 in
     record {
-      doors = record { door = both.lent_door; view = both.lent_view };
+      doors = record { door = all.lent_door; view = all.lent_view; clock = all.lent_clock };
       left = c.serve_over-served.result.1;
-      was = ap (λ (d : Option _). record { door = d; view = c.args.view.now }) door ∙ ap (λ (v : Option _). record { door = Some both.lent_door; view = v }) view;
+      was =
+          ap (λ (d : Option _). record { door = d; view = c.args.view.now; clock = c.args.clock.now }) door
+          ∙ ap (λ (v : Option _). record { door = Some all.lent_door; view = v; clock = c.args.clock.now }) view
+          ∙ ap (λ (k : Option _). record { door = Some all.lent_door; view = Some all.lent_view; clock = k }) clock;
       is = refl;
       serves = c.serve_over-served.ensures.serves;
+      clock = c.serve_over-served.ensures.clock;
     }

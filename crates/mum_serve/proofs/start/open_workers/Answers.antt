@@ -9,14 +9,14 @@ use Rattle.mum_serve.specs.Opened.{AreOpenedFrom}
 use Rattle.mum_serve.specs.Queues.{HasBoxes}
 use Rattle.mum_worker.specs.Facts.{WorkerFacts}
 use Rattle.mum_serve.proofs.Opening.{many_more, opened_more, over_more, over_nobody, worker_begins}
-use Rattle.mum_serve.proofs.start.open_workers.Goals.{in_default-via-in-Some+in_default, in_default-via-in_default}
+use Rattle.mum_serve.proofs.start.open_workers.Goals.{in_default-2-via-in-Some+in_default, in_default-2-via-in_default}
 use Rattle.mum_serve.proofs.start.open_workers.Goals as goal
 
 pub workers-init : goal.workers-init
 workers-init g c =
     let passes = c.into_iter-passes.ensures in
     let shared = c.into_iter-shared.ensures in
-    let room = c.in_ok-workers.ensures in
+    let room = c.in-Ok.ensures in
     let many_passes = ap (λ (xs : List _). length xs) passes.rest in
     let many_shared = ap (λ (xs : List _). length xs) shared.rest in
     let pass_len = passes.len in
@@ -34,7 +34,7 @@ workers-init g c =
       omega (arith, many_shared, shared_len, shared_ok),
       subst (All (IsFresh g.N.Naming.opening)) (sym passes.rest) c.requires.passes,
       subst (All HasBoxes) (sym shared.rest) c.requires.boxes,
-      over_nobody c.args.shared.items (into_iter_items c.into_iter-shared.result) c.in_ok-workers.workers.items room.items (sym shared.rest),
+      over_nobody c.args.shared.items (into_iter_items c.into_iter-shared.result) c.in-Ok.workers.items room.items (sym shared.rest),
       subst (λ (workers : List (WorkerFacts _)). AreOpenedFrom g.N.Naming.opening c.args.closings 0 workers) (sym room.items) tt,
       nobody,
       omega (arith, capacity, asked),
@@ -50,9 +50,9 @@ unreachable-requires g c =
     let more = c.workers-test.true in
     let pass = c.next.ensures.variant.1 (omega (arith, pass_count, pass_len, more)) in
     let ends = c.next-in-workers.ensures.variant.1 (omega (arith, end_count, end_len, more)) in
-    elim c.in_default.branch [
-      | in_default-via-in-Some+in_default w ↦ let no = sym (ap (λ (one : Option _). is_some one) w.in_default.is-1) ∙ ends in absurd (cc no)
-      | in_default-via-in_default w ↦ let no = sym (ap (λ (one : Option _). is_some one) w.in_default.is-0) ∙ pass in absurd (cc no)
+    elim c.in_default-2.branch [
+      | in_default-2-via-in-Some+in_default w ↦ let no = sym (ap (λ (one : Option _). is_some one) w.in_default-2.is-1) ∙ ends in absurd (cc no)
+      | in_default-2-via-in_default w ↦ let no = sym (ap (λ (one : Option _). is_some one) w.in_default-2.is-0) ∙ pass in absurd (cc no)
     ]
 
 pub open-requires-clause-opening : goal.open-requires-clause-opening
@@ -87,7 +87,7 @@ workers-preserved g c =
     let room = was.9 in
     let same = c.push_reserved.ensures.capacity in
     let pushed = c.push_reserved.ensures.items in
-    let worker = c.in_ok-worker in
+    let worker = c.in-Ok-open in
     let fresh = All-head (IsFresh g.N.Naming.opening) c.in-Some-Some.pass (into_iter_items c.next.new.self) (subst (All (IsFresh g.N.Naming.opening)) passes.0 was.4) in (
       omega (arith, fewer_passes, pass_count),
       omega (arith, fewer_ends, end_count),

@@ -1,5 +1,5 @@
 use Rattle.std.proofs.Common.{◌≡◌, length}
-use Rattle.mum_serve.proofs.queues.boxes.Given as goal
+use Rattle.mum_serve.proofs.queues.add_boxes.Given as goal
 
 abbrev pub invariant-boxes : goal.invariant-boxes
 invariant-boxes g l = length l.boxes.items ≡ l._slot

@@ -1,11 +1,11 @@
-use Rattle.std.proofs.Common.{◌≡◌, ◌≤◌, ◌+◌, drop, length}
+use Rattle.std.proofs.Common.{◌≡◌, ◌≤◌, ◌+◌, length}
 use Rattle.std.specs.Vec.{vec_capacity}
 use Rattle.std.specs.Vec.Iter.{into_iter_items, into_iter_len}
 use Rattle.mum_serve.proofs.Together.{Taken}
-use Rattle.mum_serve.proofs.roles.apart.Given as goal
+use Rattle.mum_serve.proofs.roles.take_apart.Given as goal
 
 abbrev pub invariant-loop-role : goal.invariant-loop-role
 invariant-loop-role g l =
-    Taken l.workers.items l.viewer (into_iter_items l.role-iterator) (drop 1 l.fn.roles.items)
+    Taken l.workers.items l.viewer (into_iter_items l.role-iterator) l.fn.roles.items
     × (into_iter_len l.role-iterator ≡ length (into_iter_items l.role-iterator))
     × (length l.workers.items + length (into_iter_items l.role-iterator) ≤ vec_capacity l.workers)

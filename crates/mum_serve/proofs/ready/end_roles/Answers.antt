@@ -1,0 +1,31 @@
+-- They are those that came back.
+use Rattle.std.proofs.Common.{◌∙◌, ap, sym, arith, length}
+use Rattle.mum_serve.proofs.Readied.{back_roles, back_room, back_unused, has_room}
+use Rattle.mum_serve.proofs.ready.end_roles.Goals as goal
+
+pub apart-requires-clause-roles : goal.apart-requires-clause-roles
+apart-requires-clause-roles g c = back_roles c.requires.1
+
+pub apart-requires-clause-room : goal.apart-requires-clause-room
+apart-requires-clause-room g c = back_room c.requires.0 _ _ c.args.reserved.workers c.requires.1 c.requires.2
+
+pub collect-requires-clause-room : goal.collect-requires-clause-room
+collect-requires-clause-room g c κs within = has_room c.requires.0 _ _ _ _ _ c.args.reserved.entries c.requires.1 c.apart.ensures c.requires.3
+
+pub collect-requires-clause-unused : goal.collect-requires-clause-unused
+collect-requires-clause-unused g c κs within = back_unused c.requires.0 _ _ _ _ _ c.requires.1 c.apart.ensures
+
+pub returns : goal.returns
+returns g c = record {
+  owner = c.apart.result.owner;
+  crew = c.apart.result.workers.items;
+  viewer = c.apart.result.viewer;
+  are = c.apart.ensures;
+  came = c.collect.ensures.came;
+  views_came = c.collect.ensures.views_came;
+  memory = c.collect.ensures.memory;
+  failed = c.collect.ensures.failed;
+  one_list = c.collect.ensures.one_list;
+  views_of_it = c.collect.ensures.views_of_it;
+  clock_back = c.collect.ensures.clock;
+}

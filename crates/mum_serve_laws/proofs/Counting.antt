@@ -17,6 +17,7 @@ use Rattle.mum_outbox.specs.declared.parcel.VoiceParcel.{VoiceParcel}
 use Rattle.mum_outbox.specs.declared.queue.Offered.TheVariants.{Sent, Full}
 use Rattle.mum_outbox.specs.declared.queue.Offered.{Offered}
 use Rattle.mum_outbox.specs.declared.rule.TheConstants.{LAST}
+use Rattle.mum_port.specs.Did.{action_of}
 use Rattle.mum_port.specs.Facts.{PortFacts}
 use Rattle.mum_published.specs.Bell.{Rung, Answer, Comes, Lagging, NoMore}
 use Rattle.mum_published.specs.Calls.{ask_at}
@@ -29,6 +30,7 @@ use Rattle.mum_router.specs.Routing.{RoutesAt}
 use Rattle.mum_router.specs.declared.offering.Routed.{Routed}
 use Rattle.mum_state.specs.declared.edit.Edit.{Edit}
 use Rattle.mum_voice.specs.Packet.{Parts}
+use Rattle.mum_session.specs.Machine.{session_of}
 use Rattle.mum_worker.specs.Boxes.{BoxesFacts}
 use Rattle.mum_worker.specs.Facts.{WorkerFacts}
 use Rattle.mum_worker.specs.Hearing.{Hears, LearnsGiven}
@@ -276,7 +278,7 @@ module _ (opening : Opening) where
     stepped boxes old before new after steps =
         subst (λ (r : RouterFacts). Counts opening before.common.router r (look_stepped opening facts boxes old before new after steps))
         (sym (ap (λ (c : CommonFacts). c.router) steps.noted))
-        (handled opening CountsBoth both_same made steps.chain.after_read before.common steps.chain.handled steps.chain.after_handle steps.routed steps.chain.handles)
+        (handled opening CountsBoth both_same made old.machine.connection (session_of old.machine.stage) (action_of old.machine steps.turned.0.handled) before.common steps.routed steps.turned.1.routes)
 
     along : (boxes : BoxesFacts) (olds : List (PortFacts L)) (before : Shares) (news : List (PortFacts L)) (after : Shares) (all : Along (PortSteps facts opening boxes) olds before news after)
         → CountsBoth before.common after.common (looks_along opening facts boxes olds before news after all)

@@ -1,10 +1,9 @@
 -- What turns of an owner append and write down, beside the commands that they decide.
 use Rattle.std.proofs.Common.{◌≡◌, ◌∙◌, ℕ, ◌+◌, Bool, true, false, cond, List, [], ◌∷◌, ◌++◌, append_assoc, append-nil, length, Option, Some, None, refl, ap, sym, subst, inl, inr, arith, length-append}
-use Rattle.std.specs.Prelude.{◌&&◌, ◌||◌, ◌==◌, is_none, is_some, nat_lt}
+use Rattle.std.specs.Prelude.{◌&&◌, is_none, is_some, MatchBool, MatchOption}
 use Rattle.atomic_table.specs.Seated.{TableId}
 use Rattle.mum_base.specs.declared.number.SessionId.{SessionId}
 use Rattle.mum_base.specs.declared.number.Slot.{Slot}
-use Rattle.mum_base.specs.declared.number.TheConstants.{CONNECTION_LIMIT}
 use Rattle.mum_base.specs.declared.reply.Mark.{Mark}
 use Rattle.mum_base.specs.declared.reply.ReplyEnd.{ReplyEnd}
 use Rattle.mum_base.specs.declared.reply.ReplyEnd.TheVariants as ends
@@ -13,37 +12,41 @@ use Rattle.mum_control.specs.Facts.{ControlFacts}
 use Rattle.mum_control.specs.Kept.{slot_of}
 use Rattle.mum_control.specs.Posting.{EmptiesPost, PostsNext}
 use Rattle.mum_control.specs.declared.posted.Posted.{Posted}
-use Rattle.mum_control.specs.declared.posted.Posted.TheVariants as posted
 use Rattle.mum_crew.specs.Turns.{TurnsTo}
 use Rattle.mum_crew.specs.declared.role.Turn.{Turn}
 use Rattle.mum_io.specs.Door.{DoorFacts}
+use Rattle.mum_io.specs.Link.{LinkFacts}
 use Rattle.mum_io.specs.declared.door.Accept.{Accept}
 use Rattle.mum_io.specs.declared.door.Accept.TheVariants as accepted
 use Rattle.mum_notify.specs.declared.notice.Notice.{Notice}
+use Rattle.mum_owner.specs.Banning.{Answers, IsGivenOrRefused, ListComesTo, SettledBy, SettlesList, TestedBy, ban_reply, banned_in, book_after, is_banned, list_reply, with_warden}
 use Rattle.mum_owner.specs.Decided.{with_command}
 use Rattle.mum_owner.specs.Facts.{GuestsFacts, OwnerFacts, ScribeFacts}
-use Rattle.mum_owner.specs.Guests.{joined_by, lagging, left, owned, session_of}
-use Rattle.mum_owner.specs.Laws.{came_by, came_where, connections_given, settled}
+use Rattle.mum_owner.specs.Given.{IsGiven, replied, starved}
+use Rattle.mum_owner.specs.Guests.{joined_by, left, owned, session_of}
+use Rattle.mum_owner.specs.Laws.{came_by, came_where, connections_given}
 use Rattle.mum_owner.specs.Opened.{IsOpened}
-use Rattle.mum_owner.specs.Serving.{EmptiesFor, GivesOwned, GoesWhere, IsGiven, LeaveIsGiven, LeavesWhere, PendsWhere, ReceivesBy, ReceivesItem, ReceivesOwned, ServesDesk, ServesWhere, TakesWhere, blocker, leave_of, may_go, must_wait, with_pass}
-use Rattle.mum_owner.specs.Turned.{AsksWhere, LagsFor, LagsOnce, OwnerTurned, PostsWhere, PressesWhere, PublishesWhere, guests_by, is_not_to_ask, is_over, lagged_by, lagged_for}
-use Rattle.mum_owner.specs.Waiting.{are_none}
+use Rattle.mum_owner.specs.Serving.{EmptiesFor, LeaveIsGiven, Next, Receives, ReceivesBy, ReceivesItem, Rests, Serves, ServesDesk, leave_of, must_wait, next, with_pass}
+use Rattle.mum_owner.specs.Serving.Next.{Again, Goes, Rest, Take}
+use Rattle.mum_owner.specs.Turned.{Asks, OwnerTurned, PostsOne, Presses, Publishes as PublishesLeft, guests_by, is_not_to_ask, is_over, lag_at, pressing, with_lag}
 use Rattle.mum_owner.specs.Written.{entries_by, is_leave, is_login, prepared, recorded}
-use Rattle.mum_owner.specs.declared.desk.TheConstants.{PENDING_LIMIT}
-use Rattle.mum_owner.specs.declared.guests.Guest.{Guest}
 use Rattle.mum_owner.specs.declared.kept.Coming.{Coming}
+use Rattle.mum_owner.specs.declared.kept.Lag.{Lag}
 use Rattle.mum_port.specs.declared.item.DeskItem.{DeskItem}
 use Rattle.mum_port.specs.declared.item.DeskItem.TheVariants as items
 use Rattle.mum_published.specs.Calls.{all_published, appended}
 use Rattle.mum_published.specs.Facts.{NoteFacts, Opening, PublisherFacts, ReplyFacts}
 use Rattle.mum_record.specs.declared.journal.ControlEntry.{ControlEntry}
+use Rattle.mum_bans.specs.Book.{Book}
+use Rattle.mum_warden.specs.Answer.{sent}
+use Rattle.mum_warden.specs.Warden.{WardenFacts, verdict_in}
 use Rattle.mum_session.specs.Reply.{mark}
 use Rattle.mum_session.specs.Verdict.{edits_of, verdict}
 use Rattle.mum_session.specs.declared.command.Command.{Command}
 use Rattle.mum_state.specs.declared.edit.Edit.{Edit}
 use Rattle.mum_state.specs.declared.verdict.Verdict.{Verdict}
 use Rattle.mum_state.specs.declared.verdict.Verdict.TheVariants.{Accepted, Lacks, Refused, Rejected, Answer, Ignored}
-use Rattle.mum_step_laws.specs.OwnerTurns.{Decision, decided_by, decided_given, decided_going, decided_in, decided_item, decided_leave, decided_leaving, decided_owned, decided_pending, decided_receiving, decided_taking, decided_waiting, decided_where, decisions_of}
+use Rattle.mum_step_laws.specs.OwnerTurns.{Decision, decided_as, decided_by, decided_command, decided_given, decided_in, decided_item, decided_leave, decided_owned, decided_receiving, decided_settling, decided_tested, decided_waiting, decisions_of}
 use Rattle.mum_serve_laws.specs.Decisions.{decisions, edits_after, entries_after, entry_of}
 
 -- ---- lists of decisions
@@ -270,98 +273,118 @@ module _ {D L : Type 0} where
       still old new (same_list old.control new.control (ap (λ (o : OwnerFacts D L). o.control) is ∙ control)) (ap (λ (o : OwnerFacts D L). o.scribe) is ∙ scribe)
       (ap (λ (o : OwnerFacts D L). o.guests.given) is ∙ given)
 
-  receiving_moves : (leave waits : Bool) (old : OwnerFacts D L) (command : Command) (new : OwnerFacts D L) (received : ReceivesBy leave waits old command new)
-      → Moves old new (decided_receiving leave waits old command new received)
-  receiving_moves true waits old command new received = leave_moves old command.connection received.0 new received.1
-  receiving_moves false true old command new received = unseen old (record old { logins = old.logins ++ command ∷ [] }) new refl refl refl received
-  receiving_moves false false old command new received = given_moves old command new received
-
-  owned_moves : (own : Option Command) (old new : OwnerFacts D L) (received : ReceivesOwned old own new) → Moves old new (decided_owned own old new received)
-  owned_moves None old new received = rests old new received
-  owned_moves (Some command) old new received = receiving_moves (is_leave command.what) (is_login command && must_wait old) old command new received
-
   -- the same behind another owner of the same control owner, scribe and number
   from_seen : (old seen new : OwnerFacts D L) (made : List Decision) → seen.control ≡ old.control → seen.scribe ≡ old.scribe → seen.guests.given ≡ old.guests.given → Moves seen new made → Moves old new made
   from_seen old seen new made control scribe given moves = then_moves old seen new [] made (unseen old seen seen control scribe given refl) moves
 
-  item_moves : (old : OwnerFacts D L) (item : Option DeskItem) (worked : Bool) (new : OwnerFacts D L) (received : ReceivesItem old item worked new) → Moves old new (decided_item old item worked new received)
-  item_moves old None worked new received = rests old new received.1
-  item_moves old (Some (items.Closed connection)) worked new received =
-      unseen old (record old { guests = left connection old.guests }) new refl refl (left_given _ old.guests _ refl) received.1
-  item_moves old (Some (items.Command command)) worked new received = owned_moves (owned old.guests.rows command) old new received.1
+  -- memory ran out: nothing was written down
+  starved_moves : (old : OwnerFacts D L) (connection : ℕ) (new : OwnerFacts D L) → new ≡ starved connection old → Moves old new []
+  starved_moves old connection new is = record {
+    leads = silent old.control new.control old.scribe new.scribe
+        (ap (λ (o : OwnerFacts D L). o.control.publisher.opening) is) (ap (λ (o : OwnerFacts D L). appended o.control.publisher) is)
+        (ap (λ (o : OwnerFacts D L). o.scribe.is_asked) is) (ap (λ (o : OwnerFacts D L). o.scribe.entries) is);
+    given = ap (λ (o : OwnerFacts D L). o.guests.given) is;
+  }
 
-  taking_moves : (b : Bool) (old : OwnerFacts D L) (worked : Bool) (new : OwnerFacts D L) (takes : TakesWhere b old worked new) → Moves old new (decided_taking b old worked new takes)
-  taking_moves true old worked new takes =
-      from_seen old (with_pass takes.pass old) new (decided_item (with_pass takes.pass old) takes.item worked new takes.received) refl refl refl
-      (item_moves (with_pass takes.pass old) takes.item worked new takes.received)
-  taking_moves false old worked new (so, same) = rests old new same
+  -- a reply that the owner makes itself
+  answered_moves : (old : OwnerFacts D L) (reply : ReplyFacts) (new : OwnerFacts D L) → Answers old reply new → Moves old new []
+  answered_moves old reply new (inl is) = unseen old (replied reply old) new refl refl refl is
+  answered_moves old reply new (inr is) = starved_moves old reply.connection new is
 
-  waiting_moves : (own : Option Command) (old new : OwnerFacts D L) (given : GivesOwned old own new) → Moves old new (decided_waiting own old new given)
+  tested_moves : (banned : Bool) (old : OwnerFacts D L) (login : Command) (new : OwnerFacts D L) (tested : TestedBy banned old login new) → Moves old new (decided_tested banned old login new tested)
+  tested_moves true old login new answers = answered_moves old (ban_reply login.connection) new answers
+  tested_moves false old login new given = given_moves old login new given
+
+  -- whatever the warden is before
+  warden_moves : (old new : OwnerFacts D L) (warden : WardenFacts) (made : List Decision) → Moves (with_warden warden old) new made → Moves old new made
+  warden_moves old new warden made moves = from_seen old (with_warden warden old) new made refl refl refl moves
+
+  settling_moves : (login : Bool) (banned : Option SessionId) (old : OwnerFacts D L) (command : Command) (new : OwnerFacts D L) (given : SettledBy login banned old command new)
+      → Moves old new (decided_settling login banned old command new given)
+  settling_moves true banned old command new tests =
+      warden_moves old new tests.warden _ (tested_moves (is_banned old command tests.warden.last) (with_warden tests.warden old) command new tests.tested)
+  settling_moves false (Some banned) old command new (inl lacks) =
+      warden_moves old new lacks.warden [] (starved_moves (with_warden lacks.warden old) command.connection new lacks.others)
+  settling_moves false (Some banned) old command new (inr removes) =
+      let made : List Decision = decided_given (with_warden removes.warden old) command removes.after removes.given in
+      let given : Moves old removes.after made =
+      warden_moves old removes.after removes.warden made (given_moves (with_warden removes.warden old) command removes.after removes.given) in
+      subst (λ (all : List Decision). Moves old new all) (append-nil made)
+      (then_moves old removes.after new made [] given (unseen removes.after _ new refl refl refl removes.others))
+  settling_moves false None old command new given = given_moves old command new given
+
+  command_moves : (old : OwnerFacts D L) (command : Command) (new : OwnerFacts D L) (given : IsGivenOrRefused old command new) → Moves old new (decided_command old command new given)
+  command_moves old command new given = settling_moves (is_login command) (banned_in command) old command new given
+
+  list_comes_moves : (warden : WardenFacts) (old : OwnerFacts D L) (reply : ReplyFacts) (book : Book) (new : OwnerFacts D L) → ListComesTo warden old reply book new → Moves old new []
+  list_comes_moves warden old reply book new (inl both) = warden_moves old new warden [] (answered_moves (with_warden warden old) reply new (inl both.1))
+  list_comes_moves warden old reply book new (inr both) = warden_moves old new warden [] (answered_moves (with_warden warden old) reply new (inr both.1))
+
+  list_moves : (old : OwnerFacts D L) (connection : ℕ) (session : SessionId) (payload : List ℕ) (new : OwnerFacts D L) → SettlesList old connection session payload new → Moves old new []
+  list_moves old connection session payload new settles =
+      list_comes_moves settles.warden old (list_reply connection (sent session (verdict_in old.warden.book settles.allowed payload)))
+      (book_after old.warden.book settles.allowed payload settles.warden.last) new settles.comes_to
+
+  receiving_moves : (leave waits : Bool) (old : OwnerFacts D L) (command : Command) (new : OwnerFacts D L) (received : ReceivesBy leave waits old command new)
+      → Moves old new (decided_receiving leave waits old command new received)
+  receiving_moves true waits old command new received = leave_moves old command.connection received.0 new received.1
+  receiving_moves false true old command new received = unseen old (record old { logins = old.logins ++ command ∷ [] }) new refl refl refl received
+  receiving_moves false false old command new received = command_moves old command new received
+
+  owned_moves : (own : Option Command) (old new : OwnerFacts D L) (received : Receives old own new) → Moves old new (decided_owned own old new received)
+  owned_moves None old new received = rests old new received
+  owned_moves (Some command) old new received = receiving_moves (is_leave command.what) (is_login command && must_wait old) old command new received
+
+  item_moves : (old : OwnerFacts D L) (item : Option DeskItem) (new : OwnerFacts D L) (received : ReceivesItem old item new) → Moves old new (decided_item old item new received)
+  item_moves old None new received = rests old new received
+  item_moves old (Some (items.Closed connection)) new received =
+      unseen old (record old { guests = left connection old.guests }) new refl refl (left_given _ old.guests _ refl) received
+  item_moves old (Some (items.Command command)) new received = owned_moves (owned old.guests.rows command) old new received
+  item_moves old (Some (items.Bans connection session payload)) new received = list_moves old connection session payload new received
+
+  waiting_moves : (own : Option Command) (old new : OwnerFacts D L) (given : MatchOption own (new ≡ old) (λ command. IsGivenOrRefused old command new)) → Moves old new (decided_waiting own old new given)
   waiting_moves None old new given = rests old new given
-  waiting_moves (Some command) old new given = given_moves old command new given
+  waiting_moves (Some command) old new given = command_moves old command new given
 
-  going_moves : (b : Bool) (old : OwnerFacts D L) (worked : Bool) (new : OwnerFacts D L) (goes : GoesWhere b old worked new) → Moves old new (decided_going b old worked new goes)
-  going_moves true old worked new gives =
+  moves_as : (next : Next) (old : OwnerFacts D L) (worked : Bool) (new : OwnerFacts D L) (serves : Serves next old worked new) → Moves old new (decided_as next old worked new serves)
+  moves_as Rest old worked new (so, same) = rests old new same
+  moves_as (Again connection) old worked new given = leave_moves old connection worked new given
+  moves_as Goes old worked new gives =
       from_seen old (record old { logins = gives.rest }) new (decided_waiting (owned old.guests.rows gives.login) (record old { logins = gives.rest }) new gives.given) refl refl refl
       (waiting_moves (owned old.guests.rows gives.login) (record old { logins = gives.rest }) new gives.given)
-  going_moves false old worked new takes = taking_moves (nat_lt (length old.logins) CONNECTION_LIMIT) old worked new takes
-
-  pending_moves : (b : Bool) (old : OwnerFacts D L) (worked : Bool) (new : OwnerFacts D L) (pends : PendsWhere b old worked new) → Moves old new (decided_pending b old worked new pends)
-  pending_moves true old worked new (so, same) = rests old new same
-  pending_moves false old worked new goes = going_moves (may_go old) old worked new goes
-
-  leaving_moves : (leave : Option ℕ) (old : OwnerFacts D L) (worked : Bool) (new : OwnerFacts D L) (leaves : LeavesWhere leave old worked new) → Moves old new (decided_leaving leave old worked new leaves)
-  leaving_moves (Some connection) old worked new given = leave_moves old connection worked new given
-  leaving_moves None old worked new pends = pending_moves (nat_lt PENDING_LIMIT (length old.control.pending)) old worked new pends
-
-  where_moves : (b : Bool) (old : OwnerFacts D L) (worked : Bool) (new : OwnerFacts D L) (serves : ServesWhere b old worked new) → Moves old new (decided_where b old worked new serves)
-  where_moves true old worked new (so, same) = rests old new same
-  where_moves false old worked new leaves = leaving_moves old.desk.leave old worked new leaves
+  moves_as Take old worked new takes =
+      from_seen old (with_pass takes.pass old) new (decided_item (with_pass takes.pass old) takes.item new takes.received) refl refl refl
+      (item_moves (with_pass takes.pass old) takes.item new takes.received)
 
   desk_moves : (old : OwnerFacts D L) (worked : Bool) (new : OwnerFacts D L) (serves : ServesDesk old worked new) → Moves old new (decided_in old worked new serves)
-  desk_moves old worked new serves = where_moves (is_some old.kept.reply) old worked new serves
+  desk_moves old worked new serves = moves_as (next old) old worked new serves
 
   -- ---- lag items
 
-  lags_once : (old : OwnerFacts D L) (connection : ℕ) (session : Option SessionId) (lagged worked : Bool) (new : OwnerFacts D L) → LagsOnce old connection session lagged worked new → Moves old new []
-  lags_once old connection None lagged worked new lags = rests old new lags.1
-  lags_once old connection (Some session) true worked new lags = rests old new lags.1
-  lags_once old connection (Some session) false worked new lags = unseen old _ new refl refl refl lags.1
+  lag_moves : (lag : Option Lag) (owner : OwnerFacts D L) → Moves owner (with_lag lag owner) []
+  lag_moves None owner = rests owner owner refl
+  lag_moves (Some lag) owner = unseen owner (with_lag (Some lag) owner) (with_lag (Some lag) owner) refl refl refl refl
 
-  lags_for : (old : OwnerFacts D L) (guest : Option Guest) (worked : Bool) (new : OwnerFacts D L) → LagsFor old guest worked new → Moves old new []
-  lags_for old None worked new lags = rests old new lags.1
-  lags_for old (Some guest) worked new lags = lags_once old guest.connection guest.session guest.lagged worked new lags
-
-  presses_where : (b : Bool) (old : OwnerFacts D L) (worked : Bool) (new : OwnerFacts D L) → PressesWhere b old worked new → Moves old new []
-  presses_where true old worked new presses = rests old new presses.1
-  presses_where false old worked new presses = lags_for old (blocker old) worked new presses
-
-  lag_moves : (connection : Option ℕ) (session : SessionId) (owner : OwnerFacts D L) → Moves owner (lagged_for connection session owner) []
-  lag_moves None session owner = rests owner owner refl
-  lag_moves (Some connection) session owner = unseen owner _ _ refl refl refl refl
-
-  answer_moves : (answer : Posted) (owner : OwnerFacts D L) → Moves owner (lagged_by answer owner) []
-  answer_moves posted.None owner = rests owner owner refl
-  answer_moves (posted.Posted session) owner = rests owner owner refl
-  answer_moves (posted.Lagged session) owner = lag_moves (lagging session owner.guests.rows) session owner
+  pressed_moves : (old : OwnerFacts D L) (worked : Bool) (new : OwnerFacts D L) → Presses old worked new → Moves old new []
+  pressed_moves old worked new presses = subst (λ (o : OwnerFacts D L). Moves old o []) (sym presses.1) (lag_moves (pressing old) old)
 
   -- ---- publishing and posting
 
-  published_moves : (b : Bool) (old : OwnerFacts D L) (worked : Bool) (new : OwnerFacts D L) → PublishesWhere b old worked new → Moves old new []
-  published_moves true old worked new (so, same) = rests old new same
-  published_moves false old true new done =
+  published_moves : (old : OwnerFacts D L) (worked : Bool) (new : OwnerFacts D L) → PublishesLeft old worked new → Moves old new []
+  published_moves old true new done =
       still old new (record {
-        opening = ap (λ (o : OwnerFacts D L). o.control.publisher.opening) done;
-        all = ap (λ (o : OwnerFacts D L). appended o.control.publisher) done ∙ published_same old.control.publisher;
-      }) (ap (λ (o : OwnerFacts D L). o.scribe) done) (ap (λ (o : OwnerFacts D L). o.guests.given) done)
-  published_moves false old false new same = rests old new same
+        opening = ap (λ (o : OwnerFacts D L). o.control.publisher.opening) done.1;
+        all = ap (λ (o : OwnerFacts D L). appended o.control.publisher) done.1 ∙ published_same old.control.publisher;
+      }) (ap (λ (o : OwnerFacts D L). o.scribe) done.1) (ap (λ (o : OwnerFacts D L). o.guests.given) done.1)
+  published_moves old false new same = rests old new same
 
-  posted_moves : (b : Bool) (old : OwnerFacts D L) (worked : Bool) (new : OwnerFacts D L) → PostsWhere b old worked new → Moves old new []
+  posted_moves : (b : Bool) (old : OwnerFacts D L) (worked : Bool) (new : OwnerFacts D L) → MatchBool b (Rests old worked new) (PostsOne old worked new) → Moves old new []
   posted_moves true old worked new (so, same) = rests old new same
   posted_moves false old worked new one =
       let mid : OwnerFacts D L = record old { control = one.after } in
       subst (λ (o : OwnerFacts D L). Moves old o []) (sym one.others)
-      (then_moves old mid (lagged_by one.answer mid) [] [] (still old mid (posted_kept old.control old.control.pending one.answer one.after one.posts) refl refl) (answer_moves one.answer mid))
+      (then_moves old mid (with_lag (lag_at one.answer old.guests.rows) mid) [] []
+      (still old mid (posted_kept old.control old.control.pending one.answer one.after one.posts) refl refl) (lag_moves (lag_at one.answer old.guests.rows) mid))
 
   -- ---- the end of a turn
 
@@ -380,23 +403,23 @@ came_more before mid after first later both was is so = omega (arith, was, is, s
 from_none : (now before came : ℕ) → now ≡ before + came → before ≡ 0 → now ≡ came
 from_none now before came is none = omega (arith, is, none)
 
-given_by : {L : Type 0} (answer : Accept L) (guests : GuestsFacts) → (guests_by answer guests).given ≡ guests.given + length (came_by answer (guests.given + 1))
-given_by accepted.NotYet guests = omega arith
-given_by (accepted.Conn link) guests = omega arith
-given_by accepted.End guests = omega arith
-given_by accepted.Failed guests = omega arith
+given_by : {L : Type 0} (link_facts : L → LinkFacts) (answer : Accept L) (guests : GuestsFacts) → (guests_by link_facts answer guests).given ≡ guests.given + length (came_by answer (guests.given + 1))
+given_by link_facts accepted.NotYet guests = omega arith
+given_by link_facts (accepted.Conn link) guests = omega arith
+given_by link_facts accepted.End guests = omega arith
+given_by link_facts accepted.Failed guests = omega arith
 
-module _ {D L : Type 0} (door_facts : D → DoorFacts) where
-  asks_lead : (b : Bool) (old : OwnerFacts D L) (worked : Bool) (new : OwnerFacts D L) → AsksWhere door_facts b old worked new → Leads old.control new.control old.scribe new.scribe []
+module _ {D L : Type 0} (door_facts : D → DoorFacts) (link_facts : L → LinkFacts) where
+  asks_lead : (b : Bool) (old : OwnerFacts D L) (worked : Bool) (new : OwnerFacts D L) → Asks door_facts link_facts b old worked new → Leads old.control new.control old.scribe new.scribe []
   asks_lead true old worked new stays = (rests old new stays.1).leads
   asks_lead false old worked new asks = silent old.control new.control old.scribe new.scribe
       (ap (λ (o : OwnerFacts D L). o.control.publisher.opening) asks.others) (ap (λ (o : OwnerFacts D L). appended o.control.publisher) asks.others)
       (ap (λ (o : OwnerFacts D L). o.scribe.is_asked) asks.others) (ap (λ (o : OwnerFacts D L). o.scribe.entries) asks.others)
 
-  asks_given : (b : Bool) (old : OwnerFacts D L) (worked : Bool) (new : OwnerFacts D L) (asks : AsksWhere door_facts b old worked new)
-      → new.guests.given ≡ old.guests.given + length (came_where door_facts b old worked new asks)
+  asks_given : (b : Bool) (old : OwnerFacts D L) (worked : Bool) (new : OwnerFacts D L) (asks : Asks door_facts link_facts b old worked new)
+      → new.guests.given ≡ old.guests.given + length (came_where door_facts link_facts b old worked new asks)
   asks_given true old worked new stays = let same : new.guests.given ≡ old.guests.given = ap (λ (o : OwnerFacts D L). o.guests.given) stays.1 in omega (arith, same)
-  asks_given false old worked new asks = ap (λ (o : OwnerFacts D L). o.guests.given) asks.others ∙ given_by asks.answer old.guests
+  asks_given false old worked new asks = ap (λ (o : OwnerFacts D L). o.guests.given) asks.others ∙ given_by link_facts asks.answer old.guests
 
   -- ---- the turns
 
@@ -405,16 +428,16 @@ module _ {D L : Type 0} (door_facts : D → DoorFacts) where
     pub leads : Leads old.control new.control old.scribe new.scribe made
     pub given : new.guests.given ≡ old.guests.given + came
 
-  turn_leads : (old : OwnerFacts D L) (turn : Turn) (new : OwnerFacts D L) (turned : OwnerTurned door_facts old turn new)
-      → Turns old new (decisions_of door_facts old turn new turned) (length (came_where door_facts (is_not_to_ask turned.after_post) turned.after_post turned.came turned.after_door turned.asks))
+  turn_leads : (old : OwnerFacts D L) (turn : Turn) (new : OwnerFacts D L) (turned : OwnerTurned door_facts link_facts old turn new)
+      → Turns old new (decisions_of door_facts link_facts old turn new turned) (length (came_where door_facts link_facts (is_not_to_ask turned.after_post) turned.after_post turned.came turned.after_door turned.asks))
   turn_leads old turn new turned =
-      let made = decisions_of door_facts old turn new turned in
+      let made = decisions_of door_facts link_facts old turn new turned in
       let offered : Moves old turned.after_offers [] = unseen old (record old { bells = turned.after_offers.bells; kept = turned.after_offers.kept }) turned.after_offers refl refl refl turned.offers.others in
       let desk : Moves turned.after_offers turned.after_desk made = desk_moves turned.after_offers turned.served turned.after_desk turned.serves in
       let pressed : Moves turned.after_desk turned.after_press [] =
-      presses_where (are_none turned.after_desk.logins || is_some turned.after_desk.kept.lag) turned.after_desk turned.pressed turned.after_press turned.presses in
+      pressed_moves turned.after_desk turned.pressed turned.after_press turned.presses in
       let shown : Moves turned.after_press turned.after_publish [] =
-      published_moves (length turned.after_press.control.publisher.pending == 0) turned.after_press turned.published turned.after_publish turned.publishes in
+      published_moves turned.after_press turned.published turned.after_publish turned.publishes in
       let sent : Moves turned.after_publish turned.after_post [] =
       posted_moves (is_some turned.after_publish.kept.lag) turned.after_publish turned.posted turned.after_post turned.posts in
       let behind : Moves turned.after_desk turned.after_post [] =
@@ -432,8 +455,8 @@ module _ {D L : Type 0} (door_facts : D → DoorFacts) where
             (asks_given (is_not_to_ask turned.after_post) turned.after_post turned.came turned.after_door turned.asks) ends.given;
       }
 
-  pub turns_lead : (old : OwnerFacts D L) (turns : List Turn) (new : OwnerFacts D L) (all : TurnsTo (OwnerTurned door_facts) old turns new)
-      → Turns old new (decisions door_facts old turns new all) (length (connections_given door_facts old turns new all))
+  pub turns_lead : (old : OwnerFacts D L) (turns : List Turn) (new : OwnerFacts D L) (all : TurnsTo (OwnerTurned door_facts link_facts) old turns new)
+      → Turns old new (decisions door_facts link_facts old turns new all) (length (connections_given door_facts link_facts old turns new all))
   turns_lead old [] new same = record {
     leads = (rests old new same).leads;
     given = let is : new.guests.given ≡ old.guests.given = ap (λ (o : OwnerFacts D L). o.guests.given) same in omega (arith, is);
@@ -441,29 +464,29 @@ module _ {D L : Type 0} (door_facts : D → DoorFacts) where
   turns_lead old (turn ∷ turns) new (mid, turned, rest) =
       let one = turn_leads old turn mid turned in
       let others = turns_lead mid turns new rest in
-      let came : List (Coming L) = came_where door_facts (is_not_to_ask turned.after_post) turned.after_post turned.came turned.after_door turned.asks in
-      let later : List (Coming L) = connections_given door_facts mid turns new rest in record {
+      let came : List (Coming L) = came_where door_facts link_facts (is_not_to_ask turned.after_post) turned.after_post turned.came turned.after_door turned.asks in
+      let later : List (Coming L) = connections_given door_facts link_facts mid turns new rest in record {
         leads = then_leads old.control mid.control new.control old.scribe mid.scribe new.scribe
-            (decisions_of door_facts old turn mid turned) (decisions door_facts mid turns new rest) one.leads others.leads;
+            (decisions_of door_facts link_facts old turn mid turned) (decisions door_facts link_facts mid turns new rest) one.leads others.leads;
         given = came_more old.guests.given mid.guests.given new.guests.given (length came) (length later) (length (came ++ later)) one.given others.given (length-append came later);
       }
 
   -- ---- as the laws say it
 
-  pub edits_decided : (old : OwnerFacts D L) (turns : List Turn) (new : OwnerFacts D L) (all : TurnsTo (OwnerTurned door_facts) old turns new)
-      → appended new.control.publisher ≡ edits_after old.control.publisher.opening (appended old.control.publisher) (decisions door_facts old turns new all)
+  pub edits_decided : (old : OwnerFacts D L) (turns : List Turn) (new : OwnerFacts D L) (all : TurnsTo (OwnerTurned door_facts link_facts) old turns new)
+      → appended new.control.publisher ≡ edits_after old.control.publisher.opening (appended old.control.publisher) (decisions door_facts link_facts old turns new all)
   edits_decided old turns new all = (turns_lead old turns new all).leads.all
 
-  pub entries_decided : (old : OwnerFacts D L) (turns : List Turn) (new : OwnerFacts D L) (all : TurnsTo (OwnerTurned door_facts) old turns new) → old.scribe.is_asked ≡ true
-      → new.scribe.entries ≡ old.scribe.entries ++ entries_after old.control.publisher.opening (appended old.control.publisher) (decisions door_facts old turns new all)
+  pub entries_decided : (old : OwnerFacts D L) (turns : List Turn) (new : OwnerFacts D L) (all : TurnsTo (OwnerTurned door_facts link_facts) old turns new) → old.scribe.is_asked ≡ true
+      → new.scribe.entries ≡ old.scribe.entries ++ entries_after old.control.publisher.opening (appended old.control.publisher) (decisions door_facts link_facts old turns new all)
   entries_decided old turns new all asked = (turns_lead old turns new all).leads.entries asked
 
-  pub none_unasked : (old : OwnerFacts D L) (turns : List Turn) (new : OwnerFacts D L) (all : TurnsTo (OwnerTurned door_facts) old turns new) → old.scribe.is_asked ≡ false → new.scribe.entries ≡ old.scribe.entries
+  pub none_unasked : (old : OwnerFacts D L) (turns : List Turn) (new : OwnerFacts D L) (all : TurnsTo (OwnerTurned door_facts link_facts) old turns new) → old.scribe.is_asked ≡ false → new.scribe.entries ≡ old.scribe.entries
   none_unasked old turns new all unasked = (turns_lead old turns new all).leads.unasked unasked
 
   pub connections_counted : (control : ControlFacts) (door : D) (connections : ℕ) (journal : Bool) (queues : List TableId) (opened owner : OwnerFacts D L) (turns : List Turn)
-      → IsOpened control door connections journal queues opened → (all : TurnsTo (OwnerTurned door_facts) opened turns owner)
-      → owner.guests.given ≡ length (connections_given door_facts opened turns owner all)
+      → IsOpened control door connections journal queues opened → (all : TurnsTo (OwnerTurned door_facts link_facts) opened turns owner)
+      → owner.guests.given ≡ length (connections_given door_facts link_facts opened turns owner all)
   connections_counted control door connections journal queues opened owner turns new all =
-      from_none owner.guests.given opened.guests.given (length (connections_given door_facts opened turns owner all)) (turns_lead opened turns owner all).given
+      from_none owner.guests.given opened.guests.given (length (connections_given door_facts link_facts opened turns owner all)) (turns_lead opened turns owner all).given
       (ap (λ (o : OwnerFacts D L). o.guests.given) new)

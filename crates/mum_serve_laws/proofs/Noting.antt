@@ -1,6 +1,6 @@
 -- What turns of a worker note of parcels for others and of the memory that ran out.
 use Rattle.std.proofs.Common.{◌≡◌, ◌∙◌, ℕ, ◌+◌, min, Bool, true, false, List, [], ◌∷◌, ◌++◌, Option, Some, None, refl, ap, sym, subst, arith}
-use Rattle.std.specs.Prelude.{◌||◌}
+use Rattle.std.specs.Prelude.{◌||◌, option_to_list}
 use Rattle.std.specs.List.{list_any}
 use Rattle.std.proofs.lemmas.List.Folds.{list_any-append}
 use mathlib.Core.Logic.{inl, inr}
@@ -11,11 +11,12 @@ use Rattle.mum_crew.specs.Turns.{TurnsTo}
 use Rattle.mum_crew.specs.declared.role.Turn.{Turn}
 use Rattle.mum_io.specs.Link.{LinkFacts}
 use Rattle.mum_outbox.specs.declared.rule.TheConstants.{LAST}
-use Rattle.mum_owner.specs.Laws.{listed}
+use Rattle.mum_port.specs.Did.{action_of}
 use Rattle.mum_port.specs.Facts.{PortFacts}
 use Rattle.mum_port.specs.declared.port.Step.{Step}
 use Rattle.mum_published.specs.Bell.{Rung, Answer, Comes, Lagging, NoMore}
 use Rattle.mum_published.specs.Facts.{Opening, PassFacts}
+use Rattle.mum_session.specs.Machine.{session_of}
 use Rattle.mum_worker.specs.Boxes.{BoxesFacts}
 use Rattle.mum_worker.specs.Facts.{WorkerFacts}
 use Rattle.mum_worker.specs.Hearing.{Hears, LagsWhereIts, TakesOrTurns}
@@ -79,7 +80,7 @@ behind : (b : ℕ) (ms ns : List Cause) (old mid new : RecordFacts) → Notes 0 
 behind b ms ns old mid new first later =
     subst (λ (n : ℕ). Notes n (ms ++ ns) old new) (none_first b) (and_then 0 b ms ns old mid new first later)
 
-closed : (connection : ℕ) (cause : Option Cause) (old new : RecordFacts) → new ≡ after_close connection cause old → Notes 0 (listed cause) old new
+closed : (connection : ℕ) (cause : Option Cause) (old new : RecordFacts) → new ≡ after_close connection cause old → Notes 0 (option_to_list cause) old new
 closed connection None old new is = rests old new is
 closed connection (Some cause) old new is = record {
   stale = λ count so. ap (λ (k : RecordFacts). k.stale) is ∙ so ∙ ap (λ (n : ℕ). min n LAST) (nothing_more count);
@@ -87,10 +88,10 @@ closed connection (Some cause) old new is = record {
 }
 
 noted : (connection : ℕ) (step : Step) (strays : ℕ) (cause : Option Cause) (old new : RecordFacts) → step.stale ≡ strays → step.closed ≡ cause → new ≡ after_step connection step old
-    → Notes strays (listed cause) old new
+    → Notes strays (option_to_list cause) old new
 noted connection step strays cause old new many why is =
     let mid : RecordFacts = record old { stale = min (old.stale + step.stale) LAST } in
-    let closes : Notes 0 (listed cause) mid new = subst (λ (c : Option Cause). Notes 0 (listed c) mid new) why (closed connection step.closed mid new is) in record {
+    let closes : Notes 0 (option_to_list cause) mid new = subst (λ (c : Option Cause). Notes 0 (option_to_list c) mid new) why (closed connection step.closed mid new is) in record {
       stale = λ count so. closes.stale (count + strays) (capped old.stale count step.stale strays LAST so many)
           ∙ ap (λ (n : ℕ). min n LAST) (sym (nothing_more (count + strays)));
       memory = closes.memory;
@@ -123,14 +124,15 @@ module _ (opening : Opening) where
 
   module _ {L : Type 0} (facts : L → LinkFacts) where
     stepped : (boxes : BoxesFacts) (old : PortFacts L) (before : Shares) (new : PortFacts L) (after : Shares) (steps : PortSteps facts opening boxes old before new after)
-        → Notes (strays_stepped facts opening boxes old before new after steps) (listed steps.chain.closed) before.common.kept after.common.kept
+        → Notes (strays_stepped facts opening boxes old before new after steps) (option_to_list steps.turned.0.closed) before.common.kept after.common.kept
     stepped boxes old before new after steps =
+        let turn = steps.turned.1 in
         let same : Keeps before.common.kept steps.routed.kept =
-        handled opening KeepsBoth both_same made steps.chain.after_read before.common steps.chain.handled steps.chain.after_handle steps.routed steps.chain.handles in
-        behind (strays_stepped facts opening boxes old before new after steps) [] (listed steps.chain.closed) before.common.kept steps.routed.kept after.common.kept
+        handled opening KeepsBoth both_same made old.machine.connection (session_of old.machine.stage) (action_of old.machine steps.turned.0.handled) before.common steps.routed turn.routes in
+        behind (strays_stepped facts opening boxes old before new after steps) [] (option_to_list steps.turned.0.closed) before.common.kept steps.routed.kept after.common.kept
         (quiet before.common.kept steps.routed.kept same.stale same.memory)
-        (noted old.machine.connection steps.step (strays_stepped facts opening boxes old before new after steps) steps.chain.closed steps.routed.kept after.common.kept
-        (ap (λ (s : Step). s.stale) steps.chain.came_to) (ap (λ (s : Step). s.closed) steps.chain.came_to) (ap (λ (c : CommonFacts). c.kept) steps.noted))
+        (noted old.machine.connection steps.step (strays_stepped facts opening boxes old before new after steps) steps.turned.0.closed steps.routed.kept after.common.kept
+        turn.takes.stale turn.ends.reported (ap (λ (c : CommonFacts). c.kept) steps.noted))
 
     along : (boxes : BoxesFacts) (olds : List (PortFacts L)) (before : Shares) (news : List (PortFacts L)) (after : Shares) (all : Along (PortSteps facts opening boxes) olds before news after)
         → Notes (strays_along facts opening boxes olds before news after all) (causes_along facts opening boxes olds before news after all) before.common.kept after.common.kept
@@ -139,7 +141,7 @@ module _ (opening : Opening) where
     along boxes (old ∷ olds) before [] after none = absurd none
     along boxes (old ∷ olds) before (new ∷ news) after (between, step, rest) =
         and_then (strays_stepped facts opening boxes old before new between step) (strays_along facts opening boxes olds between news after rest)
-        (listed step.chain.closed) (causes_along facts opening boxes olds between news after rest)
+        (option_to_list step.turned.0.closed) (causes_along facts opening boxes olds between news after rest)
         before.common.kept between.common.kept after.common.kept
         (stepped boxes old before new between step) (along boxes olds between news after rest)
 

@@ -203,15 +203,15 @@ module _ {L : Type 0} (facts : L → LinkFacts) (opening : Opening) where
 
 -- ---- a run
 
-module _ {D L : Type 0} (facts : L → LinkFacts) (door_facts : D → DoorFacts) (state : StateValue) (asked : Service) (workers : ℕ) (opened : Objects D) (summary : Summary) (entries : Entries) (left : Objects D) (run : HasRun facts door_facts state asked workers opened summary entries left) where
+module _ {D K L : Type 0} (facts : L → LinkFacts) (door_facts : D → DoorFacts) (last calls : K → ℕ) (state : StateValue) (asked : Service) (workers : ℕ) (opened : Objects D K) (summary : Summary) (entries : Entries) (left : Objects D K) (run : HasRun facts door_facts last calls state asked workers opened summary entries left) where
   abbrev made : List Decision
-  made = decisions_of_run facts door_facts state asked workers opened summary entries left run
+  made = decisions_of_run facts door_facts last calls state asked workers opened summary entries left run
 
   -- what the owner appended
   list_is : appended run.owner.control.publisher ≡ edits_after run.began [] made
   list_is =
       let first = run.turned.first_owner in
-      edits_decided door_facts first run.turned.owner_turned.0 run.owner run.turned.owner_turned.1
+      edits_decided door_facts facts first run.turned.owner_turned.0 run.owner run.turned.owner_turned.1
       ∙ ap (λ (o : Opening). edits_after o (appended first.control.publisher) made) run.turned.begun.owner_begins.control.opening_is
       ∙ ap (λ (es : List Edit). edits_after run.began es made) run.turned.begun.owner_begins.control.nothing
 
@@ -227,11 +227,11 @@ module _ {D L : Type 0} (facts : L → LinkFacts) (door_facts : D → DoorFacts)
       0 (closing_room asked.journal asked.connections workers) run.turned.first_crew run.crew run.turned.begun.crew_begins.each run.turned.crew_turned
       nothing 0 0 0 0 false (record { looks_are = refl; copies_are = refl; full_are = refl; stale_is = refl; memory_is = refl })
 
-  pub of_the_turns : AreOfTheTurns facts door_facts state asked workers opened summary entries left run
+  pub of_the_turns : AreOfTheTurns facts door_facts last calls state asked workers opened summary entries left run
   of_the_turns =
       let begins = run.turned.begun.owner_begins in record {
         connections = ap (λ (t : Totals). t.connections) run.came.sums
-            ∙ connections_counted door_facts run.turned.first_owner.control opened.door asked.connections asked.journal begins.bells run.turned.first_owner run.owner run.turned.owner_turned.0 begins.opened run.turned.owner_turned.1;
+            ∙ connections_counted door_facts facts run.turned.first_owner.control opened.door asked.connections asked.journal begins.bells run.turned.first_owner run.owner run.turned.owner_turned.0 begins.opened run.turned.owner_turned.1;
         accepted = ap (λ (t : Totals). t.accepted) run.came.sums ∙ ap (λ (es : List Edit). length es) list_is;
         looks = ap (λ (t : Totals). t.looks) run.came.sums ∙ sums.looks_are ∙ ap (λ (n : ℕ). up_to_64 n) (none_first _);
         copies = ap (λ (t : Totals). t.copies) run.came.sums ∙ sums.copies_are ∙ ap (λ (n : ℕ). up_to_64 n) (none_first _);
@@ -246,12 +246,12 @@ module _ {D L : Type 0} (facts : L → LinkFacts) (door_facts : D → DoorFacts)
   first_entries : run.turned.first_owner.scribe.entries ≡ []
   first_entries = ap (λ (o : OwnerFacts D L). o.scribe.entries) run.turned.begun.owner_begins.opened
 
-  pub are_written : HasTalks facts run.began → AreWritten facts door_facts state asked workers opened summary entries left run
+  pub are_written : HasTalks facts run.began → AreWritten facts door_facts last calls state asked workers opened summary entries left run
   are_written has = record {
     controls = λ is.
         let first = run.turned.first_owner in
         run.came.controls
-        ∙ entries_decided door_facts first run.turned.owner_turned.0 run.owner run.turned.owner_turned.1 (first_asked ∙ is)
+        ∙ entries_decided door_facts facts first run.turned.owner_turned.0 run.owner run.turned.owner_turned.1 (first_asked ∙ is)
         ∙ ap (λ (es : List ControlEntry). es ++ entries_after first.control.publisher.opening (appended first.control.publisher) made) first_entries
         ∙ ap (λ (o : Opening). entries_after o (appended first.control.publisher) made) run.turned.begun.owner_begins.control.opening_is
         ∙ ap (λ (es : List Edit). entries_after run.began es made) run.turned.begun.owner_begins.control.nothing;
@@ -259,12 +259,12 @@ module _ {D L : Type 0} (facts : L → LinkFacts) (door_facts : D → DoorFacts)
         ap (λ (es : List (List WorkerEntry)). map (filter_map talk_in) es) run.came.by_worker
         ∙ all_talks facts run.began has 0 (per_worker asked.connections workers) run.turned.first_crew run.crew
         (subst (λ (b : Bool). AreOpenedFrom run.began (closing_room b asked.connections workers) 0 run.turned.first_crew) is run.turned.begun.crew_begins.each) run.turned.crew_turned;
-    nothing = λ is. run.came.controls ∙ none_unasked door_facts run.turned.first_owner run.turned.owner_turned.0 run.owner run.turned.owner_turned.1 (first_asked ∙ is) ∙ first_entries;
+    nothing = λ is. run.came.controls ∙ none_unasked door_facts facts run.turned.first_owner run.turned.owner_turned.0 run.owner run.turned.owner_turned.1 (first_asked ∙ is) ∙ first_entries;
   }
 
-  pub are_routed : SeesEnd facts run.began → AreRouted facts door_facts state asked workers opened summary entries left run
+  pub are_routed : SeesEnd facts run.began → AreRouted facts door_facts last calls state asked workers opened summary entries left run
   are_routed sees = record {
-    begins = all_within facts run.began sees run.owner.control.publisher.published (edits_of_run facts door_facts state asked workers opened summary entries left run)
+    begins = all_within facts run.began sees run.owner.control.publisher.published (edits_of_run facts door_facts last calls state asked workers opened summary entries left run)
         (run.owner.control.publisher.pending, list_is) run.turned.first_crew run.crew run.turned.crew_turned run.one_list;
     hearers = all_hear facts run.began run.turned.first_crew run.crew run.turned.crew_turned;
     opening = run.began_at;

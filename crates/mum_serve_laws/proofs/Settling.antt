@@ -1,8 +1,8 @@
 -- What turns of an owner decide, beside what they settle.
-use Rattle.std.proofs.Common.{◌≡◌, ◌∙◌, ℕ, Bool, true, false, List, [], ◌∷◌, ◌++◌, length, Option, Some, None, refl, ap, sym, subst, inl, inr}
+use Rattle.std.proofs.Common.{◌≡◌, ◌∙◌, ℕ, Bool, true, false, List, [], ◌∷◌, ◌++◌, Option, Some, None, refl, ap, sym, subst, inl, inr}
 use Rattle.std.specs.Option.{option_map}
-use Rattle.std.specs.Prelude.{◌&&◌, find, is_some, nat_lt}
-use Rattle.mum_base.specs.declared.number.TheConstants.{CONNECTION_LIMIT}
+use Rattle.std.specs.Prelude.{◌&&◌, find, is_some, MatchOption}
+use Rattle.mum_base.specs.declared.number.SessionId.{SessionId}
 use Rattle.mum_base.specs.declared.reply.Mark.{Mark}
 use Rattle.mum_control.specs.Commanded.{Commanded, current}
 use Rattle.mum_control.specs.Facts.{ControlFacts}
@@ -11,20 +11,23 @@ use Rattle.mum_core.specs.Laws.{IsSubsequenceBy}
 use Rattle.mum_crew.specs.Turns.{TurnsTo}
 use Rattle.mum_crew.specs.declared.role.Turn.{Turn}
 use Rattle.mum_io.specs.Door.{DoorFacts}
+use Rattle.mum_io.specs.Link.{LinkFacts}
+use Rattle.mum_owner.specs.Banning.{IsGivenOrRefused, SettledBy, TestedBy, banned_in, is_banned, with_warden}
 use Rattle.mum_owner.specs.Facts.{OwnerFacts}
+use Rattle.mum_owner.specs.Given.{IsGiven}
 use Rattle.mum_owner.specs.Guests.{is_of, owned, session_of}
-use Rattle.mum_owner.specs.Laws.{one_leave, one_login, settled, settled_by, settled_going, settled_leaving, settled_of, settled_owned, settled_pending, settled_taking, settled_where}
-use Rattle.mum_owner.specs.Serving.{GivesOwned, GoesWhere, IsGiven, LeaveIsGiven, LeavesWhere, PendsWhere, ReceivesBy, ReceivesItem, ReceivesOwned, ServesWhere, TakesWhere, leave_of, may_go, must_wait, with_pass}
+use Rattle.mum_owner.specs.Laws.{one_leave, one_tested, settled, settled_by, settled_given, settled_in, settled_item, settled_owned, settled_waiting}
+use Rattle.mum_owner.specs.Serving.{LeaveIsGiven, Next, Receives, ReceivesBy, ReceivesItem, Serves, leave_of, must_wait, next, with_pass}
+use Rattle.mum_owner.specs.Serving.Next.{Again, Goes, Rest, Take}
 use Rattle.mum_owner.specs.Turned.{OwnerTurned}
 use Rattle.mum_owner.specs.Written.{is_leave, is_login}
-use Rattle.mum_owner.specs.declared.desk.TheConstants.{PENDING_LIMIT}
 use Rattle.mum_owner.specs.declared.guests.Guest.{Guest}
 use Rattle.mum_port.specs.declared.item.DeskItem.{DeskItem}
 use Rattle.mum_port.specs.declared.item.DeskItem.TheVariants as items
 use Rattle.mum_published.specs.Facts.{ReplyFacts}
 use Rattle.mum_session.specs.Verdict.{verdict}
 use Rattle.mum_session.specs.declared.command.Command.{Command}
-use Rattle.mum_step_laws.specs.OwnerTurns.{Decision, decided_by, decided_given, decided_going, decided_item, decided_leave, decided_leaving, decided_owned, decided_pending, decided_receiving, decided_taking, decided_waiting, decided_where, decisions_of}
+use Rattle.mum_step_laws.specs.OwnerTurns.{Decision, decided_as, decided_by, decided_given, decided_item, decided_leave, decided_owned, decided_receiving, decided_settling, decided_tested, decided_waiting, decisions_of}
 use Rattle.mum_serve_laws.specs.Decisions.{Gave, IsOn, Work, decisions, work_done, work_of}
 use Rattle.mum_serve_laws.proofs.Deciding.{decided_grows}
 
@@ -76,62 +79,60 @@ module _ {D L : Type 0} where
       of_a_leave gives.emptied (leave_of connection (session_of connection old.guests.rows)) gives.reply new.control connection was gives.so refl refl gives.commanded
   of_leave old connection was new (inr drops) = tt
 
+  -- a login that was tested, which lay on the desk as this
+  of_tested : (banned : Bool) (old : OwnerFacts D L) (login lay : Command) (new : OwnerFacts D L) → IsSame login lay → (tested : TestedBy banned old login new)
+      → Stands (decided_tested banned old login new tested) (work_of (one_tested banned lay))
+  of_tested true old login lay new same answers = tt
+  of_tested false old login lay new same given = of_given old login lay new same given
+
+  of_settling : (login : Bool) (banned : Option SessionId) (old : OwnerFacts D L) (command lay : Command) (new : OwnerFacts D L) → IsSame command lay → (given : SettledBy login banned old command new)
+      → Stands (decided_settling login banned old command new given) (work_of (settled_given login banned old command new given lay))
+  of_settling true banned old command lay new same tests =
+      of_tested (is_banned old command tests.warden.last) (with_warden tests.warden old) command lay new same tests.tested
+  of_settling false (Some banned) old command lay new same (inl lacks) = tt
+  of_settling false (Some banned) old command lay new same (inr removes) = of_given (with_warden removes.warden old) command lay removes.after same removes.given
+  of_settling false None old command lay new same given = of_given old command lay new same given
+
   of_receiving : (leave waits : Bool) (old : OwnerFacts D L) (command : Command) (new : OwnerFacts D L) (received : ReceivesBy leave waits old command new)
       → Stands (decided_receiving leave waits old command new received) (work_of (settled_by leave waits old command new received))
   of_receiving true waits old command new received = of_leave old command.connection received.0 new received.1
   of_receiving false true old command new received = tt
-  of_receiving false false old command new received = of_given old command command new refl received
+  of_receiving false false old command new received = of_settling (is_login command) (banned_in command) old command command new refl received
 
-  of_owned : (own : Option Command) (old new : OwnerFacts D L) (received : ReceivesOwned old own new)
+  of_owned : (own : Option Command) (old new : OwnerFacts D L) (received : Receives old own new)
       → Stands (decided_owned own old new received) (work_of (settled_owned own old new received))
   of_owned None old new received = tt
   of_owned (Some command) old new received = of_receiving (is_leave command.what) (is_login command && must_wait old) old command new received
 
-  of_item : (old : OwnerFacts D L) (item : Option DeskItem) (worked : Bool) (new : OwnerFacts D L) (received : ReceivesItem old item worked new)
-      → Stands (decided_item old item worked new received) (work_of (settled_of old item worked new received))
-  of_item old None worked new received = tt
-  of_item old (Some (items.Closed connection)) worked new received = tt
-  of_item old (Some (items.Command command)) worked new received = of_owned (owned old.guests.rows command) old new received.1
+  of_item : (old : OwnerFacts D L) (item : Option DeskItem) (new : OwnerFacts D L) (received : ReceivesItem old item new)
+      → Stands (decided_item old item new received) (work_of (settled_item old item new received))
+  of_item old None new received = tt
+  of_item old (Some (items.Closed connection)) new received = tt
+  of_item old (Some (items.Command command)) new received = of_owned (owned old.guests.rows command) old new received
+  of_item old (Some (items.Bans connection session payload)) new received = tt
 
-  of_taking : (b : Bool) (old : OwnerFacts D L) (worked : Bool) (new : OwnerFacts D L) (takes : TakesWhere b old worked new)
-      → Stands (decided_taking b old worked new takes) (work_of (settled_taking b old worked new takes))
-  of_taking true old worked new takes = of_item (with_pass takes.pass old) takes.item worked new takes.received
-  of_taking false old worked new rests = tt
-
-  of_waiting : (own : Option Command) (login : Command) (old new : OwnerFacts D L) → ((command : Command) → own ≡ Some command → IsSame command login) → (given : GivesOwned old own new)
-      → Stands (decided_waiting own old new given) (work_of (one_login own login))
+  of_waiting : (own : Option Command) (login : Command) (old new : OwnerFacts D L) → ((command : Command) → own ≡ Some command → IsSame command login)
+      → (given : MatchOption own (new ≡ old) (λ command. IsGivenOrRefused old command new)) → Stands (decided_waiting own old new given) (work_of (settled_waiting own old login new given))
   of_waiting None login old new same given = tt
-  of_waiting (Some command) login old new same given = of_given old command login new (same command refl) given
+  of_waiting (Some command) login old new same given = of_settling (is_login command) (banned_in command) old command login new (same command refl) given
 
-  of_going : (b : Bool) (old : OwnerFacts D L) (worked : Bool) (new : OwnerFacts D L) (goes : GoesWhere b old worked new)
-      → Stands (decided_going b old worked new goes) (work_of (settled_going b old worked new goes))
-  of_going true old worked new gives = of_waiting (owned old.guests.rows gives.login) gives.login (record old { logins = gives.rest }) new
+  of_next : (next : Next) (old : OwnerFacts D L) (worked : Bool) (new : OwnerFacts D L) (serves : Serves next old worked new)
+      → Stands (decided_as next old worked new serves) (work_of (settled next old worked new serves))
+  of_next Rest old worked new rests = tt
+  of_next (Again connection) old worked new given = of_leave old connection worked new given
+  of_next Goes old worked new gives =
+      of_waiting (owned old.guests.rows gives.login) gives.login (record old { logins = gives.rest }) new
       (λ command is. from_guest (find (is_of gives.login.connection) old.guests.rows) gives.login command is) gives.given
-  of_going false old worked new takes = of_taking (nat_lt (length old.logins) CONNECTION_LIMIT) old worked new takes
-
-  of_pending : (b : Bool) (old : OwnerFacts D L) (worked : Bool) (new : OwnerFacts D L) (pends : PendsWhere b old worked new)
-      → Stands (decided_pending b old worked new pends) (work_of (settled_pending b old worked new pends))
-  of_pending true old worked new rests = tt
-  of_pending false old worked new goes = of_going (may_go old) old worked new goes
-
-  of_leaving : (leave : Option ℕ) (old : OwnerFacts D L) (worked : Bool) (new : OwnerFacts D L) (leaves : LeavesWhere leave old worked new)
-      → Stands (decided_leaving leave old worked new leaves) (work_of (settled_leaving leave old worked new leaves))
-  of_leaving (Some connection) old worked new given = of_leave old connection worked new given
-  of_leaving None old worked new pends = of_pending (nat_lt PENDING_LIMIT (length old.control.pending)) old worked new pends
-
-  of_where : (b : Bool) (old : OwnerFacts D L) (worked : Bool) (new : OwnerFacts D L) (serves : ServesWhere b old worked new)
-      → Stands (decided_where b old worked new serves) (work_of (settled_where b old worked new serves))
-  of_where true old worked new rests = tt
-  of_where false old worked new leaves = of_leaving old.desk.leave old worked new leaves
+  of_next Take old worked new takes = of_item (with_pass takes.pass old) takes.item new takes.received
 
 -- ---- the turns
 
-module _ {D L : Type 0} (door_facts : D → DoorFacts) where
-  pub of_the_desk : (old : OwnerFacts D L) (turns : List Turn) (new : OwnerFacts D L) (all : TurnsTo (OwnerTurned door_facts) old turns new)
-      → IsSubsequenceBy IsOn (decisions door_facts old turns new all) (work_done door_facts old turns new all)
+module _ {D L : Type 0} (door_facts : D → DoorFacts) (link_facts : L → LinkFacts) where
+  pub of_the_desk : (old : OwnerFacts D L) (turns : List Turn) (new : OwnerFacts D L) (all : TurnsTo (OwnerTurned door_facts link_facts) old turns new)
+      → IsSubsequenceBy IsOn (decisions door_facts link_facts old turns new all) (work_done door_facts link_facts old turns new all)
   of_the_desk old [] new same = tt
   of_the_desk old (turn ∷ turns) new (mid, turned, rest) =
-      joined IsOn (decisions_of door_facts old turn mid turned) (decisions door_facts mid turns new rest)
-      (work_of (settled turned.after_offers turned.served turned.after_desk turned.serves)) (work_done door_facts mid turns new rest)
-      (of_where (is_some turned.after_offers.kept.reply) turned.after_offers turned.served turned.after_desk turned.serves)
+      joined IsOn (decisions_of door_facts link_facts old turn mid turned) (decisions door_facts link_facts mid turns new rest)
+      (work_of (settled_in door_facts link_facts old turn mid turned)) (work_done door_facts link_facts mid turns new rest)
+      (of_next (next turned.after_offers) turned.after_offers turned.served turned.after_desk turned.serves)
       (of_the_desk mid turns new rest)

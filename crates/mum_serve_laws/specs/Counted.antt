@@ -1,5 +1,5 @@
 -- What a worker counts, as its turns have it.
-use Rattle.std.specs.Prelude.{◌≡◌, ◌+◌, ◌-◌, ◌^◌, ℕ, min, not, List, [], ◌∷◌, ◌++◌, filter, length, map, Option, Some, None}
+use Rattle.std.specs.Prelude.{◌≡◌, ◌+◌, ◌-◌, ◌^◌, ℕ, min, not, List, [], ◌∷◌, ◌++◌, filter, length, map, Option, Some, None, option_to_list}
 use Rattle.std.specs.List.{All, list_any, sum_by}
 use mathlib.Core.Logic.{inl, inr}
 use Rattle.mum_base.specs.declared.number.Cause.{Cause}
@@ -8,15 +8,15 @@ use Rattle.mum_crew.specs.Along.{Along}
 use Rattle.mum_crew.specs.Turns.{TurnsTo}
 use Rattle.mum_crew.specs.declared.role.Turn.{Turn}
 use Rattle.mum_io.specs.Link.{LinkFacts}
-use Rattle.mum_owner.specs.Laws.{listed}
+use Rattle.mum_port.specs.Did.{stray_posts, stray_voices}
 use Rattle.mum_port.specs.Facts.{PortFacts}
-use Rattle.mum_port.specs.Taking.{foreign_count}
 use Rattle.mum_published.specs.Bell.{Rung, Answer, Comes, Lagging, NoMore}
 use Rattle.mum_published.specs.Calls.{state_of}
 use Rattle.mum_published.specs.Facts.{Opening, PassFacts}
 use Rattle.mum_route.specs.Hearers.{hearers_at}
 use Rattle.mum_router.specs.Offering.{copies_of, full_of, was_sent}
 use Rattle.mum_router.specs.Picking.{looks_of}
+use Rattle.mum_session.specs.Machine.{session_of}
 use Rattle.mum_worker.specs.Boxes.{BoxesFacts}
 use Rattle.mum_worker.specs.Facts.{WorkerFacts}
 use Rattle.mum_worker.specs.Hearing.{Hears, LagsWhereIts}
@@ -53,7 +53,8 @@ module _ {L : Type 0} (facts : L → LinkFacts) (opening : Opening) where
   -- how many parcels the step of a port took from its boxes that were for another session
   abbrev pub strays_stepped : (boxes : BoxesFacts) (old : PortFacts L) (before : Shares) (new : PortFacts L) (after : Shares)
       → PortSteps facts opening boxes old before new after → ℕ
-  strays_stepped boxes old before new after steps = foreign_count steps.chain.posted + foreign_count steps.chain.heard
+  strays_stepped boxes old before new after steps =
+      stray_posts (session_of old.machine.stage) steps.turned.0.post + stray_voices (session_of old.machine.stage) steps.turned.0.voice
 
   -- how many the steps of ports took, one port after the other
   abbrev pub strays_along : (boxes : BoxesFacts) (olds : List (PortFacts L)) (before : Shares) (news : List (PortFacts L)) (after : Shares)
@@ -71,13 +72,13 @@ module _ {L : Type 0} (facts : L → LinkFacts) (opening : Opening) where
   causes_along boxes [] before (new ∷ news) after none = []
   causes_along boxes (old ∷ olds) before [] after none = []
   causes_along boxes (old ∷ olds) before (new ∷ news) after along =
-      listed along.1.chain.closed ++ causes_along boxes olds along.0 news after along.2
+      option_to_list along.1.turned.0.closed ++ causes_along boxes olds along.0 news after along.2
 
   -- for what a port of the session closed as it was heard that this lags
   abbrev pub causes_lagged : (session : SessionId) (old : PortFacts L) (before : RecordFacts) (new : PortFacts L) (after : RecordFacts)
       → LagsWhereIts facts session old before new after → List Cause
   causes_lagged session old before new after (inl passes) = []
-  causes_lagged session old before new after (inr lags) = listed lags.closed
+  causes_lagged session old before new after (inr lags) = option_to_list lags.closed
 
   abbrev pub causes_lagging : (session : SessionId) (olds : List (PortFacts L)) (before : RecordFacts) (news : List (PortFacts L)) (after : RecordFacts)
       → Along (LagsWhereIts facts session) olds before news after → List Cause
@@ -90,7 +91,7 @@ module _ {L : Type 0} (facts : L → LinkFacts) (opening : Opening) where
   -- for what ports closed by what the bell gave
   abbrev pub causes_heard : (item : Option (Rung L)) (old new : WorkerFacts L) → Hears facts item old new → List Cause
   causes_heard None old new hears = []
-  causes_heard (Some (Answer reply)) old new hears = listed hears.takes.closed
+  causes_heard (Some (Answer reply)) old new hears = option_to_list hears.takes.closed
   causes_heard (Some (Comes connection link)) old new hears = []
   causes_heard (Some (Lagging session)) old new hears =
       causes_lagging session old.ports old.common.kept hears.each.stepped new.common.kept hears.each.along

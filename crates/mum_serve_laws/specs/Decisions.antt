@@ -7,10 +7,11 @@ use Rattle.mum_core.specs.Laws.{IsSubsequenceBy}
 use Rattle.mum_crew.specs.Turns.{TurnsTo}
 use Rattle.mum_crew.specs.declared.role.Turn.{Turn}
 use Rattle.mum_io.specs.Door.{DoorFacts}
+use Rattle.mum_io.specs.Link.{LinkFacts}
 use Rattle.mum_owner.specs.Decided.{with_command}
 use Rattle.mum_owner.specs.Facts.{OwnerFacts}
 use Rattle.mum_owner.specs.Guests.{session_of}
-use Rattle.mum_owner.specs.Laws.{Settled, connections_given, settled}
+use Rattle.mum_owner.specs.Laws.{Settled, connections_given, settled_in}
 use Rattle.mum_owner.specs.Opened.{IsOpened}
 use Rattle.mum_owner.specs.Turned.{OwnerTurned}
 use Rattle.mum_owner.specs.Written.{is_leave, own_frame, version_of}
@@ -34,17 +35,17 @@ pub data Work : Type 0 where
 abbrev pub work_of : Settled → List Work
 work_of what = map Gave what.commands ++ map Left what.leaves
 
-module _ {D L : Type 0} (door_facts : D → DoorFacts) where
+module _ {D L : Type 0} (door_facts : D → DoorFacts) (link_facts : L → LinkFacts) where
   -- the commands that turns decided, leaves included, in order
-  abbrev pub decisions : (old : OwnerFacts D L) (turns : List Turn) (new : OwnerFacts D L) → TurnsTo (OwnerTurned door_facts) old turns new → List Decision
+  abbrev pub decisions : (old : OwnerFacts D L) (turns : List Turn) (new : OwnerFacts D L) → TurnsTo (OwnerTurned door_facts link_facts) old turns new → List Decision
   decisions old [] new all = []
-  decisions old (turn ∷ turns) new all = decisions_of door_facts old turn all.0 all.1 ++ decisions all.0 turns new all.2
+  decisions old (turn ∷ turns) new all = decisions_of door_facts link_facts old turn all.0 all.1 ++ decisions all.0 turns new all.2
 
   -- what turns settled, in order
-  abbrev pub work_done : (old : OwnerFacts D L) (turns : List Turn) (new : OwnerFacts D L) → TurnsTo (OwnerTurned door_facts) old turns new → List Work
+  abbrev pub work_done : (old : OwnerFacts D L) (turns : List Turn) (new : OwnerFacts D L) → TurnsTo (OwnerTurned door_facts link_facts) old turns new → List Work
   work_done old [] new all = []
   work_done old (turn ∷ turns) new all =
-      work_of (settled all.1.after_offers all.1.served all.1.after_desk all.1.serves) ++ work_done all.0 turns new all.2
+      work_of (settled_in door_facts link_facts old turn all.0 all.1) ++ work_done all.0 turns new all.2
 
 -- the decision is on this command, whatever session it named; or on the leave of this connection
 abbrev pub IsOn : Decision → Work → Type 0
@@ -78,44 +79,44 @@ entries_after opening edits (decision ∷ others) =
 -- ---- the laws
 
 -- what an owner appended are the edits of its decisions
-abbrev pub EditsAreTheDecisions : (D L : Type 0) → (D → DoorFacts) → Type 0
-EditsAreTheDecisions D L door_facts =
-    (old owner : OwnerFacts D L) (turns : List Turn) (all : TurnsTo (OwnerTurned door_facts) old turns owner)
+abbrev pub EditsAreTheDecisions : (D L : Type 0) → (D → DoorFacts) → (L → LinkFacts) → Type 0
+EditsAreTheDecisions D L door_facts link_facts =
+    (old owner : OwnerFacts D L) (turns : List Turn) (all : TurnsTo (OwnerTurned door_facts link_facts) old turns owner)
     → appended owner.control.publisher
-    ≡ edits_after old.control.publisher.opening (appended old.control.publisher) (decisions door_facts old turns owner all)
+    ≡ edits_after old.control.publisher.opening (appended old.control.publisher) (decisions door_facts link_facts old turns owner all)
 
 -- what it has in a journal that was asked for are the entries of its decisions
-abbrev pub EntriesAreTheDecisions : (D L : Type 0) → (D → DoorFacts) → Type 0
-EntriesAreTheDecisions D L door_facts =
-    (old owner : OwnerFacts D L) (turns : List Turn) (all : TurnsTo (OwnerTurned door_facts) old turns owner)
+abbrev pub EntriesAreTheDecisions : (D L : Type 0) → (D → DoorFacts) → (L → LinkFacts) → Type 0
+EntriesAreTheDecisions D L door_facts link_facts =
+    (old owner : OwnerFacts D L) (turns : List Turn) (all : TurnsTo (OwnerTurned door_facts link_facts) old turns owner)
     → old.scribe.is_asked ≡ true
     → owner.scribe.entries
     ≡ old.scribe.entries
-    ++ entries_after old.control.publisher.opening (appended old.control.publisher) (decisions door_facts old turns owner all)
+    ++ entries_after old.control.publisher.opening (appended old.control.publisher) (decisions door_facts link_facts old turns owner all)
 
 -- and without a journal it has no more than it had
-abbrev pub NoEntriesUnasked : (D L : Type 0) → (D → DoorFacts) → Type 0
-NoEntriesUnasked D L door_facts =
-    (old owner : OwnerFacts D L) (turns : List Turn) → TurnsTo (OwnerTurned door_facts) old turns owner
+abbrev pub NoEntriesUnasked : (D L : Type 0) → (D → DoorFacts) → (L → LinkFacts) → Type 0
+NoEntriesUnasked D L door_facts link_facts =
+    (old owner : OwnerFacts D L) (turns : List Turn) → TurnsTo (OwnerTurned door_facts link_facts) old turns owner
     → old.scribe.is_asked ≡ false → owner.scribe.entries ≡ old.scribe.entries
 
 -- each decision is on one thing that was settled, in the order of the settling, and no two are on the same
-abbrev pub DecisionsAreOfTheDesk : (D L : Type 0) → (D → DoorFacts) → Type 0
-DecisionsAreOfTheDesk D L door_facts =
-    (old owner : OwnerFacts D L) (turns : List Turn) (all : TurnsTo (OwnerTurned door_facts) old turns owner)
-    → IsSubsequenceBy IsOn (decisions door_facts old turns owner all) (work_done door_facts old turns owner all)
+abbrev pub DecisionsAreOfTheDesk : (D L : Type 0) → (D → DoorFacts) → (L → LinkFacts) → Type 0
+DecisionsAreOfTheDesk D L door_facts link_facts =
+    (old owner : OwnerFacts D L) (turns : List Turn) (all : TurnsTo (OwnerTurned door_facts link_facts) old turns owner)
+    → IsSubsequenceBy IsOn (decisions door_facts link_facts old turns owner all) (work_done door_facts link_facts old turns owner all)
 
 -- each command that a turn decides is decided for the session that is kept for its connection before the turn
-abbrev pub DecisionsAreForTheirSessions : (D L : Type 0) → (D → DoorFacts) → Type 0
-DecisionsAreForTheirSessions D L door_facts =
-    (old : OwnerFacts D L) (turn : Turn) (new : OwnerFacts D L) (turned : OwnerTurned door_facts old turn new)
+abbrev pub DecisionsAreForTheirSessions : (D L : Type 0) → (D → DoorFacts) → (L → LinkFacts) → Type 0
+DecisionsAreForTheirSessions D L door_facts link_facts =
+    (old : OwnerFacts D L) (turn : Turn) (new : OwnerFacts D L) (turned : OwnerTurned door_facts link_facts old turn new)
     → AllByRecursion (λ decision. decision.command.session ≡ session_of decision.command.connection old.guests.rows)
-    (decisions_of door_facts old turn new turned)
+    (decisions_of door_facts link_facts old turn new turned)
 
 -- as many connections are counted as the door gave in the turns
-abbrev pub ConnectionsAreThoseGiven : (D L : Type 0) → (D → DoorFacts) → Type 0
-ConnectionsAreThoseGiven D L door_facts =
+abbrev pub ConnectionsAreThoseGiven : (D L : Type 0) → (D → DoorFacts) → (L → LinkFacts) → Type 0
+ConnectionsAreThoseGiven D L door_facts link_facts =
     (control : ControlFacts) (door : D) (connections : ℕ) (journal : Bool) (queues : List TableId)
     (opened owner : OwnerFacts D L) (turns : List Turn) → IsOpened control door connections journal queues opened
-    → (all : TurnsTo (OwnerTurned door_facts) opened turns owner)
-    → owner.guests.given ≡ length (connections_given door_facts opened turns owner all)
+    → (all : TurnsTo (OwnerTurned door_facts link_facts) opened turns owner)
+    → owner.guests.given ≡ length (connections_given door_facts link_facts opened turns owner all)

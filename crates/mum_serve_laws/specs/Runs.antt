@@ -53,14 +53,14 @@ module _ {L : Type 0} (facts : L → LinkFacts) (opening : Opening) where
 
 -- ---- a run
 
-module _ {D L : Type 0} (facts : L → LinkFacts) (door_facts : D → DoorFacts) (state : StateValue) (asked : Service) (workers : ℕ) (opened : Objects D) (summary : Summary) (entries : Entries) (left : Objects D) (run : HasRun facts door_facts state asked workers opened summary entries left) where
+module _ {D K L : Type 0} (facts : L → LinkFacts) (door_facts : D → DoorFacts) (last calls : K → ℕ) (state : StateValue) (asked : Service) (workers : ℕ) (opened : Objects D K) (summary : Summary) (entries : Entries) (left : Objects D K) (run : HasRun facts door_facts last calls state asked workers opened summary entries left) where
   -- the connections that the door gave in the turns of its owner
   abbrev pub connections_of_run : List (Coming L)
-  connections_of_run = connections_given door_facts run.turned.first_owner run.turned.owner_turned.0 run.owner run.turned.owner_turned.1
+  connections_of_run = connections_given door_facts facts run.turned.first_owner run.turned.owner_turned.0 run.owner run.turned.owner_turned.1
 
   -- the commands that its owner decided, in order
   abbrev pub decisions_of_run : List Decision
-  decisions_of_run = decisions door_facts run.turned.first_owner run.turned.owner_turned.0 run.owner run.turned.owner_turned.1
+  decisions_of_run = decisions door_facts facts run.turned.first_owner run.turned.owner_turned.0 run.owner run.turned.owner_turned.1
 
   -- the edits that these accepted, each decided at the state after those before it
   abbrev pub edits_of_run : List Edit

@@ -10,36 +10,36 @@ ghost use Rattle.mum_serve.specs.declared.summary.Summary.{Summary};
 ghost use Rattle.mum_state.specs.State.{StateValue};
 ghost use Rattle.mum_serve_laws.specs.Runs.{AreOfTheTurns, AreRouted, AreWritten};
 
-use mum_io::Door;
+use mum_io::{Clock, Door};
 use mum_worker_laws::laws::{looks_are_within, voice_entries_are_the_looks};
 
 /// The totals of a run are sums over its turns: the connections that the door gave, the edits of the commands that were
 /// decided, and of all workers the packets that were routed, their copies, and the parcels for other sessions.
-pub fn totals_are_of_the_turns<D: Door>()
-    ensures { (state : StateValue) (asked : Service) (workers : ℕ) (opened : Objects D) (summary : Summary)
-        (entries : Entries) (left : Objects D) →
-        (run : HasRun D.Conn.facts D.facts state asked workers opened summary entries left) →
-        AreOfTheTurns D.Conn.facts D.facts state asked workers opened summary entries left run }
+pub fn totals_are_of_the_turns<D: Door, K: Clock>()
+    ensures { (state : StateValue) (asked : Service) (workers : ℕ) (opened : Objects D K) (summary : Summary)
+        (entries : Entries) (left : Objects D K) →
+        (run : HasRun D.Conn.facts D.facts K.last K.calls state asked workers opened summary entries left) →
+        AreOfTheTurns D.Conn.facts D.facts K.last K.calls state asked workers opened summary entries left run }
 {}
 
 /// The entries of a run are of its turns: those of the owner are its decisions, and those of each worker have the
 /// packets that it routed.
-pub fn entries_are_of_the_turns<D: Door>()
-    ensures { (state : StateValue) (asked : Service) (workers : ℕ) (opened : Objects D) (summary : Summary)
-        (entries : Entries) (left : Objects D) →
-        (run : HasRun D.Conn.facts D.facts state asked workers opened summary entries left) →
-        AreWritten D.Conn.facts D.facts state asked workers opened summary entries left run }
+pub fn entries_are_of_the_turns<D: Door, K: Clock>()
+    ensures { (state : StateValue) (asked : Service) (workers : ℕ) (opened : Objects D K) (summary : Summary)
+        (entries : Entries) (left : Objects D K) →
+        (run : HasRun D.Conn.facts D.facts K.last K.calls state asked workers opened summary entries left) →
+        AreWritten D.Conn.facts D.facts K.last K.calls state asked workers opened summary entries left run }
 {
     voice_entries_are_the_looks::<D::Conn>();
 }
 
 /// There is one list of accepted edits, those of the commands that the owner decided, and each packet of each worker
 /// goes to those who hear it after a beginning of that list.
-pub fn packets_go_by_the_decisions<D: Door>()
-    ensures { (state : StateValue) (asked : Service) (workers : ℕ) (opened : Objects D) (summary : Summary)
-        (entries : Entries) (left : Objects D) →
-        (run : HasRun D.Conn.facts D.facts state asked workers opened summary entries left) →
-        AreRouted D.Conn.facts D.facts state asked workers opened summary entries left run }
+pub fn packets_go_by_the_decisions<D: Door, K: Clock>()
+    ensures { (state : StateValue) (asked : Service) (workers : ℕ) (opened : Objects D K) (summary : Summary)
+        (entries : Entries) (left : Objects D K) →
+        (run : HasRun D.Conn.facts D.facts K.last K.calls state asked workers opened summary entries left) →
+        AreRouted D.Conn.facts D.facts K.last K.calls state asked workers opened summary entries left run }
 {
     looks_are_within::<D::Conn>();
 }

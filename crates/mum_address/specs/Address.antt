@@ -28,6 +28,11 @@ abbrev pub IsTextBy : Bool → List ℕ → Place → Type 0
 IsTextBy true text place = (rest : List ℕ) × (text ≡ codes "proxy:" ++ rest) × IsPlaceText rest place
 IsTextBy false text place = Lacks (codes "proxy:") text × IsPlaceText text place
 
+-- whether each connection begins with the header of a relay: exactly where the text begins with `proxy:`
+abbrev pub SaysHeaders : List ℕ → Bool → Type 0
+SaysHeaders text true = (rest : List ℕ) × (text ≡ codes "proxy:" ++ rest)
+SaysHeaders text false = Lacks (codes "proxy:") text
+
 abbrev pub IsAddressText : List ℕ → Address → Type 0
 IsAddressText text address = IsTextBy address.has_headers text address.place
 

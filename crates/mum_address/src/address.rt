@@ -4,7 +4,8 @@ ghost use Rattle.std.specs.Prelude.{◌≡◌, ℕ, Bool, List, MatchOption};
 ghost use Rattle.std.specs.Net.Addr.{ipv6_octets};
 ghost use Rattle.mum_address.specs.declared.address.Place.{Place};
 ghost use Rattle.mum_address.specs.declared.address.Address.{Address};
-ghost use Rattle.mum_address.specs.Address.{IsPlaceText, IsAddressText, IsLogWord, IsSocketPath, host_octets};
+ghost use Rattle.std.specs.Option.{ForSome};
+ghost use Rattle.mum_address.specs.Address.{IsPlaceText, IsAddressText, IsLogWord, IsSocketPath, SaysHeaders, host_octets};
 
 use std::net::{Ipv6Addr, SocketAddr};
 
@@ -29,8 +30,9 @@ pub struct Address<'a> {
 impl<'a> Address<'a> {
     /// The address of this text. None: it has none of the forms, as a name of a host.
     pub fn from_text(text: &'a str) -> Option<Address<'a>>
-        ensures { MatchOption result ((address : Address) → IsAddressText text.now address → ⊥)
+        ensures address { MatchOption result ((address : Address) → IsAddressText text.now address → ⊥)
             (IsAddressText text.now) }
+        ensures headers { ForSome result (λ address. SaysHeaders text.now address.has_headers) }
     {
         match text.strip_prefix("proxy:") {
             Some(rest) => Some(Address {

@@ -3,9 +3,11 @@
 #![tactic(auto)]
 
 mod address;
+mod own;
 mod proxy;
 mod reader;
 
 pub use address::{Address, FORMS, LOG_WORDS, Place, ipv6_of, reports_under, socket_path};
+pub use own::{is_made, own_address};
 pub use proxy::{HEADER_LIMIT, Header, header_of, headers_are_told_apart, limits};
 pub use reader::{HeaderReader, reads_no_further};

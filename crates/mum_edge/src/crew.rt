@@ -2,11 +2,10 @@
 
 ghost use Rattle.std.specs.Prelude.{◌≡◌};
 
-use crate::life::Life;
 use crate::station::{PollSleeper, WAKER};
 use mio::{Events, Poll, Registry, Token, Waker};
 use mum_crew::{Crew, CrewEnd, Plan, RunTally};
-use mum_link::{Board, Hub, LaterRoles, LinkStation, Shares, Stations, THREAD_LIMIT};
+use mum_link::{Board, Hub, LaterRoles, Life, LinkStation, Shares, Stations, THREAD_LIMIT};
 use std::alloc::{AllocError, Global};
 use std::io::Eprint;
 use std::net::Net;

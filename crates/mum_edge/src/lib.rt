@@ -5,7 +5,6 @@
 
 pub mod clock;
 pub mod crew;
-pub mod life;
 pub mod listener;
 pub mod machine;
 pub mod peer;

@@ -1,13 +1,12 @@
 //! A listening socket, over TCP or in the machine.
 
-use crate::life::Life;
 use crate::peer::Peer;
 use crate::socket_file;
 use crate::stream::Stream;
 use mio::net::{TcpListener, UnixListener};
 use mio::{Interest, Registry, Token};
-use mum_address::{Address, Place, ipv6_of, socket_path};
-use mum_link::{DOOR_THREAD, Listener, SLOT_LIMIT};
+use mum_address::{Address, Place, ipv6_of, own_address, socket_path};
+use mum_link::{DOOR_THREAD, Life, Listener, SLOT_LIMIT};
 use std::fs::Files;
 use std::io::{Eprint, ErrorKind};
 use std::net::{Ipv6Addr, Net, SocketAddr};
@@ -76,16 +75,22 @@ pub struct SocketListener<X> {
     life: Life<X>,
     stop_at: Option<String>,
     stop: Option<UnixListener>,
+    // How many connections came.
+    came: u64,
+    // Whether the system keeps little of what a peer has not read yet.
+    keeps_little: bool,
 }
 
 impl<X: Net + Files + Eprint> SocketListener<X> {
-    /// It listens nowhere yet.
+    /// It listens nowhere yet. Whose links are to fail where a peer takes nothing has the system keep little for each of
+    /// them, so as to be notified soon of what the peer took.
     pub(crate) fn new(
         rt: X,
         registries: Arc<Vec<Registry>>,
         fault: Option<i32>,
         life: Life<X>,
         stop_at: Option<String>,
+        keeps_little: bool,
     ) -> SocketListener<X> {
         SocketListener {
             rt,
@@ -95,6 +100,8 @@ impl<X: Net + Files + Eprint> SocketListener<X> {
             life,
             stop_at,
             stop: None,
+            came: 0,
+            keeps_little,
         }
     }
 
@@ -176,16 +183,26 @@ impl<X: Net + Files + Eprint + Copy> Listener for SocketListener<X> {
         self.bound = Some(bound);
         let port = self.local_address().map(|address| address.port());
         self.life.listens(text, port);
+        if matches!(address.place, Place::Path(_)) && !address.has_headers {
+            self.life.bans_need_headers(text);
+        }
         Some(address.has_headers)
     }
 
+    // A peer that has no address to itself is given one for this connection.
     fn accept(&mut self) -> io::Result<(Peer<X>, Ipv6Addr)> {
         let Some(bound) = &self.bound else {
             return Err(io::Error::from(ErrorKind::NotConnected));
         };
-        let (stream, address) = bound.accept()?;
+        let (stream, from) = bound.accept()?;
+        if self.keeps_little {
+            stream.keep_little();
+        }
+        self.came = self.came.saturating_add(1);
+        let address = own_address(from, self.came);
         let registries = self.registries.clone()?;
-        Ok((Peer::new(stream, registries, self.life), address))
+        let peer = Peer::new(stream, from, address, registries, self.life);
+        Ok((peer, address))
     }
 
     fn watch(&mut self, socket: &mut Peer<X>, thread: usize, slot: usize) -> io::Result<()> {
@@ -203,7 +220,7 @@ impl<X: Net + Files + Eprint + Copy> Listener for SocketListener<X> {
         socket.connection = connection;
         socket.opened = milliseconds;
         match client {
-            Some(address) => self.life.came(connection, address),
+            Some(address) => self.life.came(connection, socket.reported(address)),
             None => socket.life = self.life.silent(),
         }
         Ok(())

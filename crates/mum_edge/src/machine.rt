@@ -2,12 +2,11 @@
 
 use crate::clock::SystemClock;
 use crate::crew::{ThreadCrew, thread_count};
-use crate::life::Life;
 use crate::listener::SocketListener;
 use crate::peer::Peer;
 use mio::Registry;
 use mum_address::reports_under;
-use mum_link::{Doorstep, Entrance, Hub, SocketDoor};
+use mum_link::{Doorstep, Entrance, Hub, Life, Socket, SocketDoor};
 use mum_pace::Pace;
 use std::alloc::{AllocError, Global};
 use std::env::VarError;
@@ -35,7 +34,10 @@ pub type MachineDoor<X> = SocketDoor<SocketListener<X>, Peer<X>>;
 /// connection n belongs to worker (n - 1) modulo their number. The view door, and the links of its connections, are to be
 /// asked by a role behind the workers.
 #[derive(Drop)]
-pub struct Machine<X> {
+pub struct Machine<X: Eprint + Drop>
+where
+    Peer<X>: Socket,
+{
     pub crew: ThreadCrew<X>,
     pub door: MachineDoor<X>,
     pub view: MachineDoor<X>,
@@ -100,10 +102,11 @@ impl<X: AllocGlobal + Net + Files + Env + Eprint + Threads + Clock + Copy> Machi
             }
         };
         let step = Doorstep::of_users(setting.pace);
-        let listener = SocketListener::new(rt, polls.clone()?, fault, life, setting.stop_at);
+        let listener = SocketListener::new(rt, polls.clone()?, fault, life, setting.stop_at, false);
         let door = Entrance::new(alloc, hub.clone()?, crew.boards(alloc)?, step, listener);
         let step = Doorstep::of_views(polls.len().saturating_sub(1));
-        let listener = SocketListener::new(rt, polls, fault, life.silent(), None);
+        let keeps_little = step.delivery.patience.is_some();
+        let listener = SocketListener::new(rt, polls, fault, life.silent(), None, keeps_little);
         let view = Entrance::new(alloc, hub, crew.boards(alloc)?, step, listener);
         Ok(Machine {
             crew,

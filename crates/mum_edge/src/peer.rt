@@ -1,13 +1,16 @@
 //! The socket of a link: a stream, the polls of the crew's threads, and the lines on standard error about it.
 
-ghost use Rattle.std.specs.Prelude.{None};
+ghost use Rattle.std.specs.Prelude.{◌≡◌, None, OnOk, Some};
+ghost use Rattle.std.specs.Net.Addr.{ipv6_octets};
+ghost use Rattle.std.specs.Option.{option_map};
 
-use crate::life::Life;
 use crate::stream::Stream;
 use mio::Registry;
-use mum_link::Socket;
+use mum_address::is_made;
+use mum_link::{BANNED, Life, Sightings, Socket};
 use std::io;
 use std::io::{Eprint, ErrorKind};
+use std::net::Ipv6Addr;
 use std::sync::Arc;
 
 /// How many bytes are thrown away of a peer that still sends when its link is shut.
@@ -15,32 +18,57 @@ const DRAIN_LIMIT: usize = 65_536;
 
 const DRAIN_PIECE: usize = 4096;
 
-/// A stream, and the thread and the slot for which it is registered. Which bytes it carries nobody knows.
+/// A stream, where it comes from, the address that it has here, and the thread and the slot for which it is registered. Which
+/// bytes it carries nobody knows.
 #[derive(Drop)]
 pub struct Peer<X> {
     pub stream: Stream,
+    from: Ipv6Addr,
+    address: Ipv6Addr,
+    refusals: u64,
     registries: Arc<Vec<Registry>>,
     watched: Option<(usize, usize)>,
     pub life: Life<X>,
     pub connection: u64,
     pub opened: u64,
+    sightings: Sightings,
 }
 
 impl<X> Peer<X> {
-    /// A stream that is registered nowhere.
-    pub fn new(stream: Stream, registries: Arc<Vec<Registry>>, life: Life<X>) -> Peer<X> {
+    /// A stream that comes from there, has this address, and is registered nowhere.
+    pub fn new(
+        stream: Stream,
+        from: Ipv6Addr,
+        address: Ipv6Addr,
+        registries: Arc<Vec<Registry>>,
+        life: Life<X>,
+    ) -> Peer<X>
+        ensures { result.address ≡ address }
+    {
         Peer {
             stream,
+            from,
+            address,
+            refusals: 0,
             registries,
             watched: None,
             life,
             connection: 0,
             opened: 0,
+            sightings: Sightings::new(),
         }
     }
 
+    /// The address that is reported of a client at this one. In place of one that was made for it that is the true one.
+    pub fn reported(&self, client: Ipv6Addr) -> Ipv6Addr {
+        if is_made(client) { self.from } else { client }
+    }
+
     /// Registers it on this thread for this slot, and no longer where it was.
-    pub fn watch(&mut self, thread: usize, slot: usize) -> io::Result<()> {
+    pub fn watch(&mut self, thread: usize, slot: usize) -> io::Result<()>
+        ensures watched { OnOk result (option_map (λ w. w.0) self.new.watched ≡ Some thread) }
+        ensures address { self.new.address ≡ self.old.address }
+    {
         self.unwatch();
         let Some(registry) = self.registries.get(thread) else {
             return Err(io::Error::from(ErrorKind::NotFound));
@@ -50,7 +78,10 @@ impl<X> Peer<X> {
         Ok(())
     }
 
-    fn unwatch(&mut self) {
+    fn unwatch(&mut self)
+        ensures address { self.new.address ≡ self.old.address }
+        ensures refusals { self.new.refusals ≡ self.old.refusals }
+    {
         if let Some((thread, _)) = self.watched {
             if let Some(registry) = self.registries.get(thread) {
                 let _gone_already = self.stream.deregister(registry);
@@ -59,7 +90,7 @@ impl<X> Peer<X> {
         self.watched = None;
     }
 
-    fn drain(&mut self) {
+    fn drain(&self) {
         let mut buf = [0u8; DRAIN_PIECE];
         for _ in 0..DRAIN_LIMIT / DRAIN_PIECE {
             match self.stream.read(&mut buf) {
@@ -75,12 +106,38 @@ impl<X: Eprint + Drop> Socket for Peer<X> {
 
     ghost written = { λ _. None };
 
+    ghost origin = { λ p. record { address = ipv6_octets p.address; bytes = None } };
+
+    ghost watched = { λ p. option_map (λ w. w.0) p.watched };
+
+    ghost refusals = { λ p. p.refusals };
+
     fn read(&mut self, buf: &mut [u8]) -> io::Result<usize> {
-        self.stream.read(buf)
+        let count = self.stream.read(buf)?;
+        // before the connection begins it is a relay that sends
+        if self.connection > 0 {
+            if let Some(seen) = self.sightings.follow(&buf[..count.min(buf.len())]) {
+                self.life.saw(self.connection, seen);
+            }
+        }
+        Ok(count)
     }
 
     fn write(&mut self, piece: &[u8]) -> io::Result<usize> {
-        self.stream.write(piece)
+        if piece == BANNED.as_slice() {
+            self.life.is_banned(self.connection);
+        }
+        match self.stream.write(piece) {
+            Ok(0) => {
+                self.refusals = self.refusals.saturating_add(1);
+                Ok(0)
+            }
+            Ok(count) => Ok(count),
+            Err(error) => {
+                self.refusals = self.refusals.saturating_add(1);
+                Err(error)
+            }
+        }
     }
 
     fn await_room(&mut self) -> bool {

@@ -1,10 +1,9 @@
 //! What a thread sleeps on.
 
-use crate::life::Life;
 use crate::listener::STOP;
 use mio::event::Event;
 use mio::{Events, Poll, Waker};
-use mum_link::{HUNG_UP, Hub, READABLE, Ready, Sleeper, WRITABLE};
+use mum_link::{HUNG_UP, Hub, Life, READABLE, Ready, Sleeper, WRITABLE};
 use std::io::Eprint;
 use std::sync::Arc;
 use std::time::{Clock, Duration, Instant};

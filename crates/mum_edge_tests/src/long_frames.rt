@@ -30,7 +30,8 @@ fn all_cover(links: &mut [Reservation]) -> bool {
 
 #[test]
 fn a_long_frame_reserves_its_whole_length_or_waits(rt: HostRuntime) {
-    let long_frames = Arc::new(rt.alloc(), LongFrames::new()).expect(&rt, "memory");
+    let long_frames = LongFrames::new(rt.alloc()).expect(&rt, "memory");
+    let long_frames = Arc::new(rt.alloc(), long_frames).expect(&rt, "memory");
     let mut links = Vec::new(rt.alloc());
     put_links(&mut links, &long_frames, 9).expect(&rt, "memory");
     let mut last = links.pop().expect(&rt, "a link");
@@ -48,7 +49,8 @@ fn a_long_frame_reserves_its_whole_length_or_waits(rt: HostRuntime) {
 
 #[test]
 fn a_frame_that_is_whole_gives_its_part_back(rt: HostRuntime) {
-    let long_frames = Arc::new(rt.alloc(), LongFrames::new()).expect(&rt, "memory");
+    let long_frames = LongFrames::new(rt.alloc()).expect(&rt, "memory");
+    let long_frames = Arc::new(rt.alloc(), long_frames).expect(&rt, "memory");
     let mut one = Reservation::new(long_frames.clone().expect(&rt, "memory"));
     let mut other = Reservation::new(long_frames);
     // the greatest number takes all that there is

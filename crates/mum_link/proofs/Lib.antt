@@ -1,2 +1,4 @@
-pub mod ReadingOn
 pub mod Coming
+pub mod Dealing
+pub mod Reading
+pub mod ReadingOn

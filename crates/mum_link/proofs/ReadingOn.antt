@@ -2,7 +2,7 @@
 use Rattle.std.proofs.Common.{◌≡◌, ℕ, List, [], ◌++◌, append_assoc, append-nil, ap, sym, ◌∙◌, refl}
 use Rattle.std.specs.Prelude.{Option, Some, None}
 use Rattle.std.specs.Io.KnownBytes.{Consumes}
-use Rattle.mum_link.specs.Headers.{ReadsOn}
+use Rattle.mum_link.specs.Reads.{ReadsOn}
 
 -- nothing was read
 pub reads_none : (reader : List ℕ) (left : Option (List ℕ)) → ReadsOn reader reader left left

@@ -1,26 +1,20 @@
--- Connections that wait for their headers: what reading on does to one, who is taken out from among them, and whose a link
--- is.
-use Rattle.std.specs.Prelude.{◌≡◌, ◌++◌, ℕ, List, Option, Some, None, slice_get, remove}
+-- Connections that wait for their headers: who is taken out from among them, and whose a link is.
+use Rattle.std.specs.Prelude.{◌≡◌, ℕ, List, Option, Some, None, slice_get, remove}
 use Rattle.std.specs.Option.{ForSome}
-use Rattle.std.specs.Io.KnownBytes.{Consumes, Keeps}
+use Rattle.std.specs.Io.KnownBytes.{Keeps}
 use Rattle.mum_address.specs.Header.{IsHeader, plain}
 use Rattle.mum_address.specs.Header.Reading.{whole}
 use Rattle.mum_address.specs.declared.proxy.Header.{Header}
 use Rattle.mum_io.specs.Counts.{next_count}
-use Rattle.mum_link.specs.declared.waiting.Waiting.{Waiting}
-
--- its reader has these bytes more, and no others were taken from its socket
-abbrev pub ReadsOn : List ℕ → List ℕ → Option (List ℕ) → Option (List ℕ) → Type 0
-ReadsOn reader after left rest = (bytes : List ℕ) × (after ≡ reader ++ bytes) × Consumes left rest bytes
 
 -- where the answer is that the header is whole, who waits there holds it, and it tells that address or none
-abbrev pub HoldsAnswer : {S : Type 0} → Header → Option (Waiting S) → Type 0
-HoldsAnswer answer waiting = (told : Option (List ℕ)) → plain answer ≡ whole told → ForSome waiting (λ w. IsHeader w.reader told)
+abbrev pub HoldsAnswer : {W : Type 0} → (W → List ℕ) → Header → Option W → Type 0
+HoldsAnswer reader answer waiting = (told : Option (List ℕ)) → plain answer ≡ whole told → ForSome waiting (λ w. IsHeader (reader w) told)
 
 -- the socket is that of the one who waited, with what was left to be read
-abbrev pub IsOf : {S : Type 0} → (S → Option (List ℕ)) → S → Option (Waiting S) → Type 0
-IsOf left socket None = ⊥
-IsOf left socket (Some waited) = Keeps (left waited.socket) (left socket)
+abbrev pub IsOf : {S W : Type 0} → (S → Option (List ℕ)) → (W → S) → S → Option W → Type 0
+IsOf left its_socket socket None = ⊥
+IsOf left its_socket socket (Some waited) = Keeps (left (its_socket waited)) (left socket)
 
 -- who waits at this place is the one that is taken out, and the others stay in their order
 abbrev pub TakesOut : {W : Type 0} → ℕ → List W → List W → Option W → Type 0

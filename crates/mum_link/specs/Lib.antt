@@ -1,5 +1,10 @@
 pub mod Comings
+pub mod Doors
+pub mod Headers
+pub mod Origins
+pub mod Paces
+pub mod Reads
+pub mod Refusals
 pub mod Sharing
 pub mod Timely
 pub mod Wires
-pub mod Headers

@@ -14,7 +14,7 @@ const DOOR_SLOT: usize = LINK_LIMIT + VIEW_LIMIT;
 const VIEW_DOOR_SLOT: usize = DOOR_SLOT + 1;
 
 /// How long a view's link waits for a peer that takes nothing, in milliseconds.
-const VIEW_PATIENCE: u64 = 10_000;
+pub(crate) const VIEW_PATIENCE: u64 = 10_000;
 
 /// Where a door and its links are, and how these come in and write.
 #[derive(Clone, Copy)]

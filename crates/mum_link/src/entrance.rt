@@ -1,15 +1,21 @@
 //! How connections come in: from a listener, behind the header of a relay where there is one, to the thread of the worker
 //! that gets them.
 
-ghost use Rattle.std.specs.Prelude.{◌≡◌, ℕ, [], None, Some, false, true, not, IfOk, MatchOption, IfSome, is_some, slice_get, unwrap_or};
+ghost use Rattle.std.specs.Prelude.{◌≡◌, ℕ, ◌<◌, ◌≤◌, ◌==◌, [], None, Some, false, true, not, IfOk, MatchOption, IfSome, is_some, slice_get, string_bytes, unwrap_or, vec_len};
 ghost use Rattle.std.specs.Io.KnownBytes.{Keeps};
 ghost use Rattle.std.specs.Option.{ForSome, option_map};
 ghost use Rattle.std.specs.Result.{ForOk};
 ghost use Rattle.std.specs.Net.Addr.{ipv6_octets};
+ghost use Rattle.mum_address.specs.Address.{SaysHeaders};
 ghost use Rattle.mum_address.specs.Header.{IsHeader};
 ghost use Rattle.mum_pace.specs.Arrivals.{no_arrivals, state_of};
 ghost use Rattle.mum_link.specs.Comings.{CountsOne, HaveRoom, LetsIn};
 ghost use Rattle.mum_link.specs.Headers.{HoldsAnswer, IsOf, TakesOut, refused_after};
+ghost use Rattle.mum_link.specs.Origins.{ComesIn, HasRead};
+ghost use Rattle.mum_link.specs.Paces.{IsNew};
+ghost use Rattle.mum_link.specs.Sharing.{IsWatched};
+ghost use Rattle.mum_link.specs.declared.entrance.TheConstants.{WAITING_LIMIT};
+ghost use Rattle.mum_pace.specs.Meters as meter;
 
 use crate::board::Board;
 use crate::doorstep::Doorstep;
@@ -22,7 +28,7 @@ use crate::socket::Socket;
 use crate::waiting::Waiting;
 use mum_address::Header;
 use mum_pace::{Arrivals, Meter, Rate, Reservation};
-use std::alloc::Global;
+use std::alloc::{AllocError, Global};
 use std::io;
 use std::io::ErrorKind;
 use std::mem::replace;
@@ -30,7 +36,7 @@ use std::net::Ipv6Addr;
 use std::sync::Arc;
 
 /// How many connections may wait for their headers.
-const WAITING_LIMIT: usize = 64;
+pub(crate) const WAITING_LIMIT: usize = 64;
 
 /// After how many milliseconds a listener that had no descriptor or no slot is asked again.
 const PAUSE: u64 = 1000;
@@ -40,12 +46,13 @@ const ARRIVALS: usize = 256;
 
 const ATTEMPTS: usize = 16;
 
-// A connection that came, with its slot and the address of its peer.
+// A connection that came, with its slot and the address of its peer. Nothing of it was read.
 #[derive(Drop)]
-struct Arrival<S> {
+struct Arrival<S: Socket> {
     socket: S,
     slot: usize,
     address: Ipv6Addr,
+    ghost came: { HasRead (S.origin socket) (S.left socket) [] (ipv6_octets address) },
 }
 
 // How many links were shut, and the time in milliseconds, when the listener could not be asked.
@@ -57,7 +64,7 @@ struct Stuck {
 
 /// A listener, those who wait behind it, and the boards of the crew's threads.
 #[derive(Drop)]
-pub struct Entrance<L, S> {
+pub struct Entrance<L, S: Socket> {
     alloc: Global,
     hub: Arc<Hub>,
     boards: Vec<Arc<Board>>,
@@ -69,6 +76,7 @@ pub struct Entrance<L, S> {
     stuck: Option<Stuck>,
     is_failing: bool,
     refused: u64,
+    ghost few: { vec_len waiting ≤ WAITING_LIMIT },
 }
 
 // Where none came yet at a door with this rate.
@@ -82,7 +90,7 @@ fn arrivals_of(rate: Option<Rate>) -> Option<Arrivals>
     }
 }
 
-impl<L, S> Entrance<L, S> {
+impl<L, S: Socket> Entrance<L, S> {
     /// Behind this listener, which is still to be opened.
     pub fn new(
         alloc: Global,
@@ -117,6 +125,13 @@ impl<L, S> Entrance<L, S> {
         &self.listener
     }
 
+    /// A copy of this text.
+    pub fn text_of(&self, text: &str) -> Result<String, AllocError>
+        ensures { IfOk result (λ copy. string_bytes copy ≡ text.now) }
+    {
+        String::from_str(self.alloc, text)
+    }
+
     /// Whether nobody is let in any more: the server stops, or the owner has ended and the door ends with it.
     pub fn is_over(&self) -> bool {
         self.hub.is_stopping() || (self.step.ends_with_owner && self.hub.has_owner_ended())
@@ -124,9 +139,11 @@ impl<L, S> Entrance<L, S> {
 
     // An accept failed. Whether that is to be reported: of failures in a row only the first is.
     fn note_failure(&mut self) -> bool
+        ensures waiting { self.new.waiting ≡ self.old.waiting }
         ensures first { result ≡ not self.old.is_failing }
         ensures failing { self.new.is_failing ≡ true }
         ensures has_headers { self.new.has_headers ≡ self.old.has_headers }
+        ensures step { self.new.step ≡ self.old.step }
         ensures arrivals { self.new.arrivals ≡ self.old.arrivals }
     {
         !replace(&mut self.is_failing, true)
@@ -134,9 +151,11 @@ impl<L, S> Entrance<L, S> {
 }
 
 impl<S: Socket, L: Listener<Socket = S>> Entrance<L, S> {
-    /// Listens at this address. Whether it does.
+    /// Listens at this address. Whether it does. Who waits for a header at another is closed.
     pub fn open(&mut self, address: &str) -> bool
-        ensures headers { result ≡ false → self.new.has_headers ≡ self.old.has_headers }
+        ensures headers { result ≡ true → SaysHeaders address.now self.new.has_headers }
+        ensures as_before { result ≡ false → self.new.has_headers ≡ self.old.has_headers }
+        ensures step { self.new.step ≡ self.old.step }
         ensures arrivals { self.new.arrivals ≡ self.old.arrivals }
     {
         let answer = self
@@ -149,20 +168,41 @@ impl<S: Socket, L: Listener<Socket = S>> Entrance<L, S> {
     fn begin(&mut self, answer: Option<bool>) -> bool
         ensures listens { result ≡ is_some answer }
         ensures has_headers { self.new.has_headers ≡ unwrap_or answer self.old.has_headers }
+        ensures step { self.new.step ≡ self.old.step }
         ensures arrivals { self.new.arrivals ≡ self.old.arrivals }
     {
         let Some(has_headers) = answer else {
             return false;
         };
+        self.close_waiting();
         self.has_headers = has_headers;
         self.set_ready();
         true
     }
 
+    // Closes those who wait for their headers.
+    fn close_waiting(&mut self)
+        ensures none { self.new.waiting.items ≡ [] }
+        ensures has_headers { self.new.has_headers ≡ self.old.has_headers }
+        ensures step { self.new.step ≡ self.old.step }
+        ensures arrivals { self.new.arrivals ≡ self.old.arrivals }
+    {
+        while let Some(waiting) = self.waiting.pop() {
+            self.hub.free_slot(waiting.slot);
+        }
+    }
+
     /// The next connection, which gets this number.
     pub fn next(&mut self, connection: u64) -> Option<SocketLink<S>>
         ensures has_headers { self.new.has_headers ≡ self.old.has_headers }
+        ensures step { self.new.step ≡ self.old.step }
         ensures rate { (now : ℕ) × LetsIn (is_some result) now self.old.arrivals self.new.arrivals }
+        // It begins with a header where connections do, and has the address that this names.
+        ensures comes { ForSome result (λ link. ComesIn self.old.has_headers (S.origin link.wire.line.socket)
+            (S.left link.wire.line.socket) (ipv6_octets link.address)) }
+        ensures pace { ForSome result (λ link. IsNew self.old.step.pace (meter.state_of link.wire.meter)) }
+        ensures watched { ForSome result (λ link. IsWatched self.old.step.is_shared self.old.step.thread connection
+            (S.watched link.wire.line.socket)) }
     {
         self.try_again();
         let now = self.now();
@@ -182,6 +222,7 @@ impl<S: Socket, L: Listener<Socket = S>> Entrance<L, S> {
     fn have_arrivals_room(&mut self, milliseconds: u64) -> bool
         ensures room { HaveRoom result milliseconds self.old.arrivals self.new.arrivals }
         ensures has_headers { self.new.has_headers ≡ self.old.has_headers }
+        ensures step { self.new.step ≡ self.old.step }
     {
         match &mut self.arrivals {
             Some(arrivals) => arrivals.have_room(milliseconds),
@@ -191,6 +232,7 @@ impl<S: Socket, L: Listener<Socket = S>> Entrance<L, S> {
 
     fn count_arrival(&mut self)
         ensures has_headers { self.new.has_headers ≡ self.old.has_headers }
+        ensures step { self.new.step ≡ self.old.step }
         ensures counted { CountsOne self.old.arrivals self.new.arrivals }
     {
         if let Some(arrivals) = &mut self.arrivals {
@@ -212,7 +254,13 @@ impl<S: Socket, L: Listener<Socket = S>> Entrance<L, S> {
     }
 
     fn next_of_all(&mut self, connection: u64) -> Option<SocketLink<S>>
+        ensures comes { ForSome result (λ link. ComesIn self.old.has_headers (S.origin link.wire.line.socket)
+            (S.left link.wire.line.socket) (ipv6_octets link.address)) }
+        ensures pace { ForSome result (λ link. IsNew self.old.step.pace (meter.state_of link.wire.meter)) }
+        ensures watched { ForSome result (λ link. IsWatched self.old.step.is_shared self.old.step.thread connection
+            (S.watched link.wire.line.socket)) }
         ensures has_headers { self.new.has_headers ≡ self.old.has_headers }
+        ensures step { self.new.step ≡ self.old.step }
         ensures arrivals { self.new.arrivals ≡ self.old.arrivals }
     {
         for _ in 0..ARRIVALS {
@@ -245,6 +293,7 @@ impl<S: Socket, L: Listener<Socket = S>> Entrance<L, S> {
     // The listener reports no second time what it could not be asked for.
     fn try_again(&mut self)
         ensures has_headers { self.new.has_headers ≡ self.old.has_headers }
+        ensures step { self.new.step ≡ self.old.step }
         ensures arrivals { self.new.arrivals ≡ self.old.arrivals }
     {
         if let Some(stuck) = self.stuck {
@@ -267,8 +316,10 @@ impl<S: Socket, L: Listener<Socket = S>> Entrance<L, S> {
     }
 
     fn pause(&mut self)
+        ensures waiting { self.new.waiting ≡ self.old.waiting }
         ensures failing { self.new.is_failing ≡ self.old.is_failing }
         ensures has_headers { self.new.has_headers ≡ self.old.has_headers }
+        ensures step { self.new.step ≡ self.old.step }
         ensures arrivals { self.new.arrivals ≡ self.old.arrivals }
     {
         self.clear_ready();
@@ -280,7 +331,9 @@ impl<S: Socket, L: Listener<Socket = S>> Entrance<L, S> {
 
     // The next connection of the listener, in a slot of its own.
     fn arrive(&mut self) -> Option<Arrival<S>>
+        ensures waiting { self.new.waiting ≡ self.old.waiting }
         ensures has_headers { self.new.has_headers ≡ self.old.has_headers }
+        ensures step { self.new.step ≡ self.old.step }
         ensures arrivals { self.new.arrivals ≡ self.old.arrivals }
     {
         if !self.is_ready() {
@@ -304,7 +357,10 @@ impl<S: Socket, L: Listener<Socket = S>> Entrance<L, S> {
     }
 
     fn accept(&mut self) -> Option<(S, Ipv6Addr)>
+        ensures came { IfSome result (λ came. HasRead (S.origin came.0) (S.left came.0) [] (ipv6_octets came.1)) }
+        ensures waiting { self.new.waiting ≡ self.old.waiting }
         ensures has_headers { self.new.has_headers ≡ self.old.has_headers }
+        ensures step { self.new.step ≡ self.old.step }
         ensures arrivals { self.new.arrivals ≡ self.old.arrivals }
     {
         for _ in 0..ATTEMPTS {
@@ -331,8 +387,10 @@ impl<S: Socket, L: Listener<Socket = S>> Entrance<L, S> {
 
     // The listener cannot accept, and is asked again after a pause.
     fn fail(&mut self, error: &io::Error)
+        ensures waiting { self.new.waiting ≡ self.old.waiting }
         ensures failing { self.new.is_failing ≡ true }
         ensures has_headers { self.new.has_headers ≡ self.old.has_headers }
+        ensures step { self.new.step ≡ self.old.step }
         ensures arrivals { self.new.arrivals ≡ self.old.arrivals }
     {
         if self.note_failure() {
@@ -343,7 +401,9 @@ impl<S: Socket, L: Listener<Socket = S>> Entrance<L, S> {
 
     // Keeps a connection until its header has come.
     fn await_header(&mut self, arrival: Arrival<S>)
+        requires { vec_len self.old.waiting < WAITING_LIMIT }
         ensures has_headers { self.new.has_headers ≡ self.old.has_headers }
+        ensures step { self.new.step ≡ self.old.step }
         ensures arrivals { self.new.arrivals ≡ self.old.arrivals }
     {
         let slot = arrival.slot;
@@ -352,8 +412,11 @@ impl<S: Socket, L: Listener<Socket = S>> Entrance<L, S> {
         }
     }
 
+    #[tactic(auto, using(crate::proofs::Reading::has_read_still))]
     fn watch_waiting(&mut self, arrival: Arrival<S>) -> io::Result<()>
+        requires { vec_len self.old.waiting < WAITING_LIMIT }
         ensures has_headers { self.new.has_headers ≡ self.old.has_headers }
+        ensures step { self.new.step ≡ self.old.step }
         ensures arrivals { self.new.arrivals ≡ self.old.arrivals }
     {
         let Arrival {
@@ -369,9 +432,18 @@ impl<S: Socket, L: Listener<Socket = S>> Entrance<L, S> {
 
     // The first connection whose header is whole. Those without one are closed.
     fn next_waiting(&mut self, connection: u64) -> Option<SocketLink<S>>
+        ensures comes { ForSome result (λ link. ComesIn self.old.has_headers (S.origin link.wire.line.socket)
+            (S.left link.wire.line.socket) (ipv6_octets link.address)) }
+        ensures pace { ForSome result (λ link. IsNew self.old.step.pace (meter.state_of link.wire.meter)) }
+        ensures watched { ForSome result (λ link. IsWatched self.old.step.is_shared self.old.step.thread connection
+            (S.watched link.wire.line.socket)) }
         ensures has_headers { self.new.has_headers ≡ self.old.has_headers }
+        ensures step { self.new.step ≡ self.old.step }
         ensures arrivals { self.new.arrivals ≡ self.old.arrivals }
     {
+        if !self.has_headers {
+            return None;
+        }
         let mut place = 0usize;
         for _ in 0..WAITING_LIMIT {
             match self.read_waiting(place)? {
@@ -389,8 +461,9 @@ impl<S: Socket, L: Listener<Socket = S>> Entrance<L, S> {
 
     // What has come of the header of who waits at this place. None: nobody does.
     fn read_waiting(&mut self, place: usize) -> Option<Header>
-        ensures answer { ForSome result (λ answer. HoldsAnswer answer (slice_get self.new.waiting.items place)) }
+        ensures answer { ForSome result (λ answer. HoldsAnswer (λ w. w.reader) answer (slice_get self.new.waiting.items place)) }
         ensures has_headers { self.new.has_headers ≡ self.old.has_headers }
+        ensures step { self.new.step ≡ self.old.step }
         ensures arrivals { self.new.arrivals ≡ self.old.arrivals }
     {
         let now = self.now();
@@ -409,11 +482,17 @@ impl<S: Socket, L: Listener<Socket = S>> Entrance<L, S> {
     ) -> Option<SocketLink<S>>
         requires { ForSome (slice_get self.old.waiting.items place)
             (λ waiting. IsHeader waiting.reader (option_map ipv6_octets client)) }
-        ensures same { ForSome result (λ link. IsOf S.left link.wire.line.socket (slice_get self.old.waiting.items place)) }
+        ensures same { ForSome result (λ link. IsOf S.left (λ w. w.socket) link.wire.line.socket (slice_get self.old.waiting.items place)) }
         ensures address { ForSome result (λ link. ForSome (slice_get self.old.waiting.items place)
             (λ waiting. link.address ≡ unwrap_or client waiting.address)) }
         ensures taken { TakesOut place self.old.waiting.items self.new.waiting.items (slice_get self.old.waiting.items place) }
+        ensures comes { ForSome result (λ link. ComesIn true (S.origin link.wire.line.socket)
+            (S.left link.wire.line.socket) (ipv6_octets link.address)) }
+        ensures pace { ForSome result (λ link. IsNew self.old.step.pace (meter.state_of link.wire.meter)) }
+        ensures watched { ForSome result (λ link. IsWatched self.old.step.is_shared self.old.step.thread connection
+            (S.watched link.wire.line.socket)) }
         ensures has_headers { self.new.has_headers ≡ self.old.has_headers }
+        ensures step { self.new.step ≡ self.old.step }
         ensures arrivals { self.new.arrivals ≡ self.old.arrivals }
     {
         let Waiting {
@@ -422,12 +501,7 @@ impl<S: Socket, L: Listener<Socket = S>> Entrance<L, S> {
             address,
             ..
         } = self.take_waiting(place)?;
-        let arrival = Arrival {
-            socket,
-            slot,
-            address,
-        };
-        self.admit(arrival, connection, client)
+        self.admit(socket, slot, connection, client.unwrap_or(address), client)
     }
 
     // Closes who waits at this place, and counts it.
@@ -435,6 +509,7 @@ impl<S: Socket, L: Listener<Socket = S>> Entrance<L, S> {
         ensures taken { TakesOut place self.old.waiting.items self.new.waiting.items (slice_get self.old.waiting.items place) }
         ensures refused { self.new.refused ≡ refused_after (slice_get self.old.waiting.items place) self.old.refused }
         ensures has_headers { self.new.has_headers ≡ self.old.has_headers }
+        ensures step { self.new.step ≡ self.old.step }
         ensures arrivals { self.new.arrivals ≡ self.old.arrivals }
     {
         if let Some(waiting) = self.take_waiting(place) {
@@ -449,6 +524,7 @@ impl<S: Socket, L: Listener<Socket = S>> Entrance<L, S> {
         ensures taken { TakesOut place self.old.waiting.items self.new.waiting.items result }
         ensures refused { self.new.refused ≡ self.old.refused }
         ensures has_headers { self.new.has_headers ≡ self.old.has_headers }
+        ensures step { self.new.step ≡ self.old.step }
         ensures arrivals { self.new.arrivals ≡ self.old.arrivals }
     {
         if self.waiting.len() <= place {
@@ -459,32 +535,45 @@ impl<S: Socket, L: Listener<Socket = S>> Entrance<L, S> {
 
     // Makes the link of a client that came by itself, where connections begin without headers.
     fn admit_client(&mut self, arrival: Arrival<S>, connection: u64) -> Option<SocketLink<S>>
-        requires { self.old.has_headers ≡ false }
-        ensures address { IfSome result (λ link. link.address ≡ arrival.address) }
-        ensures left { ForSome result (λ link. Keeps (S.left arrival.socket) (S.left link.wire.line.socket)) }
+        ensures comes { ForSome result (λ link. ComesIn false (S.origin link.wire.line.socket)
+            (S.left link.wire.line.socket) (ipv6_octets link.address)) }
+        ensures pace { ForSome result (λ link. IsNew self.old.step.pace (meter.state_of link.wire.meter)) }
+        ensures watched { ForSome result (λ link. IsWatched self.old.step.is_shared self.old.step.thread connection
+            (S.watched link.wire.line.socket)) }
         ensures has_headers { self.new.has_headers ≡ self.old.has_headers }
+        ensures step { self.new.step ≡ self.old.step }
         ensures arrivals { self.new.arrivals ≡ self.old.arrivals }
     {
-        let client = Some(arrival.address);
-        self.admit(arrival, connection, client)
+        let Arrival {
+            socket,
+            slot,
+            address,
+        } = arrival;
+        self.admit(socket, slot, connection, address, Some(address))
     }
 
-    // Makes the link of this number on the thread of its worker, for a client at this address, or for a relay. None:
-    // something is missing for it, and it is closed.
+    // Makes the link of this number on the thread of its worker, with this address, for a client that is there, or for a
+    // relay. None: something is missing for it, and it is closed.
     fn admit(
         &mut self,
-        arrival: Arrival<S>,
+        socket: S,
+        slot: usize,
         connection: u64,
+        address: Ipv6Addr,
         client: Option<Ipv6Addr>,
     ) -> Option<SocketLink<S>>
-        ensures address { IfSome result (λ link. link.address ≡ unwrap_or client arrival.address) }
-        ensures left { ForSome result (λ link. Keeps (S.left arrival.socket) (S.left link.wire.line.socket)) }
+        ensures address { IfSome result (λ link. link.address ≡ address) }
+        ensures left { ForSome result (λ link. Keeps (S.left socket) (S.left link.wire.line.socket)) }
+        ensures origin { ForSome result (λ link. S.origin link.wire.line.socket ≡ S.origin socket) }
+        ensures pace { ForSome result (λ link. IsNew self.old.step.pace (meter.state_of link.wire.meter)) }
+        ensures watched { ForSome result (λ link. IsWatched self.old.step.is_shared self.old.step.thread connection
+            (S.watched link.wire.line.socket)) }
         ensures waiting { self.new.waiting ≡ self.old.waiting }
         ensures has_headers { self.new.has_headers ≡ self.old.has_headers }
+        ensures step { self.new.step ≡ self.old.step }
         ensures arrivals { self.new.arrivals ≡ self.old.arrivals }
     {
-        let slot = arrival.slot;
-        match self.link(arrival, connection, client) {
+        match self.link(socket, slot, connection, address, client) {
             Ok(link) => Some(link),
             Err(_) => {
                 self.hub.free_slot(slot);
@@ -495,21 +584,23 @@ impl<S: Socket, L: Listener<Socket = S>> Entrance<L, S> {
 
     fn link(
         &mut self,
-        arrival: Arrival<S>,
+        mut socket: S,
+        slot: usize,
         connection: u64,
+        address: Ipv6Addr,
         client: Option<Ipv6Addr>,
     ) -> io::Result<SocketLink<S>>
-        ensures address { IfOk result (λ link. link.address ≡ unwrap_or client arrival.address) }
-        ensures left { ForOk result (λ link. Keeps (S.left arrival.socket) (S.left link.wire.line.socket)) }
+        ensures address { IfOk result (λ link. link.address ≡ address) }
+        ensures left { ForOk result (λ link. Keeps (S.left socket) (S.left link.wire.line.socket)) }
+        ensures origin { ForOk result (λ link. S.origin link.wire.line.socket ≡ S.origin socket) }
+        ensures pace { ForOk result (λ link. IsNew self.old.step.pace (meter.state_of link.wire.meter)) }
+        ensures watched { ForOk result (λ link. IsWatched self.old.step.is_shared self.old.step.thread connection
+            (S.watched link.wire.line.socket)) }
         ensures waiting { self.new.waiting ≡ self.old.waiting }
         ensures has_headers { self.new.has_headers ≡ self.old.has_headers }
+        ensures step { self.new.step ≡ self.old.step }
         ensures arrivals { self.new.arrivals ≡ self.old.arrivals }
     {
-        let Arrival {
-            mut socket,
-            slot,
-            address,
-        } = arrival;
         let thread = self.thread_of(connection);
         let Some(board) = self.boards.get(thread) else {
             return Err(io::Error::from(ErrorKind::NotFound));
@@ -529,7 +620,6 @@ impl<S: Socket, L: Listener<Socket = S>> Entrance<L, S> {
             .begin(&mut socket, connection, opened, client)?;
         seat.take();
         let meter = Meter::new(self.step.pace, opened);
-        let address = client.unwrap_or(address);
         let delivery = self.step.delivery;
         Ok(SocketLink::new(
             socket,
@@ -545,10 +635,10 @@ impl<S: Socket, L: Listener<Socket = S>> Entrance<L, S> {
 
     // The thread of the link of this number.
     fn thread_of(&self, connection: u64) -> usize
-        ensures { self.now.step.is_shared ≡ false → result ≡ self.now.step.thread }
+        ensures { IsWatched self.now.step.is_shared self.now.step.thread connection (Some result) }
     {
         if self.step.is_shared {
-            self.hub.thread_of(connection)
+            self.hub.shares().thread_of(connection)
         } else {
             self.step.thread
         }

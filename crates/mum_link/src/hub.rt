@@ -1,6 +1,6 @@
 //! What the links, the door and the stations share: which slots are ready, who sleeps, who worked.
 
-ghost use Rattle.std.specs.Prelude.{◌≡◌, ◌-◌, ◌<◌, ◌≤◌, IfSome};
+ghost use Rattle.std.specs.Prelude.{◌≡◌, ◌+◌, ◌*◌, ◌-◌, ◌<◌, ◌≤◌, IfSome};
 ghost use Rattle.mum_link.specs.Sharing.{IsEnough};
 
 use crate::shares::{LaterRoles, Shares};
@@ -46,8 +46,7 @@ pub struct Hub {
     late_rounds: AtomicU64,
     is_stopping: AtomicBool,
     has_owner_ended: AtomicBool,
-    workers: AtomicU64,
-    spread: AtomicU64,
+    shares: AtomicU64,
     threads: AtomicU64,
     later: AtomicU64,
     later_hear_owner: AtomicBool,
@@ -55,6 +54,27 @@ pub struct Hub {
 
 fn bit(thread: usize) -> u64 {
     1u64 << (thread % THREAD_LIMIT)
+}
+
+/// How many numbers a spread may be. The workers and the spread are in one word, so whoever reads it has both of one time.
+const SPREADS: u64 = 0x1_0000;
+
+/// The most workers that find room there.
+const WORKERS: u64 = 0xffff_ffff;
+
+fn word_of(shares: Shares) -> u64
+    ensures { shares.workers ≤ WORKERS → result ≡ shares.workers * SPREADS + shares.spread }
+{
+    (shares.workers as u64).min(WORKERS) * SPREADS + u64::from(shares.spread)
+}
+
+fn shares_of(word: u64) -> Shares
+    ensures { word ≡ result.workers * SPREADS + result.spread }
+{
+    Shares {
+        workers: (word / SPREADS) as usize,
+        spread: (word % SPREADS) as u16,
+    }
 }
 
 impl Hub {
@@ -65,7 +85,7 @@ impl Hub {
             slots.push(AtomicU32::new(0))?;
         }
         Ok(Hub {
-            long_frames: Arc::new(alloc, LongFrames::new())?,
+            long_frames: Arc::new(alloc, LongFrames::new(alloc)?)?,
             slots,
             sleepers: AtomicU64::new(0),
             owner_turns: AtomicU64::new(0),
@@ -74,8 +94,10 @@ impl Hub {
             late_rounds: AtomicU64::new(0),
             is_stopping: AtomicBool::new(false),
             has_owner_ended: AtomicBool::new(false),
-            workers: AtomicU64::new(1),
-            spread: AtomicU64::new(1),
+            shares: AtomicU64::new(word_of(Shares {
+                workers: 1,
+                spread: 1,
+            })),
             threads: AtomicU64::new(1),
             later: AtomicU64::new(0),
             later_hear_owner: AtomicBool::new(false),
@@ -239,9 +261,7 @@ impl Hub {
         let shares = Shares::of(roles, threads, later);
         let last = threads.saturating_sub(1);
         let later_bit = if later.count > 0 { bit(last) } else { 0 };
-        self.workers.store(shares.workers as u64, Ordering::SeqCst);
-        self.spread
-            .store(u64::from(shares.spread), Ordering::SeqCst);
+        self.shares.store(word_of(shares), Ordering::SeqCst);
         self.threads.store(threads as u64, Ordering::SeqCst);
         self.later.store(later_bit, Ordering::SeqCst);
         self.later_hear_owner
@@ -254,14 +274,9 @@ impl Hub {
         self.threads.load(Ordering::SeqCst) as usize
     }
 
-    /// The thread of the worker to whom this connection belongs. Connections are numbered from 1.
-    pub fn thread_of(&self, connection: u64) -> usize {
-        let workers = self.workers.load(Ordering::SeqCst).max(1);
-        let worker = connection.saturating_sub(1) % workers;
-        let spread = u16::try_from(self.spread.load(Ordering::SeqCst)).unwrap_or(u16::MAX);
-        // before the workers' roles is the owner's
-        let role = worker.saturating_add(1);
-        mum_crew::thread_of(role as usize, spread, workers as usize)
+    /// How the threads share the roles, as they were asked to last.
+    pub fn shares(&self) -> Shares {
+        shares_of(self.shares.load(Ordering::SeqCst))
     }
 }
 

@@ -18,12 +18,13 @@ pub struct Kept {
 
 impl Model for Kept {
     ghost use Rattle.std.specs.Prelude.{◌≤◌, ℕ, List, drop, length};
+    ghost use Rattle.mum_link.specs.declared.kept.TheConstants.{KEPT_LIMIT};
 
     ghost Value = { List ℕ };
 
     ghost view = { λ k. drop k.sent k.bytes.items };
 
-    ghost invariant = { λ k. k.sent ≤ length k.bytes.items };
+    ghost invariant = { λ k. (k.sent ≤ length k.bytes.items) × (length k.bytes.items ≤ KEPT_LIMIT) };
 }
 
 impl Kept {
@@ -55,6 +56,14 @@ impl Kept {
         &self.bytes[self.sent..]
     }
 
+    /// How many there are.
+    pub fn len(&self) -> usize
+        ensures count { result ≡ length self.now }
+        ensures most { result ≤ KEPT_LIMIT }
+    {
+        self.bytes.len() - self.sent
+    }
+
     /// How many more find room.
     pub fn room(&self) -> usize {
         KEPT_LIMIT.saturating_sub(self.bytes.len())
@@ -66,7 +75,7 @@ impl Kept {
         ensures fits { result ≤ length piece.now }
         ensures put { self.new ≡ self.old ++ take result piece.now }
     {
-        let count = self.room().min(piece.len());
+        let count = KEPT_LIMIT.saturating_sub(self.bytes.len()).min(piece.len());
         if self.is_empty() {
             self.batch = batch;
         }

@@ -1,10 +1,11 @@
 //! A socket that is asked only where it may be ready.
 
-ghost use Rattle.std.specs.Prelude.{◌≡◌, ◌<◌, ◌⊎◌, if◌then◌else◌, length};
-ghost use Rattle.std.specs.Io.KnownBytes.{Keeps};
+ghost use Rattle.std.specs.Prelude.{◌≡◌, ◌<◌, ◌≤◌, ◌⊎◌, MatchOption, if◌then◌else◌, length, take};
+ghost use Rattle.std.specs.Io.KnownBytes.{Appends, Keeps};
 ghost use Rattle.mum_io.specs.Link.{PollReadLeaves, PollWriteLeaves};
 ghost use Rattle.mum_io.specs.declared.link.PollRead.TheVariants as read;
 ghost use Rattle.mum_io.specs.declared.link.PollWrite.TheVariants as write;
+ghost use Rattle.mum_io.specs.Counts.{Rose};
 ghost use Rattle.mum_link.specs.Timely.{AnswersInTime, has_run_out};
 
 use crate::patience::Patience;
@@ -171,5 +172,25 @@ impl<S: Socket> Line<S> {
             return PollWrite::NotYet;
         }
         self.fail()
+    }
+
+    /// Writes a front of the piece, whether the socket was reported to have room or not. How many bytes it took. None: it
+    /// took nothing.
+    pub(crate) fn press(&mut self, piece: &[u8]) -> Option<usize>
+        requires { 0 < length piece.now }
+        ensures written { MatchOption result
+            (Keeps (S.written self.old.socket) (S.written self.new.socket) × Rose (S.refusals self.old.socket) (S.refusals self.new.socket))
+            (λ count. (0 < count) × (count ≤ length piece.now) × (S.refusals self.new.socket ≡ S.refusals self.old.socket)
+            × Appends (S.written self.old.socket) (S.written self.new.socket) (take count piece.now)) }
+        ensures left { Keeps (S.left self.old.socket) (S.left self.new.socket) }
+    {
+        match self.socket.write(piece) {
+            Ok(0) => None,
+            Ok(count) => {
+                self.bytes_written = self.bytes_written.saturating_add(count as u64);
+                Some(count)
+            }
+            Err(_) => None,
+        }
     }
 }

@@ -1,10 +1,14 @@
 //! A link over a socket.
 
-ghost use Rattle.std.specs.Prelude.{◌≡◌, [], false};
+ghost use Rattle.std.specs.Prelude.{◌≡◌, ◌<◌, IsTrue, [], false, length};
+ghost use Rattle.std.specs.Io.KnownBytes.{Keeps};
 ghost use Rattle.std.specs.Net.Addr.{ipv6_octets};
 ghost use Rattle.mum_io.specs.Counts.{no_counts};
-ghost use Rattle.mum_io.specs.Link.{PollReadCounts, PollWriteCounts};
+ghost use Rattle.mum_io.specs.Link.{PollReadCounts, PollReadLeaves, PollWriteCounts};
+ghost use Rattle.mum_link.specs.Paces.{HoldsForFrame, ReadsInPace};
+ghost use Rattle.mum_link.specs.Refusals.{IsSentOrRefused};
 ghost use Rattle.mum_link.specs.Wires.{taken};
+ghost use Rattle.mum_pace.specs.Meters.{state_of};
 
 use crate::doorstep::Delivery;
 use crate::kept::Kept;
@@ -22,7 +26,7 @@ pub struct SocketLink<S> {
     tally: Tally,
     address: Ipv6Addr,
     is_shut: bool,
-    wire: Wire<S>,
+    pub(crate) wire: Wire<S>,
 }
 
 // Counts the answer of a read.
@@ -65,6 +69,8 @@ impl<S: Socket> SocketLink<S> {
         ensures open { result.is_shut ≡ false }
         ensures counts { result.tally ≡ no_counts }
         ensures socket { result.wire.line.socket ≡ socket }
+        ensures meter { result.wire.meter ≡ meter }
+        ensures reservation { result.wire.reservation ≡ reservation }
         ensures kept { result.wire.kept ≡ kept }
         ensures batches { result.wire.in_batches ≡ delivery.in_batches }
         ensures patience { result.wire.line.patience ≡ record { limit = delivery.patience; since = milliseconds } }
@@ -89,7 +95,19 @@ impl<S: Socket> SocketLink<S> {
 impl<S: Socket> Link for SocketLink<S> {
     ghost facts = { λ l. record { counts = l.tally; left = S.left l.wire.line.socket; written = taken (S.written l.wire.line.socket) l.wire.kept; address = ipv6_octets l.address; is_shut = l.is_shut } };
 
-    fn poll_read(&mut self, buf: &mut [u8]) -> PollRead {
+    fn poll_read(&mut self, buf: &mut [u8]) -> PollRead
+        requires { 0 < length buf.old }
+        ensures counts { PollReadCounts result self.old.tally self.new.tally }
+        ensures bytes { PollReadLeaves result (S.left self.old.wire.line.socket) (S.left self.new.wire.line.socket) buf.new }
+        ensures written { Keeps (taken (S.written self.old.wire.line.socket) self.old.wire.kept)
+            (taken (S.written self.new.wire.line.socket) self.new.wire.kept) }
+        ensures address { ipv6_octets self.new.address ≡ ipv6_octets self.old.address }
+        ensures is_shut { self.new.is_shut ≡ self.old.is_shut }
+
+        // It reads no more than its pace allows, counts what it read, and holds what a long frame reserves.
+        ensures pace { ReadsInPace result buf.new (state_of self.old.wire.meter) (state_of self.new.wire.meter) }
+        ensures held { HoldsForFrame result (state_of self.old.wire.meter) (state_of self.new.wire.meter) self.new.wire.reservation.bytes }
+    {
         let answer = self.wire.read(buf);
         count_read(&mut self.tally, answer);
         answer
@@ -101,7 +119,18 @@ impl<S: Socket> Link for SocketLink<S> {
         answer
     }
 
-    fn shut(&mut self) {
+    fn shut(&mut self)
+        ensures is_shut { IsTrue self.new.is_shut }
+        ensures counts { self.new.tally ≡ self.old.tally }
+        ensures left { Keeps (S.left self.old.wire.line.socket) (S.left self.new.wire.line.socket) }
+        ensures written { Keeps (taken (S.written self.old.wire.line.socket) self.old.wire.kept)
+            (taken (S.written self.new.wire.line.socket) self.new.wire.kept) }
+        ensures address { ipv6_octets self.new.address ≡ ipv6_octets self.old.address }
+
+        // What it kept is sent, or its socket took nothing of the rest.
+        ensures sent { self.old.is_shut ≡ false → IsSentOrRefused self.new.wire.kept
+            (S.refusals self.old.wire.line.socket) (S.refusals self.new.wire.line.socket) }
+    {
         if !self.is_shut {
             self.wire.shut();
         }

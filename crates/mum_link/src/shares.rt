@@ -1,7 +1,7 @@
 //! How the threads of a crew share its roles.
 
 ghost use Rattle.std.specs.Prelude.{◌≡◌, ◌-◌, false};
-ghost use Rattle.mum_link.specs.Sharing.{IsEnough, later_threads};
+ghost use Rattle.mum_link.specs.Sharing.{IsEnough, later_threads, thread_of_link};
 
 use std::alloc::Global;
 use std::mem::replace;
@@ -57,6 +57,15 @@ impl Shares {
             Err(_) => u16::MAX,
         };
         Shares { workers, spread }
+    }
+
+    /// The thread of the worker to whom this connection belongs. Connections are numbered from 1.
+    pub fn thread_of(self, connection: u64) -> usize
+        ensures { result ≡ thread_of_link self connection }
+    {
+        // before the workers' roles is the owner's
+        let worker = connection.saturating_sub(1) as usize % self.workers.max(1) + 1;
+        mum_crew::thread_of(worker, self.spread, self.workers)
     }
 }
 

@@ -1,9 +1,11 @@
 //! Connections whose headers have not come whole.
 
-ghost use Rattle.std.specs.Prelude.{◌≡◌, ℕ, List, Option};
+ghost use Rattle.std.specs.Prelude.{◌≡◌, ◌+◌, ◌≤◌, ℕ, List, Option, []};
+ghost use Rattle.std.specs.Net.Addr.{ipv6_octets};
 ghost use Rattle.mum_address.specs.Header.{IsHeader, plain};
-ghost use Rattle.mum_address.specs.Header.Reading.{whole};
-ghost use Rattle.mum_link.specs.Headers.{ReadsOn};
+ghost use Rattle.mum_address.specs.Header.Reading.{needs, whole};
+ghost use Rattle.mum_link.specs.Reads.{ReadsOn};
+ghost use Rattle.mum_link.specs.Origins.{HasRead};
 
 use crate::hub::{Hub, READABLE};
 use crate::socket::Socket;
@@ -12,17 +14,18 @@ use std::io::ErrorKind;
 use std::net::Ipv6Addr;
 
 /// How long a connection may wait for its header, in milliseconds.
-const PATIENCE: u64 = 10_000;
+pub(crate) const PATIENCE: u64 = 10_000;
 
 /// A connection that came at this time in milliseconds, with its slot, the address of its peer, and what has come of its
-/// header.
+/// header, which is all that was read of it.
 #[derive(Drop)]
-pub(crate) struct Waiting<S> {
+pub(crate) struct Waiting<S: Socket> {
     pub(crate) socket: S,
     pub(crate) slot: usize,
     pub(crate) address: Ipv6Addr,
     pub(crate) reader: HeaderReader,
-    since: u64,
+    pub(crate) since: u64,
+    ghost came: { HasRead (S.origin socket) (S.left socket) reader (ipv6_octets address) },
 }
 
 // How a read of a header ended.
@@ -34,7 +37,9 @@ enum Piece {
 
 impl<S: Socket> Waiting<S> {
     /// Nothing of its header has come yet.
-    pub(crate) fn new(socket: S, slot: usize, address: Ipv6Addr, milliseconds: u64) -> Waiting<S> {
+    pub(crate) fn new(socket: S, slot: usize, address: Ipv6Addr, milliseconds: u64) -> Waiting<S>
+        requires { HasRead (S.origin socket) (S.left socket) [] (ipv6_octets address) }
+    {
         Waiting {
             socket,
             slot,
@@ -48,6 +53,8 @@ impl<S: Socket> Waiting<S> {
     pub(crate) fn read_on(&mut self, hub: &Hub, milliseconds: u64) -> Header
         ensures header { (told : Option (List ℕ)) → plain result ≡ whole told → IsHeader self.new.reader told }
         ensures reads { ReadsOn self.old.reader self.new.reader (S.left self.old.socket) (S.left self.new.socket) }
+        ensures in_time { (count : ℕ) → plain result ≡ needs count → milliseconds ≤ self.old.since + PATIENCE }
+        ensures since { self.new.since ≡ self.old.since }
     {
         if !self.read_pieces(hub) {
             return Header::Refused;
@@ -62,7 +69,8 @@ impl<S: Socket> Waiting<S> {
 
     // Reads on until the header is whole, or nothing more has come. Whether no read failed.
     fn read_pieces(&mut self, hub: &Hub) -> bool
-        ensures { ReadsOn self.old.reader self.new.reader (S.left self.old.socket) (S.left self.new.socket) }
+        ensures since { self.new.since ≡ self.old.since }
+        ensures reads { ReadsOn self.old.reader self.new.reader (S.left self.old.socket) (S.left self.new.socket) }
     {
         for _ in 0..HEADER_LIMIT {
             if self.reader.wants() == 0 || !hub.has(self.slot, READABLE) {
@@ -77,8 +85,10 @@ impl<S: Socket> Waiting<S> {
         true
     }
 
+    #[tactic(auto, using(crate::proofs::Reading::has_read_more))]
     fn read_piece(&mut self, hub: &Hub) -> Piece
-        ensures { ReadsOn self.old.reader self.new.reader (S.left self.old.socket) (S.left self.new.socket) }
+        ensures since { self.new.since ≡ self.old.since }
+        ensures reads { ReadsOn self.old.reader self.new.reader (S.left self.old.socket) (S.left self.new.socket) }
     {
         let mut buf = [0u8; HEADER_LIMIT];
         let wanted = self.reader.wants();

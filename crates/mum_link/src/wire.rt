@@ -5,7 +5,12 @@ ghost use Rattle.std.specs.Prelude.{◌≡◌, ◌<◌, ◌⊎◌, [], false, le
 ghost use Rattle.std.specs.Io.KnownBytes.{Keeps};
 ghost use Rattle.mum_io.specs.Link.{PollReadLeaves, PollWriteLeaves};
 ghost use Rattle.mum_io.specs.declared.link.PollRead.TheVariants as read;
+ghost use Rattle.mum_link.specs.Paces.{HoldsForFrame, ReadsInPace};
+ghost use Rattle.mum_link.specs.Refusals.{IsSentOrRefused};
 ghost use Rattle.mum_link.specs.Wires.{taken};
+ghost use Rattle.mum_pace.specs.Meters.{after_read, state_of};
+ghost use Rattle.mum_pace.specs.Places.{payload_under_way};
+ghost use Rattle.mum_pace.specs.Reserved.{bytes_kept};
 
 use crate::doorstep::Delivery;
 use crate::kept::{KEPT_LIMIT, Kept};
@@ -20,9 +25,9 @@ use mum_pace::{HangUp, Meter, Reservation};
 #[derive(Drop)]
 pub(crate) struct Wire<S> {
     pub(crate) line: Line<S>,
-    meter: Meter,
+    pub(crate) meter: Meter,
     hang_up: HangUp,
-    reservation: Reservation,
+    pub(crate) reservation: Reservation,
     pub(crate) in_batches: bool,
     pub(crate) kept: Kept,
     was_refused: bool,
@@ -42,6 +47,8 @@ impl<S: Socket> Wire<S> {
     ) -> Wire<S>
         requires { kept ≡ [] }
         ensures socket { result.line.socket ≡ socket }
+        ensures meter { result.meter ≡ meter }
+        ensures reservation { result.reservation ≡ reservation }
         ensures kept { result.kept ≡ kept }
         ensures batches { result.in_batches ≡ delivery.in_batches }
         ensures patience { result.line.patience ≡ record { limit = delivery.patience; since = milliseconds } }
@@ -65,6 +72,8 @@ impl<S: Socket> Wire<S> {
         ensures left { PollReadLeaves result (S.left self.old.line.socket) (S.left self.new.line.socket) buf.new }
         ensures taken { Keeps (taken (S.written self.old.line.socket) self.old.kept)
             (taken (S.written self.new.line.socket) self.new.kept) }
+        ensures pace { ReadsInPace result buf.new (state_of self.old.meter) (state_of self.new.meter) }
+        ensures held { HoldsForFrame result (state_of self.old.meter) (state_of self.new.meter) self.new.reservation.bytes }
     {
         self.line.seat.board.ask();
         if self.keeps_an_earlier_batch() {
@@ -83,6 +92,8 @@ impl<S: Socket> Wire<S> {
         ensures left { PollReadLeaves result (S.left self.old.line.socket) (S.left self.new.line.socket) buf.new }
         ensures written { Keeps (S.written self.old.line.socket) (S.written self.new.line.socket) }
         ensures kept { self.new.kept ≡ self.old.kept }
+        ensures pace { ReadsInPace result buf.new (state_of self.old.meter) (state_of self.new.meter) }
+        ensures held { HoldsForFrame result (state_of self.old.meter) (state_of self.new.meter) self.new.reservation.bytes }
     {
         if self.is_over() {
             return PollRead::Failed;
@@ -109,6 +120,7 @@ impl<S: Socket> Wire<S> {
         ensures answer { (result ≡ read.NotYet) ⊎ (result ≡ read.Failed) }
         ensures socket { self.new.line.socket ≡ self.old.line.socket }
         ensures kept { self.new.kept ≡ self.old.kept }
+        ensures meter { self.new.meter ≡ self.old.meter }
     {
         let has_hung_up = self.line.seat.has_hung_up();
         let milliseconds = self.line.seat.board.milliseconds();
@@ -124,6 +136,9 @@ impl<S: Socket> Wire<S> {
     fn note_read(&mut self, bytes: &[u8])
         ensures line { self.new.line.socket ≡ self.old.line.socket }
         ensures kept { self.new.kept ≡ self.old.kept }
+        ensures meter { state_of self.new.meter ≡ after_read (state_of self.old.meter) bytes.now }
+        ensures held { self.new.reservation.bytes
+            ≡ bytes_kept self.old.reservation.bytes (payload_under_way (state_of self.new.meter).place) }
     {
         let counted = self.meter.count(bytes);
         if counted.frames > 1 {
@@ -203,6 +218,7 @@ impl<S: Socket> Wire<S> {
         ensures taken { Keeps (taken (S.written self.old.line.socket) self.old.kept)
             (taken (S.written self.new.line.socket) self.new.kept) }
         ensures left { Keeps (S.left self.old.line.socket) (S.left self.new.line.socket) }
+        ensures meter { self.new.meter ≡ self.old.meter }
     {
         for _ in 0..KEPT_LIMIT {
             if self.kept.is_empty() {
@@ -215,14 +231,30 @@ impl<S: Socket> Wire<S> {
         }
     }
 
+    // Sends all that is kept, whatever was reported of the socket. If it takes nothing, the rest is lost.
+    fn send_all(&mut self)
+        ensures taken { Keeps (taken (S.written self.old.line.socket) self.old.kept)
+            (taken (S.written self.new.line.socket) self.new.kept) }
+        ensures left { Keeps (S.left self.old.line.socket) (S.left self.new.line.socket) }
+        ensures sent { IsSentOrRefused self.new.kept (S.refusals self.old.line.socket) (S.refusals self.new.line.socket) }
+    {
+        while !self.kept.is_empty() {
+            let Some(sent) = self.line.press(self.kept.as_slice()) else {
+                return;
+            };
+            self.kept.pass(sent);
+        }
+    }
+
     /// Sends what is kept, takes the socket out of its poll and the link out of its slot.
     pub(crate) fn shut(&mut self)
         ensures taken { Keeps (taken (S.written self.old.line.socket) self.old.kept)
             (taken (S.written self.new.line.socket) self.new.kept) }
         ensures left { Keeps (S.left self.old.line.socket) (S.left self.new.line.socket) }
+        ensures sent { IsSentOrRefused self.new.kept (S.refusals self.old.line.socket) (S.refusals self.new.line.socket) }
     {
+        self.send_all();
         let milliseconds = self.line.seat.board.milliseconds();
-        self.send_kept(milliseconds);
         let (received, sent) = (self.line.bytes_read, self.line.bytes_written);
         self.line.socket.leave(milliseconds, received, sent);
         self.line.is_broken = true;

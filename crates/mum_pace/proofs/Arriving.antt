@@ -1,7 +1,7 @@
 -- At a door with a rate no more connections come in than it allows.
 use Rattle.std.proofs.Common.{◌≡◌, ℕ, ◌+◌, ◌-◌, ◌*◌, ◌^◌, ◌<◌, ◌≤◌, List, [], ◌∷◌, length, max, subst, arith}
 use Rattle.mum_pace.specs.Arrivals.{ArrivalsState, ComeIn, arrivals_at, counts_one, last_of}
-use Rattle.mum_pace.specs.Meters.{given_back, used_with}
+use Rattle.mum_pace.specs.Meters.{used_with}
 use Rattle.mum_pace.specs.declared.pace.Rate.{Rate}
 use Rattle.mum_pace.proofs.Kept.{IsGivenBack, at_most, one_more}
 

@@ -120,7 +120,7 @@ times_joined : (some more all each : ℕ) → some + more ≡ all → some * eac
 times_joined some more all each e = omega (arith, ap (λ (n : ℕ). n * each) e)
 
 -- the time that a read and those behind it have to give back
-times : (start here last each : ℕ) → here ≤ last → (here - start) * each + (last - max start here) * each ≡ (last - start) * each
+pub times : (start here last each : ℕ) → here ≤ last → (here - start) * each + (last - max start here) * each ≡ (last - start) * each
 times start here last each le = times_joined (here - start) (last - max start here) (last - start) each (omega arith)
 
 -- what is used up at the end is no less than what all reads take, without what time gave back

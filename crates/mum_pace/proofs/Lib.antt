@@ -7,3 +7,5 @@ pub mod Reach
 pub mod Runs
 pub mod Sayings
 pub mod StandardFacts
+pub mod Together
+pub mod Uses

@@ -10,17 +10,17 @@ begins_short : (n : ℕ) → n < 131072 → begins_piece n ≡ (n % 1000 == 0)
 unfolding begins_piece
 begins_short n lt = rw (lt-ltb n 131072 lt) refl
 
-begins_long : (n : ℕ) → 131072 ≤ n → begins_piece n ≡ ((n - 131072) % 65536 == 0)
+begins_long : (n : ℕ) → 131072 ≤ n → begins_piece n ≡ ((n - 131072) % 8192 == 0)
 unfolding begins_piece
 begins_long n le = rw (le-ltb n 131072 le) refl
 
 -- ---- how many have begun
 
-pub pieces_in-is : (n : ℕ) → pieces_in n ≡ div_ceil (min n 131072) 1000 + div_ceil (n - 131072) 65536
+pub pieces_in-is : (n : ℕ) → pieces_in n ≡ div_ceil (min n 131072) 1000 + div_ceil (n - 131072) 8192
 unfolding pieces_in
 pieces_in-is n = refl
 
-pub bytes_within-is : (n : ℕ) → bytes_within n ≡ min (n * 1000) 131072 + (n - 132) * 65536
+pub bytes_within-is : (n : ℕ) → bytes_within n ≡ min (n * 1000) 131072 + (n - 132) * 8192
 unfolding bytes_within
 bytes_within-is n = refl
 
@@ -37,9 +37,9 @@ pieces_in-next n =
         | inl e ↦ rw (begins_short n lt, eq-eqb (n % 1000) 0 e) (omega arith)
         | inr ne ↦ rw (begins_short n lt, ne_eqb (n % 1000) 0 ne) (omega arith)
       ]
-      | inr le ↦ elim (cases_eq ((n - 131072) % 65536) 0) [
-        | inl e ↦ rw (begins_long n le, eq-eqb ((n - 131072) % 65536) 0 e) (omega arith)
-        | inr ne ↦ rw (begins_long n le, ne_eqb ((n - 131072) % 65536) 0 ne) (omega arith)
+      | inr le ↦ elim (cases_eq ((n - 131072) % 8192) 0) [
+        | inl e ↦ rw (begins_long n le, eq-eqb ((n - 131072) % 8192) 0 e) (omega arith)
+        | inr ne ↦ rw (begins_long n le, ne_eqb ((n - 131072) % 8192) 0 ne) (omega arith)
       ]
     ]
 
@@ -61,7 +61,7 @@ pieces_in-grow few many le =
     let m = pieces_in-is many in
     omega arith
 
-pub small_pieces : (bytes : ℕ) → pieces_in bytes ≤ 133 + bytes / 65536
+pub small_pieces : (bytes : ℕ) → pieces_in bytes ≤ 133 + bytes / 8192
 small_pieces bytes =
     let e = pieces_in-is bytes in
     omega arith

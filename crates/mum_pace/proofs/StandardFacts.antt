@@ -108,12 +108,12 @@ pub record AreReadToTheirEnd : Type 0 where
   pub the_rest_and_more : length_within third 4 2 ≡ 2006 + 6
   pub next_piece : begins_piece 3000 ≡ true
   pub within_a_piece : begins_piece 3001 ≡ false
-  pub behind_short_frames : begins_piece (0x2_0000 + 0x1_0000) ≡ true
+  pub behind_short_frames : begins_piece (0x2_0000 + 0x2000) ≡ true
   pub no_thousand_there : begins_piece 132000 ≡ false
-  pub longest : allowed (then (new_meter usual_pace 0) longest_text) 0 ≡ 0x2_0000 + 68 * 0x1_0000 - 6
-  pub a_short_length_later : length_within (behind_short 0) 67 400 ≡ 68 * 0x1_0000 - 6
-  pub given_back_there : length_within (behind_short 0) 68 400 ≡ 69 * 0x1_0000 - 6
-  pub a_long_piece_later : length_within (behind_short 0x1_0000) 67 400 ≡ 68 * 0x1_0000 - 6
+  pub longest : allowed (then (new_meter usual_pace 0) longest_text) 0 ≡ 0x2_0000 + 68 * 0x2000 - 6
+  pub a_short_length_later : length_within (behind_short 0) 67 400 ≡ 68 * 0x2000 - 6
+  pub given_back_there : length_within (behind_short 0) 68 400 ≡ 69 * 0x2000 - 6
+  pub a_long_piece_later : length_within (behind_short 0x2000) 67 400 ≡ 68 * 0x2000 - 6
   pub voice_is_free : (cost_in (record { header = []; kind = 1; payload = 5000; left = 5000 }) voice).messages ≡ 0
 
 are_read_to_their_end : AreReadToTheirEnd

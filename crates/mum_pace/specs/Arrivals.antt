@@ -1,5 +1,5 @@
 -- How fast connections come in.
-use Rattle.std.specs.Prelude.{◌≡◌, ℕ, ◌-◌, ◌<◌, ◌≤◌, max, List, [], ◌∷◌}
+use Rattle.std.specs.Prelude.{ℕ, ◌-◌, ◌<◌, ◌≤◌, max, List, [], ◌∷◌}
 use Rattle.mum_pace.specs.Meters.{given_back, room, used_with}
 use Rattle.mum_pace.specs.declared.arrivals.Arrivals.{Arrivals}
 use Rattle.mum_pace.specs.declared.pace.Rate.{Rate}

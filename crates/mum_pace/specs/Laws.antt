@@ -1,5 +1,5 @@
 -- What the contracts of a meter come to.
-use Rattle.std.specs.Prelude.{◌≡◌, ℕ, ◌+◌, ◌*◌, ◌<◌, ◌≤◌, List, [], ◌∷◌, length}
+use Rattle.std.specs.Prelude.{◌≡◌, ℕ, ◌+◌, ◌*◌, ◌<◌, ◌≤◌, List, [], ◌∷◌, length, Option, Some, None, unwrap_or}
 use Rattle.std.specs.List.{flat_map}
 use Rattle.mum_pace.specs.declared.frames.TheConstants.{HEADER_LENGTH}
 use Rattle.mum_pace.specs.declared.pace.Pace.{Pace}
@@ -57,3 +57,27 @@ last_time time (read ∷ reads) = last_time read.time reads
 -- so many frames are no more than a rate allows at once and in this time
 abbrev pub AreWithin : Rate → ℕ → ℕ → Type 0
 AreWithin rate milliseconds frames = frames * FRAME ≤ rate.at_once * FRAME + milliseconds * rate.each_second
+
+-- ---- a meter as it is used
+
+-- At some time the meter is asked for its allowance, and nothing comes.
+abbrev pub IsAsked : MeterState → MeterState → Type 0
+IsAsked old new = (time : ℕ) × (new ≡ at_time old time)
+
+-- At some time the meter is asked, and bytes come: no more than it allows, and they are counted.
+abbrev pub IsReadInPace : List ℕ → MeterState → MeterState → Type 0
+IsReadInPace bytes old new = (time : ℕ) × (length bytes ≤ allowance_of (at_time old time)) × (new ≡ asked_and_read old time bytes)
+
+-- nothing comes, or these bytes do
+abbrev pub IsUse : Option (List ℕ) → MeterState → MeterState → Type 0
+IsUse None old new = IsAsked old new
+IsUse (Some bytes) old new = IsReadInPace bytes old new
+
+-- one use after another leads from the one meter to the other
+abbrev pub AreUses : List (Option (List ℕ)) → MeterState → MeterState → Type 0
+AreUses [] old new = new ≡ old
+AreUses (one ∷ more) old new = (next : MeterState) × IsUse one old next × AreUses more next new
+
+-- the bytes that come in all of these uses, joined
+abbrev pub bytes_that_come : List (Option (List ℕ)) → List ℕ
+bytes_that_come uses = flat_map (λ one. unwrap_or one []) uses

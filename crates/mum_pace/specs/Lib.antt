@@ -6,4 +6,5 @@ pub mod Meters
 pub mod Texts
 pub mod Waits
 pub mod Reserved
+pub mod Allowance
 pub mod Laws

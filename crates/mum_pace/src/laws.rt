@@ -1,8 +1,11 @@
 //! What the contracts of a meter come to. These functions do nothing: each contract is a theorem.
 
-ghost use Rattle.std.specs.Prelude.{◌≡◌, ◌+◌, ◌-◌, ◌*◌, ◌^◌, ◌<◌, ◌≤◌, ◌↔◌, ◌++◌, ◌∷◌, ℕ, List, length, false, if◌then◌else◌};
+ghost use Rattle.std.specs.Prelude.{◌≡◌, ◌+◌, ◌-◌, ◌*◌, ◌^◌, ◌<◌, ◌≤◌, ◌↔◌, ◌++◌, ◌∷◌, ℕ, List, Option, length, false, if◌then◌else◌};
+ghost use Rattle.atomic_table.specs.Table.{State};
+ghost use Rattle.std.specs.List.{sum};
 ghost use Rattle.mum_pace.specs.Arrivals.{ArrivalsState, ComeIn, last_of};
-ghost use Rattle.mum_pace.specs.Laws.{AreWithin, IsNotZero, KeepAllowances, KeepsPace, Read, all_bytes, asked_and_read, last_time};
+ghost use Rattle.mum_pace.specs.Allowance.{IsHeldTogether};
+ghost use Rattle.mum_pace.specs.Laws.{AreUses, AreWithin, IsNotZero, KeepAllowances, KeepsPace, Read, all_bytes, asked_and_read, bytes_that_come, last_time};
 ghost use Rattle.mum_pace.specs.Meters.{MeterState, allowance_of, at_time, new_meter, room};
 ghost use Rattle.mum_pace.specs.Pieces.{begins_piece, bytes_within, pieces_in};
 ghost use Rattle.mum_pace.specs.Places.{Place, after_bytes, cost_in, is_message, plus};
@@ -22,7 +25,7 @@ pub fn limits()
     ensures voice { VOICE ≡ 1 }
     ensures ping { PING ≡ 3 }
     ensures piece { PIECE ≡ 1000 }
-    ensures long_piece { LONG_PIECE ≡ 65536 }
+    ensures long_piece { LONG_PIECE ≡ 8192 }
     ensures frame { FRAME ≡ 1000 }
     ensures short { SHORT_LIMIT ≡ 131072 }
     ensures long_frames { LONG_FRAMES_LIMIT ≡ 67108864 }
@@ -89,4 +92,20 @@ pub fn the_long_run_is_within_the_rates()
         (cost_in meter.place (all_bytes (read ∷ reads))).messages
         × AreWithin voice (last_time read.time reads - read.time)
         (cost_in meter.place (all_bytes (read ∷ reads))).voice }
+{}
+
+/// The same of a meter as it is used, by its own clock: whoever reads bytes only in its pace reads, however often nothing
+/// comes, no more of a client than its rates allow at once, and in the time that passes for the meter.
+pub fn all_uses_are_within_the_rates()
+    ensures { (old new : MeterState) (messages voice : Rate) (uses : List (Option (List ℕ))) →
+        messages.at_once < 2 ^ 32 → voice.at_once < 2 ^ 32 →
+        KeepsPace old → old.pace ≡ Limited messages voice → AreUses uses old new →
+        AreWithin messages (new.milliseconds - old.milliseconds) (cost_in old.place (bytes_that_come uses)).messages
+        × AreWithin voice (new.milliseconds - old.milliseconds) (cost_in old.place (bytes_that_come uses)).voice }
+{}
+
+/// All links together hold at most the allowance, and so does each: whatever the links are, what they hold of it is what is
+/// reserved.
+pub fn links_hold_at_most_the_allowance()
+    ensures { (state : State (Unit {0}) ℕ) → IsHeldTogether state → sum state.views ≤ LONG_FRAMES_LIMIT }
 {}

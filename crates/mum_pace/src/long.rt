@@ -1,12 +1,14 @@
 //! Long frames. A client may send one before it has logged in, and the server keeps it until it is whole; so all links
 //! share an allowance of bytes for them. Ordinary clients send none.
 
-ghost use Rattle.std.specs.Prelude.{◌≡◌, ◌≤◌, IfErr, IsTrue, if◌then◌else◌};
+ghost use Rattle.std.specs.Prelude.{◌≡◌, ◌+◌, ◌-◌, ◌≤◌, ◌<◌, [], IfOk, IsTrue, if◌then◌else◌};
+ghost use Rattle.std.specs.Arc.{arc_value};
 ghost use Rattle.mum_pace.specs.Reserved.{bytes_kept};
 ghost use Rattle.mum_pace.specs.Reserved as spec;
 
+use atomic_table::{Play, Seat, Table, TableRule};
+use std::alloc::{AllocError, Global};
 use std::sync::Arc;
-use std::sync::atomic::{AtomicIn, Ordering, Rule};
 
 /// A frame is long whose payload has more bytes than this: 128 KiB.
 pub const SHORT_LIMIT: u64 = 0x2_0000;
@@ -14,70 +16,98 @@ pub const SHORT_LIMIT: u64 = 0x2_0000;
 /// How many bytes the payloads of long frames may have that are under way over all links: 64 MiB.
 pub const LONG_FRAMES_LIMIT: u64 = 0x400_0000;
 
-// What is reserved is never more than the whole allowance.
-struct WithinLimit;
+/// What is reserved is the sum of what each link holds, and no more than the whole allowance. Each step of a link keeps this.
+pub struct HeldTogether;
 
-impl Rule for WithinLimit {
-    ghost use Rattle.std.specs.Prelude.{◌≤◌};
-    ghost use Rattle.mum_pace.specs.declared.long.TheConstants.{LONG_FRAMES_LIMIT};
+impl TableRule<(), u64, ()> for HeldTogether {
+    ghost use Rattle.mum_pace.specs.Allowance.{IsHeldTogether};
 
-    ghost invariant = { λ reserved. reserved ≤ LONG_FRAMES_LIMIT };
+    ghost holds = { λ _ state. IsHeldTogether state };
+
+    ghost first = { λ _. 0 };
 }
 
-/// The allowance that all links share. What they have reserved of it is at most the whole, whatever they do at once.
+// A link comes, and holds nothing.
+struct Coming;
+
+impl Play<(), u64> for Coming {
+    ghost use Rattle.mum_pace.specs.Allowance.{Comes};
+
+    ghost then = { Comes };
+}
+
+// A link reserves, if no other has come before it.
+struct Exchanging;
+
+impl Play<(), u64> for Exchanging {
+    ghost use Rattle.mum_pace.specs.Allowance.{Exchanges};
+
+    ghost then = { Exchanges };
+}
+
+// A link gives back.
+struct Giving;
+
+impl Play<(), u64> for Giving {
+    ghost use Rattle.mum_pace.specs.Allowance.{GivesBack};
+
+    ghost then = { GivesBack };
+}
+
+/// The allowance that all links share. What they have reserved of it is what they hold together, at most the whole, whatever
+/// they do at once.
 #[derive(Drop)]
 pub struct LongFrames {
-    reserved: AtomicIn<WithinLimit>,
+    table: Table<(), u64, (), HeldTogether, Global>,
+    ghost one_word: { table.shared.table_id.words ≡ 1 },
 }
 
 impl LongFrames {
     /// Nothing of it is reserved.
-    pub fn new() -> LongFrames {
-        LongFrames {
-            reserved: AtomicIn::new(0),
-        }
+    pub fn new(alloc: Global) -> Result<LongFrames, AllocError> {
+        let (table, _seat) = Table::of_words(alloc, &[0], &())?;
+        Ok(LongFrames { table })
     }
 
-    // Reserves so many bytes, if as many are left. Whether it did.
-    fn reserve(&self, bytes: u64) -> bool
-        ensures { IsTrue result → bytes ≤ LONG_FRAMES_LIMIT }
+    // A seat for a link, which holds nothing.
+    fn seat(&self) -> Seat<(), u64>
+        ensures table { result.table_id ≡ self.now.table.shared.table_id }
+        ensures nothing { result.me ≡ (0, []) }
     {
-        let mut reserved = self.reserved.load(Ordering::SeqCst);
+        let (_reserved, seat) = self.table.shared.load_new_seat::<Coming>(0);
+        seat
+    }
+
+    // Reserves so many bytes for the link of this seat, if as many are left. Whether it did.
+    fn reserve(&self, seat: &mut Seat<(), u64>, bytes: u64) -> bool
+        requires { (seat.old.table_id ≡ self.now.table.shared.table_id) × (seat.old.me.1 ≡ []) }
+        ensures table { seat.new.table_id ≡ seat.old.table_id }
+        ensures held { seat.new.me ≡ ((if result then seat.old.me.0 + bytes else seat.old.me.0), []) }
+    {
+        let shared = &self.table.shared;
+        let mut reserved = shared.peek(0);
         for _ in 0..u64::MAX {
             let after = reserved.saturating_add(bytes);
             if after > LONG_FRAMES_LIMIT {
                 return false;
             }
-            match self.exchange(reserved, after) {
-                Ok(()) => return true,
-                Err(now) => reserved = now,
+            let found = shared.compare_exchange::<Exchanging>(seat, 0, reserved, after);
+            if found == reserved {
+                return true;
             }
+            reserved = found;
         }
         false
     }
 
-    fn give_back(&self, bytes: u64) {
-        let mut reserved = self.reserved.load(Ordering::SeqCst);
-        for _ in 0..u64::MAX {
-            match self.exchange(reserved, reserved.saturating_sub(bytes)) {
-                Ok(()) => return,
-                Err(now) => reserved = now,
-            }
-        }
-    }
-
-    // Goes from so much that is reserved to this much; if another link has come first, says how much is.
-    fn exchange(&self, reserved: u64, after: u64) -> Result<(), u64>
-        requires { after ≤ LONG_FRAMES_LIMIT }
-        ensures { IfErr result (λ now. now ≤ LONG_FRAMES_LIMIT) }
+    // The link of this seat gives back so many bytes of those that it holds.
+    fn give_back(&self, seat: &mut Seat<(), u64>, bytes: u64)
+        requires seat { (seat.old.table_id ≡ self.now.table.shared.table_id) × (seat.old.me.1 ≡ []) }
+        requires held { bytes ≤ seat.old.me.0 }
+        ensures table { seat.new.table_id ≡ seat.old.table_id }
+        ensures held { seat.new.me ≡ (seat.old.me.0 - bytes, []) }
     {
-        match self
-            .reserved
-            .compare_exchange(reserved, after, Ordering::SeqCst, Ordering::SeqCst)
-        {
-            Ok(_) => Ok(()),
-            Err(now) => Err(now),
-        }
+        self.table.shared.fetch_sub::<Giving>(seat, 0, bytes);
     }
 }
 
@@ -86,7 +116,10 @@ impl LongFrames {
 /// is reserved is given back by a drop, too.
 pub struct Reservation {
     long_frames: Arc<LongFrames>,
+    seat: Seat<(), u64>,
     bytes: u64,
+    ghost seated: { seat.table_id ≡ (arc_value long_frames).table.shared.table_id },
+    ghost held: { seat.me ≡ (bytes, []) },
 }
 
 // What a frame with a payload of this length reserves. One that is above the whole allowance, which no server takes,
@@ -107,8 +140,10 @@ impl Reservation {
         ensures bytes { result.bytes ≡ 0 }
         ensures shared { result.long_frames ≡ long_frames }
     {
+        let seat = long_frames.seat();
         Reservation {
             long_frames,
+            seat,
             bytes: 0,
         }
     }
@@ -124,7 +159,7 @@ impl Reservation {
     {
         self.leave_frames_before(payload);
         let bytes = bytes_for(payload);
-        if self.bytes < bytes && self.long_frames.reserve(bytes) {
+        if self.bytes < bytes && self.long_frames.reserve(&mut self.seat, bytes) {
             self.bytes = bytes;
         }
         self.bytes == bytes
@@ -147,7 +182,7 @@ impl Reservation {
         ensures shared { self.new.long_frames ≡ self.old.long_frames }
     {
         if self.bytes > 0 {
-            self.long_frames.give_back(self.bytes);
+            self.long_frames.give_back(&mut self.seat, self.bytes);
             self.bytes = 0;
         }
     }
@@ -155,7 +190,11 @@ impl Reservation {
 
 impl Drop for Reservation {
     fn drop(self) {
-        let Self { long_frames, bytes } = self;
-        long_frames.give_back(bytes);
+        let Self {
+            long_frames,
+            mut seat,
+            bytes,
+        } = self;
+        long_frames.give_back(&mut seat, bytes);
     }
 }

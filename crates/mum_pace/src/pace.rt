@@ -12,7 +12,7 @@ pub struct Rate {
 
 /// How fast the client of one connection may send. A Ping counts as nothing, a frame of voice as one, and a message as one
 /// for each thousand of its bytes that is begun, those of its header among them; behind the 128 KiB of a short frame, as
-/// one for each 64 KiB.
+/// one for each 8 KiB.
 #[derive(Clone, Copy, Debug, PartialEq, Eq)]
 pub enum Pace {
     /// As fast as its line takes it.

@@ -8,8 +8,8 @@ use crate::long::SHORT_LIMIT;
 /// So many bytes at the front of a message count as one frame.
 pub(crate) const PIECE: u64 = 1000;
 
-/// So many bytes behind the length of a short frame do: what is left of a long one whose client is gone is soon read.
-pub(crate) const LONG_PIECE: u64 = 0x1_0000;
+/// So many bytes behind the length of a short frame do, as far as a long message costs less a byte to whoever handles it.
+pub(crate) const LONG_PIECE: u64 = 0x2000;
 
 /// How many pieces begin in so many bytes at the front of a message.
 #[tactic(auto, unfolding(crate::specs::Pieces::pieces_in))]

@@ -1,3 +1,4 @@
+use Rattle.std.proofs.Common.{◌≡◌}
 use Rattle.std.specs.Io.KnownBytes.{Keeps}
 use Rattle.mum_link.specs.Wires.{taken}
 use Rattle.mum_link.proofs.wire.Wire.send_kept.Given as goal
@@ -6,3 +7,4 @@ abbrev pub invariant-loop : goal.invariant-loop
 invariant-loop g l =
     Keeps (taken (g.S.Socket.written l.fn.self.line.socket) l.fn.self.kept) (taken (g.S.Socket.written l.self.line.socket) l.self.kept)
     × Keeps (g.S.Socket.left l.fn.self.line.socket) (g.S.Socket.left l.self.line.socket)
+    × (l.self.meter ≡ l.fn.self.meter)

@@ -1,5 +1,6 @@
 //! The lines on standard error by which an administrator sees who comes and goes.
 
+use crate::sightings::Sighting;
 use mum_address::{FORMS, LOG_WORDS};
 use std::alloc::{AllocError, Global};
 use std::io;
@@ -54,6 +55,13 @@ impl<X: Eprint> Life<X> {
         }
     }
 
+    /// It listens at the address of this text, where no peer is told from another.
+    pub fn bans_need_headers(&self, text: &str) {
+        self.sign(format!(in self.alloc;
+            "murmur: bans by address need proxy:{text} and a relay that sends PROXY headers; here they keep nobody out\n"
+        ));
+    }
+
     /// Somebody connected who wants the server to stop.
     pub fn stops(&self) {
         self.sign(format!(in self.alloc; "murmur: is asked to stop\n"));
@@ -63,6 +71,23 @@ impl<X: Eprint> Life<X> {
     pub fn came(&self, connection: u64, address: Ipv6Addr) {
         let address = address.to_canonical();
         self.sign(format!(in self.alloc; "murmur: {connection} from {address}\n"));
+    }
+
+    /// Its login came from an address that is banned.
+    pub fn is_banned(&self, connection: u64) {
+        self.sign(format!(in self.alloc; "murmur: {connection} is banned\n"));
+    }
+
+    /// It asked for this. Whether that was allowed its client is told.
+    pub fn saw(&self, connection: u64, sighting: Sighting) {
+        match sighting {
+            Sighting::List => {
+                self.sign(format!(in self.alloc; "murmur: {connection} sent a list of bans\n"));
+            }
+            Sighting::Ban => {
+                self.sign(format!(in self.alloc; "murmur: {connection} asked for a ban\n"));
+            }
+        }
     }
 
     pub fn went(&self, connection: u64, seconds: u64, read: u64, written: u64) {

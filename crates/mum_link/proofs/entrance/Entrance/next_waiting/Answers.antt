@@ -1,0 +1,9 @@
+use Rattle.std.proofs.Common.{ap, refl}
+use Rattle.std.specs.Option.{option_map}
+use Rattle.std.specs.Net.Addr.{ipv6_octets}
+use Rattle.mum_address.specs.Header.{plain}
+use Rattle.mum_link.proofs.entrance.Entrance.next_waiting.Goals as goal
+
+pub admit_waiting-requires : goal.admit_waiting-requires
+admit_waiting-requires g c = λ waiting is.
+    c.in_ok-read_waiting.ensures.answer _ refl (option_map ipv6_octets c.in-Whole.client) (ap plain c.in-Whole.is) waiting is

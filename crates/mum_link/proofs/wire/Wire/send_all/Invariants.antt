@@ -1,0 +1,13 @@
+use Rattle.std.proofs.Common.{◌≡◌, length}
+use Rattle.std.specs.Io.KnownBytes.{Keeps}
+use Rattle.mum_link.specs.Wires.{taken}
+use Rattle.mum_link.proofs.wire.Wire.send_all.Given as goal
+
+abbrev pub invariant-loop-self : goal.invariant-loop-self
+invariant-loop-self g l =
+    Keeps (taken (g.S.Socket.written l.fn.self.line.socket) l.fn.self.kept) (taken (g.S.Socket.written l.self.line.socket) l.self.kept)
+    × Keeps (g.S.Socket.left l.fn.self.line.socket) (g.S.Socket.left l.self.line.socket)
+    × (g.S.Socket.refusals l.self.line.socket ≡ g.S.Socket.refusals l.fn.self.line.socket)
+
+abbrev pub decreases-loop-self : goal.decreases-loop-self
+decreases-loop-self g l = length l.self.kept

@@ -6,7 +6,7 @@ use Rattle.std.proofs.lemmas.List.{append-nil}
 use Rattle.mum_voice.specs.Packet.{packet}
 use Rattle.mum_state.specs.State.{StateValue}
 use Rattle.mum_session.specs.declared.action.Action.{Action}
-use Rattle.mum_session.specs.declared.action.Action.TheVariants.{Ask, Voice, Echo, Keep, Ignore}
+use Rattle.mum_session.specs.declared.action.Action.TheVariants.{Voice}
 use Rattle.mum_record.specs.declared.head.Version.{Version}
 use Rattle.mum_record.specs.declared.step.Step.TheVariants as steps
 use Rattle.mum_record.specs.declared.step.Step.{Step}
@@ -43,11 +43,8 @@ hears_same core v w (Some held) = changed-by HasSame has_same core.workers v w (
 hears_same core v w None = refl
 
 frame_same : (core : CoreState) (c w : ℕ) (version : Option ℕ) (a : Action) → copies_at (frame_step.does core c version a) w ≡ copies_at core w
-frame_same core c w version (Ask command) = refl
 frame_same core c w version (Voice payload) = hears_same core (connection_at core c).worker w (spoken (connection_at core c).seat (packet payload))
-frame_same core c w version (Echo frame) = refl
-frame_same core c w version Keep = refl
-frame_same core c w version (Ignore why) = refl
+frame_same core c w version others = refl
 
 notes_same : (core : CoreState) (v w : ℕ) (revision : Option ℕ) → copies_at (tell_step.notes v revision core) w ≡ copies_at core w
 notes_same core v w None = refl

@@ -9,7 +9,7 @@ use Rattle.mum_notify.specs.declared.notice.Notice.{Notice}
 use Rattle.mum_state.specs.State.{StateValue}
 use Rattle.mum_state.specs.declared.verdict.Verdict.{Verdict}
 use Rattle.mum_session.specs.declared.action.Action.{Action}
-use Rattle.mum_session.specs.declared.action.Action.TheVariants.{Ask, Voice, Echo, Keep, Ignore}
+use Rattle.mum_session.specs.declared.action.Action.TheVariants.{Ask, Voice, Keep}
 use Rattle.mum_record.specs.declared.head.Version.{Version}
 use Rattle.mum_record.specs.declared.step.Step.TheVariants as steps
 use Rattle.mum_record.specs.declared.step.Step.{Step}
@@ -55,9 +55,8 @@ hears_many core w (Some held) = refl
 frame_many : (core : CoreState) (c : ℕ) (version : Option ℕ) (a : Action) → AsMany core (frame_step.does core c version a)
 frame_many core c version (Ask command) = changed_many c (asking command.what) core.connections
 frame_many core c version (Voice payload) = hears_many core (connection_at core c).worker (spoken (connection_at core c).seat (packet payload))
-frame_many core c version (Echo frame) = refl
 frame_many core c version Keep = changed_many c (λ connection. record connection { version = version }) core.connections
-frame_many core c version (Ignore why) = refl
+frame_many core c version others = refl
 
 decided_many : (core : CoreState) (c : ℕ) (decided : Option Verdict) → AsMany core (option_map_or (edit_step.decides core c) decided core)
 decided_many core c None = refl

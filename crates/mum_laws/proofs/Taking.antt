@@ -5,7 +5,7 @@ use Rattle.std.proofs.lemmas.Bool.{eqb-false, eqb-true}
 use Rattle.std.proofs.lemmas.List.{append-nil, length-replicate}
 use Rattle.mum_state.specs.State.{StateValue}
 use Rattle.mum_session.specs.declared.action.Action.{Action}
-use Rattle.mum_session.specs.declared.action.Action.TheVariants.{Ask, Voice, Echo, Keep, Ignore}
+use Rattle.mum_session.specs.declared.action.Action.TheVariants.{Voice}
 use Rattle.mum_record.specs.declared.head.Version.{Version}
 use Rattle.mum_record.specs.declared.step.Step.TheVariants as steps
 use Rattle.mum_record.specs.declared.step.Step.{Step}
@@ -35,11 +35,8 @@ hears_many core w (Some held) = length-changed core.workers w (λ worker. record
 -- what an action has the core hear
 frame_workers : (core : CoreState) (c : ℕ) (version : Option ℕ) (a : Action)
     → (frame_step.does core c version a).workers ≡ (frame_step.hears core (connection_at core c).worker (heard_by (connection_at core c).seat a)).workers
-frame_workers core c version (Ask command) = refl
 frame_workers core c version (Voice payload) = refl
-frame_workers core c version (Echo frame) = refl
-frame_workers core c version Keep = refl
-frame_workers core c version (Ignore why) = refl
+frame_workers core c version others = refl
 
 notes_many : (core : CoreState) (w : ℕ) (revision : Option ℕ) → length (tell_step.notes w revision core).workers ≡ length core.workers
 notes_many core w None = refl

@@ -1,6 +1,6 @@
 -- The packet that a frame is, where its action has the core hear one.
 use Rattle.std.proofs.Common.{◌≡◌, ℕ, Bool, true, false, cond, List, [], Option, Some, None, Result, Ok, Err, refl, sym, ap, ◌∙◌, inl, inr}
-use Rattle.std.specs.Prelude.{◌==◌, ◌⊎◌, option_to_list}
+use Rattle.std.specs.Prelude.{◌==◌, ◌&&◌, ◌⊎◌, option_to_list}
 use Rattle.std.specs.List.{list_any}
 use Rattle.std.specs.Option.{option_map, option_map_or}
 use Rattle.mum_base.specs.declared.number.SessionId.{SessionId}
@@ -11,11 +11,12 @@ use Rattle.mum_msg_state.specs.Messages.{ping, version}
 use Rattle.mum_fields.specs.Table.{decoded}
 use Rattle.mum_voice.specs.Packet.{Parts, packet}
 use Rattle.mum_voice.specs.declared.fault.BadVoice.{BadVoice}
-use Rattle.mum_session.specs.Action.{Decoded, action, after_login, command_action, commands_after_login, ignore, other_action, ping_action, tree_or_user_action, version_action, voice_action}
+use Rattle.mum_session.specs.Action.{Decoded, action, after_login, bans_action, command_action, commands_after_login, ignore, other_action, ping_action, tree_or_user_action, version_action, voice_action}
 use Rattle.mum_session.specs.Heard.{command_heard, login_heard}
 use Rattle.mum_session.specs.Machine.{Machine, is_rejected, session_of}
 use Rattle.mum_session.specs.declared.action.Action.{Action}
-use Rattle.mum_session.specs.declared.action.Action.TheVariants.{Voice}
+use Rattle.mum_session.specs.declared.action.Action.TheVariants.{Voice, Bans}
+use Rattle.mum_session.specs.declared.action.TheConstants.{BAN_LIST}
 use Rattle.mum_session.specs.declared.command.Asked.{Asked}
 use Rattle.mum_session.specs.declared.heard.Heard.{Heard}
 use Rattle.mum_session.specs.declared.heard.Heard.TheVariants as heard
@@ -59,11 +60,16 @@ unheard_after : (seat : Option Seat) (session : Option SessionId) (a : Action) �
 unheard_after seat None a h = refl
 unheard_after seat (Some session) a h = h
 
+unheard_list : (seat : Option Seat) (machine : Machine) (kind : ℕ) (payload : List ℕ) → Unheard seat (bans_action machine kind payload)
+unheard_list seat machine kind payload =
+    chosen (Unheard seat) (machine.bans && kind == BAN_LIST) (after_login (session_of machine.stage) (Bans payload)) _
+    (λ on. unheard_after seat (session_of machine.stage) (Bans payload) refl) (λ off. refl)
+
 unheard_other : (seat : Option Seat) (machine : Machine) (kind : ℕ) (payload : List ℕ) → Unheard seat (other_action machine kind payload)
 unheard_other seat machine kind payload =
     chosen (Unheard seat) (list_any (λ known. known == kind) commands_after_login) (after_login (session_of machine.stage) (tree_or_user_action machine kind payload)) _
     (λ on. unheard_after seat (session_of machine.stage) (tree_or_user_action machine kind payload) (unheard_command seat machine (command_heard kind payload)))
-    (λ off. refl)
+    (λ off. unheard_list seat machine kind payload)
 
 -- ---- what is
 

@@ -36,14 +36,14 @@ DoorFailed door_facts (Some door) (Some left) = Rose (door_facts door).counts.fa
 DoorFailed door_facts door left = ⊥
 
 -- those of one of the doors did
-abbrev pub OneFailed : {D : Type 0} → (D → DoorFacts) → Lent D → Lent D → Type 0
+abbrev pub OneFailed : {D K : Type 0} → (D → DoorFacts) → Lent D K → Lent D K → Type 0
 OneFailed door_facts doors left = DoorFailed door_facts doors.door left.door ⊎ DoorFailed door_facts doors.view left.view
 
-module _ {D L : Type 0} (facts : L → LinkFacts) (door_facts : D → DoorFacts) where
+module _ {D K L : Type 0} (facts : L → LinkFacts) (door_facts : D → DoorFacts) (last calls : K → ℕ) where
   -- a server was run that was asked to do this: how it ended, and what was answered and said of that
-  pub record RunsServer (asked : Service) (input input_after : InputFacts) (output output_after errors errors_after : SinkFacts) (doors left : Lent D) (crew crew_after : CrewCounts) (status : ℕ) : Type 0 where
+  pub record RunsServer (asked : Service) (input input_after : InputFacts) (output output_after errors errors_after : SinkFacts) (doors left : Lent D K) (crew crew_after : CrewCounts) (status : ℕ) : Type 0 where
     pub end : ServerEnd
-    pub ends : EndsAt facts door_facts asked input.left end doors left output.written output_after.written crew crew_after
+    pub ends : EndsAt facts door_facts last calls asked input.left end doors left output.written output_after.written crew crew_after
     pub runs : RunsInCrew end crew crew_after
     pub reads : ReadsCounted end input.faults input_after.faults
     pub writes : WritesCounted end output.faults output_after.faults

@@ -12,7 +12,7 @@ use crate::command::{begins_with_serve, serve_in};
 use crate::end::{End, LineFault};
 use crate::program::{USAGE_LINE, report, run_plain, say};
 use mum_crew::Crew;
-use mum_io::{Door, Sink, Source};
+use mum_io::{Clock, Door, Sink, Source};
 use mum_serve::{ServerEnd, run_server};
 use std::alloc::Global;
 use std::sync::Wait;
@@ -65,8 +65,17 @@ fn report_server<E: Sink>(alloc: Global, end: ServerEnd, errors: &mut E) -> u8
 /// serves that many connections, and writes a line of totals when all are closed. With `journal` behind these words it
 /// writes a journal before it, if its audit finds it legal. With `view ADDRESS VIEWS` behind them it also opens the
 /// second door, gives each connection of that one the view of the state, at most so many, and writes a line of the views
-/// behind the totals. Other words are those of `run_plain`. The doors are back at every return.
-pub fn murmur<R: Wait + Copy + Send, I: Source, O: Sink, E: Sink, D: Door + Send, C: Crew>(
+/// behind the totals. Other words are those of `run_plain`. The server asks the
+/// clock by which bans start and end. The doors and the clock are back at every return.
+pub fn murmur<
+    R: Wait + Copy + Send,
+    I: Source,
+    O: Sink,
+    E: Sink,
+    D: Door + Send,
+    C: Crew,
+    K: Clock + Send,
+>(
     rt: &R,
     alloc: Global,
     words: &[String],
@@ -76,9 +85,11 @@ pub fn murmur<R: Wait + Copy + Send, I: Source, O: Sink, E: Sink, D: Door + Send
     door: &mut Option<D>,
     view: &mut Option<D>,
     crew: &mut C,
+    clock: &mut Option<K>,
 ) -> u8
     requires door { is_some door.old ≡ true }
     requires view { is_some view.old ≡ true }
+    requires clock { is_some clock.old ≡ true }
     // Words without `serve` are run without the door and the crew.
     ensures plain { (BeginsWithServe (map string_bytes words.now) → ⊥) → RunsPlainly (map string_bytes words.now)
         (record { left = I.left input.old; faults = I.faults input.old })
@@ -88,18 +99,19 @@ pub fn murmur<R: Wait + Copy + Send, I: Source, O: Sink, E: Sink, D: Door + Send
         (record { written = E.written errors.old; faults = E.faults errors.old })
         (record { written = E.written errors.new; faults = E.faults errors.new })
         (input.new ≡ input.old) (output.new ≡ output.old) result × (door.new ≡ door.old) × (view.new ≡ view.old)
-        × (crew.new ≡ crew.old) }
+        × (crew.new ≡ crew.old) × (clock.new ≡ clock.old) }
     // `serve` runs a server that is asked to do what the words say.
     ensures serves { (asked : Service) → IsServe (map string_bytes words.now) asked →
         RunsServer D.Conn.facts
-        D.facts asked
+        D.facts K.last K.calls asked
         (record { left = I.left input.old; faults = I.faults input.old })
         (record { left = I.left input.new; faults = I.faults input.new })
         (record { written = O.written output.old; faults = O.faults output.old })
         (record { written = O.written output.new; faults = O.faults output.new })
         (record { written = E.written errors.old; faults = E.faults errors.old })
         (record { written = E.written errors.new; faults = E.faults errors.new })
-        (record { door = door.old; view = view.old }) (record { door = door.new; view = view.new })
+        (record { door = door.old; view = view.old; clock = clock.old })
+        (record { door = door.new; view = view.new; clock = clock.new })
         (C.counts crew.old) (C.counts crew.new) result }
     // Other words that begin with `serve` are no command.
     ensures usage { BeginsWithServe (map string_bytes words.now) →
@@ -107,16 +119,19 @@ pub fn murmur<R: Wait + Copy + Send, I: Source, O: Sink, E: Sink, D: Door + Send
         (result ≡ 1) × (input.new ≡ input.old) × (output.new ≡ output.old) × (door.new ≡ door.old)
         × (view.new ≡ view.old)
         × (crew.new ≡ crew.old)
+        × (clock.new ≡ clock.old)
         × Tells usage_line (E.written errors.old) (E.written errors.new)
         (Rose (E.faults errors.old) (E.faults errors.new)) }
-    // The doors are back.
+    // The doors are back, and so is the clock.
     ensures door { is_some door.new ≡ true }
     ensures view { is_some view.new ≡ true }
+    ensures clock { is_some clock.new ≡ true }
     // Each fault has its cause in this call.
     ensures read_fault { result ≡ 3 → Rose (I.faults input.old) (I.faults input.new) }
     ensures write_fault { result ≡ 4 → Rose (O.faults output.old) (O.faults output.new) }
     ensures door_fault { result ≡ 8 → OneFailed D.facts
-        (record { door = door.old; view = view.old }) (record { door = door.new; view = view.new }) }
+        (record { door = door.old; view = view.old; clock = clock.old })
+        (record { door = door.new; view = view.new; clock = clock.new }) }
     ensures crew_fault { result ≡ 9 → Rose (C.counts crew.old).refused (C.counts crew.new).refused }
     // A journal that is named wrong is that of a server that the crew ran, and nothing is written.
     ensures audit_fault { result ≡ 5 → (BeginsWithServe (map string_bytes words.now) → ⊥)
@@ -133,6 +148,6 @@ pub fn murmur<R: Wait + Copy + Send, I: Source, O: Sink, E: Sink, D: Door + Send
         say(errors, USAGE_LINE);
         return 1;
     };
-    let end = run_server(rt, alloc, &asked, input, output, door, view, crew);
+    let end = run_server(rt, alloc, &asked, input, output, door, view, crew, clock);
     report_server(alloc, end, errors)
 }

@@ -14,6 +14,8 @@ pub const VOICE: u8 = 1;
 
 pub const PING: u8 = 3;
 
+pub const REJECT: u8 = 4;
+
 pub const SERVER_SYNC: u8 = 5;
 
 pub const CHANNEL_STATE: u8 = 7;
@@ -21,6 +23,8 @@ pub const CHANNEL_STATE: u8 = 7;
 pub const USER_REMOVE: u8 = 8;
 
 pub const USER_STATE: u8 = 9;
+
+pub const BAN_LIST: u8 = 10;
 
 pub const CODEC_VERSION: u8 = 21;
 

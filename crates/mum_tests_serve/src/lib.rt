@@ -3,6 +3,8 @@
 #![tactic(auto)]
 
 #[cfg(test)]
+mod bans;
+#[cfg(test)]
 mod client;
 #[cfg(test)]
 mod ear;

@@ -5,7 +5,7 @@ ghost use Rattle.std.specs.Prelude.{◌≡◌};
 use mum_base::Octets;
 use mum_crew::turn_crew::NoStation;
 use mum_crew::{Crew, CrewEnd, Plan, RunTally, TurnCrew};
-use mum_io::{Door, DoorEvent, LinkEvent, MemDoor, MemLink, MemSink, MemSource};
+use mum_io::{Door, DoorEvent, LinkEvent, MemClock, MemDoor, MemLink, MemSink, MemSource};
 use mum_server::murmur;
 use std::alloc::Global;
 use std::process::Abort;
@@ -25,7 +25,7 @@ impl TestDoor for MemDoor {
     }
 }
 
-/// What a run came to: its status, its output and its errors, and the doors.
+/// What a run came to: its status, its output and its errors, the doors and the clock.
 #[derive(Drop)]
 pub struct Outcome<D: Drop> {
     pub status: u8,
@@ -33,6 +33,7 @@ pub struct Outcome<D: Drop> {
     errors: MemSink,
     door: Option<D>,
     view: Option<D>,
+    pub clock: Option<MemClock>,
 }
 
 fn text(bytes: &[u8]) -> &str {
@@ -97,6 +98,20 @@ pub fn ran_over<R: Abort + Copy + Send + Wait, D: Door + Send, C: Crew>(
     doors: (D, D),
     crew: &mut C,
 ) -> Outcome<D> {
+    ran_by(rt, alloc, words, input, failing, doors, &[], crew)
+}
+
+/// The same with a clock that answers these moments, and then the last of them.
+fn ran_by<R: Abort + Copy + Send + Wait, D: Door + Send, C: Crew>(
+    rt: &R,
+    alloc: Global,
+    words: &[&str],
+    input: &str,
+    failing: &[u64],
+    doors: (D, D),
+    moments: &[u64],
+    crew: &mut C,
+) -> Outcome<D> {
     let words = owned(rt, alloc, words);
     let bytes = Octets::of(alloc, input.as_bytes()).expect(rt, "memory");
     let failing = Vec::from_slice(alloc, failing).expect(rt, "memory");
@@ -105,6 +120,8 @@ pub fn ran_over<R: Abort + Copy + Send + Wait, D: Door + Send, C: Crew>(
     let mut errors = MemSink::new(alloc, Vec::new(alloc));
     let (door, view) = doors;
     let (mut door, mut view) = (Some(door), Some(view));
+    let moments = Vec::from_slice(alloc, moments).expect(rt, "memory");
+    let mut clock = Some(MemClock::new(moments));
     let status = murmur(
         rt,
         alloc,
@@ -115,6 +132,7 @@ pub fn ran_over<R: Abort + Copy + Send + Wait, D: Door + Send, C: Crew>(
         &mut door,
         &mut view,
         crew,
+        &mut clock,
     );
     drop(words);
     drop(input);
@@ -124,6 +142,7 @@ pub fn ran_over<R: Abort + Copy + Send + Wait, D: Door + Send, C: Crew>(
         errors,
         door,
         view,
+        clock,
     }
 }
 
@@ -140,7 +159,22 @@ pub fn ran<R: Abort + Copy + Send + Wait, D: TestDoor, C: Crew>(
     ran_with(rt, alloc, &words, configuration, &[], door, crew)
 }
 
-/// The same on the calling thread, whose roles have their turns in the order of this list.
+/// The same by a clock that answers these moments.
+pub fn ran_at<R: Abort + Copy + Send + Wait, D: TestDoor, C: Crew>(
+    rt: &R,
+    alloc: Global,
+    connections: &str,
+    configuration: &str,
+    door: D,
+    moments: &[u64],
+    crew: &mut C,
+) -> Outcome<D> {
+    let words = ["serve", "x", connections];
+    let doors = (door, D::empty(rt, alloc));
+    ran_by(rt, alloc, &words, configuration, &[], doors, moments, crew)
+}
+
+/// Serves on the calling thread, whose roles have their turns in the order of this list.
 pub fn ran_by_turns<X, D: TestDoor>(
     rt: X,
     alloc: Global,

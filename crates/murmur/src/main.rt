@@ -40,10 +40,11 @@ fn main(rt: HostRuntime) -> ExitCode {
         mut crew,
         door,
         view,
-        ..
+        clock,
     } = machine;
     let mut door = Some(door);
     let mut view = Some(view);
+    let mut clock = Some(clock);
     let status = murmur(
         &rt,
         rt.alloc(),
@@ -54,6 +55,7 @@ fn main(rt: HostRuntime) -> ExitCode {
         &mut door,
         &mut view,
         &mut crew,
+        &mut clock,
     );
     for door in [&door, &view] {
         if let Some(door) = door {

@@ -28,6 +28,7 @@ returns-then-not-begins_with_serve-clause-plain g c = λ never.
       refl,
       refl,
       refl,
+      refl,
     )
 
 pub returns-in_default-clause-serves : goal.returns-in_default-clause-serves

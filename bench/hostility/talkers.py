@@ -26,13 +26,13 @@ def login(name):
 class Guest:
     """A connection that takes the frames that come."""
 
-    def __init__(self, port, selector, name):
+    def __init__(self, port, selector, name, preamble=b""):
         self.stream, self.selector = connect(port), selector
         selector.register(self.stream, selectors.EVENT_READ, self)
         self.name, self.session, self.kept = name, None, b""
         self.began, self.synced, self.is_open = time.monotonic(), None, True
         self.faults = []
-        self.send(login(name))
+        self.send(preamble + login(name))
 
     def send(self, data):
         try:
@@ -83,8 +83,8 @@ class Guest:
 class Talker(Guest):
     """One who stays in the channel, and hears each packet of the others there."""
 
-    def __init__(self, port, selector, name, delays):
-        super().__init__(port, selector, name)
+    def __init__(self, port, selector, name, delays, preamble=b""):
+        super().__init__(port, selector, name, preamble)
         self.is_there, self.sent, self.arrived, self.delays = False, [], 0, delays
         self.heard, self.others = {}, {}
 
@@ -122,10 +122,11 @@ def said(number):
 
 
 class Circle:
-    """The talkers, and visitors who log in one after another, are sent all that there is, and leave."""
+    """The talkers, and visitors who log in one after another, are sent all that there is, and leave. With a preamble each
+    sends it first, as the header of a relay."""
 
-    def __init__(self, port):
-        self.port, self.selector = port, selectors.DefaultSelector()
+    def __init__(self, port, preamble=b""):
+        self.port, self.preamble, self.selector = port, preamble, selectors.DefaultSelector()
         self.talkers, self.delays, self.faults = [], [], []
         self.visitor, self.visits, self.visitors_answered, self.visitors_unanswered = None, [], 0, 0
         self.due = self.packets = self.turn = 0
@@ -133,7 +134,7 @@ class Circle:
 
     def gather(self, count=TALKERS, patience=20):
         """So many more log in, enter the channel, and know each other."""
-        comers = [Talker(self.port, self.selector, f"talker {len(self.talkers) + place}", self.delays)
+        comers = [Talker(self.port, self.selector, f"talker {len(self.talkers) + place}", self.delays, self.preamble)
                   for place in range(count)]
         if not self.read_while(lambda: any(comer.session is None for comer in comers), patience):
             return False
@@ -199,7 +200,8 @@ class Circle:
         if self.visitor is not None and self.visitor.is_open and self.visitor.synced is None:
             return
         self.see_off()
-        self.visitor = Guest(self.port, self.selector, f"visitor {len(self.visits)} {time.monotonic_ns()}")
+        name = f"visitor {len(self.visits)} {time.monotonic_ns()}"
+        self.visitor = Guest(self.port, self.selector, name, self.preamble)
 
     def see_off(self):
         visitor, self.visitor = self.visitor, None

@@ -175,7 +175,7 @@ def report_rest(server, report):
     if (root := server.channels[ROOT]).name != "Root":
         report.left_out(f"the name of the root, {shown(root.name)}", "the root is named Root")
     for ban in server.bans:
-        report.left_out(ban_text(ban), "there are no bans; a line in the relay's file kept-out keeps an address out")
+        report.left_out(ban_text(ban), "bans end with the server; a line in the relay's file kept-out keeps an address out")
     for line in server.unread:
         report.left_out(line, "mumble-server does not read it either")
     if server.log_lines:

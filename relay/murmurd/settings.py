@@ -19,7 +19,7 @@ ROOT_FIRST = "everybody arrives in the root"
 FIXED_COUNTS = "these limits are fixed: 32 levels below the root, 2,048 channels"
 FIXED_TEXTS = f"this limit is fixed: {TEXT_LIMIT:,} bytes, pictures included"
 FIXED_NAMES = "names have 1 to 128 bytes, no control characters and no space at either end"
-NO_BANS = "there are no bans; the relay keeps an address out for a time after wrong passwords"
+NO_BANS = "the server bans nobody by itself; the relay keeps an address out for a time after wrong passwords"
 PACE = "MURMUR_PACE in the environment of the server says how much a client may send"
 SYSTEMD = "its unit of systemd says when it runs, and as whom"
 

@@ -13,12 +13,14 @@ import threading
 import time
 
 from client import Client, Ended, parse, trusting_context
-from reader.mumble import AUTHENTICATE, REJECT, USER_REMOVE, VERSION
+from reader.mumble import AUTHENTICATE, REJECT, TEXT_MESSAGE, USER_REMOVE, VERSION
 from reader.wire import HEADER, frame, message
 from trial import PASSWORD, PROGRAM, RELAY, free_port, said_by, wait
 
 # The limits of haproxy.cfg: connections at once, logins in two minutes, wrong passwords in five, tries in ten seconds.
 AT_ONCE, LOGINS, WRONG_PASSWORDS, TRIES = 30, 40, 6, 60
+# How long the relay waits for a client that sends nothing, in seconds.
+SILENCE = 10
 # What a Reject says: the password of an account is wrong, a name is in use.
 WRONG_PASSWORD, NAME_IN_USE = 3, 5
 
@@ -406,3 +408,38 @@ def who_lost_the_line_gets_the_name_back(at):
     lost.close()
     other.close()
     return f"{time.monotonic() - began:.1f} s"
+
+
+def silent_until_closed(at, source, begin, seconds):
+    """How long a client that has begun so, and then reads and sends nothing, is there."""
+    client = Client(at.port, source)
+    began = time.monotonic()
+    begin(client)
+    try:
+        while time.monotonic() < began + 3 * SILENCE:
+            client.read(1)
+    except Ended:
+        seconds.append(time.monotonic() - began)
+    client.close()
+
+
+@test
+def who_stops_in_the_midst_of_a_frame_is_gone(at):
+    whole = frame(TEXT_MESSAGE, message((3, 0), (5, "x" * 100)))
+    lengths, seconds = (0, 3, HEADER.size, HEADER.size + 50), []
+
+    def stop_at(length):
+        return lambda client: client.log_in(f"{length} bytes").stream.sendall(whole[:length])
+
+    # one of them sends nothing at all
+    begins = [("127.0.5.1", lambda client: None), *(("127.0.5.2", stop_at(length)) for length in lengths)]
+    threads = [threading.Thread(target=silent_until_closed, args=(at, *begin, seconds)) for begin in begins]
+    for thread in threads:
+        thread.start()
+    for thread in threads:
+        thread.join()
+    assert len(seconds) == len(begins) and SILENCE - 1 < min(seconds) and max(seconds) < 2 * SILENCE, seconds
+    for length in lengths:
+        is_reported(at, "127.0.5.2", f"{length} bytes", "cD", "-")
+    assert connections(at, "127.0.5.1") == 0
+    return f"{min(seconds):.1f} to {max(seconds):.1f} s"

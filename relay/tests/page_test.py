@@ -19,11 +19,12 @@ import threading
 import time
 
 from client import PATIENCE
+from crowds import ask
 from http_test import served, shown
 from reader.mumble import CHANNEL_STATE, PERMISSIONS, USER_STATE
 from trial import RELAY, free_port, run_checks
 from viewing import TRAPS, example, longest, whole
-from views_test import ask, talk
+from views_test import talk
 
 # The browser, how long it lets the page's clock run, in milliseconds, and within how many seconds the page shows a
 # change: it asks every five.

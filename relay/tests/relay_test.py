@@ -19,11 +19,13 @@ import time
 import warnings
 
 import limits_test
+from bans import BAN_LIST, ban, listed
 from client import ENTER, Client, Ended, parse, trusting_context
 from reader.mumble import (AUTHENTICATE, CRYPT_SETUP, PERMISSION_DENIED, PING, REJECT, TEXT_MESSAGE, USER_REMOVE,
                            VERSION, VOICE)
-from limits_test import comes_in, is_reported
+from limits_test import comes_in, is_reported, lines, login_frames
 from reader.wire import message
+from server import is_closed
 from trial import PASSWORD, PROGRAM, RELAY, UNPROVED, Installation, free_port, run_checks, said_by, wait
 
 # The addresses that the relay keeps out.
@@ -110,6 +112,47 @@ def the_password_that_was_set_opens_and_kicks(at):
         raise AssertionError("the kicked client is still connected")
     except Ended:
         administrator.close()
+
+
+@test
+def who_is_banned_is_told_so_and_nobody_else(at):
+    """By the messages that a stock client sends: a removal with a ban, a list that it has edited, and an empty one."""
+    assert message((1, 4), (3, "begone"), (4, 1)).hex() == "08041a066265676f6e652001"
+    edited = bytes.fromhex("0a6c0a1000000000000000000000ffff0a0102031080011a03626f622228303132333435363738396162"
+                           "636465663031323334353637383961626364656630313233343536372a0b626164206d616e6e65727332"
+                           "14323032362d31312d32375430373a34323a31345a3880e7840f")
+    administrator = Client(at.port, "127.0.5.1").log_in("SuperUser", PASSWORD)
+    bob, cat = Client(at.port, "127.0.5.2").log_in("bob"), Client(at.port, "127.0.5.3").log_in("cat")
+    administrator.wait_until(lambda: administrator.user("cat"))
+    administrator.send(USER_REMOVE, message((1, bob.session), (3, "begone"), (4, 1)))
+    removal = dict(parse(bob.wait(USER_REMOVE)))
+    assert removal[1] == bob.session and removal[3] == b"begone", removal
+    assert is_closed(bob.stream)
+    assert listed(administrator) == [ban("127.0.5.2", reason="begone")], listed(administrator)
+    assert is_banned(at, "127.0.5.2", "bob")
+    wait(lambda: any(line[0] == "bob" and line[2] == "rejected" for line in lines(at, "127.0.5.2")), 5)
+    # the other stays, leaves and comes back
+    cat.send(VOICE, bytes([0x80, 1, 3, 7, 7, 7]))
+    assert administrator.wait(VOICE)[2:] == bytes([1, 3, 7, 7, 7])
+    cat.close()
+    assert comes_in(at.port, "127.0.5.3", "cat")
+    # the date of an entry is not read, and the list without bob's ban lets bob in
+    administrator.send(BAN_LIST, edited)
+    hash_of = "0123456789abcdef0123456789abcdef01234567"
+    assert listed(administrator) == [ban("10.1.2.3", 31536000, name="bob", hash=hash_of, reason="bad manners")]
+    assert comes_in(at.port, "127.0.5.2", "bob")
+    administrator.send(BAN_LIST)
+    assert listed(administrator) == []
+    administrator.close()
+
+
+def is_banned(at, source, name):
+    """Whether a login from there is rejected since the address is banned."""
+    client = Client(at.port, source)
+    client.stream.sendall(login_frames(name))
+    told = dict(parse(client.wait(REJECT)))
+    client.close()
+    return (told[1], told[2]) == (0, b"banned")
 
 
 @test

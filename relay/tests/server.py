@@ -39,11 +39,18 @@ class Server:
             self.process = subprocess.Popen([PROGRAM, "serve", self.address, str(connections), *words], cwd=folder,
                                             stdin=standard_input, stdout=subprocess.PIPE, stderr=log, text=True,
                                             env={**os.environ, **environment})
-        wait(lambda: "murmur: listening on " in self.log() or self.process.poll() is not None, PATIENCE)
+        wait(lambda: self.is_open() or self.process.poll() is not None, PATIENCE)
+
+    def is_open(self):
+        return "murmur: listening on " in self.log()
 
     def log(self):
         with open(self.log_path) as log:
             return log.read()
+
+    @property
+    def port(self):
+        return int(self.address.rpartition(":")[2])
 
     def connect(self, **more):
         """A connection, with options of its socket before it connects."""
@@ -70,6 +77,16 @@ class Server:
 
     def __exit__(self, *_):
         self.stop()
+
+
+class QuietServer(Server):
+    """One that writes no lines about connections."""
+
+    def __init__(self, folder, connections, address):
+        super().__init__(folder, connections, address, MURMUR_LOG="none")
+
+    def is_open(self):
+        return listens(self.folder, self.address.removeprefix("proxy:"))
 
 
 class ViewServer(Server):

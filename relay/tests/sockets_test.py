@@ -13,14 +13,15 @@ import socket
 import struct
 import sys
 import termios
+import threading
 import time
 
 from client import PATIENCE, parse
-from reader.mumble import AUTHENTICATE, PING, REJECT, TEXT_MESSAGE, USER_STATE, VOICE
+from reader.mumble import ACL, AUTHENTICATE, PING, REJECT, TEXT_MESSAGE, USER_STATE, VERSION, VOICE
 from reader.wire import HEADER, frame, message
-from server import (HEADER_PATIENCE, SIGNATURE, TCP_OVER_IPV4, TCP_OVER_IPV6, Server, Tests, header, is_closed,
-                    read_to_the_end, reset)
-from trial import free_port, wait
+from server import (HEADER_PATIENCE, SIGNATURE, TCP_OVER_IPV4, TCP_OVER_IPV6, QuietServer, Server, Tests, header,
+                    is_closed, read_to_the_end, reset)
+from trial import RELAY, free_port, wait
 
 # More connections than may be open at once.
 MANY = 1100
@@ -28,6 +29,8 @@ MANY = 1100
 LONGEST, LONG_FRAMES = 8_388_607, 8
 # How long what a client left behind is read, in seconds.
 LEFT_BEHIND_LIMIT = 10
+# How much more memory a server may have once all who sent much have gone, in megabytes.
+MEMORY_LEFT = 20
 # Long enough for what must not happen, in seconds.
 A_WHILE = 0.5
 
@@ -202,7 +205,9 @@ def who_is_rejected_reads_why_and_then_the_end(folder):
             client.stream.sendall(frame(AUTHENTICATE, message((1, "guest"), (2, "guessed"), (5, 1))) +
                                   frame(TEXT_MESSAGE, bytes(1000)) * 24)
             assert dict(parse(client.wait(REJECT)))[1] == 4, client.frames
+            # the server closes it, and notices that at once
             assert server.totals()["accepted"] == 0
+            never_overslept(server)
             assert client.stream.getsockopt(socket.SOL_SOCKET, socket.SO_ERROR) == 0, "it was reset"
             assert read_to_the_end(client.stream) == b""
             client.close()
@@ -387,6 +392,72 @@ def a_long_frame_waits_until_another_link_is_closed(folder):
         for stream in (waits, hangs_up, *streams):
             stream.close()
         server.totals()
+
+
+def resident(server):
+    """The resident memory of a server, in megabytes."""
+    with open(f"/proc/{server.process.pid}/status") as status:
+        return next(int(line.split()[1]) // 1024 for line in status if line.startswith("VmRSS"))
+
+
+def unit_environment(name):
+    """What the unit sets this variable to."""
+    with open(os.path.join(RELAY, "murmur.service")) as unit:
+        return re.search(rf"^Environment={name}=(.*)$", unit.read(), re.M).group(1)
+
+
+def send_to_the_end(server, data):
+    """Sends all of this, however often the server pauses, or as much as it takes before it closes."""
+    with server.connect() as stream:
+        try:
+            stream.sendall(data)
+            stream.shutdown(socket.SHUT_WR)
+            read_to_the_end(stream)
+        except OSError:
+            pass
+
+
+@test
+def the_memory_of_hostile_frames_comes_back(folder):
+    variable = "MALLOC_MMAP_THRESHOLD_"
+    with Server(folder, MANY, MURMUR_PACE="none", **{variable: unit_environment(variable)}) as server:
+        # all that a server takes at its start it has once somebody is in
+        ann = server.client().log_in("ann")
+        start = most = resident(server)
+        # of each kind some more than find room at once, and two above the longest
+        for kind in (VERSION, TEXT_MESSAGE, USER_STATE, ACL):
+            frames = [HEADER.pack(kind, LONGEST) + bytes(LONGEST)] * (LONG_FRAMES + 4)
+            frames += [HEADER.pack(kind, LONGEST + 1) + bytes(1000), os.urandom(100_000)]
+            threads = [threading.Thread(target=send_to_the_end, args=(server, data)) for data in frames]
+            for thread in threads:
+                thread.start()
+            while any(thread.is_alive() for thread in threads):
+                most = max(most, resident(server))
+                time.sleep(0.05)
+        wait(lambda: resident(server) < start + MEMORY_LEFT, PATIENCE)
+        ann.close()
+    return f"{start} MB at first, {most} at the most"
+
+
+@test
+def no_address_is_written_where_none_is_asked_for(folder):
+    address = f"proxy:127.0.0.1:{free_port()}"
+    with QuietServer(folder, 4, address) as server:
+        for number in range(1, 4):
+            stream = server.connect()
+            stream.sendall(header(f"203.0.113.{number}") + ping(number))
+            assert read_exactly(stream, len(ping(number))) == ping(number)
+            stream.close()
+        # one without a header, and one that is reset
+        stream = server.connect()
+        stream.sendall(ping(1) * 4)
+        assert is_closed(stream, HEADER_PATIENCE - 1)
+        stream = server.connect()
+        stream.sendall(header("203.0.113.4") + ping(4))
+        assert read_exactly(stream, len(ping(4))) == ping(4)
+        reset(stream)
+        assert server.totals()["connections"] == 4
+        assert not re.search(r"[0-9]+\.[0-9]+\.|::", server.log()), server.log()
 
 
 if __name__ == "__main__":

@@ -5,34 +5,26 @@ Each view is compared with what clients of the same server were sent. Prints a l
 failed.
 """
 import os
-import select
-import selectors
 import socket
 import subprocess
 import sys
 import time
+from concurrent.futures import ThreadPoolExecutor
 from contextlib import suppress
 
-sys.path.insert(0, os.path.join(os.path.dirname(os.path.abspath(__file__)), "../../bench"))
-
-from client import PATIENCE, PlainClient  # noqa: E402
-from hostility.talkers import TALKERS, Circle, share  # noqa: E402
-from reader.mumble import (CHANNEL_REMOVE, CHANNEL_STATE, PERMISSIONS, SERVER_SYNC, USER_REMOVE,  # noqa: E402
-                           USER_STATE, VOICE, decode, encode)
-from server import MANY_VIEWS, Server, Tests, ViewServer, read_to_the_end  # noqa: E402
-from trial import RELAY, free_port, wait  # noqa: E402
-from viewing import TRAPS, TWO_USERS, channel, document, user  # noqa: E402
+from client import PATIENCE
+from crowds import LONG, LONG_LIVED, VIEWS_A_SECOND, ask, fill, talkers_at_a_door_for_views
+from reader.mumble import CHANNEL_REMOVE, CHANNEL_STATE, PERMISSIONS, USER_REMOVE, USER_STATE, VOICE, decode
+from server import MANY_VIEWS, Server, Tests, ViewServer, read_to_the_end
+from trial import RELAY, free_port, wait
+from viewing import TRAPS, TWO_USERS, channel, document, user
 
 # How many views are open at once, how many come in a second, and how many of them at once.
 OPEN, A_SECOND, AT_ONCE = 16, 10, 20
 # For how long a view waits for who takes nothing, in seconds, and how long a busy machine may take beside that.
 VIEW_PATIENCE, SLACK = 10, 2
-# The most channels, how many links each gets here, and how long the document of that is, at the least.
-CHANNELS, LINKS, LONG = 2048, 44, 1_000_000
-# What a slow reader takes in a millisecond, in bytes.
-SLOW = 64
-# How many connections a flood makes in a second, and how long it and the quiet before and behind it last, in seconds.
-FLOOD, FLOOD_SECONDS, QUIET_SECONDS = 500, 6, 4
+# For how long a flood of connections lasts, in seconds.
+FLOOD_SECONDS = 4
 
 test = Tests()
 
@@ -80,11 +72,6 @@ class Seen:
 
 TAKEN = {CHANNEL_STATE: Seen.take_channel, CHANNEL_REMOVE: Seen.take_channel_away, USER_STATE: Seen.take_user,
          USER_REMOVE: Seen.take_user_away}
-
-
-def ask(client, kind, **fields):
-    """Sends a message by the names of its fields."""
-    client.send(kind, encode(kind, fields))
 
 
 def seen_so(client, session, seconds=PATIENCE, **values):
@@ -281,49 +268,20 @@ def ten_come_in_a_second_and_twenty_at_once(folder):
     return f"{AT_ONCE} in {seconds[AT_ONCE - 1]:.1f} s, {count} in {seconds[-1]:.1f} s"
 
 
-class Builder(PlainClient):
-    """One who makes channels, and takes no notice of what it is sent of them."""
-
-    def take(self, kind, payload):
-        if kind in (SERVER_SYNC, USER_STATE):
-            super().take(kind, payload)
-
-
-def long_document(server):
-    """Fills a server with channels, until its document is long. Who is there then, and the document that is due."""
-    ann = Builder(server.connect()).log_in("ann")
-    asked = 0
-    for number in range(1, CHANNELS):
-        ask(ann, CHANNEL_STATE, parent=0, name='"' * 120 + str(number))
-        asked += 1
-        ann.read(0)
-    for first in range(1, CHANNELS - 2 * LINKS, 2 * LINKS):
-        for number in range(first, first + LINKS):
-            ask(ann, CHANNEL_STATE, channel_id=number, links_add=range(first + LINKS, first + 2 * LINKS))
-            asked += 1
-            ann.read(0)
-    # all of that has been decided once this has
-    ask(ann, USER_STATE, session=ann.session, self_mute=1)
-    seen_so(ann, ann.session, 4 * PATIENCE, self_mute=True)
-    bob = server.client().log_in("bob")
-    return (ann, bob), Seen(bob).document(1 + asked + 1 + 1)
-
-
-LONG_LIVED = {"channels": [{"id": 0, "acls": [
-    {"group": "all", "grant": PERMISSIONS["MakeChannel"] | PERMISSIONS["LinkChannel"]}]}]}
-
-
 @test
 def a_long_document_is_read_slowly_and_who_reads_nothing_is_cut_off(folder):
-    """One megabyte, which no socket holds. Sixteen who read nothing do not keep the seventeenth out."""
-    with ViewServer(folder, 2, document=LONG_LIVED, MURMUR_PACE="none") as server:
-        people, due = long_document(server)
+    """No socket in the machine holds it. Of sixteen one takes a byte a millisecond, for longer than a view waits for
+    who takes nothing, as the others do. They do not keep the seventeenth out."""
+    with ViewServer(folder, 2, document=LONG_LIVED, MURMUR_PACE="none") as server, ThreadPoolExecutor() as pool:
+        ann, asked = fill(server)
+        bob = server.client().log_in("bob")
+        due = Seen(bob).document(1 + asked + 1)
         assert len(due) >= LONG, len(due)
         same(server.view(), due)
-        slow_seconds = read_slowly(server, due)
-        deaf = [server.view_stream() for _ in range(OPEN)]
-        wait(lambda: all(held(stream) for stream in deaf), PATIENCE)
-        began = time.monotonic()
+        slow = server.view_stream()
+        deaf = [server.view_stream() for _ in range(OPEN - 1)]
+        wait(lambda: all(held(stream) for stream in (slow, *deaf)), PATIENCE)
+        began, slowly = time.monotonic(), pool.submit(read_slowly, slow, VIEW_PATIENCE + SLACK)
         with server.view_stream() as stream:
             first = stream.recv(1)
             seconds = time.monotonic() - began
@@ -331,10 +289,12 @@ def a_long_document_is_read_slowly_and_who_reads_nothing_is_cut_off(folder):
         assert seconds < VIEW_PATIENCE + SLACK, seconds
         cut = [read_to_the_end_or_reset(stream) for stream in deaf]
         assert all(due.startswith(one) and len(one) < len(due) for one in cut), [len(one) for one in cut]
-        for one in (*people, *deaf):
+        by_bytes, whole = slowly.result()
+        same(whole, due)
+        for one in (ann, bob, slow, *deaf):
             one.close()
         assert server.totals()["viewed"] == 3
-    return f"{len(due):,} bytes in {slow_seconds:.1f} s; the {OPEN + 1}th waited {seconds:.1f} s"
+    return f"{len(due):,} bytes, {by_bytes:,} of them one by one; the {OPEN + 1}th waited {seconds:.1f} s"
 
 
 def held(stream):
@@ -348,111 +308,32 @@ def held(stream):
         stream.settimeout(PATIENCE)
 
 
-def read_slowly(server, due):
-    """Reads a document in small pieces, a piece a millisecond. How long that took."""
+def read_slowly(stream, seconds):
+    """Reads a byte a millisecond for so long, and then the rest. How many bytes that were, and all."""
     began, back = time.monotonic(), bytearray()
-    with server.view_stream() as stream:
-        while piece := stream.recv(SLOW):
-            back += piece
-            time.sleep(0.001)
-    same(bytes(back), due)
-    seconds = time.monotonic() - began
-    assert seconds > VIEW_PATIENCE, seconds
-    return seconds
-
-
-@test
-def a_byte_a_millisecond_is_fast_enough_where_the_system_holds_the_rest(folder):
-    """Over TCP on this machine the system takes a whole document."""
-    with ViewServer(folder, 1, view_address=f"127.0.0.1:{free_port()}") as server:
-        with server.client().log_in("ann").stream:
-            due, back = document([], [user(1, "ann")], 1), bytearray()
-            with server.view_stream() as stream:
-                while piece := stream.recv(1):
-                    back += piece
-                    time.sleep(0.001)
-            same(bytes(back), due)
-        assert server.totals()["viewed"] == 1
+    while time.monotonic() < began + seconds and (piece := stream.recv(1)):
+        back += piece
+        # who is late by now makes it up
+        time.sleep(max(began + len(back) / 1000 - time.monotonic(), 0))
+    return len(back), bytes(back) + read_to_the_end_or_reset(stream)
 
 
 # ---- beside those who talk
 
-class Flood:
-    """So many connections a second to a port for views, each closed after half a second, until standard input ends."""
-
-    def __init__(self, port):
-        self.port, self.selector, self.connections, self.whole = port, selectors.DefaultSelector(), 0, 0
-
-    def run(self):
-        """Prints how many connections it made, and how many of them got a whole document."""
-        came, began = [], time.monotonic()
-        while not select.select([sys.stdin], [], [], 0)[0]:
-            while self.connections < (time.monotonic() - began) * FLOOD:
-                came.append((time.monotonic(), self.come()))
-            for key, _ in self.selector.select(0.001):
-                self.read(key.fileobj)
-            while came and came[0][0] < time.monotonic() - 0.5:
-                self.leave(came.pop(0)[1])
-        print(self.connections, self.whole)
-
-    def come(self):
-        self.connections += 1
-        stream = socket.socket()
-        stream.setblocking(False)
-        stream.connect_ex(("127.0.0.1", self.port))
-        self.selector.register(stream, selectors.EVENT_READ)
-        return stream
-
-    def read(self, stream):
-        with suppress(OSError):
-            self.whole += stream.recv(1 << 20).endswith(b"\n")
-        self.leave(stream)
-
-    def leave(self, stream):
-        if stream.fileno() >= 0:
-            self.selector.unregister(stream)
-            stream.close()
-
-
 @test
-def a_flood_of_views_holds_up_no_talker(folder):
-    """Each copy arrives, and the median of their delays is at most twice that in quiet."""
-    port, rooms = free_port(), {"channels": [{"id": 1, "parent": 0, "name": "Lobby"}]}
-    with ViewServer(folder, TALKERS, view_address=f"127.0.0.1:{port}", document=rooms) as server:
-        circle = Circle(int(server.address.rpartition(":")[2]))
-        assert circle.gather(), circle.faults
-        circle.talk(QUIET_SECONDS)
-        quiet = list(circle.delays)
-        # in a process of its own, so as not to hold up those who talk
-        with subprocess.Popen([sys.executable, __file__, "--flood", str(port)], stdin=subprocess.PIPE,
-                              stdout=subprocess.PIPE, text=True) as flood:
-            circle.delays.clear()
-            circle.talk(FLOOD_SECONDS)
-            beside = list(circle.delays)
-            output, _ = flood.communicate("", timeout=PATIENCE)
-        circle.delays.clear()
-        circle.talk(QUIET_SECONDS)
-        quiet += circle.delays
-        circle.settle()
-        circle.part()
+def a_flood_of_views_costs_no_talker_a_copy(folder):
+    port = free_port()
+    with talkers_at_a_door_for_views(folder, port) as (server, talkers):
+        began = time.monotonic()
+        connections, whole = talkers.talk_beside(FLOOD_SECONDS, "views", port, VIEWS_A_SECOND)
+        talkers.part()
         totals = server.totals()
-    connections, whole = (int(word) for word in output.split())
-    assert not circle.faults, circle.faults
-    assert circle.arrived == circle.due and totals["full"] == 0, (circle.arrived, circle.due, totals)
-    medians = [share(delays, 0.5) * 1e3 for delays in (quiet, beside)]
-    assert medians[1] <= 2 * medians[0], medians
-    assert connections >= 0.8 * FLOOD * FLOOD_SECONDS, connections
-    assert A_SECOND <= totals["viewed"] <= AT_ONCE + A_SECOND * (FLOOD_SECONDS + 2 * QUIET_SECONDS), totals
-    return (f"{circle.due} copies; median {medians[0]:.2f} ms in quiet, {medians[1]:.2f} ms beside {connections} "
-            f"connections, of which {whole} got a view")
-
-
-def main(words):
-    if words[:1] == ["--flood"]:
-        Flood(int(words[1])).run()
-        return 0
-    return test.run()
+        seconds = time.monotonic() - began
+    assert totals["full"] == 0, totals
+    assert connections >= 10 * A_SECOND * FLOOD_SECONDS, connections
+    assert AT_ONCE <= totals["viewed"] <= AT_ONCE + A_SECOND * (seconds + 1), totals
+    return f"{talkers.circle.due} copies beside {connections} connections, of which {whole} got a view"
 
 
 if __name__ == "__main__":
-    sys.exit(main(sys.argv[1:]))
+    sys.exit(test.run())

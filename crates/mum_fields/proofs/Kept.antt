@@ -283,16 +283,16 @@ inside-room inside number h =
 
 -- ---- at the start, and at the end
 
+pub unset-size : (label : Label) (kind : Kind) (number : ℕ) → size (row_items label kind number (unset label kind)) ≡ 0
+unset-size Optional kind number = one-none kind number
+unset-size Required kind number = one-none kind number
+unset-size (RequiredOr other) kind number = one-none kind number
+unset-size Repeated kind number = each-none kind number
+
 pub nothing-kept : (slots : List Slot) (n : ℕ) → length slots ≤ n → AreParts slots (no_values (form_of slots)) (replicate n (some_part 0 None))
 nothing-kept [] n few = tt
 nothing-kept (slot ∷ slots) zero few = absurd (omega arith)
-nothing-kept (Single field ∷ slots) (suc n) few = (unset-part field.label field.kind field.number, nothing-kept slots n (omega arith))
-  where
-    unset-part : (label : Label) (kind : Kind) (number : ℕ) → some_part 0 None ≡ some_part (size (row_items label kind number (unset label kind))) None
-    unset-part Optional kind number = ap (λ n. some_part n None) (sym (one-none kind number))
-    unset-part Required kind number = ap (λ n. some_part n None) (sym (one-none kind number))
-    unset-part (RequiredOr other) kind number = ap (λ n. some_part n None) (sym (one-none kind number))
-    unset-part Repeated kind number = ap (λ n. some_part n None) (sym (each-none kind number))
+nothing-kept (Single field ∷ slots) (suc n) few = (ap (λ n. some_part n None) (sym (unset-size field.label field.kind field.number)), nothing-kept slots n (omega arith))
 nothing-kept (Many inside number ∷ slots) (suc n) few = (refl, nothing-kept slots n (omega arith))
 
 -- the message that misses nothing has this length

@@ -19,6 +19,8 @@ pub mod Sizes
 pub mod Outlines
 pub mod Kept
 pub mod Passes
+pub mod Sums
+pub mod Blanks
 pub mod Decodes
 pub mod Worked
 pub mod StandardFacts

@@ -40,7 +40,7 @@ others-map {S} slot (row ∷ rows) n all =
 room-sound : (slots : List Slot) → has_room slots ≡ true → list_all is_sound slots ≡ true
 room-sound slots h = first_true (list_all is_sound slots) (rising 0 (form_of slots)) (second_true (leb (length slots) SLOTS) (list_all is_sound slots && rising 0 (form_of slots)) h)
 
-room-rises : (slots : List Slot) → has_room slots ≡ true → Rises 0 (form_of slots)
+pub room-rises : (slots : List Slot) → has_room slots ≡ true → Rises 0 (form_of slots)
 room-rises slots h = rises 0 (form_of slots) (second_true (list_all is_sound slots) (rising 0 (form_of slots)) (second_true (leb (length slots) SLOTS) (list_all is_sound slots && rising 0 (form_of slots)) h))
 
 pub row-sound : {S : Type 0} (slot : S → Slot) (rows : List S) (i : ℕ) (row : S) → has_room (map slot rows) ≡ true → i < length rows → row ≡ get_or rows i row → is_sound (slot row) ≡ true

@@ -1,7 +1,10 @@
 -- Reading a varint byte by byte.
-use Rattle.std.proofs.Common.{◌≡◌, ℕ, suc, ◌+◌, ◌-◌, ◌*◌, ◌<◌, ◌≤◌, List, ◌∷◌, length, drop, get_or, Result, Ok, Err, refl, arith, drop-cons, add-one}
-use Rattle.std.proofs.lemmas.Bool.{le-ltb}
+use Rattle.std.proofs.Common.{◌≡◌, ℕ, suc, ◌+◌, ◌-◌, ◌*◌, ◌<◌, ◌≤◌, List, [], ◌∷◌, length, drop, get_or, Option, Some, None, Result, Ok, Err, refl, ap, ◌∙◌, arith, drop-cons, add-one}
+use Rattle.std.proofs.lemmas.Bool.{le-ltb, lt-ltb}
+use Rattle.std.specs.Prelude.{slice_get}
 use Rattle.mum_fields.specs.declared.fault.FaultKind.{FaultKind}
+use Rattle.mum_fields.specs.declared.fault.FieldFault.{FieldFault}
+use Rattle.mum_fields.specs.Field.{Cursor, skip, varint_in_front}
 use Rattle.mum_fields.specs.Varint.{above, varint_with, varint}
 
 -- the bits that were read before, and what is read behind them
@@ -35,3 +38,27 @@ behind-more number scale index bytes byte few within is top =
     let cells : drop index bytes ≡ byte ∷ drop (index + 1) bytes = rw (is, add-one) (drop-cons bytes index 0 within) in
     let test = le-ltb byte 128 top in
     rw (room, cells, test) (behind-above number scale index (byte - 128) (varint_with (9 - (index + 1)) (drop (index + 1) bytes)))
+
+-- a number in one byte
+abbrev there : ℕ → Option ℕ
+there byte = Some byte
+
+none_there : (byte : ℕ) → there byte ≡ None → ⊥
+none_there byte h = cc
+
+same_there : (a b : ℕ) → there a ≡ there b → a ≡ b
+same_there a b h = cc
+
+pub short-varint : (place byte : ℕ) (bytes : List ℕ) → Some byte ≡ slice_get bytes 0 → byte < 128
+    → varint_in_front (record { place = place; rest = bytes }) ≡ Ok (byte, skip 1 (record { place = place; rest = bytes }))
+unfolding varint_in_front varint
+short-varint place byte [] is few = absurd (none_there byte is)
+short-varint place byte (b ∷ bytes) is few =
+    let same = same_there byte b is in
+    rw (← same, lt-ltb byte 128 few) refl
+
+abbrev pub found_at : ℕ → Cursor → Result (ℕ × Cursor) FieldFault
+found_at n c = Ok (n, c)
+
+pub read-same : (a b : ℕ) (c d : Cursor) → a ≡ b → c ≡ d → found_at a c ≡ found_at b d
+read-same a b c d p q = ap (λ n. found_at n c) p ∙ ap (found_at b) q

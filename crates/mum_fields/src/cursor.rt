@@ -18,7 +18,7 @@ pub struct Cursor<'a> {
 }
 
 impl<'a> Cursor<'a> {
-    ghost use Rattle.std.specs.Prelude.{◌≡◌, IfOk, Ok, Err};
+    ghost use Rattle.std.specs.Prelude.{◌≡◌, ℕ, IfOk, IfSome, Ok, Err};
     ghost use Rattle.mum_fields.specs.Cursor.{cursor_of, IsRead};
     ghost use Rattle.mum_fields.specs.Field.{entry_of, skip, varint_in_front, bytes_at, fixed8_at, fixed4_at, value_at, field_at};
 
@@ -75,6 +75,53 @@ impl<'a> Cursor<'a> {
         Ok((number, after))
     }
 
+    // The varint at the front, where it has one byte. Most have.
+    fn short_varint(self) -> Option<(u64, Cursor<'a>)>
+        ensures { IfSome result (λ x. varint_in_front (cursor_of self.entry) ≡ Ok (x.0, cursor_of x.1)) }
+    {
+        let byte = *self.rest.first()?;
+        if byte >= 128 {
+            return None;
+        }
+        Some((u64::from(byte), self.skip(1)))
+    }
+
+    // The value behind a key of this number and wire type, where it is a number or a block and its varint has one byte.
+    #[tactic(auto, unfolding(crate::specs::Field::value_at))]
+    fn short_value(self, number: u32, wire_type: u64) -> Option<(Placed<'a>, Cursor<'a>)>
+        ensures { (key : ℕ) → IfSome result (λ x.
+            value_at key number wire_type (cursor_of self.entry) ≡ Ok (entry_of x.0, cursor_of x.1)) }
+    {
+        let (varint, behind) = self.short_varint()?;
+        match wire_type {
+            0 => Some((
+                Placed::new(number, self.place, Value::Varint(varint)),
+                behind,
+            )),
+            2 => match behind.bytes(FaultKind::BadLength, varint as usize) {
+                Ok((block, after)) => Some((
+                    Placed::new(number, behind.place, Value::Block(block)),
+                    after,
+                )),
+                Err(_) => None,
+            },
+            _ => None,
+        }
+    }
+
+    /// The field at the front, where its key has one byte, and its number or the length of its block. Most are such.
+    #[tactic(auto, unfolding(crate::specs::Field::field_at))]
+    pub fn short_field(self) -> Option<(Placed<'a>, Cursor<'a>)>
+        ensures { IfSome result (λ x. field_at (cursor_of self.entry) ≡ Ok (entry_of x.0, cursor_of x.1)) }
+    {
+        let (key, after) = self.short_varint()?;
+        let number = key / 8;
+        if number == 0 || number > LAST_NUMBER {
+            return None;
+        }
+        after.short_value(number as u32, key % 8)
+    }
+
     // The value behind a key that has this place, number and wire type.
     #[tactic(auto, unfolding(crate::specs::Field::value_at))]
     fn value(
@@ -115,6 +162,7 @@ impl<'a> Cursor<'a> {
     }
 
     /// The field at the front.
+    #[inline(never)]
     #[tactic(auto, unfolding(crate::specs::Field::field_at))]
     pub fn field(self) -> Result<(Placed<'a>, Cursor<'a>), FieldFault>
         ensures { IsRead (λ x. (entry_of x.0, cursor_of x.1)) result (field_at (cursor_of self.entry)) }

@@ -1,13 +1,13 @@
 //! A pass over a payload before it is decoded: it takes no memory, and tells the first fault of the
 //! payload, or how long the message is as this server spells it.
 
-ghost use Rattle.std.specs.Prelude.{◌≡◌, ◌≢◌, ◌≤◌, ◌<◌, map, true, length, MatchOption};
+ghost use Rattle.std.specs.Prelude.{◌≡◌, ◌≢◌, ℕ, ◌+◌, ◌-◌, ◌^◌, ◌≤◌, ◌<◌, Bool, map, min, None, true, length, MatchOption};
 ghost use Rattle.std.specs.List.{All, HoldsAt};
 ghost use Rattle.mum_fields.specs.Field.{entry_of};
 ghost use Rattle.mum_fields.specs.Payload.{fields};
-ghost use Rattle.mum_fields.specs.Survey.{AreParts, Grows, Held, Slot, Takes, form_of, has_room, is_sound, label_of, number_of, outlined, own_missing, part_of, slot_of, spelled_size, whole_part};
+ghost use Rattle.mum_fields.specs.Survey.{AreParts, Grows, Held, Slot, Takes, flat, form_of, has_room, is_sound, label_of, number_of, outlined, own_missing, part_of, slot_of, spelled_size, whole_part};
 ghost use Rattle.mum_fields.specs.Survey.Slot.{Single};
-ghost use Rattle.mum_fields.specs.Table.{Values, decoded_by, is_set};
+ghost use Rattle.mum_fields.specs.Table.{Values, decoded_by, is_set, lesser, no_values};
 
 use crate::fault::FieldFault;
 use crate::field::{Placed, Value};
@@ -18,6 +18,9 @@ use crate::size::block_size;
 
 /// How many fields a message may have.
 pub const SLOTS: usize = 24;
+
+// How many fields most messages in blocks have at most. There may be very many of those.
+const FEW_SLOTS: usize = 8;
 
 /// What is kept of the value of a field, or of a message.
 #[derive(Clone, Copy)]
@@ -63,6 +66,7 @@ impl Row for FieldShape {
         self.label
     }
 
+    #[inline(always)]
     fn after(&self, before: Part, placed: &Placed<'_>) -> Result<Part, FieldFault> {
         match self.label {
             Label::Repeated => {
@@ -100,13 +104,13 @@ impl<'a> Row for Shape<'a> {
         }
     }
 
+    #[inline(always)]
     fn after(&self, before: Part, placed: &Placed<'_>) -> Result<Part, FieldFault> {
         match self {
             Shape::Field(field) => field.after(before, placed),
             Shape::Blocks(blocks) => match placed.field.value {
                 Value::Block(block) => {
-                    let reader = Reader::within(block, placed.at);
-                    let part = outline(blocks.inside, reader)?;
+                    let part = outline_block(blocks.inside, block, placed.at)?;
                     let more = block_size(blocks.number, part.length);
                     Ok(Part {
                         length: before.length.saturating_add(more),
@@ -191,6 +195,33 @@ fn missing_of<S: Row>(row: &S, part: &Part, others: &[S], behind: &[Part]) -> Op
     }
 }
 
+// Whether nothing comes of a field: it is not set, has not to be, and misses nothing.
+fn adds_nothing<S: Row>(row: &S, part: &Part) -> bool
+    ensures length { result ≡ true → part.now.length ≤ 0 }
+    ensures missing { result ≡ true → (held : Held (S.slot row.now)) → part.now ≡ part_of (S.slot row.now) held
+        → (is_later_set : ℕ → Bool) → None ≡ own_missing (S.slot row.now) held is_later_set }
+{
+    if part.length > 0 || part.missing.is_some() {
+        return false;
+    }
+    match row.label() {
+        Label::Required => false,
+        Label::RequiredOr(_) => false,
+        _ => true,
+    }
+}
+
+// What comes of one more field.
+fn joined(sum: Part, length: u64, missing: Option<u32>) -> Part
+    ensures length { result.length ≡ min (sum.length + length) (2 ^ 64 - 1) }
+    ensures missing { result.missing ≡ lesser sum.missing missing }
+{
+    Part {
+        length: sum.length.saturating_add(length),
+        missing: lesser(sum.missing, missing),
+    }
+}
+
 /// What the values of all fields come to.
 fn sum_up<S: Row>(rows: &[S], parts: &[Part]) -> Part
     requires { length rows.now ≤ length parts.now }
@@ -198,29 +229,75 @@ fn sum_up<S: Row>(rows: &[S], parts: &[Part]) -> Part
         → AreParts (map S.slot rows.now) values parts.now
         → result ≡ whole_part (form_of (map S.slot rows.now)) values }
 {
-    let Some((row, others)) = rows.split_first() else {
-        return NOTHING;
-    };
-    let Some((part, behind)) = parts.split_first() else {
-        return NOTHING;
-    };
-    let rest = sum_up(others, behind);
-    Part {
-        length: part.length.saturating_add(rest.length),
-        missing: lesser(missing_of(row, part, others, behind), rest.missing),
+    let mut sum = NOTHING;
+    for (i, row) in rows.iter().enumerate() {
+        let part = &parts[i];
+        if adds_nothing(row, part) {
+            continue;
+        }
+        let missing = missing_of(row, part, &rows[i + 1..], &parts[i + 1..]);
+        sum = joined(sum, part.length, missing);
     }
+    sum
 }
 
-/// What the fields that are left come to, in one pass and without memory.
-fn outline<S: Row>(rows: &[S], mut reader: Reader<'_>) -> Result<Part, FieldFault>
+// What the fields come to where none is set. The first that has to be is the one of the least number.
+fn blank(rows: &[FieldShape]) -> Part
+    requires { has_room (map Single rows.now) ≡ true }
+    ensures { result ≡ whole_part (flat rows.now) (no_values (flat rows.now)) }
+{
+    for row in rows {
+        let lacking = Part {
+            length: 0,
+            missing: Some(row.number),
+        };
+        match row.label {
+            Label::Required => return lacking,
+            Label::RequiredOr(_) => return lacking,
+            _ => {}
+        }
+    }
+    NOTHING
+}
+
+// What a block with these fields comes to, which begins at this place of the payload.
+fn outline_block(rows: &[FieldShape], block: &[u8], place: usize) -> Result<Part, FieldFault>
+    requires room { has_room (map Single rows.now) ≡ true }
+    requires place { place + length block.now < 2 ^ 64 }
+    ensures { result ≡ outlined (flat rows.now) (fields (record { place = place; rest = block.now })) }
+{
+    if block.is_empty() {
+        return Ok(blank(rows));
+    }
+    outline(rows, Reader::within(block, place))
+}
+
+// What the fields that are left come to, in one pass and without memory.
+fn outline<S: Row>(rows: &[S], reader: Reader<'_>) -> Result<Part, FieldFault>
     requires { has_room (map S.slot rows.now) ≡ true }
     ensures { result ≡ outlined (form_of (map S.slot rows.now)) (fields reader.entry) }
 {
-    let mut parts = [NOTHING; SLOTS];
-    while let Some(placed) = reader.next_placed()? {
-        take(rows, &mut parts, &placed)?;
+    if rows.len() <= FEW_SLOTS {
+        return outline_in(rows, &mut [NOTHING; FEW_SLOTS], reader);
     }
-    Ok(sum_up(rows, &parts))
+    outline_in(rows, &mut [NOTHING; SLOTS], reader)
+}
+
+// The same with these slots, in which nothing is kept yet.
+fn outline_in<S: Row>(
+    rows: &[S],
+    parts: &mut [Part],
+    mut reader: Reader<'_>,
+) -> Result<Part, FieldFault>
+    requires room { has_room (map S.slot rows.now) ≡ true }
+    requires slots { length rows.now ≤ length parts.old }
+    requires empty { AreParts (map S.slot rows.now) (no_values (form_of (map S.slot rows.now))) parts.old }
+    ensures { result ≡ outlined (form_of (map S.slot rows.now)) (fields reader.entry) }
+{
+    while let Some(placed) = reader.next_placed()? {
+        take(rows, parts, &placed)?;
+    }
+    Ok(sum_up(rows, parts))
 }
 
 /// How many bytes the message of a payload has as this server spells it, or 2^64 - 1 where they are

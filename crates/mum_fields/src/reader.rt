@@ -76,6 +76,7 @@ impl<'a> Reader<'a> {
 
     /// The next field with the place of its value, or None at the end. After a fault each later
     /// call answers it again.
+    #[inline(always)]
     pub fn next_placed(&mut self) -> Result<Option<Placed<'a>>, FieldFault>
         ensures end { (result ≡ Ok None) ↔ (self.old.rest ≡ []) }
         ensures field { IfOk result (λ found. IfSome found (λ placed.
@@ -88,6 +89,10 @@ impl<'a> Reader<'a> {
     {
         if self.cursor.rest.is_empty() {
             return Ok(None);
+        }
+        if let Some((placed, after)) = self.cursor.short_field() {
+            self.cursor = after;
+            return Ok(Some(placed));
         }
         let (placed, after) = self.cursor.field()?;
         self.cursor = after;

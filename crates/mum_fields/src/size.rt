@@ -93,6 +93,7 @@ fn packed_size(number: u32, scalar: Scalar, mut numbers: Packed<'_>) -> Result<u
 impl Kind {
     /// The size of the value that a field of this type and number gives. A field of another wire
     /// type gives none.
+    #[inline(always)]
     pub fn one_size(self, number: u32, placed: &Placed<'_>) -> Result<Option<u64>, FieldFault>
         requires { number ≤ last_number }
         ensures { result ≡ one_size self number (entry_of placed.now) }

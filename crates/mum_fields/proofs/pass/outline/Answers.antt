@@ -1,28 +1,15 @@
-use Rattle.std.proofs.Common.{◌≡◌, [], ◌∷◌, map, refl, ◌∙◌}
-use Rattle.mum_fields.specs.Field.{entry_of}
-use Rattle.mum_fields.specs.Payload.{fields, first, ended}
-use Rattle.mum_fields.specs.Survey.{form_of}
-use Rattle.mum_fields.specs.Table.{no_values, values_after}
+use Rattle.std.proofs.Common.{map, arith}
+use Rattle.std.proofs.lemmas.List.{length-map}
 use Rattle.mum_fields.proofs.Kept.{nothing-kept}
-use Rattle.mum_fields.proofs.Passes.{room-few, outline-more, outline-ends}
+use Rattle.mum_fields.proofs.Passes.{room-few}
 use Rattle.mum_fields.proofs.pass.outline.Goals as goal
 
-pub loop-placed-init : goal.loop-placed-init
-loop-placed-init g c =
-    let slots = map g.S.Row.slot c.args.rows.now in
-    (no_values (form_of slots), nothing-kept slots 24 (room-few slots c.requires), refl)
+pub outline_in-requires-clause-empty : goal.outline_in-requires-clause-empty
+outline_in-requires-clause-empty g c =
+    let few = c.if-rows-le-FEW_SLOTS.true in
+    nothing-kept (map g.S.Row.slot c.args.rows.now) 8 (omega (arith, few, length-map c.args.rows.now g.S.Row.slot))
 
-pub loop-placed-preserved : goal.loop-placed-preserved
-loop-placed-preserved g c =
+pub outline_in-requires-2-clause-empty : goal.outline_in-requires-2-clause-empty
+outline_in-requires-2-clause-empty g c =
     let slots = map g.S.Row.slot c.args.rows.now in
-    let i = c.loop-placed.invariant in
-    let takes : fields c.loop-placed.reader ≡ first (entry_of c.in-Some.placed) (fields c.next_placed.new.self) = rw c.in-Some.is at c.in_ok-placed.ensures.takes in
-    let t = c.in_ok-take.ensures i.0 i.1 in
-    (values_after (form_of slots) i.0 (entry_of c.in-Some.placed ∷ []), t.1, outline-more (form_of slots) i.0 (entry_of c.in-Some.placed) (fields c.loop-placed.reader) (fields c.next_placed.new.self) takes t.0 ∙ i.2)
-
-pub returns : goal.returns
-returns g c =
-    let slots = map g.S.Row.slot c.args.rows.now in
-    let i = c.loop-placed.invariant in
-    let ends : fields c.loop-placed.reader ≡ ended = rw c.in_default.is at c.in_ok-placed.ensures.takes in
-    outline-ends (form_of slots) i.0 (fields c.loop-placed.reader) (fields c.args.reader) c.sum_up.result ends i.2 (c.sum_up.ensures i.0 i.1)
+    nothing-kept slots 24 (room-few slots c.requires)

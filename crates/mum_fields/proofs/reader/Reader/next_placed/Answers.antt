@@ -38,3 +38,14 @@ pub returns-clause-faults : goal.returns-clause-faults
 returns-clause-faults c =
     let left = cursor_of c.self.inside.cursor in
     rw (← c.self.view_is) (field-no_fault left (entry_of c.in_ok-placed.placed, cursor_of c.in_ok-placed.after) (Some c.in_ok-placed.placed) c.in_ok-placed.ensures)
+
+pub returns-in-Some-clause-takes : goal.returns-in-Some-clause-takes
+returns-in-Some-clause-takes c = rw (← c.self.view_is) (fields-item (cursor_of c.self.inside.cursor) (cursor_of c.in-Some.after) (entry_of c.in-Some.placed) c.in-Some.ensures)
+
+pub returns-in-Some-clause-shorter : goal.returns-in-Some-clause-shorter
+returns-in-Some-clause-shorter c = rw (← c.self.view_is) (fields-shorter (cursor_of c.self.inside.cursor) (cursor_of c.in-Some.after) (entry_of c.in-Some.placed) c.in-Some.ensures)
+
+pub returns-in-Some-clause-faults : goal.returns-in-Some-clause-faults
+returns-in-Some-clause-faults c =
+    let left = cursor_of c.self.inside.cursor in
+    rw (← c.self.view_is) (field-no_fault left (entry_of c.in-Some.placed, cursor_of c.in-Some.after) (Some c.in-Some.placed) c.in-Some.ensures)

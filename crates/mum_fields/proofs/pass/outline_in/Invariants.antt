@@ -3,7 +3,7 @@ use Rattle.mum_fields.specs.Payload.{fields}
 use Rattle.mum_fields.specs.Message.{outcome}
 use Rattle.mum_fields.specs.Table.{Values, values_after, rules, gathered}
 use Rattle.mum_fields.specs.Survey.{AreParts, form_of}
-use Rattle.mum_fields.proofs.pass.outline.Given as goal
+use Rattle.mum_fields.proofs.pass.outline_in.Given as goal
 
 abbrev pub invariant-loop-placed : goal.invariant-loop-placed
 invariant-loop-placed g l =

@@ -183,8 +183,8 @@ impl<X: Net + Files + Eprint + Copy> Listener for SocketListener<X> {
         self.bound = Some(bound);
         let port = self.local_address().map(|address| address.port());
         self.life.listens(text, port);
-        if matches!(address.place, Place::Path(_)) && !address.has_headers {
-            self.life.bans_need_headers(text);
+        if !address.has_headers {
+            self.life.bans_go_by_connections(text);
         }
         Some(address.has_headers)
     }

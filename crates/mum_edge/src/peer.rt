@@ -7,7 +7,7 @@ ghost use Rattle.std.specs.Option.{option_map};
 use crate::stream::Stream;
 use mio::Registry;
 use mum_address::is_made;
-use mum_link::{BANNED, Life, Sightings, Socket};
+use mum_link::{Life, Sightings, Socket};
 use std::io;
 use std::io::{Eprint, ErrorKind};
 use std::net::Ipv6Addr;
@@ -116,23 +116,23 @@ impl<X: Eprint + Drop> Socket for Peer<X> {
         let count = self.stream.read(buf)?;
         // before the connection begins it is a relay that sends
         if self.connection > 0 {
-            if let Some(seen) = self.sightings.follow(&buf[..count.min(buf.len())]) {
-                self.life.saw(self.connection, seen);
-            }
+            let sent = &buf[..count.min(buf.len())];
+            self.sightings.sent(sent, &self.life, self.connection);
         }
         Ok(count)
     }
 
     fn write(&mut self, piece: &[u8]) -> io::Result<usize> {
-        if piece == BANNED.as_slice() {
-            self.life.is_banned(self.connection);
-        }
         match self.stream.write(piece) {
             Ok(0) => {
                 self.refusals = self.refusals.saturating_add(1);
                 Ok(0)
             }
-            Ok(count) => Ok(count),
+            Ok(count) => {
+                let got = &piece[..count.min(piece.len())];
+                self.sightings.got(got, &self.life, self.connection);
+                Ok(count)
+            }
             Err(error) => {
                 self.refusals = self.refusals.saturating_add(1);
                 Err(error)

@@ -36,7 +36,7 @@ pub use link::SocketLink;
 pub use listener::Listener;
 pub use seat::Seat;
 pub use shares::{LaterRoles, Shares, Stations};
-pub use sightings::{BANNED, Sighting, Sightings};
+pub use sightings::{Lacking, Sighting, Sightings};
 pub use sleeper::{Ready, Sleeper};
 pub use socket::Socket;
 pub use station::LinkStation;

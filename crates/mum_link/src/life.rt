@@ -1,6 +1,6 @@
 //! The lines on standard error by which an administrator sees who comes and goes.
 
-use crate::sightings::Sighting;
+use crate::sightings::{Lacking, Sighting};
 use mum_address::{FORMS, LOG_WORDS};
 use std::alloc::{AllocError, Global};
 use std::io;
@@ -55,10 +55,10 @@ impl<X: Eprint> Life<X> {
         }
     }
 
-    /// It listens at the address of this text, where no peer is told from another.
-    pub fn bans_need_headers(&self, text: &str) {
+    /// It listens at the address of this text, where connections begin without the header of a relay.
+    pub fn bans_go_by_connections(&self, text: &str) {
         self.sign(format!(in self.alloc;
-            "murmur: bans by address need proxy:{text} and a relay that sends PROXY headers; here they keep nobody out\n"
+            "murmur: bans go by the address that connects; behind a relay listen at proxy:{text}, or a ban keeps out nobody, or everybody\n"
         ));
     }
 
@@ -73,21 +73,25 @@ impl<X: Eprint> Life<X> {
         self.sign(format!(in self.alloc; "murmur: {connection} from {address}\n"));
     }
 
-    /// Its login came from an address that is banned.
-    pub fn is_banned(&self, connection: u64) {
-        self.sign(format!(in self.alloc; "murmur: {connection} is banned\n"));
-    }
-
-    /// It asked for this. Whether that was allowed its client is told.
+    /// A frame of this connection showed this about bans.
     pub fn saw(&self, connection: u64, sighting: Sighting) {
         match sighting {
-            Sighting::List => {
-                self.sign(format!(in self.alloc; "murmur: {connection} sent a list of bans\n"));
+            Sighting::SentList => self.tell(connection, "sent a list of bans"),
+            Sighting::GotList => self.tell(connection, "was sent the list of bans"),
+            Sighting::Banned(session) => {
+                self.sign(format!(in self.alloc;
+                    "murmur: {connection} banned session {session}\n"
+                ));
             }
-            Sighting::Ban => {
-                self.sign(format!(in self.alloc; "murmur: {connection} asked for a ban\n"));
-            }
+            Sighting::Denied(Lacking::Kick) => self.tell(connection, "was denied Kick"),
+            Sighting::Denied(Lacking::Ban) => self.tell(connection, "was denied Ban"),
+            Sighting::Refused => self.tell(connection, "was refused"),
+            Sighting::Rejected => self.tell(connection, "is banned"),
         }
+    }
+
+    fn tell(&self, connection: u64, words: &str) {
+        self.sign(format!(in self.alloc; "murmur: {connection} {words}\n"));
     }
 
     pub fn went(&self, connection: u64, seconds: u64, read: u64, written: u64) {

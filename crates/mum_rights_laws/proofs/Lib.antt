@@ -1,0 +1,17 @@
+mod Kept
+mod Settled
+mod Silenced
+mod Needed
+mod TreeKinds
+mod Altered
+mod LinkedPairs
+mod ChannelLaws
+mod ResidentLaws
+mod UserKinds
+mod Seated
+mod SessionLaws
+mod OwnLaws
+mod GrantedLast
+mod HeardLaws
+mod UserRequestLaws
+mod ChannelRequestLaws

@@ -1,0 +1,15 @@
+pub mod Rights
+pub mod Standing
+pub mod UserCommands
+pub mod Moves
+pub mod Speech
+pub mod Own
+pub mod Departures
+pub mod Untouched
+pub mod TreeCommands
+pub mod Residents
+pub mod Channels
+pub mod ByLists
+pub mod HeardByLists
+pub mod UserRequests
+pub mod ChannelRequests

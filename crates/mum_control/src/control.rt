@@ -330,6 +330,7 @@ impl<'a, N: Naming> Control<'a, N> {
         ensures ok { OnOk result (self.new ≡ record self.old { publisher = all_published self.old.publisher }) }
         ensures err { OnErr result (self.new ≡ self.old) }
         ensures note { IfOk result (λ note. note ≡ note_of self.old.publisher) }
+        ensures named { IfOk result (λ note. note.book ≡ N.opening.book) }
     {
         self.edits.publish(rt)
     }

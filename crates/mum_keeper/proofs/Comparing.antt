@@ -1,5 +1,5 @@
 -- A keeper that is brought from rows to others, and what is kept of it.
-use Rattle.std.proofs.Common.{◌≡◌, ◌≢◌, ◌==◌, ℕ, ◌&&◌, Bool, true, false, eqb, if◌then◌else◌, List, [], ◌∷◌, ◌++◌, length, map, Option, Some, None, refl, sym, ap, subst, ◌∙◌}
+use Rattle.std.proofs.Common.{◌≡◌, ◌≢◌, ◌↔◌, inl, inr, ◌==◌, ℕ, ◌&&◌, Bool, true, false, eqb, if◌then◌else◌, List, [], ◌∷◌, ◌++◌, length, map, Option, Some, None, refl, sym, ap, subst, ◌∙◌}
 use Rattle.std.specs.Option.{option_map}
 use Rattle.std.specs.Ordering.{int_eq}
 use Rattle.std.specs.Str.{bytes_eq}
@@ -16,7 +16,7 @@ use Rattle.mum_kept.specs.declared.rows.KeptRows.{KeptRows}
 use Rattle.mum_keeper.proofs.Changing.{channel_order, has_ends, has_number, lead_over, link_order}
 use Rattle.mum_keeper.proofs.Merging.{IsOrder}
 use Rattle.mum_keeper.specs.Changes.{AreInOrder, all_made, channel_before, difference, drop_of, is_same_channel, is_same_info, link_before, linked_by, put_of, unlink_of}
-use Rattle.mum_keeper.specs.Keeping.{AreRowsOf, KeepCounts, KeeperFacts, Makes}
+use Rattle.mum_keeper.specs.Keeping.{AreRowsOf, KeepCall, KeepCounts, KeeperFacts, Makes, with_call}
 use Rattle.mum_keeper.specs.Mirror.{Brings, BringsTo, IsMirror, IsSince, MirrorFacts, after_compare, failed_now, opening_of, rows_left}
 use Rattle.mum_keeper.specs.Order.{any_like, unmatched}
 use Rattle.mum_keeper.specs.declared.change.Change.{Change}
@@ -63,6 +63,13 @@ no_difference rows =
     ∙ (ap (λ (l : List KeptChannel). map drop_of l ++ map put_of (unmatched channel_before is_same_channel rows.channels rows.channels) ++ []) channels
     ∙ ap (λ (l : List KeptChannel). map put_of l ++ []) same)
 
+-- where rows are in order, no changes lead from one to the other exactly where they are the same
+pub same_by_difference : (old new : KeptRows) → AreInOrder old → AreInOrder new → (difference old new ≡ []) ↔ (old ≡ new)
+same_by_difference old new old_order new_order = (
+  (λ none. ap (λ (c : List Change). all_made c old) (sym none) ∙ lead_over old new old_order new_order),
+  (λ same. ap (λ (r : KeptRows). difference old r) (sym same) ∙ no_difference old),
+)
+
 -- what a test of a list says
 
 pub is_unlisted : {X : Type 0} (xs : List X) (empty : Bool) → empty ≡ (length xs == 0) → empty ≡ true → xs ≡ []
@@ -87,12 +94,14 @@ none_made (Some known) = refl
 
 module _ {P : Type 0} (facts : P → KeeperFacts) where
   pub starved : (keeper : P) (rows now : KeptRows) → Brings facts keeper rows now ends.NoMemory keeper
-  starved keeper rows now = record { rests = λ same. (refl, (λ e. cc e)); brings = (refl, refl); path = refl }
+  starved keeper rows now =
+      record { rests = λ none. (refl, (λ e. cc e)); calls = λ some. inr (refl, refl); brings = (refl, refl); path = refl }
 
   pub rested : (keeper : P) (rows now : KeptRows) (changes : List Change) → changes ≡ difference rows now → changes ≡ [] → AreRowsOf (facts keeper).rows rows → AreInOrder now
       → Brings facts keeper rows now ends.Kept keeper
   rested keeper rows now changes is none has order = record {
-    rests = λ same. (refl, (λ e. cc e));
+    rests = λ none. (refl, (λ e. cc e));
+    calls = λ some. absurd (some (sym is ∙ none));
     brings = (sym (none_made (facts keeper).rows) ∙ (ap (λ (c : List Change). option_map (all_made c) (facts keeper).rows) (sym none) ∙ made_all (facts keeper).rows rows now changes is has order), refl);
     path = refl;
   }
@@ -104,9 +113,11 @@ module _ {P : Type 0} (facts : P → KeeperFacts) where
   brings_to old new rows now changes ends.NoMemory is has order counts makes = (makes, counts)
 
   pub brought : (old new : P) (rows now : KeptRows) (changes : List Change) (end : KeepEnd) → changes ≡ difference rows now → changes ≢ [] → AreRowsOf (facts old).rows rows → AreInOrder now
-      → KeepCounts end (facts old).faults (facts new).faults → Makes end changes (facts old).rows (facts new).rows → (facts new).opened_at ≡ (facts old).opened_at → Brings facts old rows now end new
-  brought old new rows now changes end is some has order counts makes path = record {
-    rests = λ same. absurd (some (is ∙ (ap (λ (r : KeptRows). difference rows r) (sym same) ∙ no_difference rows)));
+      → KeepCounts end (facts old).faults (facts new).faults → Makes end changes (facts old).rows (facts new).rows → (facts new).opened_at ≡ (facts old).opened_at
+      → (facts new).calls ≡ with_call (KeepCall changes) (facts old).calls → Brings facts old rows now end new
+  brought old new rows now changes end is some has order counts makes path call = record {
+    rests = λ none. absurd (some (is ∙ none));
+    calls = λ differ. inl (call ∙ ap (λ (c : List Change). with_call (KeepCall c) (facts old).calls) is);
     brings = brings_to old new rows now changes end is has order counts makes;
     path = path;
   }

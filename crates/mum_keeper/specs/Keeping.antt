@@ -1,5 +1,5 @@
 -- What the calls of a keeper answer, and what they leave.
-use Rattle.std.specs.Prelude.{◌≡◌, ℕ, List, Option, IfSome, ⊤}
+use Rattle.std.specs.Prelude.{◌≡◌, ℕ, List, [], ◌∷◌, ◌++◌, Option, IfSome, ⊤}
 use Rattle.std.specs.Option.{option_map}
 use Rattle.mum_io.specs.Counts.{Rose}
 use Rattle.mum_kept.specs.declared.rows.KeptRows.{KeptRows}
@@ -10,12 +10,23 @@ use Rattle.mum_keeper.specs.declared.keeper.KeepEnd.TheVariants as ends
 use Rattle.mum_keeper.specs.declared.keeper.Loaded.{Loaded}
 use Rattle.mum_keeper.specs.declared.keeper.Loaded.TheVariants as loaded
 
--- what is known of a keeper: how many calls failed; the rows that it has, and the path at which it was opened, where these
--- are known
+-- a call of a keeper, with what it was handed
+pub data KeeperCall : Type 0 where
+  OpenCall : List ℕ → KeeperCall
+  LoadCall : KeeperCall
+  KeepCall : List Change → KeeperCall
+
+-- what is known of a keeper: how many calls failed; the rows that it has, the path at which it was opened, and all calls in
+-- order, where these are known
 pub record KeeperFacts : Type 0 where
   pub faults : ℕ
   pub rows : Option KeptRows
   pub opened_at : Option (List ℕ)
+  pub calls : Option (List KeeperCall)
+
+-- one call more
+abbrev pub with_call : KeeperCall → Option (List KeeperCall) → Option (List KeeperCall)
+with_call call calls = option_map (λ made. made ++ call ∷ []) calls
 
 -- a fault is counted exactly where a call failed
 abbrev pub KeepCounts : KeepEnd → ℕ → ℕ → Type 0

@@ -7,3 +7,4 @@ pub mod Mirror
 pub mod Look
 pub mod Store
 pub mod Turns
+pub mod Archive

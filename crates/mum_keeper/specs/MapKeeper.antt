@@ -25,9 +25,9 @@ no_rows = record { channels = []; links = [] }
 abbrev pub new_keeper : List ℕ → KeeperState
 new_keeper failing = record { rows = no_rows; calls = before_calls failing; faults = 0; opened_at = None }
 
--- all of it is known
+-- all of it is known but its calls, of which it keeps the number alone
 abbrev pub facts_of : KeeperState → KeeperFacts
-facts_of keeper = record { faults = keeper.faults; rows = Some keeper.rows; opened_at = keeper.opened_at }
+facts_of keeper = record { faults = keeper.faults; rows = Some keeper.rows; opened_at = keeper.opened_at; calls = None }
 
 abbrev pub called : KeeperState → KeeperState
 called keeper = record keeper { calls = after_call keeper.calls }

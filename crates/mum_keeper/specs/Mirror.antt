@@ -1,9 +1,11 @@
 -- A keeper, and the rows to which it was brought last.
-use Rattle.std.specs.Prelude.{◌≡◌, ◌≢◌, Bool, true, false, IsTrue}
+use Rattle.std.specs.Prelude.{◌≡◌, ◌≢◌, ◌⊎◌, Bool, true, false, List, [], IsTrue}
 use Rattle.std.specs.Option.{option_map}
 use Rattle.mum_io.specs.Counts.{Rose}
 use Rattle.mum_kept.specs.declared.rows.KeptRows.{KeptRows}
-use Rattle.mum_keeper.specs.Keeping.{AreRowsOf, KeeperFacts}
+use Rattle.mum_keeper.specs.Changes.{difference}
+use Rattle.mum_keeper.specs.Keeping.{AreRowsOf, KeepCall, KeeperFacts, with_call}
+use Rattle.mum_keeper.specs.declared.change.Change.{Change}
 use Rattle.mum_keeper.specs.declared.keeper.KeepEnd.{KeepEnd}
 use Rattle.mum_keeper.specs.declared.keeper.KeepEnd.TheVariants as ends
 use Rattle.mum_keeper.specs.declared.naming.KeeperOpening.{KeeperOpening}
@@ -71,9 +73,16 @@ after_compare old now end keeper = record {
 }
 
 module _ {P : Type 0} (facts : P → KeeperFacts) where
-  -- a keeper that had some rows is brought to others: it is not called where they are the same
+  -- the keeper was called once, by `keep` and with these changes, or not at all, since memory ran out before
+  abbrev pub CalledOnce : P → List Change → KeepEnd → P → Type 0
+  CalledOnce old changes end new =
+      ((facts new).calls ≡ with_call (KeepCall changes) (facts old).calls) ⊎ ((new ≡ old) × (end ≡ ends.NoMemory))
+
+  -- a keeper that had some rows is brought to others: where no changes lead over it is not called, and else once, with
+  -- exactly these changes
   pub record Brings (old : P) (rows now : KeptRows) (end : KeepEnd) (new : P) : Type 0 where
-    pub rests : rows ≡ now → (new ≡ old) × (end ≢ ends.Failed)
+    pub rests : difference rows now ≡ [] → (new ≡ old) × (end ≢ ends.Failed)
+    pub calls : difference rows now ≢ [] → CalledOnce old (difference rows now) end new
     pub brings : BringsTo (facts old) now end (facts new)
     pub path : (facts new).opened_at ≡ (facts old).opened_at
 

@@ -2,6 +2,7 @@
 //! rows that are kept of what is published.
 #![tactic(auto)]
 
+mod archive;
 pub mod change;
 pub mod item;
 pub mod keeper;
@@ -16,6 +17,7 @@ mod store;
 mod tables;
 pub mod turns;
 
+pub use archive::Archive;
 pub use change::Change;
 pub use item::{StoreItem, StoreNote};
 pub use keeper::{KeepEnd, Keeper, Loaded};

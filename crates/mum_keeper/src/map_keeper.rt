@@ -1,10 +1,10 @@
 //! A keeper in memory.
 
-ghost use Rattle.std.specs.Prelude.{◌≡◌, ◌↔◌, if◌then◌else◌, IsTrue, Some};
+ghost use Rattle.std.specs.Prelude.{◌≡◌, ◌↔◌, if◌then◌else◌, IsTrue, None, Some};
 ghost use Rattle.std.specs.Option.{option_copied};
 ghost use Rattle.mum_io.specs.Calls.{next_fails};
 ghost use Rattle.mum_io.specs.Counts.{Rose};
-ghost use Rattle.mum_keeper.specs.Keeping.{KeepCounts, LoadCounts, Loads, Makes, OpensAt};
+ghost use Rattle.mum_keeper.specs.Keeping.{KeepCall, KeepCounts, LoadCall, LoadCounts, Loads, Makes, OpenCall, OpensAt, with_call};
 ghost use Rattle.mum_keeper.specs.declared.keeper.KeepEnd.{KeepEnd};
 ghost use Rattle.mum_keeper.specs.declared.keeper.Loaded.{Loaded};
 
@@ -96,6 +96,7 @@ impl Keeper for MapKeeper {
         ensures counts { KeepCounts result self.old.faults self.new.faults }
         ensures path { OpensAt result self.old.opened_at self.new.opened_at path.now }
         ensures rows { Some self.new.rows ≡ Some self.old.rows }
+        ensures calls { None ≡ with_call (OpenCall path.now) None }
 
         ensures fails { (result ≡ KeepEnd.Failed) ↔ IsTrue (next_fails self.old.calls) }
         ensures state { self.new ≡ after_open self.old path.now result }
@@ -117,6 +118,7 @@ impl Keeper for MapKeeper {
         ensures loads { Loads result (Some self.new.rows) }
         ensures path { self.new.opened_at ≡ self.old.opened_at }
         ensures rows { Some self.new.rows ≡ Some self.old.rows }
+        ensures calls { None ≡ with_call LoadCall None }
 
         ensures fails { (result ≡ Loaded.Failed) ↔ IsTrue (next_fails self.old.calls) }
         ensures state { self.new ≡ after_load self.old result }
@@ -134,6 +136,7 @@ impl Keeper for MapKeeper {
         ensures counts { KeepCounts result self.old.faults self.new.faults }
         ensures makes { Makes result changes.now (Some self.old.rows) (Some self.new.rows) }
         ensures path { self.new.opened_at ≡ self.old.opened_at }
+        ensures calls { None ≡ with_call (KeepCall changes.now) None }
 
         ensures fails { (result ≡ KeepEnd.Failed) ↔ IsTrue (next_fails self.old.calls) }
         ensures state { self.new ≡ after_keep self.old changes.now result }

@@ -153,6 +153,14 @@ impl<P: Keeper, N: Keeping, R: Wait + Copy> Store<P, N, R> {
         }
     }
 
+    /// Its pass, to be compared with what is published.
+    pub fn pass(&self) -> &Pass
+        ensures pass { result.now ≡ self.now.pass }
+        ensures opening { result.now.opening ≡ N.opening }
+    {
+        &self.pass
+    }
+
     fn has_ended(&self) -> bool
         ensures { result ≡ self.now.ended }
     {

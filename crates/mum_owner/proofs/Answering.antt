@@ -51,7 +51,7 @@ decided_to old connection session (Rejected kind) reply new denies = ap connecti
 decided_to old connection session (Answer frame) reply new denies = ap connection_of denies.1
 decided_to old connection session (Ignored why) reply new denies = ap connection_of denies.1
 
-commanded_to : (old : ControlFacts) (command : Command) (reply : ReplyFacts) (new : ControlFacts) → Commanded old command reply new → reply.connection ≡ command.connection
+pub commanded_to : (old : ControlFacts) (command : Command) (reply : ReplyFacts) (new : ControlFacts) → Commanded old command reply new → reply.connection ≡ command.connection
 commanded_to old command reply new (inl dropped) = ap connection_of dropped.1
 commanded_to old command reply new (inr decides) =
     decided_to old command.connection command.session (verdict (current old) command.session command.what) reply new decides
@@ -65,7 +65,7 @@ AnswersNow (Again connection) reply = reply ≡ None
 AnswersNow Goes reply = reply ≡ None
 AnswersNow Take reply = reply ≡ None
 
-answers_now : (reply : Option ReplyFacts) (leave : Option ℕ) (many goes room : Bool) → AnswersNow (next_by (is_some reply) leave many goes room) reply
+pub answers_now : (reply : Option ReplyFacts) (leave : Option ℕ) (many goes room : Bool) → AnswersNow (next_by (is_some reply) leave many goes room) reply
 answers_now (Some reply) leave many goes room = tt
 answers_now None (Some connection) many goes room = refl
 answers_now None None true goes room = tt
@@ -90,7 +90,7 @@ connection_in other None = other
 connection_in other (Some command) = command.connection
 
 -- a command keeps its connection, whatever session it gets
-owned_connection : (found : Option Guest) (login command : Command) → option_map (λ guest. record login { session = guest.session }) found ≡ Some command
+pub owned_connection : (found : Option Guest) (login command : Command) → option_map (λ guest. record login { session = guest.session }) found ≡ Some command
     → command.connection ≡ login.connection
 owned_connection None login command is = cc
 owned_connection (Some guest) login command is =

@@ -1,5 +1,5 @@
 -- The bans, over each part of a turn and over turns.
-use Rattle.std.proofs.Common.{◌≡◌, ◌∙◌, ◌⊎◌, ℕ, Bool, true, false, cond, List, [], ◌∷◌, ◌++◌, Option, Some, None, refl, ap, sym, inl, inr}
+use Rattle.std.proofs.Common.{◌≡◌, ◌∙◌, ℕ, Bool, true, false, cond, List, [], ◌∷◌, ◌++◌, Option, Some, None, refl, ap, sym, inl, inr}
 use Rattle.std.specs.Prelude.{◌&&◌, MatchBool, MatchOption, fold, is_none, is_some, option_to_list, unwrap_or}
 use Rattle.atomic_table.specs.Seated.{TableId}
 use Rattle.mum_bans.specs.Book.{Adds, Book, Event, after, after_call, bans_of}
@@ -16,18 +16,18 @@ use Rattle.mum_published.specs.Facts.{ReplyFacts}
 use Rattle.mum_session.specs.declared.command.Command.{Command}
 use Rattle.mum_warden.specs.Answer.{sent}
 use Rattle.mum_warden.specs.Warden.{WardenFacts, event_in, noted, verdict_in}
-use Rattle.mum_owner.specs.Banning.{Answers, IsGivenOrRefused, ListComesTo, SettledBy, SettlesList, TestedBy, ban_reply, banned_in, book_after, has_note, is_banned, list_reply, with_ban, with_warden}
+use Rattle.mum_owner.specs.Banning.{Answers, IsGivenOrRefused, ListComesTo, SettledBy, TestedBy, ban_reply, banned_in, book_after, has_note, is_banned, list_reply, with_ban, with_warden}
 use Rattle.mum_owner.specs.Events.{ban_added, ban_events, events_given, events_item, events_listed, events_owned, events_received, events_served, events_waiting}
 use Rattle.mum_owner.specs.Facts.{OwnerFacts}
-use Rattle.mum_owner.specs.Given.{IsGiven}
 use Rattle.mum_owner.specs.Guests.{guest_with, owned}
 use Rattle.mum_owner.specs.Opened.{IsOpened}
 use Rattle.mum_owner.specs.Serving.{LeaveIsGiven, Next, Receives, ReceivesBy, ReceivesItem, Rests, Serves, must_wait, next, with_pass}
 use Rattle.mum_owner.specs.Serving.Next.{Again, Goes, Rest, Take}
-use Rattle.mum_owner.specs.Turned.{Asks, OwnerTurned, PostsOne, Publishes, is_not_to_ask, is_over, lag_at, pressing, with_lag}
+use Rattle.mum_owner.specs.Turned.{Asks, OwnerTurned, PostsOne, is_not_to_ask, is_over, lag_at, pressing, with_lag}
 use Rattle.mum_owner.specs.Written.{is_leave, is_login}
 use Rattle.mum_owner.specs.declared.guests.Guest.{Guest}
 use Rattle.mum_owner.specs.declared.kept.Lag.{Lag}
+use Rattle.mum_owner.proofs.Steps.{shown_stays}
 use Rattle.mum_owner.proofs.Warding.{warden_stays}
 
 fold_more : (bans : List Ban) (first later : List Event) → fold after bans (first ++ later) ≡ fold after (fold after bans first) later
@@ -127,10 +127,6 @@ module _ {D L : Type 0} where
   lag_warden None owner = refl
   lag_warden (Some lag) owner = refl
 
-  published_warden : (old : OwnerFacts D L) (worked : Bool) (new : OwnerFacts D L) → Publishes old worked new → new.warden ≡ old.warden
-  published_warden old true new publishes = ap (λ (o : OwnerFacts D L). o.warden) publishes.1
-  published_warden old false new same = ap (λ (o : OwnerFacts D L). o.warden) same
-
   posted_warden : (b : Bool) (old : OwnerFacts D L) (worked : Bool) (new : OwnerFacts D L) → MatchBool b (Rests old worked new) (PostsOne old worked new) → new.warden ≡ old.warden
   posted_warden true old worked new rests = ap (λ (o : OwnerFacts D L). o.warden) rests.1
   posted_warden false old worked new posts =
@@ -150,8 +146,8 @@ module _ {D L : Type 0} (door_facts : D → DoorFacts) (link_facts : L → LinkF
   turned_warden old turn new t =
       ap (λ (o : OwnerFacts D L). o.warden) t.ends ∙ ended_warden (is_over t.after_door && is_none t.after_door.kept.coming) t.after_door
       ∙ asked_warden (is_not_to_ask t.after_post) t.after_post t.came t.after_door t.asks
-      ∙ posted_warden (is_some t.after_publish.kept.lag) t.after_publish t.posted t.after_post t.posts
-      ∙ published_warden t.after_press t.published t.after_publish t.publishes
+      ∙ posted_warden (is_some t.after_archive.kept.lag) t.after_archive t.posted t.after_post t.posts
+      ∙ (shown_stays t.after_press t.published t.after_publish _ t.archived t.after_archive t.publishes t.archives).warden
       ∙ ap (λ (o : OwnerFacts D L). o.warden) t.presses.1 ∙ lag_warden (pressing t.after_desk) t.after_desk
 
   all_on : (old : OwnerFacts D L) (turns : List Turn) (new : OwnerFacts D L) (all : TurnsTo (OwnerTurned door_facts link_facts) old turns new)
@@ -168,9 +164,9 @@ module _ {D L : Type 0} (door_facts : D → DoorFacts) (link_facts : L → LinkF
       all_on all.0 turns new all.2 ∙ ap (λ (bans : List Ban). fold after bans later) one ∙ sym (fold_more old.warden.book.bans events later)
 
   -- from the opening on
-  pub bans_of_turns : (control : ControlFacts) (door : D) (connections : ℕ) (journal : Bool) (queues : List TableId) (opened owner : OwnerFacts D L) (turns : List Turn)
-      → IsOpened control door connections journal queues opened → (all : TurnsTo (OwnerTurned door_facts link_facts) opened turns owner)
+  pub bans_of_turns : (control : ControlFacts) (door : D) (connections : ℕ) (journal : Bool) (queues : List TableId) (store : Option TableId) (opened owner : OwnerFacts D L) (turns : List Turn)
+      → IsOpened control door connections journal queues store opened → (all : TurnsTo (OwnerTurned door_facts link_facts) opened turns owner)
       → owner.warden.book.bans ≡ bans_of (ban_events door_facts link_facts opened turns owner all)
-  bans_of_turns control door connections journal queues opened owner turns new all =
+  bans_of_turns control door connections journal queues store opened owner turns new all =
       all_on opened turns owner all
       ∙ ap (λ (bans : List Ban). fold after bans (ban_events door_facts link_facts opened turns owner all)) (ap (λ (o : OwnerFacts D L). o.warden.book.bans) new)

@@ -39,7 +39,7 @@ use Rattle.mum_owner.specs.Turned.{Asks, OwnerTurned, is_not_to_ask, is_over}
 use Rattle.mum_owner.specs.Written.{is_join, is_leave, is_login}
 use Rattle.mum_owner.specs.declared.desk.TheConstants.{PENDING_LIMIT}
 use Rattle.mum_owner.specs.declared.guests.Guest.{Guest}
-use Rattle.mum_owner.proofs.Steps.{LagStays, PublishStays, post_stays, press_stays, publish_stays}
+use Rattle.mum_owner.proofs.Steps.{LagStays, PublishStays, post_stays, press_stays, shown_stays}
 
 -- each is a login
 abbrev pub AreLogins : List Command → Type 0
@@ -557,8 +557,8 @@ module _ {D L : Type 0} (door_facts : D → DoorFacts) (link_facts : L → LinkF
   turned_desk : (old : OwnerFacts D L) (turn : Turn) (new : OwnerFacts D L) (t : OwnerTurned door_facts link_facts old turn new) → (new.desk ≡ t.after_desk.desk) × (new.logins ≡ t.after_desk.logins)
   turned_desk old turn new t =
       let press : LagStays t.after_desk t.after_press = press_stays t.after_desk t.pressed t.after_press t.presses in
-      let publish : PublishStays t.after_press t.after_publish = publish_stays t.after_press t.published t.after_publish t.publishes in
-      let post : LagStays t.after_publish t.after_post = post_stays t.after_publish t.posted t.after_post t.posts in
+      let publish : PublishStays t.after_press t.after_archive = shown_stays t.after_press t.published t.after_publish _ t.archived t.after_archive t.publishes t.archives in
+      let post : LagStays t.after_archive t.after_post = post_stays t.after_archive t.posted t.after_post t.posts in
       let ask = asked_desk (is_not_to_ask t.after_post) t.after_post t.came t.after_door t.asks in
       let end = ended_desk (is_over t.after_door && is_none t.after_door.kept.coming) t.after_door in (
         ap (λ (o : OwnerFacts D L). o.desk) t.ends ∙ end.0 ∙ ask.0 ∙ post.desk ∙ publish.desk ∙ press.desk,
@@ -616,11 +616,11 @@ module _ {D L : Type 0} (door_facts : D → DoorFacts) (link_facts : L → LinkF
       ∙ append_assoc (filter_map command_in (items_taken old.desk)) what.taken past
 
   -- from the opening on
-  pub given_once : (control : ControlFacts) (door : D) (connections : ℕ) (journal : Bool) (queues : List TableId) (opened owner : OwnerFacts D L) (turns : List Turn)
-      → IsOpened control door connections journal queues opened → (all : TurnsTo (OwnerTurned door_facts link_facts) opened turns owner)
+  pub given_once : (control : ControlFacts) (door : D) (connections : ℕ) (journal : Bool) (queues : List TableId) (store : Option TableId) (opened owner : OwnerFacts D L) (turns : List Turn)
+      → IsOpened control door connections journal queues store opened → (all : TurnsTo (OwnerTurned door_facts link_facts) opened turns owner)
       → IsServed owner.desk.leave owner.logins (commands_owned door_facts link_facts opened turns owner all) (commands_given door_facts link_facts opened turns owner all)
       (commands_settled door_facts link_facts opened turns owner all) (leaves_decided door_facts link_facts opened turns owner all)
-  given_once control door connections journal queues opened owner turns new all =
+  given_once control door connections journal queues store opened owner turns new all =
       let leave : opened.desk.leave ≡ None = ap (λ (o : OwnerFacts D L). o.desk.leave) new in
       let logins : opened.logins ≡ [] = ap (λ (o : OwnerFacts D L). o.logins) new in
       all_served opened turns owner all [] [] [] [] (record {

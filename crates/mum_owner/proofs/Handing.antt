@@ -28,7 +28,7 @@ use Rattle.mum_owner.specs.Turned.{Asks, Offered, OwnerTurned, guests_by, is_not
 use Rattle.mum_owner.specs.declared.kept.Coming.{Coming}
 use Rattle.mum_owner.specs.declared.kept.Lag.{Lag}
 use Rattle.mum_owner.proofs.Putting.{many_offered, many_told, none_told, other_offered, own_offered}
-use Rattle.mum_owner.proofs.Steps.{DeskStays, LagStays, PublishStays, desk_stays, post_stays, press_stays, publish_stays, reply_stays}
+use Rattle.mum_owner.proofs.Steps.{DeskStays, LagStays, PublishStays, desk_stays, post_stays, press_stays, reply_stays, shown_stays}
 
 abbrev pub number_of : {L : Type 0} → Coming L → ℕ
 number_of coming = coming.connection
@@ -262,8 +262,8 @@ module _ {D L : Type 0} (door_facts : D → DoorFacts) (link_facts : L → LinkF
       let one = offered_hands place workers old t.offered t.after_offers given replies some t.offers hands in
       let two = served_hands place workers t.after_offers t.served t.after_desk given replies t.serves one in
       let three = lagged_hands place workers t.after_desk t.after_press given more (press_stays t.after_desk t.pressed t.after_press t.presses) two in
-      let four = published_hands place workers t.after_press t.after_publish given more (publish_stays t.after_press t.published t.after_publish t.publishes) three in
-      let five = lagged_hands place workers t.after_publish t.after_post given more (post_stays t.after_publish t.posted t.after_post t.posts) four in
+      let four = published_hands place workers t.after_press t.after_archive given more (shown_stays t.after_press t.published t.after_publish _ t.archived t.after_archive t.publishes t.archives) three in
+      let five = lagged_hands place workers t.after_archive t.after_post given more (post_stays t.after_archive t.posted t.after_post t.posts) four in
       let six = asked_hands (is_not_to_ask t.after_post) place workers t.after_post t.came t.after_door given more
       (none_coming t.after_post.kept.coming (is_over t.after_post || not (has_room t.after_post.guests))) t.asks five in
       subst (λ (o : OwnerFacts D L). Hands place workers o (given ++ came old turn new t) more) (sym t.ends)
@@ -283,9 +283,9 @@ module _ {D L : Type 0} (door_facts : D → DoorFacts) (link_facts : L → LinkF
       (subst (λ (l : List (Coming L)). Hands place workers new l ((replies ++ more) ++ replies_made door_facts link_facts all.0 turns new all.2)) (append_assoc given (came old turn all.0 t) later)
       (all_hands place workers all.0 turns new all.2 (given ++ came old turn all.0 t) (replies ++ more) some (turned_hands place workers old turn all.0 t given replies some hands)))
 
-  new_hands : (control : ControlFacts) (door : D) (connections place : ℕ) (journal : Bool) (queues : List TableId) (opened : OwnerFacts D L) → IsOpened control door connections journal queues opened
+  new_hands : (control : ControlFacts) (door : D) (connections place : ℕ) (journal : Bool) (queues : List TableId) (store : Option TableId) (opened : OwnerFacts D L) → IsOpened control door connections journal queues store opened
       → Hands place (length queues) opened [] []
-  new_hands control door connections place journal queues opened new =
+  new_hands control door connections place journal queues store opened new =
       let fresh : List (SideFacts L) = new_bells queues in
       let bells : opened.bells ≡ fresh = ap (λ (o : OwnerFacts D L). o.bells) new in
       record {
@@ -301,11 +301,11 @@ module _ {D L : Type 0} (door_facts : D → DoorFacts) (link_facts : L → LinkF
       }
 
   -- from the opening on
-  pub handed_once : (control : ControlFacts) (door : D) (connections place : ℕ) (journal : Bool) (queues : List TableId) (opened owner : OwnerFacts D L) (turns : List Turn) → 0 < length queues
-      → IsOpened control door connections journal queues opened → (all : TurnsTo (OwnerTurned door_facts link_facts) opened turns owner)
+  pub handed_once : (control : ControlFacts) (door : D) (connections place : ℕ) (journal : Bool) (queues : List TableId) (store : Option TableId) (opened owner : OwnerFacts D L) (turns : List Turn) → 0 < length queues
+      → IsOpened control door connections journal queues store opened → (all : TurnsTo (OwnerTurned door_facts link_facts) opened turns owner)
       → Hands place (length queues) owner (connections_given door_facts link_facts opened turns owner all) (replies_made door_facts link_facts opened turns owner all)
-  handed_once control door connections place journal queues opened owner turns some new all =
-      all_hands place (length queues) opened turns owner all [] [] some (new_hands control door connections place journal queues opened new)
+  handed_once control door connections place journal queues store opened owner turns some new all =
+      all_hands place (length queues) opened turns owner all [] [] some (new_hands control door connections place journal queues store opened new)
 
   -- ---- how many the door gave
 
@@ -315,8 +315,8 @@ module _ {D L : Type 0} (door_facts : D → DoorFacts) (link_facts : L → LinkF
   before_door old turn new t =
       let desk = desk_stays t.after_offers t.served t.after_desk t.serves in
       let press = press_stays t.after_desk t.pressed t.after_press t.presses in
-      let publish = publish_stays t.after_press t.published t.after_publish t.publishes in
-      let post = post_stays t.after_publish t.posted t.after_post t.posts in (
+      let publish = shown_stays t.after_press t.published t.after_publish _ t.archived t.after_archive t.publishes t.archives in
+      let post = post_stays t.after_archive t.posted t.after_post t.posts in (
         post.doorway ∙ publish.doorway ∙ press.doorway ∙ desk.doorway ∙ ap (λ (o : OwnerFacts D L). o.doorway) t.offers.others,
         post.given ∙ ap (λ (g : GuestsFacts). g.given) publish.guests ∙ press.given ∙ desk.given ∙ ap (λ (o : OwnerFacts D L). o.guests.given) t.offers.others,
       )
@@ -351,10 +351,10 @@ module _ {D L : Type 0} (door_facts : D → DoorFacts) (link_facts : L → LinkF
       ∙ all_numbered all.0 turns new all.2 more now
 
   -- from the opening on
-  pub numbered_from : (control : ControlFacts) (door : D) (connections : ℕ) (journal : Bool) (queues : List TableId) (opened owner : OwnerFacts D L) (turns : List Turn)
-      → IsOpened control door connections journal queues opened → (all : TurnsTo (OwnerTurned door_facts link_facts) opened turns owner)
+  pub numbered_from : (control : ControlFacts) (door : D) (connections : ℕ) (journal : Bool) (queues : List TableId) (store : Option TableId) (opened owner : OwnerFacts D L) (turns : List Turn)
+      → IsOpened control door connections journal queues store opened → (all : TurnsTo (OwnerTurned door_facts link_facts) opened turns owner)
       → map number_of (connections_given door_facts link_facts opened turns owner all) ≡ numbers owner.guests.given
-  numbered_from control door connections journal queues opened owner turns new all =
+  numbered_from control door connections journal queues store opened owner turns new all =
       all_numbered opened turns owner all [] (ap (λ (o : OwnerFacts D L). numbers o.guests.given) (sym new))
 
   -- as many are counted as the door gave, since it had given so many
@@ -381,8 +381,8 @@ module _ {D L : Type 0} (door_facts : D → DoorFacts) (link_facts : L → LinkF
   all_counted before old (turn ∷ turns) new all counted = all_counted before all.0 turns new all.2 (turned_count before old turn all.0 all.1 counted)
 
   -- from the opening on
-  pub counted_from : (control : ControlFacts) (door : D) (connections : ℕ) (journal : Bool) (queues : List TableId) (opened owner : OwnerFacts D L) (turns : List Turn)
-      → IsOpened control door connections journal queues opened → TurnsTo (OwnerTurned door_facts link_facts) opened turns owner → (door_facts owner.doorway.door).given ≡ given_after_all (door_facts door).given owner.guests.given
-  counted_from control door connections journal queues opened owner turns new all =
+  pub counted_from : (control : ControlFacts) (door : D) (connections : ℕ) (journal : Bool) (queues : List TableId) (store : Option TableId) (opened owner : OwnerFacts D L) (turns : List Turn)
+      → IsOpened control door connections journal queues store opened → TurnsTo (OwnerTurned door_facts link_facts) opened turns owner → (door_facts owner.doorway.door).given ≡ given_after_all (door_facts door).given owner.guests.given
+  counted_from control door connections journal queues store opened owner turns new all =
       all_counted (door_facts door).given opened turns owner all
       (ap (λ (o : OwnerFacts D L). (door_facts o.doorway.door).given) new ∙ ap (λ (o : OwnerFacts D L). given_after_all (door_facts door).given o.guests.given) (sym new))

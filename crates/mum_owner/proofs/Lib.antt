@@ -15,3 +15,6 @@ mod Sent
 mod Answering
 mod Warding
 mod Booking
+mod Noting
+mod Ending
+mod Sitting

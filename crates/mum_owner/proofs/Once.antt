@@ -19,7 +19,7 @@ use Rattle.mum_owner.specs.Turned.{Asks, OwnerTurned, guests_by, is_not_to_ask, 
 use Rattle.mum_owner.specs.declared.guests.Guest.{Guest}
 use Rattle.mum_owner.specs.declared.kept.Lag.{Lag}
 use Rattle.mum_owner.proofs.Lagging.{AllLagged, AllWithin, HasUnlagged, RowsStay, all_noted, lagged_entered, never_both, rows_equal, rows_noted, unlagged_within, within_entered}
-use Rattle.mum_owner.proofs.Steps.{DeskStays, LagStays, MakesLag, MakesNone, PublishStays, desk_stays, post_stays, press_stays, publish_stays}
+use Rattle.mum_owner.proofs.Steps.{DeskStays, LagStays, MakesLag, MakesNone, PublishStays, desk_stays, post_stays, press_stays, shown_stays}
 
 -- ---- the open connections
 
@@ -138,8 +138,8 @@ module _ {D L : Type 0} (door_facts : D → DoorFacts) (link_facts : L → LinkF
     press : LagStays t.after_desk t.after_press
     press = press_stays t.after_desk t.pressed t.after_press t.presses
 
-    post : LagStays t.after_publish t.after_post
-    post = post_stays t.after_publish t.posted t.after_post t.posts
+    post : LagStays t.after_archive t.after_post
+    post = post_stays t.after_archive t.posted t.after_post t.posts
 
     to_press : GoesOn old.guests t.after_desk.guests
     to_press =
@@ -148,10 +148,10 @@ module _ {D L : Type 0} (door_facts : D → DoorFacts) (link_facts : L → LinkF
         (by_same old.guests t.after_offers.guests (ap (λ (o : OwnerFacts D L). o.guests) t.offers.others))
         (by_rows t.after_offers.guests t.after_desk.guests stays.rows stays.given)
 
-    to_post : GoesOn t.after_press.guests t.after_publish.guests
+    to_post : GoesOn t.after_press.guests t.after_archive.guests
     to_post =
-        let stays : PublishStays t.after_press t.after_publish = publish_stays t.after_press t.published t.after_publish t.publishes in
-        by_same t.after_press.guests t.after_publish.guests stays.guests
+        let stays : PublishStays t.after_press t.after_archive = shown_stays t.after_press t.published t.after_publish _ t.archived t.after_archive t.publishes t.archives in
+        by_same t.after_press.guests t.after_archive.guests stays.guests
 
     to_end : GoesOn t.after_post.guests new.guests
     to_end =
@@ -167,12 +167,12 @@ module _ {D L : Type 0} (door_facts : D → DoorFacts) (link_facts : L → LinkF
       let t = all.1 in
       let at_press = (to_press old turn all.0 t).lagged connection has in
       let at_post = (to_post old turn all.0 t).lagged connection ((lag_on t.after_desk t.after_press (press old turn all.0 t)).lagged connection at_press) in
-      let at_end = (to_end old turn all.0 t).lagged connection ((lag_on t.after_publish t.after_post (post old turn all.0 t)).lagged connection at_post) in
-      All-append (IsOther connection) (made t.after_desk.kept.lag t.after_press.kept.lag ++ made t.after_publish.kept.lag t.after_post.kept.lag)
+      let at_end = (to_end old turn all.0 t).lagged connection ((lag_on t.after_archive t.after_post (post old turn all.0 t)).lagged connection at_post) in
+      All-append (IsOther connection) (made t.after_desk.kept.lag t.after_press.kept.lag ++ made t.after_archive.kept.lag t.after_post.kept.lag)
       (lags_made door_facts link_facts all.0 turns new all.2)
-      (All-append (IsOther connection) (made t.after_desk.kept.lag t.after_press.kept.lag) (made t.after_publish.kept.lag t.after_post.kept.lag)
+      (All-append (IsOther connection) (made t.after_desk.kept.lag t.after_press.kept.lag) (made t.after_archive.kept.lag t.after_post.kept.lag)
       (others_made connection t.after_desk t.after_press at_press (press old turn all.0 t).lags)
-      (others_made connection t.after_publish t.after_post at_post (post old turn all.0 t).lags))
+      (others_made connection t.after_archive t.after_post at_post (post old turn all.0 t).lags))
       (never_again connection all.0 turns new all.2 at_end)
 
   once_each : (old : OwnerFacts D L) (turns : List Turn) (new : OwnerFacts D L) (all : TurnsTo (OwnerTurned door_facts link_facts) old turns new) → WereGiven old.guests
@@ -185,23 +185,23 @@ module _ {D L : Type 0} (door_facts : D → DoorFacts) (link_facts : L → LinkF
       let behind = lags_made door_facts link_facts all.0 turns new all.2 in
       let at_press = (to_press old turn all.0 t).given were in
       let at_post = (to_post old turn all.0 t).given ((lag_on t.after_desk t.after_press pressed).given at_press) in
-      let at_end = (to_end old turn all.0 t).given ((lag_on t.after_publish t.after_post posted).given at_post) in
+      let at_end = (to_end old turn all.0 t).given ((lag_on t.after_archive t.after_post posted).given at_post) in
       let later : (connection : ℕ) → HasLagged connection t.after_post.guests → All (IsOther connection) behind =
       λ connection has. never_again connection all.0 turns new all.2 ((to_end old turn all.0 t).lagged connection has) in
-      let from_post : AllPairs AreTwo (made t.after_publish.kept.lag t.after_post.kept.lag ++ behind) =
-      apart t.after_publish t.after_post behind posted.given at_post later (once_each all.0 turns new all.2 at_end) posted.lags in
-      let from_press : (connection : ℕ) → HasLagged connection t.after_press.guests → All (IsOther connection) (made t.after_publish.kept.lag t.after_post.kept.lag ++ behind) =
+      let from_post : AllPairs AreTwo (made t.after_archive.kept.lag t.after_post.kept.lag ++ behind) =
+      apart t.after_archive t.after_post behind posted.given at_post later (once_each all.0 turns new all.2 at_end) posted.lags in
+      let from_press : (connection : ℕ) → HasLagged connection t.after_press.guests → All (IsOther connection) (made t.after_archive.kept.lag t.after_post.kept.lag ++ behind) =
       λ connection has.
       let there = (to_post old turn all.0 t).lagged connection has in
-      All-append (IsOther connection) (made t.after_publish.kept.lag t.after_post.kept.lag) behind
-      (others_made connection t.after_publish t.after_post there posted.lags)
-      (later connection ((lag_on t.after_publish t.after_post posted).lagged connection there)) in
-      subst (AllPairs AreTwo) (sym (append_assoc (made t.after_desk.kept.lag t.after_press.kept.lag) (made t.after_publish.kept.lag t.after_post.kept.lag) behind))
-      (apart t.after_desk t.after_press (made t.after_publish.kept.lag t.after_post.kept.lag ++ behind) pressed.given at_press from_press from_post pressed.lags)
+      All-append (IsOther connection) (made t.after_archive.kept.lag t.after_post.kept.lag) behind
+      (others_made connection t.after_archive t.after_post there posted.lags)
+      (later connection ((lag_on t.after_archive t.after_post posted).lagged connection there)) in
+      subst (AllPairs AreTwo) (sym (append_assoc (made t.after_desk.kept.lag t.after_press.kept.lag) (made t.after_archive.kept.lag t.after_post.kept.lag) behind))
+      (apart t.after_desk t.after_press (made t.after_archive.kept.lag t.after_post.kept.lag ++ behind) pressed.given at_press from_press from_post pressed.lags)
 
   -- from the opening on
-  pub lags_once : (control : ControlFacts) (door : D) (connections : ℕ) (journal : Bool) (queues : List TableId) (opened owner : OwnerFacts D L) (turns : List Turn)
-      → IsOpened control door connections journal queues opened → (all : TurnsTo (OwnerTurned door_facts link_facts) opened turns owner)
+  pub lags_once : (control : ControlFacts) (door : D) (connections : ℕ) (journal : Bool) (queues : List TableId) (store : Option TableId) (opened owner : OwnerFacts D L) (turns : List Turn)
+      → IsOpened control door connections journal queues store opened → (all : TurnsTo (OwnerTurned door_facts link_facts) opened turns owner)
       → AllPairs (λ one other. one.connection ≢ other.connection) (lags_made door_facts link_facts opened turns owner all)
-  lags_once control door connections journal queues opened owner turns new all =
+  lags_once control door connections journal queues store opened owner turns new all =
       once_each opened turns owner all (subst (λ (g : GuestsFacts). WereGiven g) (sym (ap (λ (o : OwnerFacts D L). o.guests) new)) tt)

@@ -9,7 +9,7 @@ use Rattle.mum_io.specs.Door.{DoorFacts}
 use Rattle.mum_io.specs.Link.{LinkFacts}
 use Rattle.mum_owner.specs.Facts.{GuestsFacts, OwnerFacts}
 use Rattle.mum_owner.specs.Turned.{Asks, Offered, OwnerTurned, guests_by, has_ended, is_over, turn_of}
-use Rattle.mum_owner.proofs.Steps.{DeskStays, LagStays, PublishStays, desk_stays, post_stays, press_stays, publish_stays}
+use Rattle.mum_owner.proofs.Steps.{DeskStays, LagStays, PublishStays, desk_stays, post_stays, press_stays, shown_stays}
 
 -- ---- the outcome of a turn
 
@@ -76,11 +76,11 @@ module _ {D L : Type 0} (door_facts : D → DoorFacts) (link_facts : L → LinkF
       let one = offered_so old t.offered t.after_offers t.offers in
       let two = served_so t.after_offers t.after_desk (desk_stays t.after_offers t.served t.after_desk t.serves) in
       let three = lagged_so t.after_desk t.after_press (press_stays t.after_desk t.pressed t.after_press t.presses) in
-      let four = published_so t.after_press t.after_publish (publish_stays t.after_press t.published t.after_publish t.publishes) in
-      let five = lagged_so t.after_publish t.after_post (post_stays t.after_publish t.posted t.after_post t.posts) in
+      let four = published_so t.after_press t.after_archive (shown_stays t.after_press t.published t.after_publish _ t.archived t.after_archive t.publishes t.archives) in
+      let five = lagged_so t.after_archive t.after_post (post_stays t.after_archive t.posted t.after_post t.posts) in
       let six = asks_so _ t.after_post t.came t.after_door t.asks in
       let seven = ended_by (is_over t.after_door && is_none t.after_door.kept.coming) t.after_door in
-      let all = after old t.after_post t.after_door (after old t.after_publish t.after_post (after old t.after_press t.after_publish
+      let all = after old t.after_post t.after_door (after old t.after_archive t.after_post (after old t.after_press t.after_archive
       (after old t.after_desk t.after_press (after old t.after_offers t.after_desk one two) three) four) five) six in
       record {
         limit = ap (λ (o : OwnerFacts D L). o.guests.limit) t.ends ∙ seven.limit ∙ all.limit;

@@ -23,12 +23,12 @@ use Rattle.mum_warden.specs.Warden.{WardenFacts, verdict_in}
 use Rattle.mum_bans.specs.Book.{Book}
 use Rattle.mum_owner.specs.Facts.{GuestsFacts, KeptFacts, OwnerFacts}
 use Rattle.mum_owner.specs.Guests.{is_gone_from, is_not_of, is_of, joined_by, lag_for, lag_noted, lagging, may_lag, owned}
-use Rattle.mum_owner.specs.Banning.{Answers, IsGivenOrRefused, ListComesTo, SettledBy, SettlesList, TestedBy, ban_reply, banned_in, book_after, is_banned, list_reply, with_ban, with_warden}
+use Rattle.mum_owner.specs.Banning.{Answers, IsGivenOrRefused, ListComesTo, SettledBy, SettlesList, TestedBy, ban_reply, banned_in, book_after, is_banned, list_reply, with_warden}
 use Rattle.mum_owner.specs.Given.{IsGiven, replied, starved}
 use Rattle.mum_owner.specs.Serving.{GivesWaiting, LeaveIsGiven, Next, Receives, ReceivesBy, ReceivesItem, Rests, Serves, ServesDesk, TakesItem, blocker, kept_after, may_go, next, next_by}
 use Rattle.mum_owner.specs.Serving.Next.{Again, Goes, Rest, Take}
 use Rattle.mum_owner.specs.Written.{is_login}
-use Rattle.mum_owner.specs.Turned.{PostsNotice, PostsOne, Presses, Publishes, lag_at, pressing, with_lag}
+use Rattle.mum_owner.specs.Turned.{Archives, ArchivesBy, PostsNotice, PostsOne, Presses, Publishes, is_through, lag_at, pressing, with_lag}
 use Rattle.mum_owner.specs.declared.desk.TheConstants.{PENDING_LIMIT}
 use Rattle.mum_owner.specs.declared.guests.Guest.{Guest}
 use Rattle.mum_owner.specs.declared.kept.Lag.{Lag}
@@ -107,12 +107,13 @@ module _ {D L : Type 0} where
     pub given : new.guests.given ≡ old.guests.given
     pub doorway : new.doorway ≡ old.doorway
     pub bells : new.bells ≡ old.bells
+    pub archive : new.archive ≡ old.archive
     pub lag : new.kept.lag ≡ old.kept.lag
     pub coming : new.kept.coming ≡ old.kept.coming
     pub rows : RowsStay old.guests.rows new.guests.rows
 
   desk_same : (old : OwnerFacts D L) → DeskStays old old
-  desk_same old = record { limit = refl; asked = refl; given = refl; doorway = refl; bells = refl; lag = refl; coming = refl; rows = rows_same old.guests.rows }
+  desk_same old = record { limit = refl; asked = refl; given = refl; doorway = refl; bells = refl; archive = refl; lag = refl; coming = refl; rows = rows_same old.guests.rows }
 
   desk_as : (old mid new : OwnerFacts D L) → new ≡ mid → DeskStays old mid → DeskStays old new
   desk_as old mid new is stays = subst (λ (o : OwnerFacts D L). DeskStays old o) (sym is) stays
@@ -124,6 +125,7 @@ module _ {D L : Type 0} where
     given = refl;
     doorway = refl;
     bells = refl;
+    archive = refl;
     lag = refl;
     coming = refl;
     rows = rows_same old.guests.rows;
@@ -136,6 +138,7 @@ module _ {D L : Type 0} where
     given = refl;
     doorway = refl;
     bells = refl;
+    archive = refl;
     lag = refl;
     coming = refl;
     rows = rows_same old.guests.rows;
@@ -148,6 +151,7 @@ module _ {D L : Type 0} where
     given = joined_given gives.reply.end command.connection old.guests;
     doorway = refl;
     bells = refl;
+    archive = refl;
     lag = refl;
     coming = refl;
     rows = rows_joined gives.reply.end command.connection old.guests;
@@ -164,6 +168,7 @@ module _ {D L : Type 0} where
     given = stays.given;
     doorway = stays.doorway;
     bells = stays.bells;
+    archive = stays.archive;
     lag = stays.lag;
     coming = stays.coming;
     rows = stays.rows;
@@ -176,6 +181,7 @@ module _ {D L : Type 0} where
     given = stays.given;
     doorway = stays.doorway;
     bells = stays.bells;
+    archive = stays.archive;
     lag = stays.lag;
     coming = stays.coming;
     rows = stays.rows;
@@ -221,6 +227,7 @@ module _ {D L : Type 0} where
     given = refl;
     doorway = refl;
     bells = refl;
+    archive = refl;
     lag = reply_keeps_lag decided gives.reply old.kept;
     coming = reply_keeps_coming decided gives.reply old.kept;
     rows = rows_same old.guests.rows;
@@ -231,6 +238,7 @@ module _ {D L : Type 0} where
     given = refl;
     doorway = refl;
     bells = refl;
+    archive = refl;
     lag = refl;
     coming = refl;
     rows = rows_same old.guests.rows;
@@ -244,6 +252,7 @@ module _ {D L : Type 0} where
     given = refl;
     doorway = refl;
     bells = refl;
+    archive = refl;
     lag = refl;
     coming = refl;
     rows = rows_same old.guests.rows;
@@ -262,6 +271,7 @@ module _ {D L : Type 0} where
     given = refl;
     doorway = refl;
     bells = refl;
+    archive = refl;
     lag = refl;
     coming = refl;
     rows = rows_left connection old.guests.rows;
@@ -279,7 +289,7 @@ module _ {D L : Type 0} where
   taken_so old worked new takes =
       let mid : OwnerFacts D L = record old { desk = record old.desk { pass = takes.pass } } in
       let rest : DeskStays mid new = item_so mid takes.item new takes.received in
-      record { limit = rest.limit; asked = rest.asked; given = rest.given; doorway = rest.doorway; bells = rest.bells; lag = rest.lag; coming = rest.coming; rows = rest.rows }
+      record { limit = rest.limit; asked = rest.asked; given = rest.given; doorway = rest.doorway; bells = rest.bells; archive = rest.archive; lag = rest.lag; coming = rest.coming; rows = rest.rows }
 
   login_so : (own : Option Command) (old new : OwnerFacts D L) → MatchOption own (new ≡ old) (λ command. IsGivenOrRefused old command new) → DeskStays old new
   login_so None old new same = desk_as old old new same (desk_same old)
@@ -288,7 +298,7 @@ module _ {D L : Type 0} where
   waiting_so : (old : OwnerFacts D L) (worked : Bool) (new : OwnerFacts D L) → GivesWaiting old worked new → DeskStays old new
   waiting_so old worked new gives =
       let rest = login_so (owned old.guests.rows gives.login) (record old { logins = gives.rest }) new gives.given in
-      record { limit = rest.limit; asked = rest.asked; given = rest.given; doorway = rest.doorway; bells = rest.bells; lag = rest.lag; coming = rest.coming; rows = rest.rows }
+      record { limit = rest.limit; asked = rest.asked; given = rest.given; doorway = rest.doorway; bells = rest.bells; archive = rest.archive; lag = rest.lag; coming = rest.coming; rows = rest.rows }
 
   serves_so : (next : Next) (old : OwnerFacts D L) (worked : Bool) (new : OwnerFacts D L) → Serves next old worked new → DeskStays old new
   serves_so Rest old worked new rests = desk_as old old new rests.1 (desk_same old)
@@ -330,6 +340,7 @@ module _ {D L : Type 0} where
     pub given : new.guests.given ≡ old.guests.given
     pub doorway : new.doorway ≡ old.doorway
     pub bells : new.bells ≡ old.bells
+    pub archive : new.archive ≡ old.archive
     pub reply : new.kept.reply ≡ old.kept.reply
     pub coming : new.kept.coming ≡ old.kept.coming
     pub desk : new.desk ≡ old.desk
@@ -337,7 +348,7 @@ module _ {D L : Type 0} where
     pub lags : MakesLag old new ⊎ MakesNone old new
 
   lag_same : (old : OwnerFacts D L) → LagStays old old
-  lag_same old = record { limit = refl; asked = refl; given = refl; doorway = refl; bells = refl; reply = refl; coming = refl; desk = refl; logins = refl; lags = inr (record { lag = refl; rows = refl }) }
+  lag_same old = record { limit = refl; asked = refl; given = refl; doorway = refl; bells = refl; archive = refl; reply = refl; coming = refl; desk = refl; logins = refl; lags = inr (record { lag = refl; rows = refl }) }
 
   lag_as : (old mid new : OwnerFacts D L) → new ≡ mid → LagStays old mid → LagStays old new
   lag_as old mid new is stays = subst (λ (o : OwnerFacts D L). LagStays old o) (sym is) stays
@@ -352,6 +363,7 @@ module _ {D L : Type 0} where
     given = refl;
     doorway = refl;
     bells = refl;
+    archive = refl;
     reply = refl;
     coming = refl;
     desk = refl;
@@ -379,17 +391,47 @@ module _ {D L : Type 0} where
     pub bells : new.bells ≡ old.bells
     pub desk : new.desk ≡ old.desk
     pub logins : new.logins ≡ old.logins
+    pub warden : new.warden ≡ old.warden
 
   publish_as : (old mid new : OwnerFacts D L) → new ≡ mid → PublishStays old mid → PublishStays old new
   publish_as old mid new is stays = subst (λ (o : OwnerFacts D L). PublishStays old o) (sym is) stays
 
   publish_same : (old : OwnerFacts D L) → PublishStays old old
-  publish_same old = record { kept = refl; guests = refl; asked = refl; doorway = refl; bells = refl; desk = refl; logins = refl }
+  publish_same old = record { kept = refl; guests = refl; asked = refl; doorway = refl; bells = refl; desk = refl; logins = refl; warden = refl }
 
   pub publish_stays : (old : OwnerFacts D L) (worked : Bool) (new : OwnerFacts D L) → Publishes old worked new → PublishStays old new
   publish_stays old true new publishes =
-      publish_as old _ new publishes.1 (record { kept = refl; guests = refl; asked = refl; doorway = refl; bells = refl; desk = refl; logins = refl })
+      publish_as old _ new publishes.1 (record { kept = refl; guests = refl; asked = refl; doorway = refl; bells = refl; desk = refl; logins = refl; warden = refl })
   publish_stays old false new is = publish_as old old new is (publish_same old)
+
+  -- ---- the store
+
+  archives_so : (there noted through : Bool) (old : OwnerFacts D L) (worked : Bool) (new : OwnerFacts D L) → ArchivesBy there noted through old worked new → PublishStays old new
+  archives_so false noted through old worked new rests = publish_as old old new rests.1 (publish_same old)
+  archives_so true true through old worked new (inl offers) =
+      publish_as old _ new offers.others (record { kept = refl; guests = refl; asked = refl; doorway = refl; bells = refl; desk = refl; logins = refl; warden = refl })
+  archives_so true true through old worked new (inr lacks) =
+      publish_as old _ new lacks.1 (record { kept = refl; guests = refl; asked = refl; doorway = refl; bells = refl; desk = refl; logins = refl; warden = refl })
+  archives_so true false true old worked new ends =
+      publish_as old _ new ends.others (record { kept = refl; guests = refl; asked = refl; doorway = refl; bells = refl; desk = refl; logins = refl; warden = refl })
+  archives_so true false false old worked new rests = publish_as old old new rests.1 (publish_same old)
+
+  -- publishing, and what is done for the store behind it
+  pub shown_stays : (old : OwnerFacts D L) (published : Bool) (mid : OwnerFacts D L) (noted archived : Bool) (new : OwnerFacts D L) → Publishes old published mid
+      → Archives noted mid archived new → PublishStays old new
+  shown_stays old published mid noted archived new publishes archives =
+      let one = publish_stays old published mid publishes in
+      let other = archives_so (is_some mid.archive) noted (is_through mid) mid archived new archives in
+      record {
+        kept = other.kept ∙ one.kept;
+        guests = other.guests ∙ one.guests;
+        asked = other.asked ∙ one.asked;
+        doorway = other.doorway ∙ one.doorway;
+        bells = other.bells ∙ one.bells;
+        desk = other.desk ∙ one.desk;
+        logins = other.logins ∙ one.logins;
+        warden = other.warden ∙ one.warden;
+      }
 
   -- ---- posting
 
@@ -416,6 +458,7 @@ module _ {D L : Type 0} where
         given = rest.given;
         doorway = rest.doorway;
         bells = rest.bells;
+        archive = rest.archive;
         reply = rest.reply;
         coming = rest.coming;
         desk = rest.desk;

@@ -1,5 +1,5 @@
 -- Logins that were tested, removals with a ban, and lists of bans.
-use Rattle.std.proofs.Common.{◌≡◌, ◌∙◌, ℕ, Bool, List, Option, Some, ap, subst, sym, inl, inr}
+use Rattle.std.proofs.Common.{◌≡◌, ◌∙◌, ℕ, Bool, List, Option, ap, subst, sym, inl, inr}
 use Rattle.std.specs.Prelude.{◌↔◌, IsTrue}
 use Rattle.mum_bans.specs.Ban.{refuses}
 use Rattle.mum_bans.specs.Book.{Book, Reserves, after_call}

@@ -2,6 +2,7 @@
 use Rattle.std.specs.Prelude.{ℕ, Bool, List, Option}
 use Rattle.mum_control.specs.Facts.{ControlFacts}
 use Rattle.mum_doorway.specs.Asking.{DoorwayFacts}
+use Rattle.mum_keeper.specs.Archive.{ArchiveFacts}
 use Rattle.mum_outbox.specs.Facts.{PassFacts}
 use Rattle.mum_port.specs.declared.item.DeskItem.{DeskItem}
 use Rattle.mum_published.specs.Facts.{ReplyFacts}
@@ -52,4 +53,6 @@ pub record OwnerFacts (D L : Type 0) : Type 0 where
   pub logins : List Command
   pub scribe : ScribeFacts
   pub warden : WardenFacts
+  -- the bell of the store, where there is one
+  pub archive : Option ArchiveFacts
   pub is_ending : Bool

@@ -1,5 +1,5 @@
 -- What an owner does with a command that it gives to the control owner.
-use Rattle.std.specs.Prelude.{◌≡◌, ◌⊎◌, ℕ, true, [], Option, Some, None}
+use Rattle.std.specs.Prelude.{◌≡◌, ◌⊎◌, ℕ, true, [], Some, None}
 use Rattle.mum_base.specs.declared.reply.ReplyEnd.TheVariants as ends
 use Rattle.mum_control.specs.Commanded.{Commanded}
 use Rattle.mum_published.specs.Facts.{ReplyFacts}

@@ -50,6 +50,9 @@ has_room guests = nat_lt (length guests.rows) CONNECTION_LIMIT && nat_lt guests.
 abbrev pub are_all_given : GuestsFacts → Bool
 are_all_given guests = nat_le guests.limit guests.given
 
+abbrev pub are_none_open : GuestsFacts → Bool
+are_none_open guests = length guests.rows == 0
+
 -- each that was given has closed
 abbrev pub have_all_left : GuestsFacts → Bool
 have_all_left guests = guests.closed == guests.given

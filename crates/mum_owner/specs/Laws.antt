@@ -191,7 +191,7 @@ module _ {D L : Type 0} (door_facts : D → DoorFacts) (link_facts : L → LinkF
   -- the lag items, in the order in which they were made
   abbrev pub lags_made : FromTurns door_facts link_facts Lag
   lags_made =
-      over_turns (λ old turn new t. made t.after_desk.kept.lag t.after_press.kept.lag ++ made t.after_publish.kept.lag t.after_post.kept.lag)
+      over_turns (λ old turn new t. made t.after_desk.kept.lag t.after_press.kept.lag ++ made t.after_archive.kept.lag t.after_post.kept.lag)
 
   -- what a turn took from the desk, and settled
   abbrev pub settled_in : (old : OwnerFacts D L) (turn : Turn) (new : OwnerFacts D L) → OwnerTurned door_facts link_facts old turn new → Settled

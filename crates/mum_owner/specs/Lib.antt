@@ -11,3 +11,5 @@ pub mod Turned
 pub mod Laws
 pub mod Events
 pub mod Opened
+pub mod Noting
+pub mod Sessions

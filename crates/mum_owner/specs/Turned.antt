@@ -1,6 +1,7 @@
 -- The turn of an owner, as the chain of its parts.
-use Rattle.std.specs.Prelude.{◌≡◌, ◌+◌, ◌==◌, ◌&&◌, ◌||◌, ℕ, not, Bool, true, false, List, length, is_some, is_none, Option, Some, None, MatchBool, if◌then◌else◌}
+use Rattle.std.specs.Prelude.{◌≡◌, ◌+◌, ◌==◌, ◌&&◌, ◌||◌, ◌⊎◌, ℕ, not, Bool, true, false, List, length, is_some, is_none, Option, Some, None, MatchBool, if◌then◌else◌}
 use Rattle.std.specs.Option.{option_and_then}
+use Rattle.mum_control.specs.Commanded.{note_of}
 use Rattle.mum_control.specs.Facts.{ControlFacts}
 use Rattle.mum_control.specs.Posting.{PostsNext}
 use Rattle.mum_control.specs.declared.posted.Posted.{Posted}
@@ -11,13 +12,16 @@ use Rattle.mum_io.specs.Door.{AcceptCounts, DoorFacts, given_after}
 use Rattle.mum_io.specs.Link.{LinkFacts}
 use Rattle.mum_io.specs.declared.door.Accept.{Accept}
 use Rattle.mum_io.specs.declared.door.Accept.TheVariants as accepted
+use Rattle.mum_keeper.specs.Archive.{OffersNote, TellsStore, is_archive_told}
 use Rattle.mum_published.specs.Calls.{all_published}
 use Rattle.mum_doorway.specs.Asking.{failed_by, stopped_by}
+use Rattle.mum_owner.specs.Banning.{has_note}
 use Rattle.mum_owner.specs.Facts.{GuestsFacts, KeptFacts, OwnerFacts}
-use Rattle.mum_owner.specs.Guests.{are_all_given, entered, has_room, have_all_left, lag_for, lagging, with_lag_noted}
+use Rattle.mum_owner.specs.Guests.{are_all_given, are_none_open, entered, has_room, have_all_left, lag_for, lagging, with_lag_noted}
 use Rattle.mum_owner.specs.Ringing.{OffersKept, are_told}
 use Rattle.mum_owner.specs.Serving.{Rests, ServesDesk, blocker}
 use Rattle.mum_owner.specs.declared.guests.Guest.{Guest}
+use Rattle.mum_owner.specs.Written.{refused}
 use Rattle.mum_owner.specs.declared.kept.Lag.{Lag}
 
 -- a notice was taken
@@ -88,9 +92,46 @@ module _ {D L : Type 0} where
   abbrev pub ended : OwnerFacts D L → OwnerFacts D L
   ended owner = if is_over owner && is_none owner.kept.coming then record owner { is_ending = true } else owner
 
-  -- no more connections come, each has closed, and each bell was told
+  -- no more connections come, each has closed, and each bell was told, that of the store too, where there is one
   abbrev pub has_ended : OwnerFacts D L → Bool
-  has_ended owner = is_over owner && (have_all_left owner.guests && are_told owner.bells)
+  has_ended owner = is_over owner && (have_all_left owner.guests && (are_told owner.bells && is_archive_told owner.archive))
+
+  -- ---- the store
+
+  -- the reply that was made between these has a note
+  abbrev pub makes_note : OwnerFacts D L → OwnerFacts D L → Bool
+  makes_note old new = not (is_some old.kept.reply) && has_note new.kept.reply
+
+  -- nothing is to come that could give a note: no more connections come, none is open, no leave is to be tried again, and all
+  -- is published
+  abbrev pub is_through : OwnerFacts D L → Bool
+  is_through owner =
+      is_over owner && (are_none_open owner.guests && (is_none owner.desk.leave && (length owner.control.publisher.pending == 0)))
+
+  -- a further note, of all that is published, is offered once to the bell of the store, and not kept. All is published before
+  pub record OffersFurther (old : OwnerFacts D L) (took : Bool) (new : OwnerFacts D L) : Type 0 where
+    pub offers : OffersNote (note_of old.control.publisher) old.archive took new.archive
+    pub others : new ≡ record old { archive = new.archive }
+
+  -- memory ran out for a further note: the store gets none, and the owner says so at its end
+  abbrev pub LacksNote : OwnerFacts D L → Bool → OwnerFacts D L → Type 0
+  LacksNote old took new = (took ≡ false) × (new ≡ record old { scribe = refused old.scribe })
+
+  -- that no note comes any more is offered once to the bell of the store, unless it took that before
+  pub record EndsNotes (old : OwnerFacts D L) (took : Bool) (new : OwnerFacts D L) : Type 0 where
+    pub tells : TellsStore old.archive took new.archive
+    pub others : new ≡ record old { archive = new.archive }
+
+  abbrev pub ArchivesBy : (there noted through : Bool) → OwnerFacts D L → Bool → OwnerFacts D L → Type 0
+  ArchivesBy false noted through old worked new = Rests old worked new
+  ArchivesBy true true through old worked new = OffersFurther old worked new ⊎ LacksNote old worked new
+  ArchivesBy true false true old worked new = EndsNotes old worked new
+  ArchivesBy true false false old worked new = Rests old worked new
+
+  -- where there is a store: a turn that gave a note makes a further one for it; and any other, once nothing is to come that
+  -- could give one, has that told to it
+  abbrev pub Archives : (noted : Bool) → OwnerFacts D L → Bool → OwnerFacts D L → Type 0
+  Archives noted old worked new = ArchivesBy (is_some old.archive) noted (is_through old) old worked new
 
 abbrev pub guests_by : {L : Type 0} → (L → LinkFacts) → Accept L → GuestsFacts → GuestsFacts
 guests_by link_facts (accepted.Conn link) guests = entered (link_facts link).address guests
@@ -138,19 +179,22 @@ module _ {D L : Type 0} (door_facts : D → DoorFacts) (link_facts : L → LinkF
     pub served : Bool
     pub pressed : Bool
     pub published : Bool
+    pub archived : Bool
     pub posted : Bool
     pub came : Bool
     pub after_offers : OwnerFacts D L
     pub after_desk : OwnerFacts D L
     pub after_press : OwnerFacts D L
     pub after_publish : OwnerFacts D L
+    pub after_archive : OwnerFacts D L
     pub after_post : OwnerFacts D L
     pub after_door : OwnerFacts D L
     pub offers : Offered old offered after_offers
     pub serves : ServesDesk after_offers served after_desk
     pub presses : Presses after_desk pressed after_press
     pub publishes : Publishes after_press published after_publish
-    pub posts : PostsNotice after_publish posted after_post
+    pub archives : Archives (makes_note after_offers after_desk || published) after_publish archived after_archive
+    pub posts : PostsNotice after_archive posted after_post
     pub asks : Asks (is_not_to_ask after_post) after_post came after_door
     pub ends : new ≡ ended after_door
-    pub came_to : turn ≡ turn_of (has_ended new) (offered || (served || (pressed || (published || (posted || came)))))
+    pub came_to : turn ≡ turn_of (has_ended new) (offered || (served || (pressed || (published || (archived || (posted || came))))))

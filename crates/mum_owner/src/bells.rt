@@ -151,8 +151,8 @@ fn worker_of(connection: u32, workers: usize) -> usize
     (connection as usize - 1) % workers
 }
 
-// Whether one of two holds.
-fn either(one: bool, other: bool) -> bool
+/// Whether one of two holds.
+pub(crate) fn either(one: bool, other: bool) -> bool
     ensures { result ≡ (one || other) }
 {
     one || other

@@ -5,7 +5,7 @@ ghost use Rattle.std.specs.List.{list_any};
 ghost use Rattle.std.specs.Option.{option_copied, option_map};
 ghost use Rattle.std.specs.Vec.{vec_capacity};
 ghost use Rattle.mum_control.specs.Commanded.{current};
-ghost use Rattle.mum_owner.specs.Guests.{address_of, are_all_given, entered, guest_with, has_room, have_all_left, is_gone_by, is_gone_from, is_not_of, is_of, joined_by, lag_for, lag_noted, lagging, left, no_guests, owned, seated, session_of, with_lag_noted, has_session, has_slot, may_lag};
+ghost use Rattle.mum_owner.specs.Guests.{address_of, are_all_given, are_none_open, entered, guest_with, has_room, have_all_left, is_gone_by, is_gone_from, is_not_of, is_of, joined_by, lag_for, lag_noted, lagging, left, no_guests, owned, seated, session_of, with_lag_noted, has_session, has_slot, may_lag};
 ghost use Rattle.mum_base.specs.declared.reply.ReplyEnd.TheVariants.{Joined};
 
 use crate::kept::Lag;
@@ -281,6 +281,13 @@ impl Guests {
         ensures { result ≡ are_all_given self.now }
     {
         self.limit <= self.given
+    }
+
+    /// Whether no connection is open.
+    pub(crate) fn are_none_open(&self) -> bool
+        ensures { result ≡ are_none_open self.now }
+    {
+        self.rows.is_empty()
     }
 
     /// Whether each that was given has closed.

@@ -1,14 +1,15 @@
 //! The owner.
 
-ghost use Rattle.std.specs.Prelude.{◌≡◌, ◌↔◌, ◌⊎◌, ◌<◌, ◌+◌, ◌||◌, [], None, Some, false, true, nat_lt, is_some, IfErr, IfOk, IsTrue, IsSome, MatchOption, length, map};
+ghost use Rattle.std.specs.Prelude.{◌≡◌, ◌↔◌, ◌⊎◌, ◌<◌, ◌+◌, ◌||◌, [], None, Some, false, true, nat_lt, is_some, ◌&&◌, not, IfErr, IfOk, IsTrue, IsSome, MatchOption, length, map};
 ghost use mathlib.Core.List.{IsPrefix};
 ghost use Rattle.mum_base.specs.declared.number.TheConstants.{CONNECTION_LIMIT};
 ghost use Rattle.mum_control.specs.Commanded.{current};
 ghost use Rattle.mum_io.specs.Counts.{NoneFalls, Rose};
+ghost use Rattle.mum_keeper.specs.Archive.{queue_of};
 ghost use Rattle.mum_published.specs.Calls.{appended};
 ghost use Rattle.mum_outbox.specs.Calls.{IsNewPass};
 ghost use Rattle.mum_record.specs.Journal.{Each, IsWritableControl};
-ghost use Rattle.mum_owner.specs.Banning.{Answers, IsGivenOrRefused, LacksRoom, Removes, SettlesList, TestsLogin, ban_reply, with_ban, with_warden};
+ghost use Rattle.mum_owner.specs.Banning.{Answers, IsGivenOrRefused, LacksRoom, Removes, SettlesList, TestsLogin, ban_reply, has_note, with_ban, with_warden};
 ghost use Rattle.mum_owner.specs.Decided.{HasWritten};
 ghost use Rattle.mum_doorway.specs.Doors.{NoMoreCome, given_after_all};
 ghost use Rattle.mum_owner.specs.Given.{IsGiven, starved};
@@ -16,10 +17,10 @@ ghost use Rattle.mum_owner.specs.Guests.{entered, has_room, joined_by, lagging, 
 ghost use Rattle.mum_owner.specs.Opened.{IsOpened, opening_of};
 ghost use Rattle.mum_owner.specs.Serving.{EmptiesFor, GivesWaiting, LeaveIsGiven, Receives, ReceivesItem, Serves, ServesDesk, TakesItem, blocker, kept_after, leave_after, leave_of, may_go, must_wait, next_by};
 ghost use Rattle.mum_owner.specs.Bell.{new_side, queues};
-ghost use Rattle.mum_owner.specs.Turned.{Asks, Offered, OwnerTurned, PostsNotice, Presses, Publishes, ended, has_ended, is_not_to_ask, is_over, pressing, turn_of, with_lag};
+ghost use Rattle.mum_owner.specs.Turned.{Archives, Asks, LacksNote, Offered, OffersFurther, OwnerTurned, PostsNotice, Presses, Publishes, ended, has_ended, is_not_to_ask, is_over, is_through, makes_note, pressing, turn_of, with_lag};
 
 use crate::banning::{banned_in, reason_in};
-use crate::bells::Bells;
+use crate::bells::{Bells, either};
 use crate::desk::{DeskSide, PENDING_LIMIT};
 use crate::guests::{Guest, Guests, lag_for};
 use crate::kept::{Kept, Lag};
@@ -32,6 +33,7 @@ use mum_control::{Control, Posted};
 use mum_crew::{Role, Turn};
 use mum_doorway::{DoorOpening, Doorway, Entrance};
 use mum_io::{Accept, Clock, Link};
+use mum_keeper::{Archive, StoreItem, StoreNote};
 use mum_outbox::{Bell, Desk};
 use mum_port::DeskItem;
 use mum_published::{BellItem, Naming, Pass, Reply};
@@ -58,7 +60,8 @@ pub struct OwnerEnd<D: Drop, K: Drop> {
     pub state: State,
     /// The commands that were decided, in their order, where a journal was asked for.
     pub entries: Vec<ControlEntry>,
-    /// A command was dropped, a leave was tried again, or a reply went without its note.
+    /// A command was dropped, a leave was tried again, a reply went without its note, or there was no further note
+    /// for a store.
     pub no_memory: bool,
     pub door_failed: bool,
 }
@@ -74,8 +77,9 @@ pub struct OwnerOpening {
 }
 
 /// The role that takes connections from the door, gives the commands of the desk to the control owner, and
-/// answers by the bells of the workers. It has the bans of the server: a login from an address that is banned is
-/// refused, and not given. Connections are numbered from 1 in the order of their giving;
+/// answers by the bells of the workers. Where there is a store, it offers its bell a further note of the same edits
+/// for each note, and at the end that none comes any more. It has the bans of the server: a login from an address
+/// that is banned is refused, and not given. Connections are numbered from 1 in the order of their giving;
 /// connection n belongs to worker (n - 1) modulo the number of workers, and the number 0, which none gets, to
 /// worker 0.
 #[derive(Drop)]
@@ -91,6 +95,7 @@ pub struct Owner<'a, D: Entrance, K: Clock, N: Serving, R: Wait + Copy> {
     logins: Logins,
     scribe: Scribe,
     warden: Warden<K>,
+    archive: Archive<N>,
     // No more connections come, which each bell is to be told.
     is_ending: bool,
 }
@@ -114,6 +119,7 @@ impl<'a, D: Entrance, K: Clock, N: Serving, R: Wait + Copy> Model for Owner<'a, 
       logins = o.logins;
       scribe = o.scribe;
       warden = o.warden;
+      archive = o.archive;
       is_ending = o.is_ending;
     } };
 
@@ -196,7 +202,8 @@ fn take_in<L: Link, N: Naming>(guests: &mut Guests, kept: &mut Kept<L, N>, link:
 impl<'a, D: Entrance, K: Clock, N: Serving, R: Wait + Copy> Owner<'a, D, K, N, R> {
     /// Takes the memory for what it keeps of as many connections as may be open at once. At most `connections`
     /// are taken from the door. Its bells are those that are given, in their order: the first is that of worker 0.
-    /// It has no bans, and asks this clock for them. Where memory runs out, the door and the clock come back.
+    /// It has no bans, and asks this clock for them. The store, where there is one, has the bell that is given. Where
+    /// memory runs out, the door and the clock come back.
     pub fn open(
         rt: R,
         alloc: Global,
@@ -207,13 +214,14 @@ impl<'a, D: Entrance, K: Clock, N: Serving, R: Wait + Copy> Owner<'a, D, K, N, R
         clock: K,
         connections: u32,
         journal: bool,
+        store: Option<Bell<StoreItem<N>>>,
     ) -> Result<Owner<'a, D, K, N, R>, (D, K)>
         requires opening { control.publisher.opening ≡ N.opening }
         requires fresh { appended control.publisher ≡ [] }
         requires door { record { counts = (D.facts door).counts; given = (D.facts door).given; opened_at = (D.facts door).opened_at } ≡ N.door }
         requires connections { 0 < connections }
         requires bells { 0 < length bells.items }
-        ensures owner { IfOk result (IsOpened control.entry door connections journal (queues bells.items)) }
+        ensures owner { IfOk result (IsOpened control.entry door connections journal (queues bells.items) (queue_of store)) }
         ensures desk { IfOk result (λ owner. IsNewPass desk owner.desk.pass) }
         ensures clock { IfOk result (λ owner. (owner.warden.last ≡ K.last clock) × (owner.warden.calls ≡ K.calls clock)) }
         ensures back { IfErr result (λ back. (back.0 ≡ door) × (back.1 ≡ clock)) }
@@ -223,6 +231,7 @@ impl<'a, D: Entrance, K: Clock, N: Serving, R: Wait + Copy> Owner<'a, D, K, N, R
             Err(_) => {
                 drop(control);
                 drop(desk);
+                drop(store);
                 return Err((door, clock));
             }
         };
@@ -238,6 +247,7 @@ impl<'a, D: Entrance, K: Clock, N: Serving, R: Wait + Copy> Owner<'a, D, K, N, R
             logins,
             scribe: Scribe::open(alloc, journal),
             warden: Warden::new(alloc, clock),
+            archive: Archive::open(store),
             is_ending: false,
         })
     }
@@ -604,6 +614,61 @@ impl<'a, D: Entrance, K: Clock, N: Serving, R: Wait + Copy> Owner<'a, D, K, N, R
         }
     }
 
+    // Whether a reply is kept.
+    fn has_reply(&self) -> bool
+        ensures { result ≡ is_some self.now.kept.reply }
+    {
+        self.kept.has_reply()
+    }
+
+    // Whether a reply with a note is kept, where none was.
+    fn makes_note(&self, had_reply: bool) -> bool
+        ensures { result ≡ (not had_reply && has_note self.now.kept.reply) }
+    {
+        !had_reply && self.kept.has_note()
+    }
+
+    // Offers the store a further note, of all that is published.
+    fn offer_further(&mut self) -> bool
+        requires { self.old.control.publisher.pending ≡ [] }
+        ensures { OffersFurther self.old result self.new ⊎ LacksNote self.old result self.new }
+    {
+        match self.control.publish(&self.rt) {
+            Ok(note) => self.archive.offer_note(&self.rt, StoreNote::new(note)),
+            Err(_) => {
+                self.scribe.refuse();
+                false
+            }
+        }
+    }
+
+    // Whether nothing is to come that could give a note.
+    fn is_through(&self) -> bool
+        ensures { result ≡ is_through self.now }
+    {
+        self.is_over()
+            && (self.guests.are_none_open()
+                && (self.desk.leave().is_none() && self.control.unpublished() == 0))
+    }
+
+    // Offers the store a further note where this turn gave one, or that none comes any more where that is so.
+    fn archive(&mut self, noted: bool) -> bool
+        requires { noted ≡ true → self.old.control.publisher.pending ≡ [] }
+        ensures { Archives noted self.old result self.new }
+    {
+        if !self.archive.is_there() {
+            return false;
+        }
+        if noted {
+            return self.offer_further();
+        }
+        if self.is_through() {
+            self.archive.tell(&self.rt)
+        } else {
+            false
+        }
+    }
+
     // Makes a lag item for the connection of a session that lags, unless one was made.
     fn note_lagged(&mut self, session: SessionId)
         ensures { self.new ≡ with_lag (lagging session self.old.guests.rows) self.old }
@@ -670,18 +735,22 @@ impl<'a, D: Entrance, K: Clock, N: Serving, R: Wait + Copy> Owner<'a, D, K, N, R
         }
     }
 
-    // Whether no more connections come, each has closed, and each bell was told.
+    // Whether no more connections come, each has closed, and each bell took that, as did that of the store that no
+    // note comes any more.
     fn has_ended(&self) -> bool
         ensures { result ≡ has_ended self.now }
     {
-        self.is_over() && (self.guests.have_all_left() && self.bells.are_told())
+        self.is_over()
+            && (self.guests.have_all_left() && (self.bells.are_told() && self.archive.is_told()))
     }
 
     /// One turn. It offers each item that it keeps to its bell; gives a kept leave again, or a login that
-    /// waited and whose connection is open, or takes an item from the desk; publishes what is not published; posts
-    /// a notice; asks the door; and, where no more connections come, has that told to each worker. It does each at
-    /// most once, and where it may. What it was opened with stays, and it is done exactly where no more connections come, a `Closed`
-    /// was taken for each, and each bell took that no more come.
+    /// waited and whose connection is open, or takes an item from the desk; publishes what is not published; offers
+    /// the store, where there is one, a further note where one was given, or, once none is to come, that; posts a
+    /// notice; asks the door; and, where no more connections come, has that told to each worker. It does each at
+    /// most once, and where it may. What it was opened with stays, and it is done exactly where no more connections
+    /// come, a `Closed` was taken for each, each bell took that no more come, and that of the store that no note comes
+    /// any more.
     pub fn turn(&mut self) -> Turn
         ensures turned { OwnerTurned D.facts D.Peer.facts self.old result self.new }
         ensures opening { opening_of N.opening.state N.door self.new.guests.limit self.new.scribe.is_asked
@@ -696,14 +765,19 @@ impl<'a, D: Entrance, K: Clock, N: Serving, R: Wait + Copy> Owner<'a, D, K, N, R
         ensures { OwnerTurned D.facts D.Peer.facts self.old result self.new }
     {
         let offered = self.offer_kept();
+        let had_reply = self.has_reply();
         let served = self.serve_desk();
+        let made = self.makes_note(had_reply);
         let pressed = self.press();
         let published = self.publish();
+        let noted = either(made, published);
+        let archived = self.archive(noted);
         let posted = self.post();
         let came = self.ask_door();
         self.end();
         let has_ended = self.has_ended();
-        let worked = any_of(offered, served, pressed, published, posted, came);
+        let behind = either(posted, came);
+        let worked = any_of(offered, served, pressed, published, archived, behind);
         turn_of(has_ended, worked)
     }
 
@@ -754,6 +828,7 @@ impl<'a, D: Entrance, K: Clock, N: Serving, R: Wait + Copy> Owner<'a, D, K, N, R
             logins,
             scribe,
             warden,
+            archive,
             is_ending: _,
         } = self;
         let connections = guests.given();
@@ -762,6 +837,7 @@ impl<'a, D: Entrance, K: Clock, N: Serving, R: Wait + Copy> Owner<'a, D, K, N, R
         drop(kept);
         drop(desk);
         drop(logins);
+        drop(archive);
         let (door, door_failed) = doorway.close();
         let (accepted, entries, no_memory) = scribe.close();
         OwnerEnd {

@@ -1,5 +1,5 @@
 //! Tests of the parts that the server's roles are made of: a port over links that take nothing or all, the control owner over
-//! a box that is full or without memory, and the owner's journal.
+//! a box that is full or without memory, the owner's journal, and what it offers a store.
 #![tactic(auto)]
 
 #[cfg(test)]
@@ -12,5 +12,7 @@ mod opening;
 mod owner;
 #[cfg(test)]
 mod port;
+#[cfg(test)]
+mod store;
 #[cfg(test)]
 mod turns;

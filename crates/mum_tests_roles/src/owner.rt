@@ -48,12 +48,20 @@ end
 
 /// The port of the connection, and the queues between its worker and the owner.
 #[derive(Drop)]
-struct Peer<L: Drop, N: Naming> {
+pub(crate) struct Peer<L: Drop, N: Naming> {
     session: Session,
     ends: Ends<L, N>,
 }
 
 impl<L: Drop, N: Naming> Peer<L, N> {
+    /// The port of connection 1, of worker 0, at these ends.
+    pub(crate) fn new(ends: Ends<L, N>) -> Peer<L, N> {
+        Peer {
+            session: Session::new(1, 0),
+            ends,
+        }
+    }
+
     /// Takes what the owner put into the bell.
     fn hear<R: Wait>(&mut self, rt: &R) {
         if let Some(reply) = self.ends.reply(rt) {
@@ -89,7 +97,7 @@ impl<L: Drop, N: Naming> Peer<L, N> {
 }
 
 /// Sends all that the client sends, and leaves.
-fn talk<D: Door, K: Clock, N: Serving, R: Abort + Copy + Wait>(
+pub(crate) fn talk<D: Door, K: Clock, N: Serving, R: Abort + Copy + Wait>(
     rt: &R,
     alloc: Global,
     owner: &mut Owner<'_, D, K, N, R>,
@@ -171,12 +179,9 @@ fn journal_named<D: Door, N: Serving, R: Abort + Copy + Wait>(
 {
     let control = Control::<N>::open(alloc, state, publisher, boxes).expect(rt, "memory");
     let (desk, bells, ends) = queues::<D::Conn, N>(rt, alloc);
-    let peer = Peer {
-        session: Session::new(1, 0),
-        ends,
-    };
+    let peer = Peer::new(ends);
     let clock = MemClock::new(Vec::new(alloc));
-    match Owner::open(*rt, alloc, control, desk, bells, door, clock, 1, true) {
+    match Owner::open(*rt, alloc, control, desk, bells, door, clock, 1, true, None) {
         Ok(owner) => written(rt, alloc, owner, peer),
         Err(_both) => panic!(rt; "memory"),
     }
@@ -200,7 +205,7 @@ fn journal_at<D: Door, R: Abort + Copy + Wait>(
 }
 
 /// A door that gives one connection.
-fn door(rt: &impl Abort, alloc: Global) -> MemDoor {
+pub(crate) fn door(rt: &impl Abort, alloc: Global) -> MemDoor {
     let mut events = Vec::new(alloc);
     events.push(LinkEvent::End).expect(rt, "memory");
     let link = MemLink::new(alloc, events, Vec::new(alloc));

@@ -26,7 +26,7 @@ use Rattle.mum_owner.specs.Given.{IsGiven}
 use Rattle.mum_owner.specs.Guests.{owned, session_of}
 use Rattle.mum_owner.specs.Serving.{EmptiesFor, LeaveIsGiven, Next, Receives, ReceivesBy, ReceivesItem, Rests, Serves, ServesDesk, leave_of, must_wait, next, with_pass}
 use Rattle.mum_owner.specs.Serving.Next.{Again, Goes, Rest, Take}
-use Rattle.mum_owner.specs.Turned.{Asks, PostsOne, Publishes, has_posted, is_not_to_ask, is_over, lag_at, pressing, with_lag}
+use Rattle.mum_owner.specs.Turned.{ArchivesBy, Asks, PostsOne, Publishes, has_posted, is_not_to_ask, is_over, is_through, lag_at, pressing, with_lag}
 use Rattle.mum_owner.specs.Written.{is_leave, is_login}
 use Rattle.mum_owner.specs.declared.kept.Lag.{Lag}
 use Rattle.mum_port.specs.declared.item.DeskItem.{DeskItem}
@@ -230,6 +230,14 @@ module _ {D L : Type 0} where
       subst (λ (w : Bool). Leads old.control new.control [] (step_where w steps.Post)) (sym so) (still old new same)
   posted_moves false old worked new one = posted_one old worked new one
 
+  -- what is done for the store changes nothing of the control owner
+  archived_keeps : (there noted through : Bool) (old : OwnerFacts D L) (worked : Bool) (new : OwnerFacts D L) → ArchivesBy there noted through old worked new → new.control ≡ old.control
+  archived_keeps false noted through old worked new rests = ap (λ (o : OwnerFacts D L). o.control) rests.1
+  archived_keeps true true through old worked new (inl offers) = ap (λ (o : OwnerFacts D L). o.control) offers.others
+  archived_keeps true true through old worked new (inr lacks) = ap (λ (o : OwnerFacts D L). o.control) lacks.1
+  archived_keeps true false true old worked new ends = ap (λ (o : OwnerFacts D L). o.control) ends.others
+  archived_keeps true false false old worked new rests = ap (λ (o : OwnerFacts D L). o.control) rests.1
+
   -- ---- the whole turn
 
   ended_keeps : (b : Bool) (owner : OwnerFacts D L) → (cond b (record owner { is_ending = true }) owner).control ≡ owner.control
@@ -253,7 +261,10 @@ module _ {D L : Type 0} (door_facts : D → DoorFacts) (link_facts : L → LinkF
       let shown = (published_moves turned.after_press turned.published turned.after_publish turned.publishes).leads mid
       (owns_on turned.after_desk.control turned.after_press.control mid (same_kept turned.after_desk.control turned.after_press.control pressed) desk.1) tt in
       let later = ran mid (step_where turned.published steps.Publish) in
-      let sent = (posted_moves (is_some turned.after_publish.kept.lag) turned.after_publish turned.posted turned.after_post turned.posts).leads later shown.1 tt in
+      let archived : turned.after_archive.control ≡ turned.after_publish.control =
+      archived_keeps (is_some turned.after_publish.archive) _ (is_through turned.after_publish) turned.after_publish turned.archived turned.after_archive turned.archives in
+      let sent = (posted_moves (is_some turned.after_archive.kept.lag) turned.after_archive turned.posted turned.after_post turned.posts).leads later
+      (owns_on turned.after_publish.control turned.after_archive.control later (same_kept turned.after_publish.control turned.after_archive.control archived) shown.1) tt in
       let asks : turned.after_door.control ≡ turned.after_post.control = asks_keep (is_not_to_ask turned.after_post) turned.after_post turned.came turned.after_door turned.asks in
       let last : new.control ≡ turned.after_post.control =
       ap (λ (o : OwnerFacts D L). o.control) turned.ends ∙ ended_keeps (is_over turned.after_door && is_none turned.after_door.kept.coming) turned.after_door ∙ asks in

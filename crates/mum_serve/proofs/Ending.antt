@@ -8,6 +8,7 @@ use Rattle.mum_crew.specs.Turns.{TurnsLead}
 use mathlib.Core.List.{IsPrefix}
 use Rattle.mum_io.specs.Link.{LinkFacts}
 use Rattle.mum_io.specs.Door.{DoorFacts}
+use Rattle.mum_keeper.specs.Store.{StoreFacts}
 use Rattle.mum_owner.specs.Facts.{OwnerFacts}
 use Rattle.mum_owner.specs.Turned.{has_ended as owner_has_ended}
 use Rattle.mum_published.specs.Facts.{Opening, PassFacts}
@@ -20,7 +21,7 @@ use Rattle.mum_worker.specs.Turning.{WorkerTurned}
 use Rattle.mum_serve.specs.Clocks.{ClockFacts}
 use Rattle.mum_serve.specs.Journals.{entries_of}
 use Rattle.mum_serve.specs.OneList.{AreWithin, IsWithin}
-use Rattle.mum_serve.specs.Roles.{has_ended, roles_of, viewers_of, with_workers}
+use Rattle.mum_serve.specs.Roles.{has_ended, later_of, roles_of, with_workers}
 use Rattle.mum_serve.specs.Running.{HaveTurned}
 use Rattle.mum_serve.specs.Totals.{with_worker}
 use Rattle.mum_serve.specs.declared.roles.Roles.{Roles}
@@ -87,47 +88,57 @@ module _ {L : Type 0} where
 
 -- ---- all have ended
 
-module _ {D L : Type 0} where
-  -- the viewer has ended, where there is one
-  abbrev ViewerEnded : Option (ViewerFacts D L) → Type 0
-  ViewerEnded viewer = (one : ViewerFacts D L) → viewer ≡ Some one → viewer_has_ended one ≡ true
+module _ {D P L : Type 0} where
+  -- the viewer has ended, where there is one, and so has the store
+  pub record LaterEnded (viewer : Option (ViewerFacts D L)) (store : Option (StoreFacts P)) : Type 0 where
+    pub viewer_ended : (one : ViewerFacts D L) → viewer ≡ Some one → viewer_has_ended one ≡ true
+    pub store_ended : (one : StoreFacts P) → store ≡ Some one → one.ended ≡ true
 
-module _ {D K G N R L : Type 0} where
-  abbrev Ended : Roles D K G N R L → Type 0
+module _ {D K P G N R L : Type 0} where
+  abbrev Ended : Roles D K P G N R L → Type 0
   Ended role = IsTrue (has_ended role)
 
-  all_done : (crew : List (WorkerFacts L)) (viewer : Option (ViewerFacts D L)) → All Ended (map roles.Worker crew ++ viewers_of viewer)
-      → AllByRecursion (λ worker. is_done worker ≡ true) crew × ViewerEnded viewer
-  all_done [] None ended = (tt, λ one is. absurd (cc is))
-  all_done [] (Some viewer) ended = (
-    tt,
-    λ one is.
+  later_done : (viewer : Option (ViewerFacts D L)) (store : Option (StoreFacts P)) → All Ended (later_of viewer store) → LaterEnded viewer store
+  later_done None None ended = record { viewer_ended = λ one is. absurd (cc is); store_ended = λ one is. absurd (cc is) }
+  later_done None (Some store) ended = record {
+    viewer_ended = λ one is. absurd (cc is);
+    store_ended = λ one is.
+        let same : store ≡ one = cc is in
+        subst (λ (s : StoreFacts P). s.ended ≡ true) {y = one} same (All-head Ended (roles.Store store) [] ended);
+  }
+  later_done (Some viewer) None ended = record {
+    viewer_ended = λ one is.
         let same : viewer ≡ one = cc is in
-        subst (λ (v : ViewerFacts D L). viewer_has_ended v ≡ true) {y = one} same (All-head Ended (roles.Viewer viewer) [] ended),
-  )
-  all_done (worker ∷ crew) viewer ended =
-      let rest = all_done crew viewer (All-tail Ended (roles.Worker worker) (map roles.Worker crew ++ viewers_of viewer) ended) in
-      ((All-head Ended (roles.Worker worker) (map roles.Worker crew ++ viewers_of viewer) ended, rest.0), rest.1)
+        subst (λ (v : ViewerFacts D L). viewer_has_ended v ≡ true) {y = one} same (All-head Ended (roles.Viewer viewer) [] ended);
+    store_ended = λ one is. absurd (cc is);
+  }
+  later_done (Some viewer) (Some store) ended = record {
+    viewer_ended = λ one is.
+        let same : viewer ≡ one = cc is in
+        subst (λ (v : ViewerFacts D L). viewer_has_ended v ≡ true) {y = one} same (All-head Ended (roles.Viewer viewer) (roles.Store store ∷ []) ended);
+    store_ended = λ one is.
+        let same : store ≡ one = cc is in
+        subst (λ (s : StoreFacts P). s.ended ≡ true) {y = one} same (All-head Ended (roles.Store store) [] (All-tail Ended (roles.Viewer viewer) (roles.Store store ∷ []) ended));
+  }
 
-  pub owner_done : (owner : OwnerFacts D L) (crew : List (WorkerFacts L)) (viewer : Option (ViewerFacts D L)) (back : List (Roles D K G N R L)) → back ≡ roles_of owner crew viewer → All (λ role. IsTrue (has_ended role)) back
-      → owner_has_ended owner ≡ true
-  owner_done owner crew viewer back are ended =
-      All-head Ended (roles.Owner owner) (map roles.Worker crew ++ viewers_of viewer)
-      (subst (λ (xs : List (Roles D K G N R L)). All (λ role. IsTrue (has_ended role)) xs) are ended)
+  all_done : (crew : List (WorkerFacts L)) (viewer : Option (ViewerFacts D L)) (store : Option (StoreFacts P)) → All Ended (map roles.Worker crew ++ later_of viewer store)
+      → AllByRecursion (λ worker. is_done worker ≡ true) crew × LaterEnded viewer store
+  all_done [] viewer store ended = (tt, later_done viewer store ended)
+  all_done (worker ∷ crew) viewer store ended =
+      let rest = all_done crew viewer store (All-tail Ended (roles.Worker worker) (map roles.Worker crew ++ later_of viewer store) ended) in
+      ((All-head Ended (roles.Worker worker) (map roles.Worker crew ++ later_of viewer store) ended, rest.0), rest.1)
 
-  others_done : (owner : OwnerFacts D L) (crew : List (WorkerFacts L)) (viewer : Option (ViewerFacts D L)) (back : List (Roles D K G N R L)) → back ≡ roles_of owner crew viewer → All (λ role. IsTrue (has_ended role)) back
-      → AllByRecursion (λ worker. is_done worker ≡ true) crew × ViewerEnded viewer
-  others_done owner crew viewer back are ended =
-      all_done crew viewer (All-tail Ended (roles.Owner owner) (map roles.Worker crew ++ viewers_of viewer)
-      (subst (λ (xs : List (Roles D K G N R L)). All (λ role. IsTrue (has_ended role)) xs) are ended))
+  module _ (owner : OwnerFacts D L) (crew : List (WorkerFacts L)) (viewer : Option (ViewerFacts D L)) (store : Option (StoreFacts P)) (back : List (Roles D K P G N R L)) where
+    pub owner_done : back ≡ roles_of owner crew viewer store → All (λ role. IsTrue (has_ended role)) back → owner_has_ended owner ≡ true
+    owner_done are ended =
+        All-head Ended (roles.Owner owner) (map roles.Worker crew ++ later_of viewer store)
+        (subst (λ (xs : List (Roles D K P G N R L)). All (λ role. IsTrue (has_ended role)) xs) are ended)
 
-  pub crew_done : (owner : OwnerFacts D L) (crew : List (WorkerFacts L)) (viewer : Option (ViewerFacts D L)) (back : List (Roles D K G N R L)) → back ≡ roles_of owner crew viewer → All (λ role. IsTrue (has_ended role)) back
-      → AllByRecursion (λ worker. is_done worker ≡ true) crew
-  crew_done owner crew viewer back are ended = (others_done owner crew viewer back are ended).0
-
-  pub viewer_done : (owner : OwnerFacts D L) (crew : List (WorkerFacts L)) (viewer : Option (ViewerFacts D L)) (back : List (Roles D K G N R L)) → back ≡ roles_of owner crew viewer → All (λ role. IsTrue (has_ended role)) back
-      → (one : ViewerFacts D L) → viewer ≡ Some one → viewer_has_ended one ≡ true
-  viewer_done owner crew viewer back are ended = (others_done owner crew viewer back are ended).1
+    pub others_done : back ≡ roles_of owner crew viewer store → All (λ role. IsTrue (has_ended role)) back
+        → AllByRecursion (λ worker. is_done worker ≡ true) crew × LaterEnded viewer store
+    others_done are ended =
+        all_done crew viewer store (All-tail Ended (roles.Owner owner) (map roles.Worker crew ++ later_of viewer store)
+        (subst (λ (xs : List (Roles D K P G N R L)). All (λ role. IsTrue (has_ended role)) xs) are ended))
 
 -- there is a list of each worker
 pub as_many_lists : {D L : Type 0} (facts : L → LinkFacts) (door_facts : D → DoorFacts) (opening : Opening) (door : D) (clock : ClockFacts) (journal : Bool) (connections workers : ℕ) (owner : OwnerFacts D L) (crew : List (WorkerFacts L))

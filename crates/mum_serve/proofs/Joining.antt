@@ -1,5 +1,5 @@
 -- The roles are joined by the queues that they were given.
-use Rattle.std.proofs.Common.{◌≡◌, ◌∙◌, ℕ, Bool, List, [], ◌∷◌, map, refl, sym, ap, subst}
+use Rattle.std.proofs.Common.{◌≡◌, ◌∙◌, ℕ, Bool, List, [], ◌∷◌, Option, map, refl, sym, ap, subst}
 use Rattle.std.specs.List.{AllByRecursion, AllZip}
 use Rattle.atomic_table.specs.Seated.{TableId}
 use Rattle.mum_control.specs.Facts.{ControlFacts}
@@ -46,11 +46,11 @@ module _ {L N : Type 0} where
       ∙ ap (λ (names : List TableId). one.bell.queue ∷ names) (bells_joined shared workers over.1)
 
   -- an owner that was opened over these queues, and workers over what is shared of them
-  pub are_joined : {D : Type 0} (control : ControlFacts) (door : D) (connections : ℕ) (journal : Bool) (bells : List QueueFacts) (desk : QueueFacts) (owner : OwnerFacts D L)
+  pub are_joined : {D : Type 0} (control : ControlFacts) (door : D) (connections : ℕ) (journal : Bool) (bells : List QueueFacts) (store : Option TableId) (desk : QueueFacts) (owner : OwnerFacts D L)
       (shared : List (Shared L N)) (workers : List (WorkerFacts L))
-      → IsOpened control door connections journal (queues_of bells) owner → IsNewPass desk owner.desk.pass
+      → IsOpened control door connections journal (queues_of bells) store owner → IsNewPass desk owner.desk.pass
       → AreShared (post_queues control.posts) desk.queue (queues_of bells) shared → AllZip JoinsShared shared workers → AreJoinedTo owner workers
-  are_joined {D} control door connections journal bells desk owner shared workers opened new are over =
+  are_joined {D} control door connections journal bells store desk owner shared workers opened new are over =
       let posts_are : post_queues owner.control.posts ≡ post_queues control.posts = ap (λ (o : OwnerFacts D L). post_queues o.control.posts) opened in
       let desk_is : owner.desk.pass.queue ≡ desk.queue = ap (λ (p : PassFacts DeskItem). p.queue) new in
       let bells_are : side_queues owner.bells ≡ queues_of bells = ap (λ (o : OwnerFacts D L). side_queues o.bells) opened ∙ named L (queues_of bells) in

@@ -9,4 +9,6 @@ mod Turning
 mod Ending
 mod Viewing
 mod Clocking
+mod Storing
 mod Readied
+mod Beginning

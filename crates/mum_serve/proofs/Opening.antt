@@ -1,5 +1,5 @@
 -- The roles before their first turn, one after another.
-use Rattle.std.proofs.Common.{◌≡◌, ◌∙◌, ℕ, ◌+◌, Bool, List, [], ◌∷◌, ◌++◌, append_assoc, append-nil, length, length-append, Option, sym, ap, subst, arith}
+use Rattle.std.proofs.Common.{◌≡◌, ◌∙◌, ℕ, ◌+◌, Bool, List, [], ◌∷◌, ◌++◌, append_assoc, append-nil, length, length-append, Option, None, Some, sym, ap, subst, arith}
 use Rattle.std.specs.List.{AllZip}
 use Rattle.atomic_table.specs.Seated.{TableId}
 use Rattle.mum_control.specs.Facts.{ControlFacts}
@@ -14,6 +14,7 @@ use Rattle.mum_worker.specs.Facts.{WorkerFacts}
 use Rattle.mum_worker.specs.Opening.{HasOpened, JoinsShared}
 use Rattle.mum_worker.specs.declared.worker.Shared.{Shared}
 use Rattle.mum_serve.specs.Clocks.{ClockFacts, clock_of}
+use Rattle.mum_serve.specs.Stores.{archive_queue}
 use Rattle.mum_serve.specs.Opened.{AreOpenedFrom, ControlBegins, OwnerBegins, WorkerBegins}
 
 -- a control owner that was opened over a published state, to which nothing was appended, is new
@@ -30,19 +31,25 @@ control_begins opening publisher posts control of nothing opened =
 
 module _ {D L : Type 0} where
   -- and so is the owner that was opened over it
-  pub owner_begins : (opening : Opening) (control : ControlFacts) (door : D) (clock : ClockFacts) (journal : Bool) (connections : ℕ) (bells : List TableId) (desk : QueueFacts) (owner : OwnerFacts D L)
-      → ControlBegins opening control → IsOpened control door connections journal bells owner → IsNewPass desk owner.desk.pass
+  pub owner_begins : (opening : Opening) (control : ControlFacts) (door : D) (clock : ClockFacts) (journal : Bool) (connections : ℕ) (bells : List TableId) (store : Option TableId) (desk : QueueFacts) (owner : OwnerFacts D L)
+      → ControlBegins opening control → IsOpened control door connections journal bells store owner → IsNewPass desk owner.desk.pass
       → clock_of owner ≡ clock → OwnerBegins opening door clock journal connections owner
-  owner_begins opening control door clock journal connections bells desk owner begins opened new asks =
+  owner_begins opening control door clock journal connections bells store desk owner begins opened new asks =
       let is = ap (λ (o : OwnerFacts D L). o.control) opened in
       record {
         bells = bells;
-        opened = subst (λ (k : ControlFacts). IsOpened k door connections journal bells owner) (sym is) opened;
+        store = store;
+        opened = subst (λ (k : ControlFacts). IsOpened k door connections journal bells store owner) (sym is) opened;
         control = subst (ControlBegins opening) (sym is) begins;
         desk = desk;
         nothing_taken = new;
         clock_is = asks;
       }
+
+  -- it puts into the queue of the store's bell
+  pub archive_is : (control : ControlFacts) (door : D) (connections : ℕ) (journal : Bool) (bells : List TableId) (store : Option TableId) (owner : OwnerFacts D L) → IsOpened control door connections journal bells store owner → archive_queue owner ≡ store
+  archive_is control door connections journal bells None owner opened = ap (λ (o : OwnerFacts D L). archive_queue o) opened
+  archive_is control door connections journal bells (Some queue) owner opened = ap (λ (o : OwnerFacts D L). archive_queue o) opened
 
 module _ {L : Type 0} where
   opened_behind : (opening : Opening) (closings : Option ℕ) (first next : ℕ) (old : List (WorkerFacts L)) (worker : WorkerFacts L)

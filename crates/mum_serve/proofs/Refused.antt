@@ -1,8 +1,12 @@
 -- Runs that end before anything is opened.
-use Rattle.std.proofs.Common.{◌≡◌, ◌∙◌, ℕ, ◌<◌, true, List, [], ◌∷◌, ◌++◌, length, Option, None, Some, Result, Ok, Err, IfSome, inl, inr, length-append, refl, sym, subst, arith}
+use Rattle.std.proofs.Common.{◌≡◌, ◌∙◌, ℕ, ◌<◌, true, List, [], ◌∷◌, ◌++◌, length, Option, None, Some, Result, Ok, Err, IfOk, IfSome, inl, inr, length-append, refl, sym, ap, subst, arith}
 use Rattle.std.specs.Prelude.{codes, nat_lt}
 use Rattle.std.proofs.lemmas.Bool.Decides.{nat_tests}
+use Rattle.std.specs.Option.{option_map_or}
 use Rattle.mum_config.specs.Document.{fault_of}
+use Rattle.mum_config.specs.Limits.{FitAfterLimits, settings_and_accounts}
+use Rattle.mum_config.proofs.FitSettings.{settings_fit_limits}
+use Rattle.mum_state.specs.declared.edit.Edit.{Edit}
 use Rattle.mum_config.specs.declared.config.Config.{Config}
 use Rattle.mum_crew.specs.Crew.{CrewCounts}
 use Rattle.mum_document.specs.Fault.{Fault, or_else}
@@ -76,6 +80,8 @@ refusal_runs ends.Finished counts is = absurd is
 refusal_runs ends.WriteFault counts is = absurd is
 refusal_runs ends.DoorFault counts is = absurd is
 refusal_runs ends.CrewFault counts is = absurd is
+refusal_runs ends.KeeperFault counts is = absurd is
+refusal_runs ends.BadStore counts is = absurd is
 refusal_runs (ends.AuditWrong line given defined) counts is = absurd is
 
 pub refusal_writes : (end : ServerEnd) (faults : ℕ) → IsRefusal end → WritesCounted end faults faults
@@ -86,4 +92,14 @@ refusal_writes ends.Finished faults is = absurd is
 refusal_writes ends.WriteFault faults is = absurd is
 refusal_writes ends.DoorFault faults is = absurd is
 refusal_writes ends.CrewFault faults is = absurd is
+refusal_writes ends.KeeperFault faults is = absurd is
+refusal_writes ends.BadStore faults is = absurd is
 refusal_writes (ends.AuditWrong line given defined) faults is = absurd is
+
+-- the settings and the accounts of what was read fit alone
+pub settings_alone : (bytes : List ℕ) (r : Result Config BadConfig) → ReadsDescribed bytes r → IfOk r (λ config. FitAfterLimits (settings_and_accounts config.edits))
+settings_alone bytes (Err error) reads = tt
+settings_alone [] (Ok config) reads =
+    let none : [] ≡ config.edits = ap (λ (one : Option Config). option_map_or (λ (c : Config). c.edits) one []) reads.1 in
+    subst (λ (edits : List Edit). FitAfterLimits (settings_and_accounts edits)) none (λ sessions channels fit. refl)
+settings_alone (byte ∷ bytes) (Ok config) reads = settings_fit_limits (byte ∷ bytes) (Ok config) reads

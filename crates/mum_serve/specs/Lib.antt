@@ -9,6 +9,8 @@ pub mod Roles
 pub mod Joined
 pub mod Running
 pub mod Views
+pub mod Loading
+pub mod Stores
 pub mod Beginning
 pub mod Serving
 pub mod Ready

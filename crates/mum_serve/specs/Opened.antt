@@ -25,10 +25,11 @@ pub record ControlBegins (opening : Opening) (control : ControlFacts) : Type 0 w
 
 module _ {D L : Type 0} where
   -- the owner is new, over this door, and so are its control owner and its pass of the desk; it asks a clock that has
-  -- counted this
+  -- counted this, and has a queue for a store or none
   pub record OwnerBegins (opening : Opening) (door : D) (clock : ClockFacts) (journal : Bool) (connections : ℕ) (owner : OwnerFacts D L) : Type 0 where
     pub bells : List TableId
-    pub opened : IsOpened owner.control door connections journal bells owner
+    pub store : Option TableId
+    pub opened : IsOpened owner.control door connections journal bells store owner
     pub control : ControlBegins opening owner.control
     pub desk : QueueFacts
     pub nothing_taken : IsNewPass desk owner.desk.pass

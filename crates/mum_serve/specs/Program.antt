@@ -12,7 +12,8 @@ use Rattle.mum_io.specs.Counts.{Rose}
 use Rattle.mum_io.specs.Outside.{Appends, AppendsFront, Keeps}
 use Rattle.mum_io.specs.Link.{LinkFacts}
 use Rattle.mum_io.specs.Door.{DoorFacts}
-use Rattle.mum_opening.specs.Opening.{described, document_fault, greatest_limits, opening}
+use Rattle.mum_keeper.specs.Keeping.{KeeperFacts}
+use Rattle.mum_opening.specs.Opening.{described, document_edits, document_fault}
 use Rattle.mum_record.specs.Words.{line_of_words}
 use Rattle.mum_audit.specs.Audit.{audited}
 use Rattle.mum_audit.specs.Legal.{IsLegal}
@@ -24,9 +25,9 @@ use Rattle.mum_serve.specs.Serving.{RunsCounted, ServesOver}
 use Rattle.mum_serve.specs.declared.entries.Entries.{Entries}
 use Rattle.mum_serve.specs.declared.program.Input.{Input}
 use Rattle.mum_serve.specs.declared.program.ServerEnd.{ServerEnd}
-use Rattle.mum_serve.specs.declared.program.ServerEnd.TheVariants.{Finished, BadConfig, ReadFault, WriteFault, DoorFault, CrewFault, AuditWrong, OutOfMemory}
+use Rattle.mum_serve.specs.declared.program.ServerEnd.TheVariants.{Finished, BadConfig, BadStore, ReadFault, WriteFault, DoorFault, CrewFault, KeeperFault, AuditWrong, OutOfMemory}
 use Rattle.mum_serve.specs.declared.server.Served.{Served}
-use Rattle.mum_serve.specs.declared.server.Served.TheVariants.{Whole, DoorFault as DoorStaysShut, CrewFault as CrewIsRefused, OutOfMemory as NothingStarts}
+use Rattle.mum_serve.specs.declared.server.Served.TheVariants.{Whole, KeeperFault as KeeperFails, BadStore as RowsAreBad, DoorFault as DoorStaysShut, CrewFault as CrewIsRefused, OutOfMemory as NothingStarts}
 use Rattle.mum_serve.specs.declared.summary.Summary.{Summary}
 use Rattle.mum_serve.specs.declared.totals.Totals.{Totals}
 
@@ -111,19 +112,28 @@ viewed_line (Some views) = line_of_words (codes "viewed" ∷ decimal views ∷ [
 abbrev pub last_lines : Summary → List ℕ
 last_lines summary = served_line summary.totals ++ viewed_line summary.viewed
 
--- how a run ends whose text is written. Memory that ran out on the way counts before a door that failed
-abbrev pub written : Bool → Bool → ServerEnd
-written true door_failed = OutOfMemory
-written false true = DoorFault
-written false false = Finished
+-- how a run ends whose text is written. Memory that ran out on the way counts before a door that failed, and this before a
+-- keeper that failed
+abbrev pub written : (no_memory door_failed keeper_failed : Bool) → ServerEnd
+written true door_failed keeper_failed = OutOfMemory
+written false true keeper_failed = DoorFault
+written false false true = KeeperFault
+written false false false = Finished
+
+-- so it ends where this is what it came to
+abbrev pub written_of : Summary → ServerEnd
+written_of summary = written summary.no_memory summary.door_failed summary.keeper_failed
 
 -- the text is written whole; or the output failed in it, or memory ran out before it
-abbrev pub WritesText : List ℕ → Bool → Bool → ServerEnd → Option (List ℕ) → Option (List ℕ) → Type 0
-WritesText text no_memory door_failed Finished old new = (no_memory ≡ false) × (door_failed ≡ false) × Appends old new text
-WritesText text no_memory door_failed DoorFault old new = (no_memory ≡ false) × (door_failed ≡ true) × Appends old new text
-WritesText text no_memory door_failed WriteFault old new = AppendsFront old new text
-WritesText text no_memory door_failed OutOfMemory old new = Keeps old new ⊎ ((no_memory ≡ true) × Appends old new text)
-WritesText text no_memory door_failed others old new = ⊥
+abbrev pub WritesText : List ℕ → Summary → ServerEnd → Option (List ℕ) → Option (List ℕ) → Type 0
+WritesText text summary Finished old new =
+    (summary.no_memory ≡ false) × (summary.door_failed ≡ false) × (summary.keeper_failed ≡ false) × Appends old new text
+WritesText text summary DoorFault old new = (summary.no_memory ≡ false) × (summary.door_failed ≡ true) × Appends old new text
+WritesText text summary KeeperFault old new =
+    (summary.no_memory ≡ false) × (summary.door_failed ≡ false) × (summary.keeper_failed ≡ true) × Appends old new text
+WritesText text summary WriteFault old new = AppendsFront old new text
+WritesText text summary OutOfMemory old new = Keeps old new ⊎ ((summary.no_memory ≡ true) × Appends old new text)
+WritesText text summary others old new = ⊥
 
 -- the text of a legal journal that was made, or the first wrong line of another, or memory ran out
 abbrev pub GivesText : Journal → Result (List ℕ) ServerEnd → Type 0
@@ -140,47 +150,53 @@ WritesJournal journal summary (AuditWrong line given defined) old new =
 WritesJournal journal summary OutOfMemory old new =
     Keeps old new ⊎ (IsLegal journal × (summary.no_memory ≡ true) × Appends old new (journal_text journal ++ last_lines summary))
 WritesJournal journal summary end old new =
-    IsLegal journal × WritesText (journal_text journal ++ last_lines summary) summary.no_memory summary.door_failed end old new
+    IsLegal journal × WritesText (journal_text journal ++ last_lines summary) summary end old new
 
 -- the journal, where one was made, and the last lines
 abbrev pub WritesAll : Option Journal → Summary → ServerEnd → Option (List ℕ) → Option (List ℕ) → Type 0
 WritesAll (Some journal) summary end old new = WritesJournal journal summary end old new
-WritesAll None summary end old new = WritesText (last_lines summary) summary.no_memory summary.door_failed end old new
+WritesAll None summary end old new = WritesText (last_lines summary) summary end old new
 
 -- ---- how it ends
 
-module _ {D K L : Type 0} (facts : L → LinkFacts) (door_facts : D → DoorFacts) (last calls : K → ℕ) where
-  -- all were served, from the state that the configuration describes, in a run that the crew counted, and this is what was
-  -- written of it
-  pub record HasServed (asked : Service) (input : Input) (end : ServerEnd) (doors left : Lent D K) (old new : Option (List ℕ)) (crew crew_after : CrewCounts) : Type 0 where
+module _ {D K P L : Type 0} (facts : L → LinkFacts) (door_facts : D → DoorFacts) (last calls : K → ℕ) (keeper_facts : P → KeeperFacts) where
+  -- all were served, from the state that the configuration and the kept channels describe, in a run that the crew counted, and
+  -- this is what was written of it
+  pub record HasServed (asked : Service) (input : Input) (end : ServerEnd) (objects left : Lent D K P) (old new : Option (List ℕ)) (crew crew_after : CrewCounts) : Type 0 where
     pub summary : Summary
     pub entries : Entries
-    pub serves : ServesOver facts door_facts last calls (opening greatest_limits input.document) asked input.config.workers doors (Whole summary entries) left
+    pub serves : ServesOver facts door_facts last calls keeper_facts (document_edits input.document) asked input.config.workers objects (Whole summary entries) left
     pub ran : RunCounts Ran crew crew_after
     pub writes : WritesAll (where_asked asked.journal (journal_of input.config.workers input.document entries)) summary end old new
 
   -- nobody was served, which is what it came to, and nothing is written
-  pub record ServesNobody (asked : Service) (input : Input) (served : Served) (doors left : Lent D K) (old new : Option (List ℕ)) (crew crew_after : CrewCounts) : Type 0 where
-    pub serves : ServesOver facts door_facts last calls (opening greatest_limits input.document) asked input.config.workers doors served left
+  pub record ServesNobody (asked : Service) (input : Input) (served : Served) (objects left : Lent D K P) (old new : Option (List ℕ)) (crew crew_after : CrewCounts) : Type 0 where
+    pub serves : ServesOver facts door_facts last calls keeper_facts (document_edits input.document) asked input.config.workers objects served left
     pub counted : RunsCounted served crew crew_after
     pub keeps : Keeps old new
 
-  -- all were served; or a door did not open, the crew did not start, or memory ran out, and nothing is written
-  abbrev pub EndsWith : Service → Input → ServerEnd → Lent D K → Lent D K → Option (List ℕ) → Option (List ℕ) → CrewCounts → CrewCounts → Type 0
-  EndsWith asked input DoorFault doors left old new crew crew_after =
-      HasServed asked input DoorFault doors left old new crew crew_after
-      ⊎ ServesNobody asked input DoorStaysShut doors left old new crew crew_after
-  EndsWith asked input CrewFault doors left old new crew crew_after =
-      ServesNobody asked input CrewIsRefused doors left old new crew crew_after
-  EndsWith asked input OutOfMemory doors left old new crew crew_after =
-      HasServed asked input OutOfMemory doors left old new crew crew_after
-      ⊎ ServesNobody asked input NothingStarts doors left old new crew crew_after
-  EndsWith asked input end doors left old new crew crew_after =
-      HasServed asked input end doors left old new crew crew_after
+  -- all were served; or the keeper failed or gave bad rows, a door did not open, the crew did not start, or memory ran out, and
+  -- nothing is written
+  abbrev pub EndsWith : Service → Input → ServerEnd → Lent D K P → Lent D K P → Option (List ℕ) → Option (List ℕ) → CrewCounts → CrewCounts → Type 0
+  EndsWith asked input KeeperFault objects left old new crew crew_after =
+      HasServed asked input KeeperFault objects left old new crew crew_after
+      ⊎ ServesNobody asked input KeeperFails objects left old new crew crew_after
+  EndsWith asked input BadStore objects left old new crew crew_after =
+      ServesNobody asked input RowsAreBad objects left old new crew crew_after
+  EndsWith asked input DoorFault objects left old new crew crew_after =
+      HasServed asked input DoorFault objects left old new crew crew_after
+      ⊎ ServesNobody asked input DoorStaysShut objects left old new crew crew_after
+  EndsWith asked input CrewFault objects left old new crew crew_after =
+      ServesNobody asked input CrewIsRefused objects left old new crew crew_after
+  EndsWith asked input OutOfMemory objects left old new crew crew_after =
+      HasServed asked input OutOfMemory objects left old new crew crew_after
+      ⊎ ServesNobody asked input NothingStarts objects left old new crew crew_after
+  EndsWith asked input end objects left old new crew crew_after =
+      HasServed asked input end objects left old new crew crew_after
 
   -- the input describes a configuration, and the run ends with it; or it names a fault, the input failed or memory ran
   -- out, and nothing else happened
-  abbrev pub EndsAt : Service → Option (List ℕ) → ServerEnd → Lent D K → Lent D K → Option (List ℕ) → Option (List ℕ) → CrewCounts → CrewCounts → Type 0
-  EndsAt asked bytes end doors left old new crew crew_after =
-      ((input : Input) × IsInput bytes input × EndsWith asked input end doors left old new crew crew_after)
-      ⊎ (IsRefusal end × IfSome bytes (λ all. NamesFault end (document_fault all)) × (left ≡ doors) × Keeps old new × (crew_after ≡ crew))
+  abbrev pub EndsAt : Service → Option (List ℕ) → ServerEnd → Lent D K P → Lent D K P → Option (List ℕ) → Option (List ℕ) → CrewCounts → CrewCounts → Type 0
+  EndsAt asked bytes end objects left old new crew crew_after =
+      ((input : Input) × IsInput bytes input × EndsWith asked input end objects left old new crew crew_after)
+      ⊎ (IsRefusal end × IfSome bytes (λ all. NamesFault end (document_fault all)) × (left ≡ objects) × Keeps old new × (crew_after ≡ crew))

@@ -2,6 +2,9 @@
 use Rattle.std.specs.Prelude.{◌≡◌, ◌||◌, Bool, true, false, List, [], ◌∷◌, ◌++◌, length, map, Option, Some, None}
 use Rattle.mum_crew.specs.declared.role.Turn.{Turn}
 use Rattle.mum_io.specs.Counts.{NoneFalls, Rose}
+use Rattle.mum_keeper.specs.Keeping.{KeeperFacts}
+use Rattle.mum_keeper.specs.Store.{StoreFacts, StoreTurned}
+use Rattle.mum_keeper.specs.declared.naming.KeeperOpening.{KeeperOpening}
 use Rattle.mum_owner.specs.Decided.{HasWritten}
 use Rattle.mum_doorway.specs.Doors.{NoMoreCome, given_after_all}
 use Rattle.mum_owner.specs.Facts.{OwnerFacts}
@@ -28,55 +31,65 @@ use Rattle.mum_serve.specs.declared.totals.WorkerTotals.{WorkerTotals}
 
 -- ---- who they are
 
-module _ {D K G N R L : Type 0} where
-  -- a viewer, where there is one
-  abbrev pub viewers_of : Option (ViewerFacts D L) → List (Roles D K G N R L)
-  viewers_of None = []
-  viewers_of (Some viewer) = roles.Viewer viewer ∷ []
+module _ {D K P G N R L : Type 0} where
+  -- a store, where there is one
+  abbrev pub stores_of : Option (StoreFacts P) → List (Roles D K P G N R L)
+  stores_of None = []
+  stores_of (Some store) = roles.Store store ∷ []
 
-  -- workers, and the viewer behind them
-  abbrev pub others_of : List (WorkerFacts L) → Option (ViewerFacts D L) → List (Roles D K G N R L)
-  others_of crew viewer = map roles.Worker crew ++ viewers_of viewer
+  -- a viewer, where there is one, and the store behind it
+  abbrev pub later_of : Option (ViewerFacts D L) → Option (StoreFacts P) → List (Roles D K P G N R L)
+  later_of None store = stores_of store
+  later_of (Some viewer) store = roles.Viewer viewer ∷ stores_of store
+
+  -- workers, and the others behind them
+  abbrev pub others_of : List (WorkerFacts L) → Option (ViewerFacts D L) → Option (StoreFacts P) → List (Roles D K P G N R L)
+  others_of crew viewer store = map roles.Worker crew ++ later_of viewer store
 
   -- all roles of a server: its owner, and the others behind it
-  abbrev pub roles_of : OwnerFacts D L → List (WorkerFacts L) → Option (ViewerFacts D L) → List (Roles D K G N R L)
-  roles_of owner crew viewer = roles.Owner owner ∷ (map roles.Worker crew ++ viewers_of viewer)
+  abbrev pub roles_of : OwnerFacts D L → List (WorkerFacts L) → Option (ViewerFacts D L) → Option (StoreFacts P) → List (Roles D K P G N R L)
+  roles_of owner crew viewer store = roles.Owner owner ∷ (map roles.Worker crew ++ later_of viewer store)
 
-  -- they are workers and a viewer
-  pub record AreOthers (rest : List (Roles D K G N R L)) : Type 0 where
+  -- they are workers, a viewer and a store
+  pub record AreOthers (rest : List (Roles D K P G N R L)) : Type 0 where
     pub crew : List (WorkerFacts L)
     pub viewer : Option (ViewerFacts D L)
-    pub are : rest ≡ others_of crew viewer
+    pub store : Option (StoreFacts P)
+    pub are : rest ≡ others_of crew viewer store
 
   -- they are the roles of a server
-  pub record AreRoles (all : List (Roles D K G N R L)) : Type 0 where
+  pub record AreRoles (all : List (Roles D K P G N R L)) : Type 0 where
     pub owner : OwnerFacts D L
     pub crew : List (WorkerFacts L)
     pub viewer : Option (ViewerFacts D L)
-    pub are : all ≡ roles_of owner crew viewer
+    pub store : Option (StoreFacts P)
+    pub are : all ≡ roles_of owner crew viewer store
 
-  -- with what it was opened, where the published state began at this one and the doors had counted this
-  abbrev pub opening_of : StateValue → DoorOpening → DoorOpening → Roles D K G N R L → RoleOpening
-  opening_of state door view (roles.Owner owner) =
+  -- with what it was opened, where the published state began at this one, and the doors and the keeper had counted this
+  abbrev pub opening_of : StateValue → DoorOpening → DoorOpening → KeeperOpening → Roles D K P G N R L → RoleOpening
+  opening_of state door view keeper (roles.Owner owner) =
       openings.Owner (owner_opening state door owner.guests.limit owner.scribe.is_asked)
-  opening_of state door view (roles.Worker worker) =
+  opening_of state door view keeper (roles.Worker worker) =
       openings.Worker (record { number = worker.number; journal = worker.common.kept.journal })
-  opening_of state door view (roles.Viewer viewer) = openings.Viewer (viewer_opening view viewer.limit)
+  opening_of state door view keeper (roles.Viewer viewer) = openings.Viewer (viewer_opening view viewer.limit)
+  opening_of state door view keeper (roles.Store store) = openings.Store keeper
 
   -- it has nothing more to do
-  abbrev pub has_ended : Roles D K G N R L → Bool
+  abbrev pub has_ended : Roles D K P G N R L → Bool
   has_ended (roles.Owner owner) = owner_has_ended owner
   has_ended (roles.Worker worker) = is_done worker
   has_ended (roles.Viewer viewer) = viewer_has_ended viewer
+  has_ended (roles.Store store) = store.ended
 
 -- ---- their turns
 
-module _ {D K G N R L : Type 0} (facts : L → LinkFacts) (door_facts : D → DoorFacts) (opening : Opening) where
-  -- a turn of the owner is one of an owner, one of a worker is one of a worker, and one of the viewer is one of a viewer
-  abbrev pub RoleTurned : Roles D K G N R L → Turn → Roles D K G N R L → Type 0
+module _ {D K P G N R L : Type 0} (facts : L → LinkFacts) (door_facts : D → DoorFacts) (keeper_facts : P → KeeperFacts) (opening : Opening) where
+  -- a turn of the owner is one of an owner, and so it is with workers, the viewer and the store
+  abbrev pub RoleTurned : Roles D K P G N R L → Turn → Roles D K P G N R L → Type 0
   RoleTurned (roles.Owner old) answer (roles.Owner new) = OwnerTurned door_facts facts old answer new
   RoleTurned (roles.Worker old) answer (roles.Worker new) = WorkerTurned facts opening old answer new
   RoleTurned (roles.Viewer old) answer (roles.Viewer new) = ViewerTurned door_facts facts old answer new
+  RoleTurned (roles.Store old) answer (roles.Store new) = StoreTurned keeper_facts old answer new
   RoleTurned old answer new = ⊥
 
 -- ---- how they end

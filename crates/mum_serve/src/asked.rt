@@ -19,15 +19,19 @@ pub struct Asked<'a> {
     /// Whether a journal is written.
     pub journal: bool,
     pub view: Option<ViewAsked<'a>>,
+    /// The path at which channels are kept beyond the run, where they are.
+    pub keep: Option<&'a str>,
 }
 
 /// What a server is lent for its run.
 #[derive(Drop)]
-pub struct Objects<D, K> {
+pub struct Objects<D, K, P> {
     /// The door of the connections.
     pub door: D,
     /// The door of the views. It is opened where views are asked for.
     pub view: D,
     /// The clock by which bans start and end.
     pub clock: K,
+    /// What keeps channels beyond the run. It is opened where that is asked for.
+    pub keeper: P,
 }

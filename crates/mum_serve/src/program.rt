@@ -3,13 +3,13 @@
 ghost use Rattle.std.specs.Prelude.{◌≡◌, ◌<◌, ◌≤◌, ◌++◌, ℕ, IfErr, IfOk, IfSome, IsTrue, None, is_some, length};
 ghost use Rattle.std.specs.Prelude.{string_bytes, true};
 ghost use Rattle.mum_audit.specs.Audit.{IsAuditable};
-ghost use Rattle.mum_config.specs.Limits.{FitAfterLimits};
+ghost use Rattle.mum_config.specs.Limits.{FitAfterLimits, settings_and_accounts};
 ghost use Rattle.mum_opening.specs.Opening.{document_fault};
 ghost use Rattle.mum_serve.specs.Asked.{service};
 ghost use Rattle.mum_serve.specs.Journals.{AreWritable, journal_of, where_asked};
 ghost use Rattle.mum_serve.specs.Program.{Describes, DescribesConfig, EndsAt, EndsWith, IsRefusal, ReadsCounted};
 ghost use Rattle.mum_serve.specs.Program.{RunsInCrew, Says, WritesAll, WritesCounted, WritesJournal, WritesText};
-ghost use Rattle.mum_serve.specs.Program.{last_lines, refusal, served_line, written};
+ghost use Rattle.mum_serve.specs.Program.{last_lines, refusal, served_line, written_of};
 ghost use Rattle.mum_state.specs.After.{all_fit};
 ghost use Rattle.mum_state.specs.State.{empty_state};
 
@@ -23,6 +23,7 @@ use mum_base::{Octets, OutOfMemory, Text};
 use mum_config::{BadConfig, Config, DOCUMENT_LIMIT};
 use mum_crew::Crew;
 use mum_io::{Clock, Door, ReadFault, Sink, Source, read_up_to, write_all};
+use mum_keeper::Keeper;
 use mum_opening::read_document;
 use mum_record::{Journal, Word, push_line};
 use std::alloc::Global;
@@ -39,6 +40,8 @@ pub enum ServerEnd {
         code: u8,
         key: Text,
     },
+    /// The rows of the keeper are not those of channels that a server may have. No door was opened, and nothing is written.
+    BadStore,
     /// The input failed. Nothing was opened or written.
     ReadFault,
     /// The output failed.
@@ -47,6 +50,8 @@ pub enum ServerEnd {
     DoorFault,
     /// The crew did not start.
     CrewFault,
+    /// A call of the keeper failed: before any door was opened; or later, and the last lines are written.
+    KeeperFault,
     /// The journal has this first wrong line: what it says, and what it had to say. Nothing is written.
     AuditWrong {
         line: u64,
@@ -80,6 +85,7 @@ fn described(alloc: Global, bytes: &[u8]) -> Result<Config, ServerEnd>
     ensures describes { Describes bytes.now result }
     ensures fit { IfOk result (λ config. IsTrue (all_fit empty_state config.edits)) }
     ensures limited { IfOk result (λ config. FitAfterLimits config.edits) }
+    ensures alone { IfOk result (λ config. FitAfterLimits (settings_and_accounts config.edits)) }
     ensures workers { IfOk result (λ config. (1 ≤ config.workers) × (config.workers ≤ 8)) }
     ensures refuses { IfErr result IsRefusal }
     ensures not_read { (faults : ℕ) → IfErr result (λ end. ReadsCounted end faults faults) }
@@ -95,6 +101,7 @@ fn input_in<I: Source>(alloc: Global, input: &mut I) -> Result<Input, ServerEnd>
     ensures says { Says (I.left input.old) result }
     ensures fit { IfOk result (λ said. IsTrue (all_fit empty_state said.config.edits)) }
     ensures limited { IfOk result (λ said. FitAfterLimits said.config.edits) }
+    ensures alone { IfOk result (λ said. FitAfterLimits (settings_and_accounts said.config.edits)) }
     ensures workers { IfOk result (λ said. (1 ≤ said.config.workers) × (said.config.workers ≤ 8)) }
     ensures refuses { IfErr result IsRefusal }
     ensures read { IfOk result (λ _. I.faults input.new ≡ I.faults input.old) }
@@ -138,14 +145,17 @@ fn totals_line(alloc: Global, totals: Totals) -> Result<String, OutOfMemory>
     Ok(line)
 }
 
-// How a run ends whose text is written. Memory that ran out on the way counts before a door that failed.
-fn written(no_memory: bool, door_failed: bool) -> ServerEnd
-    ensures { result ≡ written no_memory door_failed }
+// How a run ends whose text is written. Memory that ran out on the way counts before a door that failed, and this before
+// a keeper that failed.
+fn written(summary: &Summary) -> ServerEnd
+    ensures { result ≡ written_of summary.now }
 {
-    if no_memory {
+    if summary.no_memory {
         ServerEnd::OutOfMemory
-    } else if door_failed {
+    } else if summary.door_failed {
         ServerEnd::DoorFault
+    } else if summary.keeper_failed {
+        ServerEnd::KeeperFault
     } else {
         ServerEnd::Finished
     }
@@ -165,8 +175,8 @@ fn last_lines(alloc: Global, summary: &Summary) -> Result<String, OutOfMemory>
 
 // Writes the last lines of a run.
 fn write_last<O: Sink>(alloc: Global, summary: &Summary, output: &mut O) -> ServerEnd
-    ensures writes { WritesText (last_lines summary.now) summary.now.no_memory summary.now.door_failed result
-        (O.written output.old) (O.written output.new) }
+    ensures writes { WritesText (last_lines summary.now) summary.now result (O.written output.old)
+        (O.written output.new) }
     ensures counts { WritesCounted result (O.faults output.old) (O.faults output.new) }
 {
     let Ok(lines) = last_lines(alloc, summary) else {
@@ -175,13 +185,13 @@ fn write_last<O: Sink>(alloc: Global, summary: &Summary, output: &mut O) -> Serv
     if write_all(output, lines.as_bytes()).is_err() {
         return ServerEnd::WriteFault;
     }
-    written(summary.no_memory, summary.door_failed)
+    written(summary)
 }
 
 // Writes a text, and the last lines behind it.
 fn write_behind<O: Sink>(text: &[u8], lines: &[u8], summary: &Summary, output: &mut O) -> ServerEnd
-    ensures writes { WritesText (text.now ++ lines.now) summary.now.no_memory summary.now.door_failed result
-        (O.written output.old) (O.written output.new) }
+    ensures writes { WritesText (text.now ++ lines.now) summary.now result (O.written output.old)
+        (O.written output.new) }
     ensures counts { WritesCounted result (O.faults output.old) (O.faults output.new) }
 {
     if write_all(output, text).is_err() {
@@ -190,7 +200,7 @@ fn write_behind<O: Sink>(text: &[u8], lines: &[u8], summary: &Summary, output: &
     if write_all(output, lines).is_err() {
         return ServerEnd::WriteFault;
     }
-    written(summary.no_memory, summary.door_failed)
+    written(summary)
 }
 
 // Writes a journal that its audit finds legal, and the last lines. All text is made before any is written.
@@ -249,7 +259,14 @@ fn write_out<O: Sink>(
 }
 
 // Serves a configuration, and writes what came of it.
-fn serve_input<R: Wait + Copy + Send, O: Sink, D: Door + Send, C: Crew, K: Clock + Send>(
+fn serve_input<
+    R: Wait + Copy + Send,
+    O: Sink,
+    D: Door + Send,
+    C: Crew,
+    K: Clock + Send,
+    P: Keeper + Send,
+>(
     rt: &R,
     alloc: Global,
     said: Input,
@@ -259,29 +276,33 @@ fn serve_input<R: Wait + Copy + Send, O: Sink, D: Door + Send, C: Crew, K: Clock
     view: &mut Option<D>,
     crew: &mut C,
     clock: &mut Option<K>,
+    keeper: &mut Option<P>,
 ) -> ServerEnd
     requires fit { IsTrue (all_fit empty_state said.config.edits) }
     requires limited { FitAfterLimits said.config.edits }
+    requires alone { FitAfterLimits (settings_and_accounts said.config.edits) }
     requires workers { (1 ≤ said.config.workers) × (said.config.workers ≤ 8) }
     requires described { DescribesConfig said.document said.config }
     requires door { is_some door.old ≡ true }
     requires view { is_some view.old ≡ true }
     requires clock { is_some clock.old ≡ true }
+    requires keeper { is_some keeper.old ≡ true }
     requires connections { 0 < asked.now.connections }
-    ensures ends { EndsWith D.Conn.facts
-        D.facts K.last K.calls (service asked.now) said result
-        (record { door = door.old; view = view.old; clock = clock.old })
-        (record { door = door.new; view = view.new; clock = clock.new })
+    ensures ends { EndsWith D.Conn.facts D.facts K.last K.calls P.facts (service asked.now) said result
+        (record { door = door.old; view = view.old; clock = clock.old; keeper = keeper.old })
+        (record { door = door.new; view = view.new; clock = clock.new; keeper = keeper.new })
         (O.written output.old) (O.written output.new) (C.counts crew.old) (C.counts crew.new) }
     ensures runs { RunsInCrew result (C.counts crew.old) (C.counts crew.new) }
     ensures writes { WritesCounted result (O.faults output.old) (O.faults output.new) }
 {
     let Input { config, document } = said;
-    match serve(rt, alloc, &config, asked, door, view, crew, clock) {
+    match serve(rt, alloc, &config, asked, door, view, crew, clock, keeper) {
         Served::Whole { summary, entries } => {
             let journal = journal_asked(asked.journal, config.workers, document, entries);
             write_out(alloc, journal, &summary, output)
         }
+        Served::KeeperFault => ServerEnd::KeeperFault,
+        Served::BadStore => ServerEnd::BadStore,
         Served::DoorFault => ServerEnd::DoorFault,
         Served::CrewFault => ServerEnd::CrewFault,
         Served::OutOfMemory => ServerEnd::OutOfMemory,
@@ -290,8 +311,9 @@ fn serve_input<R: Wait + Copy + Send, O: Sink, D: Door + Send, C: Crew, K: Clock
 
 /// Does what a server is asked to do, from the configuration that the input is, and writes the journal, where one is
 /// asked for, the line of the totals, and the line of the views, where they are asked for. The journal holds each command
-/// and each packet, from the first connection on, in memory until all have closed. The doors and the
-/// clock are back at every return.
+/// and each packet, from the first connection on, in memory until all have closed. Where channels are kept, the keeper is
+/// opened once the configuration is read, and before any door. The doors, the clock and the keeper are back at every
+/// return.
 pub fn run_server<
     R: Wait + Copy + Send,
     I: Source,
@@ -299,6 +321,7 @@ pub fn run_server<
     D: Door + Send,
     C: Crew,
     K: Clock + Send,
+    P: Keeper + Send,
 >(
     rt: &R,
     alloc: Global,
@@ -309,22 +332,25 @@ pub fn run_server<
     view: &mut Option<D>,
     crew: &mut C,
     clock: &mut Option<K>,
+    keeper: &mut Option<P>,
 ) -> ServerEnd
     requires door { is_some door.old ≡ true }
     requires view { is_some view.old ≡ true }
     requires clock { is_some clock.old ≡ true }
+    requires keeper { is_some keeper.old ≡ true }
     requires connections { 0 < asked.now.connections }
-    ensures ends { EndsAt D.Conn.facts
-        D.facts K.last K.calls (service asked.now) (I.left input.old) result
-        (record { door = door.old; view = view.old; clock = clock.old })
-        (record { door = door.new; view = view.new; clock = clock.new })
+    ensures ends { EndsAt D.Conn.facts D.facts K.last K.calls P.facts (service asked.now) (I.left input.old) result
+        (record { door = door.old; view = view.old; clock = clock.old; keeper = keeper.old })
+        (record { door = door.new; view = view.new; clock = clock.new; keeper = keeper.new })
         (O.written output.old) (O.written output.new) (C.counts crew.old) (C.counts crew.new) }
     ensures runs { RunsInCrew result (C.counts crew.old) (C.counts crew.new) }
     ensures reads { ReadsCounted result (I.faults input.old) (I.faults input.new) }
     ensures writes { WritesCounted result (O.faults output.old) (O.faults output.new) }
 {
     match input_in(alloc, input) {
-        Ok(said) => serve_input(rt, alloc, said, asked, output, door, view, crew, clock),
+        Ok(said) => serve_input(
+            rt, alloc, said, asked, output, door, view, crew, clock, keeper,
+        ),
         Err(end) => end,
     }
 }

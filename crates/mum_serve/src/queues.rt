@@ -169,8 +169,8 @@ fn share<L: Drop, N: Naming>(
     }
 }
 
-// A bell, twice.
-fn new_bell<I: Drop>(alloc: Global) -> Result<(Bell<I>, Bell<I>), OutOfMemory>
+/// A bell, twice.
+pub(crate) fn new_bell<I: Drop>(alloc: Global) -> Result<(Bell<I>, Bell<I>), OutOfMemory>
     ensures { IfOk result (λ both. both.1.queue ≡ both.0.queue) }
 {
     let mut bell = Bell::new(alloc)?;

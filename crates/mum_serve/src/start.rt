@@ -2,6 +2,7 @@
 
 ghost use Rattle.std.specs.Prelude.{◌≡◌, ◌<◌, [], IfErr, IfOk, length};
 ghost use Rattle.std.specs.List.{All, AllZip};
+ghost use Rattle.mum_keeper.specs.Archive.{queue_of};
 ghost use Rattle.mum_published.specs.Calls.{IsFresh, appended, latest};
 ghost use Rattle.mum_serve.specs.Clocks.{clock_at};
 ghost use Rattle.mum_serve.specs.Joined.{post_queues};
@@ -9,6 +10,7 @@ ghost use Rattle.mum_serve.specs.Opened.{AreOpened, ControlBegins};
 ghost use Rattle.mum_serve.specs.Queues.{AreShared, HasBoxes};
 ghost use Rattle.mum_serve.specs.Running.{HaveBegun};
 ghost use Rattle.mum_serve.specs.Serving.{opening_at};
+ghost use Rattle.mum_serve.specs.Stores.{archive_queue};
 ghost use Rattle.mum_state.specs.Proper.{IsProper};
 ghost use Rattle.mum_worker.specs.Boxes.{queues as queues_of};
 ghost use Rattle.mum_worker.specs.Opening.{JoinsShared};
@@ -20,6 +22,7 @@ use mum_base::OutOfMemory;
 use mum_control::Control;
 use mum_crew::FreeGate;
 use mum_io::{Clock, Door};
+use mum_keeper::{Keeping, StoreItem};
 use mum_outbox::{Bell, Desk};
 use mum_owner::{Owner, Serving};
 use mum_published::{BellItem, Naming, Pass, Publisher};
@@ -36,7 +39,7 @@ pub(crate) struct Beginning {
     /// The state that is published.
     pub(crate) state: State,
     pub(crate) workers: u8,
-    /// One for each worker, and one for the viewer where views are asked for.
+    /// One for each worker, and one for the viewer and for the store, where these are asked for.
     pub(crate) passes: Vec<Pass>,
 }
 
@@ -46,7 +49,7 @@ pub(crate) struct Started<
     'a,
     D: Door + Send,
     K: Clock + Send,
-    N: Serving + Viewing,
+    N: Serving + Viewing + Keeping,
     R: Wait + Copy + Send,
 > {
     pub(crate) owner: Owner<'a, D, K, N, R>,
@@ -107,7 +110,7 @@ fn make_parts<'a, L: Drop, N: Naming>(
 
 // A worker for each pass, in the order of their numbers. Where a journal is asked for, each takes the room of so many
 // closing entries.
-fn open_workers<D: Door + Send, N: Serving + Viewing, R: Wait + Copy + Send>(
+fn open_workers<D: Door + Send, N: Serving + Viewing + Keeping, R: Wait + Copy + Send>(
     rt: &R,
     alloc: Global,
     count: u8,
@@ -148,13 +151,13 @@ fn open_workers<D: Door + Send, N: Serving + Viewing, R: Wait + Copy + Send>(
 }
 
 /// The roles of a server over a publisher and the passes of its workers: the owner, and the workers in the order of
-/// their numbers, joined by the same queues. Where a journal is asked for, each worker has room for one closing entry of
+/// their numbers, joined by the same queues; the owner has the bell of a store, if there is one. Where a journal is asked for, each worker has room for one closing entry of
 /// each connection that it may get. Where memory runs out, the door and the clock come back as they were.
 pub(crate) fn start<
     'a,
     D: Door + Send,
     K: Clock + Send,
-    N: Serving + Viewing,
+    N: Serving + Viewing + Keeping,
     R: Wait + Copy + Send,
 >(
     rt: &R,
@@ -162,6 +165,7 @@ pub(crate) fn start<
     asked: &Asked<'_>,
     publisher: &'a mut Publisher,
     beginning: Beginning,
+    store: Option<Bell<StoreItem<N>>>,
     door: D,
     clock: K,
 ) -> Result<Started<'a, D, K, N, R>, (D, K)>
@@ -177,6 +181,7 @@ pub(crate) fn start<
     requires connections { 0 < asked.now.connections }
     ensures begun { IfOk result (λ started. HaveBegun N.opening door (clock_at K.last K.calls clock) asked.now.journal
         asked.now.connections beginning.workers started.owner started.workers.items) }
+    ensures archive { IfOk result (λ started. archive_queue started.owner ≡ queue_of store) }
     ensures back { IfErr result (λ back. (back.0 ≡ door) × (back.1 ≡ clock)) }
 {
     let Beginning {
@@ -186,6 +191,7 @@ pub(crate) fn start<
     } = beginning;
     let Ok(parts) = make_parts::<D::Conn, N>(alloc, publisher, state, usize::from(count)) else {
         drop(passes);
+        drop(store);
         return Err((door, clock));
     };
     let Parts {
@@ -201,6 +207,7 @@ pub(crate) fn start<
             drop(control);
             drop(desk);
             drop(bells);
+            drop(store);
             return Err((door, clock));
         }
     };
@@ -214,6 +221,7 @@ pub(crate) fn start<
         clock,
         asked.connections,
         asked.journal,
+        store,
     ) {
         Ok(owner) => Ok(Started { owner, workers }),
         Err(back) => {

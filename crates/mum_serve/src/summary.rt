@@ -12,4 +12,6 @@ pub struct Summary {
     pub no_memory: bool,
     /// A door failed on the way.
     pub door_failed: bool,
+    /// A call of the keeper failed on the way, whether a later one did what was asked or not.
+    pub keeper_failed: bool,
 }

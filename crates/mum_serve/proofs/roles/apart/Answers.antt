@@ -1,5 +1,5 @@
 -- The owner is taken from the front, and then the others.
-use Rattle.std.proofs.Common.{◌∙◌, List, length, ap, refl, arith}
+use Rattle.std.proofs.Common.{arith}
 use Rattle.mum_serve.proofs.Together.{all_apart, first_is, others_left, some_role}
 use Rattle.mum_serve.proofs.roles.apart.Goals as goal
 
@@ -27,4 +27,4 @@ take_apart-requires-clause-room g c =
 
 pub returns : goal.returns
 returns g c =
-    all_apart c.args.roles.items c.remove.new.self.items c.remove.result c.in-Owner.owner _ _ c.requires.roles c.remove.ensures.value c.in-Owner.is c.remove.ensures.by_index.2 c.take_apart.ensures
+    all_apart c.args.roles.items c.remove.new.self.items c.remove.result c.in-Owner.owner _ _ _ c.requires.roles c.remove.ensures.value c.in-Owner.is c.remove.ensures.by_index.2 c.take_apart.ensures

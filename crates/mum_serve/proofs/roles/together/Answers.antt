@@ -1,9 +1,7 @@
 -- Each worker stands behind those before it.
-use Rattle.std.proofs.Common.{◌∙◌, Option, length, ap, sym, arith}
+use Rattle.std.proofs.Common.{length, ap, arith}
 use Rattle.std.specs.Vec.Iter.{into_iter_items}
-use Rattle.mum_viewer.specs.Viewer.{ViewerFacts}
-use Rattle.mum_serve.specs.Roles.{roles_of}
-use Rattle.mum_serve.proofs.Together.{none_of, put_all, put_none, put_one, put_viewer}
+use Rattle.mum_serve.proofs.Together.{put_all, put_later, put_one, room_behind}
 use Rattle.mum_serve.proofs.roles.together.Goals as goal
 
 pub loop-worker-preserved : goal.loop-worker-preserved
@@ -21,18 +19,16 @@ loop-worker-preserved g c =
       omega (arith, longer, short, room, same),
     )
 
-pub returns-in-Some-viewer : goal.returns-in-Some-viewer
-returns-in-Some-viewer g c =
+pub returns : goal.returns
+returns g c =
     let was = c.loop-worker.invariant.1 in
     let none = c.in-None.ensures.steps.0 in
     let all = put_all _ c.loop-worker.list.items (into_iter_items c.loop-worker.worker-iterator) (omega (arith, was, none)) c.loop-worker.invariant.0 in
-    put_viewer c.loop-worker.list.items c.push_reserved-in-Some-viewer.new.self.items c.args.roles.owner c.args.roles.workers.items c.in-Some-viewer.viewer all c.push_reserved-in-Some-viewer.ensures.items
-    ∙ ap (λ (viewer : Option (ViewerFacts _ _)). roles_of c.args.roles.owner c.args.roles.workers.items viewer) (sym c.in-Some-viewer.is)
+    put_later c.loop-worker.list.items c.push_viewer.new.list.items c.push_store.new.list.items c.args.roles.owner c.args.roles.workers.items c.args.roles.viewer c.args.roles.store all c.push_viewer.ensures.items c.push_store.ensures
 
-pub returns-in_default : goal.returns-in_default
-returns-in_default g c =
-    let was = c.loop-worker.invariant.1 in
-    let none = c.in-None.ensures.steps.0 in
-    let all = put_all _ c.loop-worker.list.items (into_iter_items c.loop-worker.worker-iterator) (omega (arith, was, none)) c.loop-worker.invariant.0 in
-    put_none c.loop-worker.list.items c.args.roles.owner c.args.roles.workers.items all
-    ∙ ap (λ (viewer : Option (ViewerFacts _ _)). roles_of c.args.roles.owner c.args.roles.workers.items viewer) (sym (none_of c.args.roles.viewer c.in_default.not-Some))
+pub push_store-requires : goal.push_store-requires
+push_store-requires g c =
+    let room = c.loop-worker.invariant.2 in
+    let long = room_behind c.loop-worker.list.items c.push_viewer.new.list.items c.args.roles.viewer c.push_viewer.ensures.items in
+    let same = c.push_viewer.ensures.capacity in
+    omega (arith, room, long, same)

@@ -1,6 +1,6 @@
 -- What turns of an owner append and write down, beside the commands that they decide.
 use Rattle.std.proofs.Common.{◌≡◌, ◌∙◌, ℕ, ◌+◌, Bool, true, false, cond, List, [], ◌∷◌, ◌++◌, append_assoc, append-nil, length, Option, Some, None, refl, ap, sym, subst, inl, inr, arith, length-append}
-use Rattle.std.specs.Prelude.{◌&&◌, is_none, is_some, MatchBool, MatchOption}
+use Rattle.std.specs.Prelude.{◌&&◌, ◌||◌, is_none, is_some, MatchBool, MatchOption}
 use Rattle.atomic_table.specs.Seated.{TableId}
 use Rattle.mum_base.specs.declared.number.SessionId.{SessionId}
 use Rattle.mum_base.specs.declared.number.Slot.{Slot}
@@ -28,8 +28,8 @@ use Rattle.mum_owner.specs.Laws.{came_by, came_where, connections_given}
 use Rattle.mum_owner.specs.Opened.{IsOpened}
 use Rattle.mum_owner.specs.Serving.{EmptiesFor, LeaveIsGiven, Next, Receives, ReceivesBy, ReceivesItem, Rests, Serves, ServesDesk, leave_of, must_wait, next, with_pass}
 use Rattle.mum_owner.specs.Serving.Next.{Again, Goes, Rest, Take}
-use Rattle.mum_owner.specs.Turned.{Asks, OwnerTurned, PostsOne, Presses, Publishes as PublishesLeft, guests_by, is_not_to_ask, is_over, lag_at, pressing, with_lag}
-use Rattle.mum_owner.specs.Written.{entries_by, is_leave, is_login, prepared, recorded}
+use Rattle.mum_owner.specs.Turned.{ArchivesBy, Asks, OwnerTurned, PostsOne, Presses, Publishes as PublishesLeft, guests_by, is_not_to_ask, is_over, is_through, lag_at, makes_note, pressing, with_lag}
+use Rattle.mum_owner.specs.Written.{entries_by, is_leave, is_login, prepared, recorded, refused}
 use Rattle.mum_owner.specs.declared.kept.Coming.{Coming}
 use Rattle.mum_owner.specs.declared.kept.Lag.{Lag}
 use Rattle.mum_port.specs.declared.item.DeskItem.{DeskItem}
@@ -278,6 +278,14 @@ module _ {D L : Type 0} where
   from_seen old seen new made control scribe given moves = then_moves old seen new [] made (unseen old seen seen control scribe given refl) moves
 
   -- memory ran out: nothing was written down
+  refused_moves : (old new : OwnerFacts D L) → new ≡ record old { scribe = refused old.scribe } → Moves old new []
+  refused_moves old new is = record {
+    leads = silent old.control new.control old.scribe new.scribe
+        (ap (λ (o : OwnerFacts D L). o.control.publisher.opening) is) (ap (λ (o : OwnerFacts D L). appended o.control.publisher) is)
+        (ap (λ (o : OwnerFacts D L). o.scribe.is_asked) is) (ap (λ (o : OwnerFacts D L). o.scribe.entries) is);
+    given = ap (λ (o : OwnerFacts D L). o.guests.given) is;
+  }
+
   starved_moves : (old : OwnerFacts D L) (connection : ℕ) (new : OwnerFacts D L) → new ≡ starved connection old → Moves old new []
   starved_moves old connection new is = record {
     leads = silent old.control new.control old.scribe new.scribe
@@ -378,6 +386,13 @@ module _ {D L : Type 0} where
       }) (ap (λ (o : OwnerFacts D L). o.scribe) done.1) (ap (λ (o : OwnerFacts D L). o.guests.given) done.1)
   published_moves old false new same = rests old new same
 
+  archived_moves : (there noted through : Bool) (old : OwnerFacts D L) (worked : Bool) (new : OwnerFacts D L) → ArchivesBy there noted through old worked new → Moves old new []
+  archived_moves false noted through old worked new (so, same) = rests old new same
+  archived_moves true true through old worked new (inl offers) = unseen old (record old { archive = new.archive }) new refl refl refl offers.others
+  archived_moves true true through old worked new (inr lacks) = refused_moves old new lacks.1
+  archived_moves true false true old worked new notes = unseen old (record old { archive = new.archive }) new refl refl refl notes.others
+  archived_moves true false false old worked new (so, same) = rests old new same
+
   posted_moves : (b : Bool) (old : OwnerFacts D L) (worked : Bool) (new : OwnerFacts D L) → MatchBool b (Rests old worked new) (PostsOne old worked new) → Moves old new []
   posted_moves true old worked new (so, same) = rests old new same
   posted_moves false old worked new one =
@@ -438,10 +453,14 @@ module _ {D L : Type 0} (door_facts : D → DoorFacts) (link_facts : L → LinkF
       pressed_moves turned.after_desk turned.pressed turned.after_press turned.presses in
       let shown : Moves turned.after_press turned.after_publish [] =
       published_moves turned.after_press turned.published turned.after_publish turned.publishes in
-      let sent : Moves turned.after_publish turned.after_post [] =
-      posted_moves (is_some turned.after_publish.kept.lag) turned.after_publish turned.posted turned.after_post turned.posts in
+      let noted : Bool = makes_note turned.after_offers turned.after_desk || turned.published in
+      let archived : Moves turned.after_publish turned.after_archive [] =
+      archived_moves (is_some turned.after_publish.archive) noted (is_through turned.after_publish) turned.after_publish turned.archived turned.after_archive turned.archives in
+      let sent : Moves turned.after_archive turned.after_post [] =
+      posted_moves (is_some turned.after_archive.kept.lag) turned.after_archive turned.posted turned.after_post turned.posts in
+      let later : Moves turned.after_publish turned.after_post [] = then_moves turned.after_publish turned.after_archive turned.after_post [] [] archived sent in
       let behind : Moves turned.after_desk turned.after_post [] =
-      then_moves turned.after_desk turned.after_press turned.after_post [] [] pressed (then_moves turned.after_press turned.after_publish turned.after_post [] [] shown sent) in
+      then_moves turned.after_desk turned.after_press turned.after_post [] [] pressed (then_moves turned.after_press turned.after_publish turned.after_post [] [] shown later) in
       let front : Moves old turned.after_desk made = then_moves old turned.after_offers turned.after_desk [] made offered desk in
       let ends : Moves turned.after_door new [] = ended_moves (is_over turned.after_door && is_none turned.after_door.kept.coming) turned.after_door new turned.ends in
       let door : Leads turned.after_post.control turned.after_door.control turned.after_post.scribe turned.after_door.scribe [] =
@@ -484,9 +503,9 @@ module _ {D L : Type 0} (door_facts : D → DoorFacts) (link_facts : L → LinkF
   pub none_unasked : (old : OwnerFacts D L) (turns : List Turn) (new : OwnerFacts D L) (all : TurnsTo (OwnerTurned door_facts link_facts) old turns new) → old.scribe.is_asked ≡ false → new.scribe.entries ≡ old.scribe.entries
   none_unasked old turns new all unasked = (turns_lead old turns new all).leads.unasked unasked
 
-  pub connections_counted : (control : ControlFacts) (door : D) (connections : ℕ) (journal : Bool) (queues : List TableId) (opened owner : OwnerFacts D L) (turns : List Turn)
-      → IsOpened control door connections journal queues opened → (all : TurnsTo (OwnerTurned door_facts link_facts) opened turns owner)
+  pub connections_counted : (control : ControlFacts) (door : D) (connections : ℕ) (journal : Bool) (queues : List TableId) (store : Option TableId) (opened owner : OwnerFacts D L) (turns : List Turn)
+      → IsOpened control door connections journal queues store opened → (all : TurnsTo (OwnerTurned door_facts link_facts) opened turns owner)
       → owner.guests.given ≡ length (connections_given door_facts link_facts opened turns owner all)
-  connections_counted control door connections journal queues opened owner turns new all =
+  connections_counted control door connections journal queues store opened owner turns new all =
       from_none owner.guests.given opened.guests.given (length (connections_given door_facts link_facts opened turns owner all)) (turns_lead opened turns owner all).given
       (ap (λ (o : OwnerFacts D L). o.guests.given) new)

@@ -5,3 +5,4 @@ mod Deciding
 mod Settling
 mod Running
 mod Owning
+mod KeptEnd

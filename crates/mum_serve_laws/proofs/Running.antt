@@ -11,9 +11,12 @@ use Rattle.mum_crew.specs.Turns.{TurnsLead, TurnsTo}
 use Rattle.mum_crew.specs.declared.role.Turn.{Turn}
 use Rattle.mum_io.specs.Door.{DoorFacts}
 use Rattle.mum_io.specs.Link.{LinkFacts}
+use Rattle.mum_control.specs.Commanded.{current}
+use Rattle.mum_keeper.specs.Keeping.{KeeperFacts}
+use Rattle.mum_kept.specs.declared.rows.KeptRows.{KeptRows}
 use Rattle.mum_owner.specs.Facts.{OwnerFacts}
 use Rattle.mum_published.proofs.Prefixes.{prefix_trans}
-use Rattle.mum_published.specs.Calls.{appended}
+use Rattle.mum_published.specs.Calls.{appended, state_of}
 use Rattle.mum_published.specs.Facts.{Opening, PassFacts}
 use Rattle.mum_record.specs.declared.journal.ControlEntry.{ControlEntry}
 use Rattle.mum_record.specs.declared.journal.WorkerEntry.{WorkerEntry}
@@ -31,6 +34,7 @@ use Rattle.mum_serve.specs.declared.asked.Objects.{Objects}
 use Rattle.mum_serve.specs.declared.entries.Entries.{Entries}
 use Rattle.mum_serve.specs.declared.summary.Summary.{Summary}
 use Rattle.mum_serve.specs.declared.totals.Totals.{Totals}
+use Rattle.mum_state.specs.After.{led_to}
 use Rattle.mum_state.specs.State.{StateValue}
 use Rattle.mum_state.specs.declared.edit.Edit.{Edit}
 use Rattle.mum_step_laws.specs.OwnerTurns.{Decision}
@@ -203,9 +207,9 @@ module _ {L : Type 0} (facts : L → LinkFacts) (opening : Opening) where
 
 -- ---- a run
 
-module _ {D K L : Type 0} (facts : L → LinkFacts) (door_facts : D → DoorFacts) (last calls : K → ℕ) (state : StateValue) (asked : Service) (workers : ℕ) (opened : Objects D K) (summary : Summary) (entries : Entries) (left : Objects D K) (run : HasRun facts door_facts last calls state asked workers opened summary entries left) where
+module _ {D K P L : Type 0} (facts : L → LinkFacts) (door_facts : D → DoorFacts) (last calls : K → ℕ) (keeper_facts : P → KeeperFacts) (state : StateValue) (asked : Service) (workers : ℕ) (rows : Option KeptRows) (opened : Objects D K P) (summary : Summary) (entries : Entries) (left : Objects D K P) (run : HasRun facts door_facts last calls keeper_facts state asked workers rows opened summary entries left) where
   abbrev made : List Decision
-  made = decisions_of_run facts door_facts last calls state asked workers opened summary entries left run
+  made = decisions_of_run facts door_facts last calls keeper_facts state asked workers rows opened summary entries left run
 
   -- what the owner appended
   list_is : appended run.owner.control.publisher ≡ edits_after run.began [] made
@@ -227,17 +231,17 @@ module _ {D K L : Type 0} (facts : L → LinkFacts) (door_facts : D → DoorFact
       0 (closing_room asked.journal asked.connections workers) run.turned.first_crew run.crew run.turned.begun.crew_begins.each run.turned.crew_turned
       nothing 0 0 0 0 false (record { looks_are = refl; copies_are = refl; full_are = refl; stale_is = refl; memory_is = refl })
 
-  pub of_the_turns : AreOfTheTurns facts door_facts last calls state asked workers opened summary entries left run
+  pub of_the_turns : AreOfTheTurns facts door_facts last calls keeper_facts state asked workers rows opened summary entries left run
   of_the_turns =
       let begins = run.turned.begun.owner_begins in record {
         connections = ap (λ (t : Totals). t.connections) run.came.sums
-            ∙ connections_counted door_facts facts run.turned.first_owner.control opened.door asked.connections asked.journal begins.bells run.turned.first_owner run.owner run.turned.owner_turned.0 begins.opened run.turned.owner_turned.1;
+            ∙ connections_counted door_facts facts run.turned.first_owner.control opened.door asked.connections asked.journal begins.bells begins.store run.turned.first_owner run.owner run.turned.owner_turned.0 begins.opened run.turned.owner_turned.1;
         accepted = ap (λ (t : Totals). t.accepted) run.came.sums ∙ ap (λ (es : List Edit). length es) list_is;
         looks = ap (λ (t : Totals). t.looks) run.came.sums ∙ sums.looks_are ∙ ap (λ (n : ℕ). up_to_64 n) (none_first _);
         copies = ap (λ (t : Totals). t.copies) run.came.sums ∙ sums.copies_are ∙ ap (λ (n : ℕ). up_to_64 n) (none_first _);
         full = ap (λ (t : Totals). t.full) run.came.sums ∙ sums.full_are ∙ ap (λ (n : ℕ). up_to_64 n) (none_first _);
         stale = ap (λ (t : Totals). t.stale) run.came.sums ∙ sums.stale_is ∙ ap (λ (n : ℕ). up_to_64 n) (none_first _);
-        memory = run.memory ∙ ap (λ (b : Bool). (run.owner.scribe.no_memory || b) || viewer_memory run.viewer) sums.memory_is;
+        memory = run.memory ∙ ap (λ (b : Bool). ((run.owner.scribe.no_memory || b) || viewer_memory run.viewer) || run.starved) sums.memory_is;
       }
 
   first_asked : run.turned.first_owner.scribe.is_asked ≡ asked.journal
@@ -246,7 +250,7 @@ module _ {D K L : Type 0} (facts : L → LinkFacts) (door_facts : D → DoorFact
   first_entries : run.turned.first_owner.scribe.entries ≡ []
   first_entries = ap (λ (o : OwnerFacts D L). o.scribe.entries) run.turned.begun.owner_begins.opened
 
-  pub are_written : HasTalks facts run.began → AreWritten facts door_facts last calls state asked workers opened summary entries left run
+  pub are_written : HasTalks facts run.began → AreWritten facts door_facts last calls keeper_facts state asked workers rows opened summary entries left run
   are_written has = record {
     controls = λ is.
         let first = run.turned.first_owner in
@@ -262,10 +266,16 @@ module _ {D K L : Type 0} (facts : L → LinkFacts) (door_facts : D → DoorFact
     nothing = λ is. run.came.controls ∙ none_unasked door_facts facts run.turned.first_owner run.turned.owner_turned.0 run.owner run.turned.owner_turned.1 (first_asked ∙ is) ∙ first_entries;
   }
 
-  pub are_routed : SeesEnd facts run.began → AreRouted facts door_facts last calls state asked workers opened summary entries left run
+  pub are_routed : SeesEnd facts run.began → AreRouted facts door_facts last calls keeper_facts state asked workers rows opened summary entries left run
   are_routed sees = record {
-    begins = all_within facts run.began sees run.owner.control.publisher.published (edits_of_run facts door_facts last calls state asked workers opened summary entries left run)
+    begins = all_within facts run.began sees run.owner.control.publisher.published (edits_of_run facts door_facts last calls keeper_facts state asked workers rows opened summary entries left run)
         (run.owner.control.publisher.pending, list_is) run.turned.first_crew run.crew run.turned.crew_turned run.one_list;
     hearers = all_hear facts run.began run.turned.first_crew run.crew run.turned.crew_turned;
     opening = run.began_at;
   }
+
+  -- the state after all that was accepted
+  pub end_is : current run.owner.control ≡ state_of run.began (edits_of_run facts door_facts last calls keeper_facts state asked workers rows opened summary entries left run)
+  end_is =
+      ap (λ (s : StateValue). led_to s (appended run.owner.control.publisher)) (run.came.began ∙ sym run.began_at)
+      ∙ ap (λ (es : List Edit). state_of run.began es) list_is

@@ -1,5 +1,5 @@
 -- What an owner decided, as its turns have it.
-use Rattle.std.specs.Prelude.{◌≡◌, ◌+◌, ℕ, Bool, true, false, List, [], ◌∷◌, ◌++◌, length, map}
+use Rattle.std.specs.Prelude.{◌≡◌, ◌+◌, ℕ, Bool, true, false, List, [], ◌∷◌, ◌++◌, length, map, Option}
 use Rattle.std.specs.List.{AllByRecursion}
 use Rattle.atomic_table.specs.Seated.{TableId}
 use Rattle.mum_control.specs.Facts.{ControlFacts}
@@ -116,7 +116,7 @@ DecisionsAreForTheirSessions D L door_facts link_facts =
 -- as many connections are counted as the door gave in the turns
 abbrev pub ConnectionsAreThoseGiven : (D L : Type 0) → (D → DoorFacts) → (L → LinkFacts) → Type 0
 ConnectionsAreThoseGiven D L door_facts link_facts =
-    (control : ControlFacts) (door : D) (connections : ℕ) (journal : Bool) (queues : List TableId)
-    (opened owner : OwnerFacts D L) (turns : List Turn) → IsOpened control door connections journal queues opened
+    (control : ControlFacts) (door : D) (connections : ℕ) (journal : Bool) (queues : List TableId) (store : Option TableId)
+    (opened owner : OwnerFacts D L) (turns : List Turn) → IsOpened control door connections journal queues store opened
     → (all : TurnsTo (OwnerTurned door_facts link_facts) opened turns owner)
     → owner.guests.given ≡ length (connections_given door_facts link_facts opened turns owner all)

@@ -1,19 +1,25 @@
 -- What a run of a server came to, as the turns of its roles have it.
-use Rattle.std.specs.Prelude.{◌≡◌, ◌+◌, ◌||◌, ℕ, true, false, List, [], ◌∷◌, ◌++◌, length, map}
+use Rattle.std.specs.Prelude.{◌≡◌, ◌+◌, ◌||◌, ℕ, true, false, List, [], ◌∷◌, ◌++◌, length, map, IfSome, Option}
 use Rattle.std.specs.List.{All, AllZip, filter_map, flat_map, list_any, sum_by}
 use mathlib.Core.List.{IsPrefix}
 use Rattle.mum_base.specs.declared.number.Cause.{Cause}
 use Rattle.mum_crew.specs.Turns.{TurnsLead}
 use Rattle.mum_io.specs.Door.{DoorFacts}
 use Rattle.mum_io.specs.Link.{LinkFacts}
+use Rattle.mum_keeper.specs.Keeping.{KeeperFacts}
+use Rattle.mum_keeper.specs.Turns.{HoldsKept}
+use Rattle.mum_kept.specs.declared.rows.KeptRows.{KeptRows}
 use Rattle.mum_owner.specs.Laws.{connections_given}
 use Rattle.mum_owner.specs.declared.kept.Coming.{Coming}
+use Rattle.mum_published.specs.Calls.{state_of}
 use Rattle.mum_published.specs.Facts.{Opening}
 use Rattle.mum_serve.specs.Asked.{Service}
-use Rattle.mum_serve.specs.Serving.{HasRun}
+use Rattle.mum_serve.specs.Loading.{state_over}
+use Rattle.mum_serve.specs.Serving.{HasRun, LoadsAndServes}
 use Rattle.mum_serve.specs.Views.{viewer_memory}
 use Rattle.mum_serve.specs.declared.asked.Objects.{Objects}
 use Rattle.mum_serve.specs.declared.entries.Entries.{Entries}
+use Rattle.mum_serve.specs.declared.server.Served.TheVariants.{Whole}
 use Rattle.mum_serve.specs.declared.summary.Summary.{Summary}
 use Rattle.mum_state.specs.State.{StateValue}
 use Rattle.mum_state.specs.declared.edit.Edit.{Edit}
@@ -53,7 +59,7 @@ module _ {L : Type 0} (facts : L → LinkFacts) (opening : Opening) where
 
 -- ---- a run
 
-module _ {D K L : Type 0} (facts : L → LinkFacts) (door_facts : D → DoorFacts) (last calls : K → ℕ) (state : StateValue) (asked : Service) (workers : ℕ) (opened : Objects D K) (summary : Summary) (entries : Entries) (left : Objects D K) (run : HasRun facts door_facts last calls state asked workers opened summary entries left) where
+module _ {D K P L : Type 0} (facts : L → LinkFacts) (door_facts : D → DoorFacts) (last calls : K → ℕ) (keeper_facts : P → KeeperFacts) (state : StateValue) (asked : Service) (workers : ℕ) (rows : Option KeptRows) (opened : Objects D K P) (summary : Summary) (entries : Entries) (left : Objects D K P) (run : HasRun facts door_facts last calls keeper_facts state asked workers rows opened summary entries left) where
   -- the connections that the door gave in the turns of its owner
   abbrev pub connections_of_run : List (Coming L)
   connections_of_run = connections_given door_facts facts run.turned.first_owner run.turned.owner_turned.0 run.owner run.turned.owner_turned.1
@@ -82,10 +88,11 @@ module _ {D K L : Type 0} (facts : L → LinkFacts) (door_facts : D → DoorFact
     pub copies : summary.totals.copies ≡ up_to_64 (sum_by copies_sent looks_of_run)
     pub full : summary.totals.full ≡ up_to_64 (sum_by copies_refused looks_of_run)
     pub stale : summary.totals.stale ≡ up_to_64 (strays_of_each facts run.began run.turned.first_crew run.crew run.turned.crew_turned)
-    -- memory ran out where the owner noted that, a port closed for it, or the viewer noted it
+    -- memory ran out where the owner noted that, a port closed for it, or the viewer or the store noted it
     pub memory : summary.no_memory
-        ≡ ((run.owner.scribe.no_memory || list_any is_memory (causes_of_each facts run.began run.turned.first_crew run.crew run.turned.crew_turned))
+        ≡ (((run.owner.scribe.no_memory || list_any is_memory (causes_of_each facts run.began run.turned.first_crew run.crew run.turned.crew_turned))
         || viewer_memory run.viewer)
+        || run.starved)
 
   -- what it wrote down is what its turns decided and routed; without a journal nothing was
   pub record AreWritten : Type 0 where
@@ -98,3 +105,17 @@ module _ {D K L : Type 0} (facts : L → LinkFacts) (door_facts : D → DoorFact
     pub begins : All (λ look. IsPrefix look.edits edits_of_run) looks_of_run
     pub hearers : All (GoesToHearers run.began) looks_of_run
     pub opening : run.began.state ≡ state
+
+-- ---- kept channels
+
+module _ {D K P L : Type 0} (facts : L → LinkFacts) (door_facts : D → DoorFacts) (last calls : K → ℕ) (keeper_facts : P → KeeperFacts) (edits : List Edit) (asked : Service) (workers : ℕ) (objects : Objects D K P) (summary : Summary) (entries : Entries) (left : Objects D K P) (served : LoadsAndServes facts door_facts last calls keeper_facts edits asked workers objects (Whole summary entries) left) where
+  -- the edits that the decisions of its owner accepted
+  abbrev pub edits_served : List Edit
+  edits_served =
+      edits_of_run facts door_facts last calls keeper_facts (state_over edits served.rows) asked workers served.rows served.serves.opened summary entries left served.serves.run
+
+  -- the keeper has the rows that are kept of the state after all edits that were accepted, and it was opened at this path,
+  -- as far as it tells these
+  pub record KeepsTheEnd (path : List ℕ) : Type 0 where
+    pub rows : HoldsKept keeper_facts left.keeper (state_of served.serves.run.began edits_served)
+    pub path_is : IfSome (keeper_facts left.keeper).opened_at (λ known. known ≡ path)

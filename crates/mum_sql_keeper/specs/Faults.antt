@@ -1,8 +1,8 @@
 -- Faults of a keeper over a file.
-use Rattle.std.specs.Prelude.{◌≡◌, ℕ, Bool, true, false}
-use Rattle.mum_io.specs.Counts.{Rose}
+use Rattle.sqlite.specs.declared.error.Error.{Error}
+use Rattle.sqlite.specs.declared.error.Error.TheVariants.{SqliteFailure}
+use Rattle.sqlite.specs.declared.error.ErrorCode.TheVariants.{CannotOpen}
 
--- a failure is counted where it is a fault
-abbrev pub FaultCounts : Bool → ℕ → ℕ → Type 0
-FaultCounts true old new = Rose old new
-FaultCounts false old new = new ≡ old
+-- the error of a file that is not open
+abbrev pub not_open : Error
+not_open = SqliteFailure CannotOpen

@@ -2,7 +2,10 @@
 #![tactic(auto)]
 
 mod changes;
+mod failures;
 mod file;
+mod kept_file;
+mod log;
 mod rows;
 mod sql_keeper;
 

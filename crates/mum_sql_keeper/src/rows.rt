@@ -1,11 +1,18 @@
 //! The rows of a file.
 
-use crate::file::OpenFile;
+use crate::file::query;
 use mum_base::{ChannelId, Items, Octets, Text};
-use mum_keeper::{KeptChannel, KeptRows};
+use mum_keeper::{Change, KeptChannel, KeptRows};
 use mum_tree::ChannelInfo;
-use sqlite::{Error, Row};
-use std::alloc::Global;
+use sqlite::{Alter, Connection, Error, Row, params};
+
+const ALL_CHANNELS: &str =
+    "SELECT id, parent, name, description, position, max_users, policy FROM channels ORDER BY id";
+
+const ONE_CHANNEL: &str =
+    "SELECT id, parent, name, description, position, max_users, policy FROM channels WHERE id = ?1";
+
+const ALL_LINKS: &str = "SELECT low, high FROM links ORDER BY low, high";
 
 fn text_of(row: &Row, column: usize) -> Result<Text, Error> {
     let text: String = row.get(column)?;
@@ -48,48 +55,59 @@ fn link_of(row: &Row) -> Result<(ChannelId, ChannelId), Error> {
     Ok((id_of(row, 0)?, id_of(row, 1)?))
 }
 
-fn channel_rows(file: &mut OpenFile) -> Result<Vec<Row>, Error> {
-    file.query_all(
-        "SELECT id, parent, name, description, position, max_users, policy FROM channels ORDER BY id",
-        &[],
-    )
-}
-
-fn link_rows(file: &mut OpenFile) -> Result<Vec<Row>, Error> {
-    file.query_all("SELECT low, high FROM links ORDER BY low, high", &[])
-}
-
-fn channels_of(alloc: Global, rows: &[Row]) -> Result<Items<KeptChannel>, Error> {
-    let mut channels = Items::new(alloc);
+fn add_channels(channels: &mut Items<KeptChannel>, rows: &[Row]) -> Result<(), Error> {
     for row in rows {
         channels.push(channel_of(row)?)?;
     }
-    Ok(channels)
+    Ok(())
 }
 
-fn links_of(alloc: Global, rows: &[Row]) -> Result<Items<(ChannelId, ChannelId)>, Error> {
-    let mut links = Items::new(alloc);
+fn add_links(links: &mut Items<(ChannelId, ChannelId)>, rows: &[Row]) -> Result<(), Error> {
     for row in rows {
         links.push(link_of(row)?)?;
     }
-    Ok(links)
+    Ok(())
 }
 
-fn channels_in(alloc: Global, file: &mut OpenFile) -> Result<Items<KeptChannel>, Error> {
-    let rows = channel_rows(file)?;
-    channels_of(alloc, rows.as_slice())
+fn read_channels<S: Alter>(
+    file: &mut Connection<S>,
+    channels: &mut Items<KeptChannel>,
+) -> Result<(), Error> {
+    let rows = query(file, ALL_CHANNELS, &[])?;
+    add_channels(channels, rows.as_slice())
 }
 
-fn links_in(alloc: Global, file: &mut OpenFile) -> Result<Items<(ChannelId, ChannelId)>, Error> {
-    let rows = link_rows(file)?;
-    links_of(alloc, rows.as_slice())
+fn read_links<S: Alter>(
+    file: &mut Connection<S>,
+    links: &mut Items<(ChannelId, ChannelId)>,
+) -> Result<(), Error> {
+    let rows = query(file, ALL_LINKS, &[])?;
+    add_links(links, rows.as_slice())
 }
 
-/// All rows of a file, in order.
-pub(crate) fn rows_in(alloc: Global, file: &mut OpenFile) -> Result<KeptRows, Error> {
-    let links = links_in(alloc, file)?;
-    Ok(KeptRows {
-        channels: channels_in(alloc, file)?,
-        links,
-    })
+/// Adds all rows of a file, in order.
+pub(crate) fn read_rows<S: Alter>(
+    file: &mut Connection<S>,
+    rows: &mut KeptRows,
+) -> Result<(), Error> {
+    read_channels(file, &mut rows.channels)?;
+    read_links(file, &mut rows.links)
+}
+
+// The change after which a channel has this row, or none where there is no row.
+fn change_to(id: ChannelId, rows: &[Row]) -> Result<Change, Error> {
+    let Some(row) = rows.first() else {
+        return Ok(Change::Drop(id));
+    };
+    let channel = channel_of(row)?;
+    Ok(Change::Put(channel))
+}
+
+/// The change after which a channel has the row again that it has now, or none.
+pub(crate) fn channel_undo<S: Alter>(
+    file: &mut Connection<S>,
+    id: ChannelId,
+) -> Result<Change, Error> {
+    let rows = query(file, ONE_CHANNEL, params![id.0])?;
+    change_to(id, rows.as_slice())
 }

@@ -1,32 +1,45 @@
 //! The keeper.
 
 ghost use Rattle.std.specs.Prelude.{◌≡◌, Some};
-ghost use Rattle.mum_keeper.specs.Keeping.{KeepCounts, OpensAt};
+ghost use Rattle.mum_keeper.specs.Keeping.{KeepCall, KeepCounts, Makes, OpenCall, OpensAt, with_call};
 ghost use Rattle.mum_keeper.specs.declared.keeper.KeepEnd.{KeepEnd};
-ghost use Rattle.mum_sql_keeper.specs.Faults.{FaultCounts};
 
-use crate::changes::make_all;
-use crate::file::{OpenFile, open_file};
-use crate::rows::rows_in;
-use mum_base::Text;
+use crate::failures::Failures;
+use crate::file::{OpenFile, shut};
+use crate::kept_file::{make_changes, open_at, read_from};
+use mum_base::{Items, Text};
 use mum_keeper::{Change, KeepEnd, Keeper, KeptRows, Loaded};
-use sqlite::{Error, ErrorCode};
+use sqlite::Unknown;
 use std::alloc::Global;
 use std::marker::Model;
 use std::mem::drop;
 
 /// A keeper over a SQLite file, in the tables `channels` and `links`. It does not say which rows it has, since
-/// no clause says what a file holds. Each failure is counted as a fault, unless memory ran out. Where a commit
-/// failed, the file holds the rows before it or those after it; it is closed then, and no later call changes it.
-/// That rows are not kept, and that they are again, is written to the standard error stream.
-#[derive(Drop)]
+/// no clause says what a file holds. Each failure is counted as a fault, unless memory ran out. Where changes
+/// failed, the file is closed, and opened again by the next ones; it holds the rows before the changes that
+/// failed, or those after them until then. That rows are not kept, and that they are again, is written to the
+/// standard error stream.
 pub struct SqlKeeper {
     rt: HostRuntime,
-    file: Option<OpenFile>,
+    // The path at which it was opened.
     path: Option<Text>,
-    faults: u64,
-    // That rows are not kept was written, and not yet that they are again.
-    is_failing: bool,
+    open: Option<OpenFile<Unknown>>,
+    // After these changes the rows are those before the changes that failed, whether these were made or not.
+    undo: Vec<Change>,
+    faults: Failures,
+}
+
+// It is written out, so that a caller does not prove again how each part is dropped.
+impl Drop for SqlKeeper {
+    fn drop(self) {
+        let SqlKeeper {
+            rt: _,
+            path: _,
+            open: _,
+            undo: _,
+            faults: _,
+        } = self;
+    }
 }
 
 impl Model for SqlKeeper {
@@ -35,38 +48,28 @@ impl Model for SqlKeeper {
 
     ghost Value = { KeeperFacts };
 
-    ghost view = { λ k. record { faults = k.faults; rows = None; opened_at = k.path } };
+    ghost view = { λ k. record { faults = k.faults; rows = None; opened_at = k.path; calls = None } };
 }
 
-fn is_out_of_memory(error: &Error) -> bool {
-    matches!(error, Error::SqliteFailure(ErrorCode::OutOfMemory))
+fn report_count(rt: &HostRuntime, count: usize, path: &str) {
+    let _written = eprintln!(rt;
+        "murmur: {count} channels kept in {path}; those of the configuration are left aside"
+    );
 }
 
-fn report_failure(rt: &HostRuntime, error: &Error) {
-    let _written = eprintln!(rt; "murmur: channels are not kept: {error}");
-}
-
-fn report_success(rt: &HostRuntime) {
-    let _written = eprintln!(rt; "murmur: channels are kept again");
-}
-
-fn make_in(file: &mut Option<OpenFile>, changes: &[Change]) -> Result<(), Error> {
-    match file {
-        Some(file) => make_all(file, changes),
-        None => Err(Error::SqliteFailure(ErrorCode::CannotOpen)),
+fn report_rows(rt: &HostRuntime, path: &Option<Text>, rows: &KeptRows) {
+    let count = rows.channels.as_slice().len();
+    if let Some(path) = path {
+        if count > 0 {
+            report_count(rt, count, path.as_str());
+        }
     }
 }
 
-fn load_from(alloc: Global, file: &mut Option<OpenFile>) -> Result<KeptRows, Error> {
-    match file {
-        Some(file) => rows_in(alloc, file),
-        None => Err(Error::SqliteFailure(ErrorCode::CannotOpen)),
-    }
-}
-
-fn shut(file: Option<OpenFile>) {
-    if let Some(file) = file {
-        let _copied = file.close();
+fn no_rows(alloc: Global) -> KeptRows {
+    KeptRows {
+        channels: Items::new(alloc),
+        links: Items::new(alloc),
     }
 }
 
@@ -75,112 +78,94 @@ impl SqlKeeper {
 
     /// A keeper that was not opened yet.
     pub fn new(rt: HostRuntime) -> SqlKeeper
-        ensures { result ≡ record { faults = 0; rows = None; opened_at = None } }
+        ensures { result ≡ record { faults = 0; rows = None; opened_at = None; calls = None } }
     {
         SqlKeeper {
             rt,
-            file: None,
             path: None,
-            faults: 0,
-            is_failing: false,
+            open: None,
+            undo: Vec::new(rt.alloc()),
+            faults: Failures::new(rt),
         }
     }
 
-    /// Shuts the file. What is in the log beside it is copied into it, as far as that can be done.
-    pub fn close(self) {
-        let SqlKeeper {
-            rt: _,
-            file,
-            path: _,
-            faults: _,
-            is_failing: _,
-        } = self;
-        shut(file);
-    }
-
-    // Counts a failure, and writes it, where it is a fault. Whether it is one.
-    fn is_fault(&mut self, error: &Error) -> bool
-        ensures counts { FaultCounts result self.old.faults self.new.faults }
-        ensures others { self.new ≡ record self.old { faults = self.new.faults } }
+    /// Shuts the file. What is in the log beside it is copied into it; that this failed is counted as a fault. Later
+    /// calls fail until it is opened again.
+    pub fn close(&mut self) -> KeepEnd
+        ensures counts { KeepCounts result self.old.faults self.new.faults }
+        ensures others { self.new ≡ record self.old { faults = self.new.faults; opened_at = None } }
     {
-        if is_out_of_memory(error) {
-            return false;
+        drop(self.path.take());
+        match shut(&mut self.open) {
+            Ok(()) => KeepEnd::Kept,
+            Err(error) => self.faults.fail(error),
         }
-        if !self.is_failing {
-            report_failure(&self.rt, error);
-        }
-        self.is_failing = true;
-        self.faults = self.faults.saturating_add(1);
-        true
-    }
-
-    // Notes that rows are kept.
-    fn succeed(&mut self)
-        ensures { self.new ≡ self.old }
-    {
-        if self.is_failing {
-            report_success(&self.rt);
-        }
-        self.is_failing = false;
     }
 }
 
 impl Keeper for SqlKeeper {
+    ghost use Rattle.std.specs.Prelude.{None};
+
     ghost facts = { λ k. k };
 
     fn open(&mut self, path: &str) -> KeepEnd
         ensures counts { KeepCounts result self.old.faults self.new.faults }
         ensures path { OpensAt result self.old.opened_at self.new.opened_at path.now }
         ensures rows { self.new.rows ≡ self.old.rows }
+        ensures calls { self.new.calls ≡ with_call (OpenCall path.now) self.old.calls }
 
         ensures named { result ≡ KeepEnd.Kept → self.new.opened_at ≡ Some path.now }
     {
-        let Ok(named) = Text::of(self.rt.alloc(), path) else {
-            return KeepEnd::NoMemory;
-        };
-        match open_file(&self.rt, path) {
-            Ok(file) => {
-                drop(self.file.replace(file));
-                drop(self.path.replace(named));
+        let rt = self.rt;
+        match open_at(&rt, path, Unknown, &mut self.open, &mut self.path) {
+            Ok(()) => {
+                self.undo.clear();
                 KeepEnd::Kept
             }
-            Err(error) => {
-                drop(named);
-                if self.is_fault(&error) {
-                    KeepEnd::Failed
-                } else {
-                    KeepEnd::NoMemory
-                }
-            }
+            Err(error) => self.faults.fail(error),
         }
     }
 
     fn load(&mut self, alloc: Global) -> Loaded {
-        match load_from(alloc, &mut self.file) {
-            Ok(rows) => Loaded::Rows(rows),
+        let mut rows = no_rows(alloc);
+        match read_from(&mut self.open, &mut rows) {
+            Ok(()) => {
+                report_rows(&self.rt, &self.path, &rows);
+                Loaded::Rows(rows)
+            }
             Err(error) => {
-                if self.is_fault(&error) {
-                    Loaded::Failed
-                } else {
-                    Loaded::NoMemory
+                drop(rows);
+                match self.faults.fail(error) {
+                    KeepEnd::NoMemory => Loaded::NoMemory,
+                    KeepEnd::Failed => Loaded::Failed,
+                    KeepEnd::Kept => unreachable!(),
                 }
             }
         }
     }
 
-    fn keep(&mut self, changes: &[Change]) -> KeepEnd {
-        match make_in(&mut self.file, changes) {
-            Ok(()) => {
-                self.succeed();
+    fn keep(&mut self, changes: &[Change]) -> KeepEnd
+        ensures counts { KeepCounts result self.old.faults self.new.faults }
+        ensures makes { Makes result changes.now self.old.rows self.new.rows }
+        ensures path { self.new.opened_at ≡ self.old.opened_at }
+        ensures calls { self.new.calls ≡ with_call (KeepCall changes.now) self.old.calls }
+
+        ensures not_open { self.old.opened_at ≡ None → result ≡ KeepEnd.Failed }
+    {
+        let rt = self.rt;
+        match make_changes(
+            &rt,
+            &self.path,
+            Unknown,
+            &mut self.open,
+            &mut self.undo,
+            changes,
+        ) {
+            Ok(_) => {
+                self.faults.succeed();
                 KeepEnd::Kept
             }
-            Err(error) => {
-                if self.is_fault(&error) {
-                    KeepEnd::Failed
-                } else {
-                    KeepEnd::NoMemory
-                }
-            }
+            Err(error) => self.faults.fail(error),
         }
     }
 }

@@ -3,6 +3,8 @@
 #![tactic(auto)]
 
 mod journal;
+mod keeper;
+mod kept;
 mod message;
 mod notice;
 mod roster;
@@ -22,6 +24,8 @@ fn main(rt: HostRuntime) -> Result<()> {
     roster::call(alloc, &mut told)?;
     notice::call(alloc, &mut told)?;
     view::call(alloc, &mut told)?;
+    kept::call(alloc, &mut told)?;
+    keeper::call(alloc, &mut told)?;
     rt.print(told.as_str())?;
     Ok(())
 }

@@ -18,4 +18,5 @@ pub mod Takings
 pub mod Turns
 pub mod Alike
 mod ServeWords
+mod KeeperEnds
 mod StandardFacts

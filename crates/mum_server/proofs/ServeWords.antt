@@ -1,12 +1,13 @@
 -- The words of a command line that ask to serve.
-use Rattle.std.proofs.Common.{◌≡◌, ◌↔◌, ◌∙◌, ℕ, ◌^◌, ◌<◌, ◌≤◌, ◌==◌, List, [], ◌∷◌, ◌++◌, length, get_or, codes, refl, sym, ap, arith, IfSome, IsTrue, Bool, true, false, Option, Some, None}
+use Rattle.std.proofs.Common.{◌≡◌, ◌↔◌, ◌∙◌, ℕ, ◌^◌, ◌<◌, ◌≤◌, ◌==◌, List, [], ◌∷◌, ◌++◌, length, get_or, codes, refl, sym, ap, arith, IfSome, IsTrue, Bool, true, false, Option, Some, None, take, drop}
+use Rattle.std.specs.Borrow.{Bor}
 use Rattle.std.proofs.lemmas.Fmt.{decimal_injective}
 use Rattle.std.specs.Prelude.{decimal, map}
 use Rattle.mum_record.proofs.Numbers.{number_within-found, number_within-decimal}
 use Rattle.mum_record.specs.Words.{number_within}
 use Rattle.mum_serve.specs.Asked.{Service, ViewService}
 use Rattle.mum_serve.specs.declared.asked.ViewAsked.{ViewAsked}
-use Rattle.mum_server.specs.Command.{AsksView, BeginsWithServe, IsDoor, IsServe, IsTail, IsView, journal_words, serve_words, view_words}
+use Rattle.mum_server.specs.Command.{AsksKeep, AsksView, BeginsWithServe, IsDoor, IsPath, IsServe, IsTail, IsView, keep_words, serve_words, tail_words, view_words}
 
 first_is : (word other : List ℕ) (words others : List (List ℕ)) → word ∷ words ≡ other ∷ others → word ≡ other
 first_is word other words others same = cc
@@ -48,22 +49,120 @@ map_four f (a ∷ b ∷ c ∷ []) x y z w low high is_x is_y is_z is_w = absurd 
 map_four f (a ∷ b ∷ c ∷ d ∷ []) x y z w low high is_x is_y is_z is_w = cc
 map_four f (a ∷ b ∷ c ∷ d ∷ e ∷ more) x y z w low high is_x is_y is_z is_w = absurd (omega arith)
 
+pub map_two : {X : Type 0} (f : X → List ℕ) (xs : List X) (x y : X) → 2 ≤ length xs → length xs < 3 → x ≡ get_or xs 0 x → y ≡ get_or xs 1 y → map f xs ≡ f x ∷ f y ∷ []
+map_two f [] x y low high is_x is_y = absurd (omega arith)
+map_two f (a ∷ []) x y low high is_x is_y = absurd (omega arith)
+map_two f (a ∷ b ∷ []) x y low high is_x is_y = cc
+map_two f (a ∷ b ∷ c ∷ more) x y low high is_x is_y = absurd (omega arith)
+
+pub map_five : {X : Type 0} (f : X → List ℕ) (xs : List X) (x y z w v : X) → 5 ≤ length xs → length xs < 6 → x ≡ get_or xs 0 x → y ≡ get_or xs 1 y → z ≡ get_or xs 2 z → w ≡ get_or xs 3 w → v ≡ get_or xs 4 v
+    → map f xs ≡ f x ∷ f y ∷ f z ∷ f w ∷ f v ∷ []
+map_five f [] x y z w v low high is_x is_y is_z is_w is_v = absurd (omega arith)
+map_five f (a ∷ []) x y z w v low high is_x is_y is_z is_w is_v = absurd (omega arith)
+map_five f (a ∷ b ∷ []) x y z w v low high is_x is_y is_z is_w is_v = absurd (omega arith)
+map_five f (a ∷ b ∷ c ∷ []) x y z w v low high is_x is_y is_z is_w is_v = absurd (omega arith)
+map_five f (a ∷ b ∷ c ∷ d ∷ []) x y z w v low high is_x is_y is_z is_w is_v = absurd (omega arith)
+map_five f (a ∷ b ∷ c ∷ d ∷ e ∷ []) x y z w v low high is_x is_y is_z is_w is_v = cc
+map_five f (a ∷ b ∷ c ∷ d ∷ e ∷ g ∷ more) x y z w v low high is_x is_y is_z is_w is_v = absurd (omega arith)
+
 pub no_view : (word one address two number three : List ℕ) (asked : Option ViewAsked) → word ≡ one → address ≡ two → number ≡ three → asked ≡ None → AsksView (word ∷ address ∷ number ∷ []) asked
     → (view : ViewService) → one ∷ two ∷ three ∷ [] ≡ view_words (Some view) → IsView view → ⊥
 no_view word one address two number three None is_one is_two is_three none asks = λ view same fits. asks view (rw (is_one, is_two, is_three) same) fits
 no_view word one address two number three (Some found) is_one is_two is_three none asks = λ view same fits. absurd (cc)
 
-last_three : (one other : List ℕ) (words others : List (List ℕ)) → one ∷ words ≡ other ∷ others → words ≡ others
-last_three one other words others same = cc
+pub head_is : (one other : List ℕ) (words others : List (List ℕ)) → one ∷ words ≡ other ∷ others → one ≡ other
+head_is one other words others same = cc
 
-pub no_tail : (words : List (List ℕ)) (one two three four : List ℕ) → words ≡ one ∷ two ∷ three ∷ four ∷ [] → ((view : ViewService) → two ∷ three ∷ four ∷ [] ≡ view_words (Some view) → IsView view → ⊥)
-    → (journal : Bool) (view : Option ViewService) → IsTail words journal view → ⊥
-no_tail words one two three four are never true (Some view) tail =
-    let same : one ∷ two ∷ three ∷ four ∷ [] ≡ codes "journal" ∷ view_words (Some view) = sym are ∙ tail.words_are in
-    never view (last_three one (codes "journal") (two ∷ three ∷ four ∷ []) (view_words (Some view)) same) tail.views
-no_tail words one two three four are never true None tail = let same : one ∷ two ∷ three ∷ four ∷ [] ≡ codes "journal" ∷ [] = sym are ∙ tail.words_are in cc
-no_tail words one two three four are never false (Some view) tail = let same : one ∷ two ∷ three ∷ four ∷ [] ≡ view_words (Some view) = sym are ∙ tail.words_are in cc
-no_tail words one two three four are never false None tail = let same : one ∷ two ∷ three ∷ four ∷ [] ≡ [] = sym are ∙ tail.words_are in cc
+behind : (one other : List ℕ) (words others : List (List ℕ)) → one ∷ words ≡ other ∷ others → words ≡ others
+behind one other words others same = cc
+
+-- words that ask for no path at which channels are kept
+pub no_path : (word one path two : List ℕ) (asked : Option (Bor (List ℕ))) → word ≡ one → path ≡ two → asked ≡ None → AsksKeep (word ∷ path ∷ []) asked
+    → (kept : List ℕ) → one ∷ two ∷ [] ≡ keep_words (Some kept) → IsPath kept → ⊥
+no_path word one path two None is_one is_two none asks = λ kept same fits. asks kept (rw (is_one, is_two) same) fits
+no_path word one path two (Some found) is_one is_two none asks = λ kept same fits. absurd (cc)
+
+pub not_keep : (word path : List ℕ) → (word ≡ codes "keep" → ⊥) → (kept : List ℕ) → word ∷ path ∷ [] ≡ keep_words (Some kept) → IsPath kept → ⊥
+not_keep word path never kept same fits = never (head_is word (codes "keep") (path ∷ []) (kept ∷ []) same)
+
+pub no_name : (word path : List ℕ) → path ≡ [] → (kept : List ℕ) → word ∷ path ∷ [] ≡ keep_words (Some kept) → IsPath kept → ⊥
+no_name word path empty kept same fits = fits (sym (head_is path kept [] [] (behind word (codes "keep") (path ∷ []) (kept ∷ []) same)) ∙ empty)
+
+-- ---- words that are no tail, by their number
+
+-- they ask for nothing that may follow the number of connections
+abbrev pub IsNoTail : List (List ℕ) → Type 0
+IsNoTail words = (journal : Bool) (view : Option ViewService) (keep : Option (List ℕ)) → IsTail words journal view keep → ⊥
+
+-- a journal and kept channels are not asked for at once
+not_at_once : (path : List ℕ) → (true ≡ true → Some path ≡ None) → ⊥
+not_at_once path apart = let no = apart refl in cc
+
+pub no_one : (words : List (List ℕ)) (one : List ℕ) → words ≡ one ∷ [] → (one ≡ codes "journal" → ⊥) → IsNoTail words
+no_one words one are never true None None tail = never (head_is one (codes "journal") [] [] (sym are ∙ tail.words_are))
+no_one words one are never true None (Some path) tail = not_at_once path tail.apart
+no_one words one are never true (Some view) None tail = let same : one ∷ [] ≡ tail_words true (Some view) None = sym are ∙ tail.words_are in absurd (cc same)
+no_one words one are never true (Some view) (Some path) tail = not_at_once path tail.apart
+no_one words one are never false None None tail = let same : one ∷ [] ≡ tail_words false None None = sym are ∙ tail.words_are in absurd (cc same)
+no_one words one are never false None (Some path) tail = let same : one ∷ [] ≡ tail_words false None (Some path) = sym are ∙ tail.words_are in absurd (cc same)
+no_one words one are never false (Some view) None tail = let same : one ∷ [] ≡ tail_words false (Some view) None = sym are ∙ tail.words_are in absurd (cc same)
+no_one words one are never false (Some view) (Some path) tail = let same : one ∷ [] ≡ tail_words false (Some view) (Some path) = sym are ∙ tail.words_are in absurd (cc same)
+
+pub no_two : (words : List (List ℕ)) (one two : List ℕ) → words ≡ one ∷ two ∷ [] → ((path : List ℕ) → one ∷ two ∷ [] ≡ keep_words (Some path) → IsPath path → ⊥) → IsNoTail words
+no_two words one two are never true None None tail = let same : one ∷ two ∷ [] ≡ tail_words true None None = sym are ∙ tail.words_are in absurd (cc same)
+no_two words one two are never true None (Some path) tail = not_at_once path tail.apart
+no_two words one two are never true (Some view) None tail = let same : one ∷ two ∷ [] ≡ tail_words true (Some view) None = sym are ∙ tail.words_are in absurd (cc same)
+no_two words one two are never true (Some view) (Some path) tail = not_at_once path tail.apart
+no_two words one two are never false None None tail = let same : one ∷ two ∷ [] ≡ tail_words false None None = sym are ∙ tail.words_are in absurd (cc same)
+no_two words one two are never false None (Some path) tail = never path (sym are ∙ tail.words_are) tail.path
+no_two words one two are never false (Some view) None tail = let same : one ∷ two ∷ [] ≡ tail_words false (Some view) None = sym are ∙ tail.words_are in absurd (cc same)
+no_two words one two are never false (Some view) (Some path) tail = let same : one ∷ two ∷ [] ≡ tail_words false (Some view) (Some path) = sym are ∙ tail.words_are in absurd (cc same)
+
+pub no_three : (words : List (List ℕ)) (one two three : List ℕ) → words ≡ one ∷ two ∷ three ∷ [] → ((view : ViewService) → one ∷ two ∷ three ∷ [] ≡ view_words (Some view) → IsView view → ⊥) → IsNoTail words
+no_three words one two three are never true None None tail = let same : one ∷ two ∷ three ∷ [] ≡ tail_words true None None = sym are ∙ tail.words_are in absurd (cc same)
+no_three words one two three are never true None (Some path) tail = not_at_once path tail.apart
+no_three words one two three are never true (Some view) None tail = let same : one ∷ two ∷ three ∷ [] ≡ tail_words true (Some view) None = sym are ∙ tail.words_are in absurd (cc same)
+no_three words one two three are never true (Some view) (Some path) tail = not_at_once path tail.apart
+no_three words one two three are never false None None tail = let same : one ∷ two ∷ three ∷ [] ≡ tail_words false None None = sym are ∙ tail.words_are in absurd (cc same)
+no_three words one two three are never false None (Some path) tail = let same : one ∷ two ∷ three ∷ [] ≡ tail_words false None (Some path) = sym are ∙ tail.words_are in absurd (cc same)
+no_three words one two three are never false (Some view) None tail = never view (sym are ∙ tail.words_are) tail.views
+no_three words one two three are never false (Some view) (Some path) tail = let same : one ∷ two ∷ three ∷ [] ≡ tail_words false (Some view) (Some path) = sym are ∙ tail.words_are in absurd (cc same)
+
+pub no_four : (words : List (List ℕ)) (one two three four : List ℕ) → words ≡ one ∷ two ∷ three ∷ four ∷ [] → (one ≡ codes "journal" → (view : ViewService) → two ∷ three ∷ four ∷ [] ≡ view_words (Some view) → IsView view → ⊥) → IsNoTail words
+no_four words one two three four are never true None None tail = let same : one ∷ two ∷ three ∷ four ∷ [] ≡ tail_words true None None = sym are ∙ tail.words_are in absurd (cc same)
+no_four words one two three four are never true None (Some path) tail = not_at_once path tail.apart
+no_four words one two three four are never true (Some view) None tail = never (head_is one (codes "journal") (two ∷ three ∷ four ∷ []) (view_words (Some view)) (sym are ∙ tail.words_are)) view (behind one (codes "journal") (two ∷ three ∷ four ∷ []) (view_words (Some view)) (sym are ∙ tail.words_are)) tail.views
+no_four words one two three four are never true (Some view) (Some path) tail = not_at_once path tail.apart
+no_four words one two three four are never false None None tail = let same : one ∷ two ∷ three ∷ four ∷ [] ≡ tail_words false None None = sym are ∙ tail.words_are in absurd (cc same)
+no_four words one two three four are never false None (Some path) tail = let same : one ∷ two ∷ three ∷ four ∷ [] ≡ tail_words false None (Some path) = sym are ∙ tail.words_are in absurd (cc same)
+no_four words one two three four are never false (Some view) None tail = let same : one ∷ two ∷ three ∷ four ∷ [] ≡ tail_words false (Some view) None = sym are ∙ tail.words_are in absurd (cc same)
+no_four words one two three four are never false (Some view) (Some path) tail = let same : one ∷ two ∷ three ∷ four ∷ [] ≡ tail_words false (Some view) (Some path) = sym are ∙ tail.words_are in absurd (cc same)
+
+front_three : (one two three other second third : List ℕ) (words others : List (List ℕ)) → one ∷ two ∷ three ∷ words ≡ other ∷ second ∷ third ∷ others → one ∷ two ∷ three ∷ [] ≡ other ∷ second ∷ third ∷ []
+front_three one two three other second third words others same = ap (λ (ws : List (List ℕ)). take 3 ws) same
+
+rest_three : (one two three other second third : List ℕ) (words others : List (List ℕ)) → one ∷ two ∷ three ∷ words ≡ other ∷ second ∷ third ∷ others → words ≡ others
+rest_three one two three other second third words others same = ap (λ (ws : List (List ℕ)). drop 3 ws) same
+
+pub no_five : (words : List (List ℕ)) (one two three four five : List ℕ) → words ≡ one ∷ two ∷ three ∷ four ∷ five ∷ [] → ((view : ViewService) (path : List ℕ) → one ∷ two ∷ three ∷ [] ≡ view_words (Some view) → four ∷ five ∷ [] ≡ keep_words (Some path) → IsView view → IsPath path → ⊥) → IsNoTail words
+no_five words one two three four five are never true None None tail = let same : one ∷ two ∷ three ∷ four ∷ five ∷ [] ≡ tail_words true None None = sym are ∙ tail.words_are in absurd (cc same)
+no_five words one two three four five are never true None (Some path) tail = not_at_once path tail.apart
+no_five words one two three four five are never true (Some view) None tail = let same : one ∷ two ∷ three ∷ four ∷ five ∷ [] ≡ tail_words true (Some view) None = sym are ∙ tail.words_are in absurd (cc same)
+no_five words one two three four five are never true (Some view) (Some path) tail = not_at_once path tail.apart
+no_five words one two three four five are never false None None tail = let same : one ∷ two ∷ three ∷ four ∷ five ∷ [] ≡ tail_words false None None = sym are ∙ tail.words_are in absurd (cc same)
+no_five words one two three four five are never false None (Some path) tail = let same : one ∷ two ∷ three ∷ four ∷ five ∷ [] ≡ tail_words false None (Some path) = sym are ∙ tail.words_are in absurd (cc same)
+no_five words one two three four five are never false (Some view) None tail = let same : one ∷ two ∷ three ∷ four ∷ five ∷ [] ≡ tail_words false (Some view) None = sym are ∙ tail.words_are in absurd (cc same)
+no_five words one two three four five are never false (Some view) (Some path) tail = never view path (front_three one two three (codes "view") view.address (decimal view.views) (four ∷ five ∷ []) (keep_words (Some path)) (sym are ∙ tail.words_are)) (rest_three one two three (codes "view") view.address (decimal view.views) (four ∷ five ∷ []) (keep_words (Some path)) (sym are ∙ tail.words_are)) tail.views tail.path
+
+-- more than five words are none
+pub no_more : (words : List (List ℕ)) → 6 ≤ length words → IsNoTail words
+no_more words many true None None tail = let long = ap (λ (ws : List (List ℕ)). length ws) tail.words_are in omega (arith, long, many)
+no_more words many true (Some view) None tail = let long = ap (λ (ws : List (List ℕ)). length ws) tail.words_are in omega (arith, long, many)
+no_more words many true view (Some path) tail = not_at_once path tail.apart
+no_more words many false None None tail = let long = ap (λ (ws : List (List ℕ)). length ws) tail.words_are in omega (arith, long, many)
+no_more words many false None (Some path) tail = let long = ap (λ (ws : List (List ℕ)). length ws) tail.words_are in omega (arith, long, many)
+no_more words many false (Some view) None tail = let long = ap (λ (ws : List (List ℕ)). length ws) tail.words_are in omega (arith, long, many)
+no_more words many false (Some view) (Some path) tail = let long = ap (λ (ws : List (List ℕ)). length ws) tail.words_are in omega (arith, long, many)
 
 -- ---- what words ask for is asked for once
 
@@ -82,54 +181,71 @@ views_of address views = record { address = address; views = views }
 views_alike : (one other : ViewService) → one.address ≡ other.address → one.views ≡ other.views → one ≡ other
 views_alike one other addresses numbers = ap (λ (address : List ℕ). views_of address one.views) addresses ∙ ap (λ (views : ℕ). views_of other.address views) numbers
 
-view_once : (one other : Option ViewService) → IfSome one IsView → IfSome other IsView → view_words one ≡ view_words other → one ≡ other
-view_once None None first second same = refl
-view_once None (Some other) first second same = absurd (cc)
-view_once (Some one) None first second same = absurd (cc)
-view_once (Some one) (Some other) first second same =
+view_once : (one other : ViewService) (rest others : List (List ℕ)) → IsView one → IsView other → codes "view" ∷ one.address ∷ decimal one.views ∷ rest ≡ codes "view" ∷ other.address ∷ decimal other.views ∷ others → one ≡ other
+view_once one other rest others first second same =
     let few = first.within in
-    let no_more = second.within in
-    let addresses = second_is (codes "view") one.address other.address (decimal one.views) (decimal other.views) [] [] same in
-    let numbers = third_is (codes "view") one.address other.address (decimal one.views) (decimal other.views) [] [] same in
-    ap (λ (view : ViewService). Some view) (views_alike one other addresses (decimal_injective one.views other.views (omega (arith, few)) (omega (arith, no_more)) numbers))
+    let no_more_views = second.within in
+    let addresses = second_is (codes "view") one.address other.address (decimal one.views) (decimal other.views) rest others same in
+    let numbers = third_is (codes "view") one.address other.address (decimal one.views) (decimal other.views) rest others same in
+    views_alike one other addresses (decimal_injective one.views other.views (omega (arith, few)) (omega (arith, no_more_views)) numbers)
 
-after_journal : (one other : Option ViewService) → codes "journal" ∷ view_words one ≡ codes "journal" ∷ view_words other → view_words one ≡ view_words other
-after_journal one other same = last_three (codes "journal") (codes "journal") (view_words one) (view_words other) same
+keep_once : (one other : Option (List ℕ)) → keep_words one ≡ keep_words other → one ≡ other
+keep_once None None same = refl
+keep_once None (Some other) same = absurd (cc same)
+keep_once (Some one) None same = absurd (cc same)
+keep_once (Some one) (Some other) same = ap (λ (path : List ℕ). Some path) (head_is one other [] [] (behind (codes "keep") (codes "keep") (one ∷ []) (other ∷ []) same))
 
--- a journal is asked for by one word more, and a door for views by three
-not_both : (one other : Option ViewService) → codes "journal" ∷ view_words one ≡ view_words other → ⊥
-not_both None None same = cc
-not_both None (Some other) same = cc
-not_both (Some one) None same = cc
-not_both (Some one) (Some other) same = cc
+-- kept channels are asked for by two words, and a door for views by three
+not_either : (path : Option (List ℕ)) (view : ViewService) (rest : List (List ℕ)) → keep_words path ≡ view_words (Some view) ++ rest → ⊥
+not_either None view rest same = absurd (cc same)
+not_either (Some path) view rest same = absurd (cc same)
 
-tail_once : (journal kept : Bool) (one other : Option ViewService) → IfSome one IsView → IfSome other IsView → journal_words journal ++ view_words one ≡ journal_words kept ++ view_words other → (journal ≡ kept) × (one ≡ other)
-tail_once true true one other first second same = (refl, view_once one other first second (after_journal one other same))
-tail_once false false one other first second same = (refl, view_once one other first second same)
-tail_once true false one other first second same = absurd (not_both one other same)
-tail_once false true one other first second same = absurd (not_both other one (sym same))
+views_once : (one other : Option ViewService) (path kept : Option (List ℕ)) → IfSome one IsView → IfSome other IsView → view_words one ++ keep_words path ≡ view_words other ++ keep_words kept → (one ≡ other) × (path ≡ kept)
+views_once None None path kept first second same = (refl, keep_once path kept same)
+views_once None (Some other) path kept first second same = absurd (not_either path other (keep_words kept) same)
+views_once (Some one) None path kept first second same = absurd (not_either kept one (keep_words path) (sym same))
+views_once (Some one) (Some other) path kept first second same = (
+  ap (λ (view : ViewService). Some view) (view_once one other (keep_words path) (keep_words kept) first second same),
+  keep_once path kept (rest_is (codes "view") one.address other.address (decimal one.views) (decimal other.views) (keep_words path) (keep_words kept) same),
+)
 
-abbrev service_of : List ℕ → ℕ → Bool → Option ViewService → Service
-service_of address connections journal view = record { address = address; connections = connections; journal = journal; view = view }
+-- a journal is asked for by one word more
+not_both : (words : List (List ℕ)) (other : Option ViewService) (kept : Option (List ℕ)) → codes "journal" ∷ words ≡ view_words other ++ keep_words kept → ⊥
+not_both words None None same = absurd (cc same)
+not_both words None (Some kept) same = absurd (cc same)
+not_both words (Some other) kept same = absurd (cc same)
 
-services_alike : (one other : Service) → one.address ≡ other.address → one.connections ≡ other.connections → one.journal ≡ other.journal → one.view ≡ other.view → one ≡ other
-services_alike one other addresses numbers journals views =
-    ap (λ (address : List ℕ). service_of address one.connections one.journal one.view) addresses
-    ∙ ap (λ (connections : ℕ). service_of other.address connections one.journal one.view) numbers
-    ∙ ap (λ (journal : Bool). service_of other.address other.connections journal one.view) journals
-    ∙ ap (λ (view : Option ViewService). service_of other.address other.connections other.journal view) views
+tail_once : (journal noted : Bool) (one other : Option ViewService) (path kept : Option (List ℕ)) → IfSome one IsView → IfSome other IsView → tail_words journal one path ≡ tail_words noted other kept
+    → (journal ≡ noted) × (one ≡ other) × (path ≡ kept)
+tail_once true true one other path kept first second same =
+    let rest = views_once one other path kept first second (behind (codes "journal") (codes "journal") (view_words one ++ keep_words path) (view_words other ++ keep_words kept) same) in
+    (refl, rest.0, rest.1)
+tail_once false false one other path kept first second same = let rest = views_once one other path kept first second same in (refl, rest.0, rest.1)
+tail_once true false one other path kept first second same = absurd (not_both (view_words one ++ keep_words path) other kept same)
+tail_once false true one other path kept first second same = absurd (not_both (view_words other ++ keep_words kept) one path (sym same))
+
+abbrev service_of : List ℕ → ℕ → Bool → Option ViewService → Option (List ℕ) → Service
+service_of address connections journal view keep = record { address = address; connections = connections; journal = journal; view = view; keep = keep }
+
+services_alike : (one other : Service) → one.address ≡ other.address → one.connections ≡ other.connections → one.journal ≡ other.journal → one.view ≡ other.view → one.keep ≡ other.keep → one ≡ other
+services_alike one other addresses numbers journals views keeps =
+    ap (λ (address : List ℕ). service_of address one.connections one.journal one.view one.keep) addresses
+    ∙ ap (λ (connections : ℕ). service_of other.address connections one.journal one.view one.keep) numbers
+    ∙ ap (λ (journal : Bool). service_of other.address other.connections journal one.view one.keep) journals
+    ∙ ap (λ (view : Option ViewService). service_of other.address other.connections other.journal view one.keep) views
+    ∙ ap (λ (keep : Option (List ℕ)). service_of other.address other.connections other.journal other.view keep) keeps
 
 pub asked_once : (words : List (List ℕ)) (one other : Service) → IsServe words one → IsServe words other → one ≡ other
 asked_once words one other first second =
     let same : serve_words one ≡ serve_words other = sym first.words_are ∙ second.words_are in
     let few = first.within in
-    let no_more = second.within in
-    let behind : List (List ℕ) = journal_words one.journal ++ view_words one.view in
-    let others : List (List ℕ) = journal_words other.journal ++ view_words other.view in
-    let tails = tail_once one.journal other.journal one.view other.view first.view second.view
-    (rest_is (codes "serve") one.address other.address (decimal one.connections) (decimal other.connections) behind others same) in
+    let no_more_words = second.within in
+    let behind_one : List (List ℕ) = tail_words one.journal one.view one.keep in
+    let behind_other : List (List ℕ) = tail_words other.journal other.view other.keep in
+    let tails = tail_once one.journal other.journal one.view other.view one.keep other.keep first.view second.view
+    (rest_is (codes "serve") one.address other.address (decimal one.connections) (decimal other.connections) behind_one behind_other same) in
     services_alike one other
-    (second_is (codes "serve") one.address other.address (decimal one.connections) (decimal other.connections) behind others same)
-    (decimal_injective one.connections other.connections (omega (arith, few)) (omega (arith, no_more))
-    (third_is (codes "serve") one.address other.address (decimal one.connections) (decimal other.connections) behind others same))
-    tails.0 tails.1
+    (second_is (codes "serve") one.address other.address (decimal one.connections) (decimal other.connections) behind_one behind_other same)
+    (decimal_injective one.connections other.connections (omega (arith, few)) (omega (arith, no_more_words))
+    (third_is (codes "serve") one.address other.address (decimal one.connections) (decimal other.connections) behind_one behind_other same))
+    tails.0 tails.1 tails.2

@@ -1,15 +1,18 @@
 -- Words that ask to serve, worked by hand: what they ask for, and words that ask for nothing.
-use Rattle.std.proofs.Common.{◌≡◌, ℕ, Bool, true, false, List, [], ◌∷◌, ◌++◌, Option, Some, None, codes, refl, arith}
+use Rattle.std.proofs.Common.{◌≡◌, ℕ, Bool, true, false, List, [], ◌∷◌, Option, Some, None, codes, get_or, ap, sym, refl, arith}
 use Rattle.std.specs.Fmt.{digits}
 use Rattle.std.specs.Prelude.{decimal}
 use Rattle.mum_record.specs.Words.{number_within, words_in}
 use Rattle.mum_serve.specs.Asked.{Service, ViewService}
-use Rattle.mum_server.specs.Command.{IsServe, IsTail, IsView, journal_words, later_roles, serve_words, view_words}
+use Rattle.mum_server.specs.Command.{IsPath, IsServe, IsView, keep_words, later_roles, serve_words, tail_words, view_words}
 use Rattle.mum_server.specs.declared.command.TheConstants.{VIEWS_LIMIT}
-use Rattle.mum_server.proofs.ServeWords.{not_counted}
+use Rattle.mum_server.proofs.ServeWords.{IsNoTail, head_is, no_five, no_four, no_more, no_name, no_one, no_three, no_two, not_counted, not_keep}
 
 abbrev serves : List ℕ → ℕ → Bool → Option ViewService → Service
-serves address connections journal view = record { address = address; connections = connections; journal = journal; view = view }
+serves address connections journal view = record { address = address; connections = connections; journal = journal; view = view; keep = None }
+
+abbrev keeps : List ℕ → ℕ → Option ViewService → List ℕ → Service
+keeps address connections view path = record { address = address; connections = connections; journal = false; view = view; keep = Some path }
 
 abbrev shows : List ℕ → ℕ → Option ViewService
 shows address views = Some (record { address = address; views = views })
@@ -21,8 +24,14 @@ pub record AreRead : Type 0 where
   pub both : serve_words (serves (codes "127.0.0.1:64738") 1000000 true (shows (codes "unix:view") 1)) ≡ words_in (codes "serve 127.0.0.1:64738 1000000 journal view unix:view 1")
   pub views_at_an_address_of_that_name : serve_words (serves (codes "a") 1 false (shows (codes "view") 1)) ≡ words_in (codes "serve a 1 view view 1")
   pub addresses_of_the_names_of_others : serve_words (serves (codes "view") 1 true (shows (codes "journal") 5)) ≡ words_in (codes "serve view 1 journal view journal 5")
+  pub kept_channels : serve_words (keeps (codes "127.0.0.1:64738") 10 None (codes "rooms.db")) ≡ words_in (codes "serve 127.0.0.1:64738 10 keep rooms.db")
+  pub views_and_kept_channels : serve_words (keeps (codes "a") 1 (shows (codes "unix:view") 5) (codes "rooms.db")) ≡ words_in (codes "serve a 1 view unix:view 5 keep rooms.db")
+  pub a_path_of_that_name : serve_words (keeps (codes "keep") 1 None (codes "keep")) ≡ words_in (codes "serve keep 1 keep keep")
+  pub views_kept_at_the_names_of_others : serve_words (keeps (codes "a") 1 (shows (codes "keep") 5) (codes "journal")) ≡ words_in (codes "serve a 1 view keep 5 keep journal")
   pub no_later_role : later_roles (serves (codes "a") 1 true None) ≡ 0
   pub a_later_role : later_roles (serves (codes "a") 1 true (shows (codes "b") 7)) ≡ 1
+  pub a_later_role_of_kept_channels : later_roles (keeps (codes "a") 1 None (codes "b")) ≡ 1
+  pub both_later_roles : later_roles (keeps (codes "a") 1 (shows (codes "b") 7) (codes "c")) ≡ 2
 
 pub are_read : AreRead
 unfolding digits
@@ -33,8 +42,14 @@ are_read = record {
   both = refl;
   views_at_an_address_of_that_name = refl;
   addresses_of_the_names_of_others = refl;
+  kept_channels = refl;
+  views_and_kept_channels = refl;
+  a_path_of_that_name = refl;
+  views_kept_at_the_names_of_others = refl;
   no_later_role = refl;
   a_later_role = refl;
+  a_later_role_of_kept_channels = refl;
+  both_later_roles = refl;
 }
 
 -- the words ask for no run that serves
@@ -45,17 +60,15 @@ same_tail : (address number asked counted : List ℕ) (tail words : List (List �
 same_tail address number asked counted tail words same = cc
 
 -- nor do words that begin with `serve`, an address and a number, where what follows is no such tail
-none_behind : (address number : List ℕ) (tail : List (List ℕ)) → ((journal : Bool) (view : Option ViewService) → IsTail tail journal view → ⊥) → IsNone (codes "serve" ∷ address ∷ number ∷ tail)
+none_behind : (address number : List ℕ) (tail : List (List ℕ)) → IsNoTail tail → IsNone (codes "serve" ∷ address ∷ number ∷ tail)
 none_behind address number tail never asked asks =
     let same = asks.words_are in
-    never asked.journal asked.view (record { words_are = same_tail address number asked.address (decimal asked.connections) tail (journal_words asked.journal ++ view_words asked.view) same; views = asks.view })
-
--- three words are no tail where they are no door for views
-three_behind : (name address number : List ℕ) → ((view : ViewService) → name ∷ address ∷ number ∷ [] ≡ view_words (Some view) → IsView view → ⊥) → (journal : Bool) (view : Option ViewService) → IsTail (name ∷ address ∷ number ∷ []) journal view → ⊥
-three_behind name address number never true (Some view) tail = let same = tail.words_are in cc
-three_behind name address number never true None tail = let same = tail.words_are in cc
-three_behind name address number never false (Some view) tail = never view tail.words_are tail.views
-three_behind name address number never false None tail = let same = tail.words_are in cc
+    never asked.journal asked.view asked.keep (record {
+      words_are = same_tail address number asked.address (decimal asked.connections) tail (tail_words asked.journal asked.view asked.keep) same;
+      views = asks.view;
+      path = asks.keep;
+      apart = asks.apart;
+    })
 
 -- a number that is none from 1 to the limit
 no_views : (address number : List ℕ) → number_within 1 VIEWS_LIMIT number ≡ None → (view : ViewService) → codes "view" ∷ address ∷ number ∷ [] ≡ view_words (Some view) → IsView view → ⊥
@@ -67,18 +80,22 @@ no_views address number none view same fits =
 no_place : (number : List ℕ) (view : ViewService) → codes "view" ∷ [] ∷ number ∷ [] ≡ view_words (Some view) → IsView view → ⊥
 no_place number view same fits = fits.named (cc)
 
--- a word before the views that is not `journal`
-no_journal : (one two three four : List ℕ) → (one ≡ codes "journal" → ⊥) → (journal : Bool) (view : Option ViewService) → IsTail (one ∷ two ∷ three ∷ four ∷ []) journal view → ⊥
-no_journal one two three four other true (Some view) tail = let same = tail.words_are in other (cc)
-no_journal one two three four other true None tail = let same = tail.words_are in cc
-no_journal one two three four other false (Some view) tail = let same = tail.words_are in cc
-no_journal one two three four other false None tail = let same = tail.words_are in cc
+view_is_not_keep : codes "view" ≡ codes "keep" → ⊥
+view_is_not_keep same = let first : 118 ≡ 107 = ap (λ (word : List ℕ). get_or word 0 0) same in omega (arith, first)
 
-no_two : (one two : List ℕ) (journal : Bool) (view : Option ViewService) → IsTail (one ∷ two ∷ []) journal view → ⊥
-no_two one two true (Some view) tail = let same = tail.words_are in cc
-no_two one two true None tail = let same = tail.words_are in cc
-no_two one two false (Some view) tail = let same = tail.words_are in cc
-no_two one two false None tail = let same = tail.words_are in cc
+-- an empty path
+no_file : (path : List ℕ) → codes "keep" ∷ [] ∷ [] ≡ keep_words (Some path) → IsPath path → ⊥
+no_file path same fits = no_name (codes "keep") [] refl path same fits
+
+three : (one two last : List ℕ) → ((view : ViewService) → one ∷ two ∷ last ∷ [] ≡ view_words (Some view) → IsView view → ⊥) → IsNone (codes "serve" ∷ codes "a" ∷ codes "1" ∷ one ∷ two ∷ last ∷ [])
+three one two last never = none_behind (codes "a") (codes "1") (one ∷ two ∷ last ∷ []) (no_three (one ∷ two ∷ last ∷ []) one two last refl never)
+
+-- three words that begin with another than `view`
+other_three : (one two last : List ℕ) → (one ≡ codes "view" → ⊥) → IsNone (codes "serve" ∷ codes "a" ∷ codes "1" ∷ one ∷ two ∷ last ∷ [])
+other_three one two last other = three one two last (λ view same fits. other (cc))
+
+two : (one last : List ℕ) → ((path : List ℕ) → one ∷ last ∷ [] ≡ keep_words (Some path) → IsPath path → ⊥) → IsNone (codes "serve" ∷ codes "a" ∷ codes "1" ∷ one ∷ last ∷ [])
+two one last never = none_behind (codes "a") (codes "1") (one ∷ last ∷ []) (no_two (one ∷ last ∷ []) one last refl never)
 
 pub record AreNone : Type 0 where
   pub a_journal_behind_the_views : IsNone (words_in (codes "serve a 1 view b 5 journal"))
@@ -87,15 +104,33 @@ pub record AreNone : Type 0 where
   pub too_many_views : IsNone (words_in (codes "serve a 1 view b 1000001"))
   pub a_leading_zero : IsNone (words_in (codes "serve a 1 view b 05"))
   pub views_at_no_address : IsNone (words_in (codes "serve a 1 view  5"))
+  pub no_path : IsNone (words_in (codes "serve a 1 keep"))
+  pub an_empty_path : IsNone (words_in (codes "serve a 1 keep "))
+  pub a_journal_and_kept_channels : IsNone (words_in (codes "serve a 1 journal keep b"))
+  pub kept_channels_before_a_journal : IsNone (words_in (codes "serve a 1 keep b journal"))
+  pub kept_channels_before_the_views : IsNone (words_in (codes "serve a 1 keep b view c 5"))
+  pub all_of_them : IsNone (words_in (codes "serve a 1 journal view b 5 keep c"))
 
 pub are_none : AreNone
 unfolding digits number_within
 are_none = record {
   a_journal_behind_the_views =
-      none_behind (codes "a") (codes "1") (codes "view" ∷ codes "b" ∷ codes "5" ∷ codes "journal" ∷ []) (no_journal (codes "view") (codes "b") (codes "5") (codes "journal") (λ same. cc));
-  no_number_of_views = none_behind (codes "a") (codes "1") (codes "view" ∷ codes "b" ∷ []) (no_two (codes "view") (codes "b"));
-  no_view_at_all = none_behind (codes "a") (codes "1") (codes "view" ∷ codes "b" ∷ codes "0" ∷ []) (three_behind (codes "view") (codes "b") (codes "0") (no_views (codes "b") (codes "0") refl));
-  too_many_views = none_behind (codes "a") (codes "1") (codes "view" ∷ codes "b" ∷ codes "1000001" ∷ []) (three_behind (codes "view") (codes "b") (codes "1000001") (no_views (codes "b") (codes "1000001") refl));
-  a_leading_zero = none_behind (codes "a") (codes "1") (codes "view" ∷ codes "b" ∷ codes "05" ∷ []) (three_behind (codes "view") (codes "b") (codes "05") (no_views (codes "b") (codes "05") refl));
-  views_at_no_address = none_behind (codes "a") (codes "1") (codes "view" ∷ [] ∷ codes "5" ∷ []) (three_behind (codes "view") [] (codes "5") (no_place (codes "5")));
+      none_behind (codes "a") (codes "1") (codes "view" ∷ codes "b" ∷ codes "5" ∷ codes "journal" ∷ [])
+      (no_four (codes "view" ∷ codes "b" ∷ codes "5" ∷ codes "journal" ∷ []) (codes "view") (codes "b") (codes "5") (codes "journal") refl (λ same. absurd (cc)));
+  no_number_of_views = two (codes "view") (codes "b") (not_keep (codes "view") (codes "b") view_is_not_keep);
+  no_view_at_all = three (codes "view") (codes "b") (codes "0") (no_views (codes "b") (codes "0") refl);
+  too_many_views = three (codes "view") (codes "b") (codes "1000001") (no_views (codes "b") (codes "1000001") refl);
+  a_leading_zero = three (codes "view") (codes "b") (codes "05") (no_views (codes "b") (codes "05") refl);
+  views_at_no_address = three (codes "view") [] (codes "5") (no_place (codes "5"));
+  no_path = none_behind (codes "a") (codes "1") (codes "keep" ∷ []) (no_one (codes "keep" ∷ []) (codes "keep") refl (λ same. cc));
+  an_empty_path = two (codes "keep") [] no_file;
+  a_journal_and_kept_channels = other_three (codes "journal") (codes "keep") (codes "b") (λ same. cc);
+  kept_channels_before_a_journal = other_three (codes "keep") (codes "b") (codes "journal") (λ same. view_is_not_keep (sym same));
+  kept_channels_before_the_views =
+      none_behind (codes "a") (codes "1") (codes "keep" ∷ codes "b" ∷ codes "view" ∷ codes "c" ∷ codes "5" ∷ [])
+      (no_five (codes "keep" ∷ codes "b" ∷ codes "view" ∷ codes "c" ∷ codes "5" ∷ []) (codes "keep") (codes "b") (codes "view") (codes "c") (codes "5") refl
+      (λ view path same kept fits named. view_is_not_keep (sym (head_is (codes "keep") (codes "view") (codes "b" ∷ codes "view" ∷ []) (view.address ∷ decimal view.views ∷ []) same))));
+  all_of_them =
+      none_behind (codes "a") (codes "1") (codes "journal" ∷ codes "view" ∷ codes "b" ∷ codes "5" ∷ codes "keep" ∷ codes "c" ∷ [])
+      (no_more (codes "journal" ∷ codes "view" ∷ codes "b" ∷ codes "5" ∷ codes "keep" ∷ codes "c" ∷ []) (omega arith));
 }

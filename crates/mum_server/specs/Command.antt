@@ -1,7 +1,7 @@
 -- What the words of the command line ask for.
 use Rattle.std.specs.Borrow.{Bor}
-use Rattle.std.specs.Option.{option_map, option_map_or}
-use Rattle.std.specs.Prelude.{◌≡◌, ℕ, ◌^◌, ◌<◌, ◌≤◌, Bool, true, false, List, [], ◌∷◌, ◌++◌, IfSome, Option, Some, None, codes, decimal}
+use Rattle.std.specs.Option.{option_copied, option_map, option_map_or}
+use Rattle.std.specs.Prelude.{◌≡◌, ℕ, ◌+◌, ◌^◌, ◌<◌, ◌≤◌, Bool, true, false, List, [], ◌∷◌, ◌++◌, IfSome, Option, Some, None, codes, decimal}
 use Rattle.mum_serve.specs.Asked.{Service, ViewService, service, view_service}
 use Rattle.mum_serve.specs.declared.asked.Asked.{Asked}
 use Rattle.mum_serve.specs.declared.asked.ViewAsked.{ViewAsked}
@@ -40,9 +40,18 @@ abbrev pub view_words : Option ViewService → List (List ℕ)
 view_words None = []
 view_words (Some view) = codes "view" ∷ view.address ∷ decimal view.views ∷ []
 
+-- the words that ask that channels are kept at a path, where that is asked for
+abbrev pub keep_words : Option (List ℕ) → List (List ℕ)
+keep_words None = []
+keep_words (Some path) = codes "keep" ∷ path ∷ []
+
+-- what may follow the number of connections, in this order
+abbrev pub tail_words : Bool → Option ViewService → Option (List ℕ) → List (List ℕ)
+tail_words journal view keep = journal_words journal ++ (view_words view ++ keep_words keep)
+
 -- the words of a run that serves; numbers are decimal without leading zeros
 abbrev pub serve_words : Service → List (List ℕ)
-serve_words asked = codes "serve" ∷ asked.address ∷ decimal asked.connections ∷ (journal_words asked.journal ++ view_words asked.view)
+serve_words asked = codes "serve" ∷ asked.address ∷ decimal asked.connections ∷ tail_words asked.journal asked.view asked.keep
 
 -- a second door has an address, and gives some views
 pub record IsView (view : ViewService) : Type 0 where
@@ -50,22 +59,29 @@ pub record IsView (view : ViewService) : Type 0 where
   pub some : 1 ≤ view.views
   pub within : view.views ≤ VIEWS_LIMIT
 
--- the words ask for this run that serves: its door has an address, and gives some connections
+-- channels are kept at a path that is not empty
+abbrev pub IsPath : List ℕ → Type 0
+IsPath path = path ≡ [] → ⊥
+
+-- the words ask for this run that serves: its door has an address, and gives some connections; and it does not both write a
+-- journal and keep channels
 pub record IsServe (words : List (List ℕ)) (asked : Service) : Type 0 where
   pub words_are : words ≡ serve_words asked
   pub named : asked.address ≡ [] → ⊥
   pub some : 1 ≤ asked.connections
   pub within : asked.connections ≤ CONNECTIONS_LIMIT
   pub view : IfSome asked.view IsView
+  pub keep : IfSome asked.keep IsPath
+  pub apart : asked.journal ≡ true → asked.keep ≡ None
 
 -- what a run that serves is asked for; or the words ask for no such run
 abbrev pub AsksRun : List (List ℕ) → Option Asked → Type 0
 AsksRun words (Some asked) = IsServe words (service asked)
 AsksRun words None = (asked : Service) → IsServe words asked → ⊥
 
--- how many roles follow the workers of such a run
+-- how many roles follow the workers of such a run: one that gives views, and one that keeps channels
 abbrev pub later_roles : Service → ℕ
-later_roles asked = option_map_or (λ view. 1) asked.view 0
+later_roles asked = option_map_or (λ view. 1) asked.view 0 + option_map_or (λ path. 1) asked.keep 0
 
 -- the words ask for nothing of what is done without a door
 pub record IsNoCommand (words : List (List ℕ)) : Type 0 where
@@ -99,12 +115,19 @@ abbrev pub AsksView : List (List ℕ) → Option ViewAsked → Type 0
 AsksView words (Some asked) = (words ≡ view_words (Some (view_service asked))) × IsView (view_service asked)
 AsksView words None = (view : ViewService) → words ≡ view_words (Some view) → IsView view → ⊥
 
+-- the path at which words ask that channels are kept; or they ask for none
+abbrev pub AsksKeep : List (List ℕ) → Option (Bor (List ℕ)) → Type 0
+AsksKeep words (Some path) = (words ≡ keep_words (Some path.now)) × IsPath path.now
+AsksKeep words None = (path : List ℕ) → words ≡ keep_words (Some path) → IsPath path → ⊥
+
 -- words that follow the number of connections ask for this
-pub record IsTail (words : List (List ℕ)) (journal : Bool) (view : Option ViewService) : Type 0 where
-  pub words_are : words ≡ journal_words journal ++ view_words view
+pub record IsTail (words : List (List ℕ)) (journal : Bool) (view : Option ViewService) (keep : Option (List ℕ)) : Type 0 where
+  pub words_are : words ≡ tail_words journal view keep
   pub views : IfSome view IsView
+  pub path : IfSome keep IsPath
+  pub apart : journal ≡ true → keep ≡ None
 
 -- what they ask for; or they are no such words
 abbrev pub AsksTail : List (List ℕ) → Option Tail → Type 0
-AsksTail words (Some tail) = IsTail words tail.journal (option_map view_service tail.view)
-AsksTail words None = (journal : Bool) (view : Option ViewService) → IsTail words journal view → ⊥
+AsksTail words (Some tail) = IsTail words tail.journal (option_map view_service tail.view) (option_copied tail.keep)
+AsksTail words None = (journal : Bool) (view : Option ViewService) (keep : Option (List ℕ)) → IsTail words journal view keep → ⊥

@@ -12,7 +12,7 @@ use Rattle.mum_server.specs.Exercise.{exercise_outcome}
 use Rattle.mum_server.specs.Replay.{Outcome, replayed}
 
 abbrev pub usage_line : List ℕ
-usage_line = codes "usage: murmur replay | audit | exercise SEED STEPS | serve ADDRESS SESSIONS [journal] [view ADDRESS VIEWS]" ++ 10 ∷ []
+usage_line = codes "usage: murmur replay | audit | exercise SEED STEPS | serve ADDRESS SESSIONS [journal] [view ADDRESS VIEWS] [keep PATH]" ++ 10 ∷ []
 
 -- the whole transcript was written, and the status is that of the run
 pub record IsWhole (outcome : Outcome) (status : ℕ) (old new : Option (List ℕ)) : Type 0 where

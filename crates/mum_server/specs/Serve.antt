@@ -1,8 +1,11 @@
 -- What a run that serves answers and says.
-use Rattle.std.specs.Prelude.{◌≡◌, ◌⊎◌, ℕ, List, [], ◌∷◌, ◌++◌, codes, Option, Some}
+use Rattle.std.specs.Prelude.{◌≡◌, ◌⊎◌, ℕ, List, [], ◌∷◌, ◌++◌, codes, Option, Some, None}
 use Rattle.mum_crew.specs.Crew.{CrewCounts}
 use Rattle.mum_io.specs.Counts.{Rose}
 use Rattle.mum_io.specs.Link.{LinkFacts}
+use Rattle.mum_keeper.specs.Keeping.{AreRowsOf, KeeperFacts}
+use Rattle.mum_kept.specs.Good.{IsGood}
+use Rattle.mum_kept.specs.declared.rows.KeptRows.{KeptRows}
 use Rattle.mum_io.specs.Door.{DoorFacts}
 use Rattle.mum_serve.specs.Asked.{Lent, Service}
 use Rattle.mum_serve.specs.Program.{EndsAt, ReadsCounted, RunsInCrew, WritesCounted}
@@ -19,6 +22,12 @@ door_fault_line = codes "murmur: 8 DoorFault" ++ 10 ∷ []
 abbrev pub crew_fault_line : List ℕ
 crew_fault_line = codes "murmur: 9 CrewFault" ++ 10 ∷ []
 
+abbrev pub keeper_fault_line : List ℕ
+keeper_fault_line = codes "murmur: 12 KeeperFault" ++ 10 ∷ []
+
+abbrev pub bad_store_line : List ℕ
+bad_store_line = codes "murmur: 13 BadStore" ++ 10 ∷ []
+
 -- the status and the line are those of the end
 abbrev pub ServerReports : ServerEnd → ℕ → Option (List ℕ) → Option (List ℕ) → Type 0 → Type 0
 ServerReports ends.Finished status old new failed = Reports Finished status old new failed
@@ -28,6 +37,8 @@ ServerReports ends.WriteFault status old new failed = Reports WriteFault status 
 ServerReports ends.DoorFault status old new failed = (status ≡ 8) × Tells door_fault_line old new failed
 ServerReports (ends.AuditWrong line given defined) status old new failed = Reports (Faulty line (AuditWrong given defined)) status old new failed
 ServerReports ends.CrewFault status old new failed = (status ≡ 9) × Tells crew_fault_line old new failed
+ServerReports ends.KeeperFault status old new failed = (status ≡ 12) × Tells keeper_fault_line old new failed
+ServerReports ends.BadStore status old new failed = (status ≡ 13) × Tells bad_store_line old new failed
 ServerReports ends.OutOfMemory status old new failed = Reports OutOfMemory status old new failed
 
 -- the faults of a door rose
@@ -36,14 +47,24 @@ DoorFailed door_facts (Some door) (Some left) = Rose (door_facts door).counts.fa
 DoorFailed door_facts door left = ⊥
 
 -- those of one of the doors did
-abbrev pub OneFailed : {D K : Type 0} → (D → DoorFacts) → Lent D K → Lent D K → Type 0
-OneFailed door_facts doors left = DoorFailed door_facts doors.door left.door ⊎ DoorFailed door_facts doors.view left.view
+abbrev pub OneFailed : {D K P : Type 0} → (D → DoorFacts) → Lent D K P → Lent D K P → Type 0
+OneFailed door_facts objects left = DoorFailed door_facts objects.door left.door ⊎ DoorFailed door_facts objects.view left.view
 
-module _ {D K L : Type 0} (facts : L → LinkFacts) (door_facts : D → DoorFacts) (last calls : K → ℕ) where
+-- the faults of a keeper rose
+abbrev pub KeeperFailed : {P : Type 0} → (P → KeeperFacts) → Option P → Option P → Type 0
+KeeperFailed keeper_facts (Some keeper) (Some left) = Rose (keeper_facts keeper).faults (keeper_facts left).faults
+KeeperFailed keeper_facts keeper left = ⊥
+
+-- a keeper gave rows that are not good: its own, where they are known
+abbrev pub GaveBadRows : {P : Type 0} → (P → KeeperFacts) → Option P → Type 0
+GaveBadRows keeper_facts None = ⊥
+GaveBadRows keeper_facts (Some left) = (rows : KeptRows) × AreRowsOf (keeper_facts left).rows rows × (IsGood rows → ⊥)
+
+module _ {D K P L : Type 0} (facts : L → LinkFacts) (door_facts : D → DoorFacts) (last calls : K → ℕ) (keeper_facts : P → KeeperFacts) where
   -- a server was run that was asked to do this: how it ended, and what was answered and said of that
-  pub record RunsServer (asked : Service) (input input_after : InputFacts) (output output_after errors errors_after : SinkFacts) (doors left : Lent D K) (crew crew_after : CrewCounts) (status : ℕ) : Type 0 where
+  pub record RunsServer (asked : Service) (input input_after : InputFacts) (output output_after errors errors_after : SinkFacts) (objects left : Lent D K P) (crew crew_after : CrewCounts) (status : ℕ) : Type 0 where
     pub end : ServerEnd
-    pub ends : EndsAt facts door_facts last calls asked input.left end doors left output.written output_after.written crew crew_after
+    pub ends : EndsAt facts door_facts last calls keeper_facts asked input.left end objects left output.written output_after.written crew crew_after
     pub runs : RunsInCrew end crew crew_after
     pub reads : ReadsCounted end input.faults input_after.faults
     pub writes : WritesCounted end output.faults output_after.faults

@@ -2,8 +2,8 @@
 
 ghost use Rattle.std.specs.Prelude.{◌≡◌, ◌↔◌, ◌<◌, ◌∷◌, ◌^◌, [], ℕ, IfSome, IsTrue, MatchOption, map, string_bytes};
 ghost use Rattle.mum_serve.specs.Asked.{Service};
-ghost use Rattle.mum_server.specs.Command.{Asks, AsksDoor, AsksRun, AsksTail, AsksView, BeginsWithServe, IsExercise};
-ghost use Rattle.mum_server.specs.Command.{IsServe, audit_words, later_roles, replay_words};
+ghost use Rattle.mum_server.specs.Command.{Asks, AsksDoor, AsksKeep, AsksRun, AsksTail, AsksView, BeginsWithServe};
+ghost use Rattle.mum_server.specs.Command.{IsExercise, IsServe, audit_words, later_roles, replay_words};
 
 use mum_record::number_within;
 use mum_serve::{Asked, ViewAsked};
@@ -124,11 +124,25 @@ fn view_of<'a>(word: &str, address: &'a str, number: &str) -> Option<ViewAsked<'
     Some(ViewAsked { address, views })
 }
 
+// The path at which these two words ask that channels are kept, if they do.
+fn path_of<'a>(word: &str, path: &'a str) -> Option<&'a str>
+    ensures { AsksKeep (word.now ∷ path.now ∷ []) result }
+{
+    if !is_word(word, "keep") {
+        return None;
+    }
+    if path.is_empty() {
+        return None;
+    }
+    Some(path)
+}
+
 // What follows the number of connections.
 #[derive(Clone, Copy)]
 struct Tail<'a> {
     journal: bool,
     view: Option<ViewAsked<'a>>,
+    keep: Option<&'a str>,
 }
 
 // What the words behind the number of connections ask for.
@@ -139,6 +153,7 @@ fn tail_of(words: &[String]) -> Option<Tail<'_>>
         [] => Some(Tail {
             journal: false,
             view: None,
+            keep: None,
         }),
         [journal] => {
             if !is_word(journal.as_str(), "journal") {
@@ -147,6 +162,15 @@ fn tail_of(words: &[String]) -> Option<Tail<'_>>
             Some(Tail {
                 journal: true,
                 view: None,
+                keep: None,
+            })
+        }
+        [keep, path] => {
+            let path = path_of(keep.as_str(), path.as_str())?;
+            Some(Tail {
+                journal: false,
+                view: None,
+                keep: Some(path),
             })
         }
         [view, address, number] => {
@@ -154,6 +178,7 @@ fn tail_of(words: &[String]) -> Option<Tail<'_>>
             Some(Tail {
                 journal: false,
                 view: Some(view),
+                keep: None,
             })
         }
         [journal, view, address, number] => {
@@ -164,6 +189,16 @@ fn tail_of(words: &[String]) -> Option<Tail<'_>>
             Some(Tail {
                 journal: true,
                 view: Some(view),
+                keep: None,
+            })
+        }
+        [view, address, number, keep, path] => {
+            let view = view_of(view.as_str(), address.as_str(), number.as_str())?;
+            let path = path_of(keep.as_str(), path.as_str())?;
+            Some(Tail {
+                journal: false,
+                view: Some(view),
+                keep: Some(path),
             })
         }
         _ => None,
@@ -186,22 +221,28 @@ pub(crate) fn serve_in(words: &[String]) -> Option<Asked<'_>>
         address.as_str(),
         number.as_str(),
     )?;
-    let Tail { journal, view } = tail_of(tail)?;
+    let Tail {
+        journal,
+        view,
+        keep,
+    } = tail_of(tail)?;
     Some(Asked {
         address,
         connections,
         journal,
         view,
+        keep,
     })
 }
 
-/// How many roles follow the workers of the run that the words ask for: one where it shows views, else none.
+/// How many roles follow the workers of the run that the words ask for: one where it shows views, and one where it
+/// keeps channels.
 pub fn later_roles(words: &[String]) -> usize
     ensures served { (asked : Service) → IsServe (map string_bytes words.now) asked → result ≡ later_roles asked }
     ensures other { ((asked : Service) → IsServe (map string_bytes words.now) asked → ⊥) → result ≡ 0 }
 {
     match serve_in(words) {
-        Some(Asked { view: Some(_), .. }) => 1,
-        _ => 0,
+        Some(asked) => usize::from(asked.view.is_some()) + usize::from(asked.keep.is_some()),
+        None => 0,
     }
 }

@@ -21,8 +21,8 @@ use crate::replay::replay;
 use mum_io::{Sink, Source, write_all};
 use std::alloc::Global;
 
-pub(crate) const USAGE_LINE: &str =
-    "usage: murmur replay | audit | exercise SEED STEPS | serve ADDRESS SESSIONS [journal] [view ADDRESS VIEWS]\n";
+pub(crate) const USAGE_LINE: &str = "usage: murmur replay | audit | exercise SEED STEPS | \
+    serve ADDRESS SESSIONS [journal] [view ADDRESS VIEWS] [keep PATH]\n";
 
 /// Runs an exercise, and writes the line of what came of it.
 fn run_exercise<O: Sink>(alloc: Global, seed: u64, rounds: u32, output: &mut O) -> End

@@ -13,6 +13,8 @@ mod frames;
 #[cfg(test)]
 mod journals;
 #[cfg(test)]
+mod keeps;
+#[cfg(test)]
 mod kicks;
 #[cfg(test)]
 mod lags;

@@ -6,6 +6,7 @@ use mum_base::Octets;
 use mum_crew::turn_crew::NoStation;
 use mum_crew::{Crew, CrewEnd, Plan, RunTally, TurnCrew};
 use mum_io::{Door, DoorEvent, LinkEvent, MemClock, MemDoor, MemLink, MemSink, MemSource};
+use mum_keeper::MapKeeper;
 use mum_server::murmur;
 use std::alloc::Global;
 use std::process::Abort;
@@ -25,7 +26,7 @@ impl TestDoor for MemDoor {
     }
 }
 
-/// What a run came to: its status, its output and its errors, the doors and the clock.
+/// What a run came to: its status, its output and its errors, the doors, the clock and the keeper.
 #[derive(Drop)]
 pub struct Outcome<D: Drop> {
     pub status: u8,
@@ -34,6 +35,7 @@ pub struct Outcome<D: Drop> {
     door: Option<D>,
     view: Option<D>,
     pub clock: Option<MemClock>,
+    keeper: Option<MapKeeper>,
 }
 
 fn text(bytes: &[u8]) -> &str {
@@ -55,6 +57,11 @@ impl<D: Drop> Outcome<D> {
     /// The door, which a run hands back.
     pub fn door<'a>(&'a self, rt: &impl Abort) -> &'a D {
         self.door.as_ref().expect(rt, "no door")
+    }
+
+    /// The keeper, which a run hands back too.
+    pub fn keeper<'a>(&'a self, rt: &impl Abort) -> &'a MapKeeper {
+        self.keeper.as_ref().expect(rt, "no keeper")
     }
 
     /// The door of the views, which a run hands back too.
@@ -98,10 +105,24 @@ pub fn ran_over<R: Abort + Copy + Send + Wait, D: Door + Send, C: Crew>(
     doors: (D, D),
     crew: &mut C,
 ) -> Outcome<D> {
-    ran_by(rt, alloc, words, input, failing, doors, &[], crew)
+    let keeper = MapKeeper::new(alloc, Vec::new(alloc));
+    ran_by(rt, alloc, words, input, failing, doors, &[], keeper, crew)
 }
 
-/// The same with a clock that answers these moments, and then the last of them.
+/// Runs these words on no input with a door and this keeper.
+pub fn ran_keeping<R: Abort + Copy + Send + Wait, D: TestDoor, C: Crew>(
+    rt: &R,
+    alloc: Global,
+    words: &[&str],
+    door: D,
+    keeper: MapKeeper,
+    crew: &mut C,
+) -> Outcome<D> {
+    let doors = (door, D::empty(rt, alloc));
+    ran_by(rt, alloc, words, "", &[], doors, &[], keeper, crew)
+}
+
+/// Runs these words with a clock that answers these moments, and then the last of them, and with a keeper.
 fn ran_by<R: Abort + Copy + Send + Wait, D: Door + Send, C: Crew>(
     rt: &R,
     alloc: Global,
@@ -110,6 +131,7 @@ fn ran_by<R: Abort + Copy + Send + Wait, D: Door + Send, C: Crew>(
     failing: &[u64],
     doors: (D, D),
     moments: &[u64],
+    keeper: MapKeeper,
     crew: &mut C,
 ) -> Outcome<D> {
     let words = owned(rt, alloc, words);
@@ -122,6 +144,7 @@ fn ran_by<R: Abort + Copy + Send + Wait, D: Door + Send, C: Crew>(
     let (mut door, mut view) = (Some(door), Some(view));
     let moments = Vec::from_slice(alloc, moments).expect(rt, "memory");
     let mut clock = Some(MemClock::new(moments));
+    let mut keeper = Some(keeper);
     let status = murmur(
         rt,
         alloc,
@@ -133,6 +156,7 @@ fn ran_by<R: Abort + Copy + Send + Wait, D: Door + Send, C: Crew>(
         &mut view,
         crew,
         &mut clock,
+        &mut keeper,
     );
     drop(words);
     drop(input);
@@ -143,6 +167,7 @@ fn ran_by<R: Abort + Copy + Send + Wait, D: Door + Send, C: Crew>(
         door,
         view,
         clock,
+        keeper,
     }
 }
 
@@ -171,7 +196,18 @@ pub fn ran_at<R: Abort + Copy + Send + Wait, D: TestDoor, C: Crew>(
 ) -> Outcome<D> {
     let words = ["serve", "x", connections];
     let doors = (door, D::empty(rt, alloc));
-    ran_by(rt, alloc, &words, configuration, &[], doors, moments, crew)
+    let keeper = MapKeeper::new(alloc, Vec::new(alloc));
+    ran_by(
+        rt,
+        alloc,
+        &words,
+        configuration,
+        &[],
+        doors,
+        moments,
+        keeper,
+        crew,
+    )
 }
 
 /// Serves on the calling thread, whose roles have their turns in the order of this list.

@@ -122,12 +122,15 @@ fn a_door_for_views_that_does_not_open_is_a_fault(rt: HostRuntime) {
 #[test]
 fn other_words_behind_serve_are_no_command(rt: HostRuntime) {
     let alloc: Global = rt.alloc();
-    let lists: [&[&str]; 5] = [
+    let lists: [&[&str]; 8] = [
         &["serve", "x", "1", "view", "y"],
         &["serve", "x", "1", "view", "", "1"],
         &["serve", "x", "1", "view", "y", "0"],
         &["serve", "x", "1", "view", "y", "1000001"],
         &["serve", "x", "1", "view", "y", "1", "journal"],
+        &["serve", "x", "1", "keep", ""],
+        &["serve", "x", "1", "journal", "keep", "p"],
+        &["serve", "x", "1", "keep", "p", "view", "y", "1"],
     ];
     for words in lists {
         let mut crew = TurnCrew::new(rt, Vec::new(alloc));

@@ -5,6 +5,7 @@
 use mum_edge::Machine;
 use mum_io::{Input, Output};
 use mum_server::{later_roles, murmur, out_of_memory};
+use mum_sql_keeper::SqlKeeper;
 use std::io::{ErrorKind, IsTerminal};
 use std::process::ExitCode;
 use std::rt::Env;
@@ -45,6 +46,7 @@ fn main(rt: HostRuntime) -> ExitCode {
     let mut door = Some(door);
     let mut view = Some(view);
     let mut clock = Some(clock);
+    let mut keeper = Some(SqlKeeper::new(rt));
     let status = murmur(
         &rt,
         rt.alloc(),
@@ -56,7 +58,11 @@ fn main(rt: HostRuntime) -> ExitCode {
         &mut view,
         &mut crew,
         &mut clock,
+        &mut keeper,
     );
+    if let Some(keeper) = &mut keeper {
+        keeper.close();
+    }
     for door in [&door, &view] {
         if let Some(door) = door {
             door.listener().close();

@@ -1,6 +1,9 @@
 -- What is answered of a run without `serve` is what such a run answers.
-use Rattle.std.proofs.Common.{map, refl, string_bytes}
+use Rattle.std.proofs.Common.{◌≡◌, map, refl, string_bytes}
+use Rattle.mum_io.specs.Counts.{Rose}
 use Rattle.mum_serve.specs.Asked.{service}
+use Rattle.mum_serve.specs.declared.program.ServerEnd.TheVariants.{BadStore, KeeperFault}
+use Rattle.mum_server.proofs.KeeperEnds.{bad_at_thirteen, fails_at_twelve, keeper_failed, rows_were_bad}
 use Rattle.mum_server.proofs.ServeWords.{asked_once}
 use Rattle.mum_server.proofs.top.murmur.Goals as goal
 
@@ -29,6 +32,7 @@ returns-then-not-begins_with_serve-clause-plain g c = λ never.
       refl,
       refl,
       refl,
+      refl,
     )
 
 pub returns-in_default-clause-serves : goal.returns-in_default-clause-serves
@@ -49,3 +53,27 @@ returns-clause-serves g c = λ asked asks.
 -- the words ask for a run, so they are no other words
 pub returns-clause-usage : goal.returns-clause-usage
 returns-clause-usage g c = λ begins never. absurd (never (service c.in-Some.asked) c.in-Some.ensures.asked)
+
+pub returns-clause-keeper_fault : goal.returns-clause-keeper_fault
+returns-clause-keeper_fault g c = λ twelve.
+    let is : c.run_server-end.result ≡ KeeperFault =
+    fails_at_twelve c.run_server-end.result c.report_server.result (g.E.Sink.written c.args.errors.now) (g.E.Sink.written c.report_server.new.errors) (Rose (g.E.Sink.faults c.args.errors.now) (g.E.Sink.faults c.report_server.new.errors))
+    c.report_server.ensures twelve in
+    keeper_failed g.D.Conn.Link.facts g.D.Door.facts g.K.Clock.last g.K.Clock.calls g.P.Keeper.facts (service c.in-Some.asked)
+    (g.I.Source.left c.args.input.now) c.run_server-end.result
+    (record { door = c.args.door.now; view = c.args.view.now; clock = c.args.clock.now; keeper = c.args.keeper.now })
+    (record { door = c.run_server-end.new.door; view = c.run_server-end.new.view; clock = c.run_server-end.new.clock; keeper = c.run_server-end.new.keeper })
+    (g.O.Sink.written c.args.output.now) (g.O.Sink.written c.run_server-end.new.output) (g.C.Crew.counts c.args.crew.now) (g.C.Crew.counts c.run_server-end.new.crew)
+    is c.run_server-end.ensures.ends
+
+pub returns-clause-bad_store : goal.returns-clause-bad_store
+returns-clause-bad_store g c = λ thirteen.
+    let is : c.run_server-end.result ≡ BadStore =
+    bad_at_thirteen c.run_server-end.result c.report_server.result (g.E.Sink.written c.args.errors.now) (g.E.Sink.written c.report_server.new.errors) (Rose (g.E.Sink.faults c.args.errors.now) (g.E.Sink.faults c.report_server.new.errors))
+    c.report_server.ensures thirteen in
+    rows_were_bad g.D.Conn.Link.facts g.D.Door.facts g.K.Clock.last g.K.Clock.calls g.P.Keeper.facts (service c.in-Some.asked)
+    (g.I.Source.left c.args.input.now) c.run_server-end.result
+    (record { door = c.args.door.now; view = c.args.view.now; clock = c.args.clock.now; keeper = c.args.keeper.now })
+    (record { door = c.run_server-end.new.door; view = c.run_server-end.new.view; clock = c.run_server-end.new.clock; keeper = c.run_server-end.new.keeper })
+    (g.O.Sink.written c.args.output.now) (g.O.Sink.written c.run_server-end.new.output) (g.C.Crew.counts c.args.crew.now) (g.C.Crew.counts c.run_server-end.new.crew)
+    is c.run_server-end.ensures.ends

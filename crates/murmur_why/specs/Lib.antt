@@ -1,0 +1,5 @@
+pub mod Hearers
+pub mod Names
+pub mod Reasons
+pub mod States
+pub mod Words

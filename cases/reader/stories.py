@@ -30,9 +30,10 @@ def outcome(scene, word, words):
     document, user = scene.configuration.document(), scene.user(word_of(words)[0])
     frame = wire.frame(mumble.VOICE, bytes([0x80 | SPEAKING[word](words)]) + bytes.fromhex(VOICE))
     steps = delivered(document, scene.steps) + [f"frame {user.connection} {frame.hex()}", f"look 0 {scene.revision}"]
-    recording = program.recording_of(document, steps, end=False)
+    recording = program.recording_of(document, steps)
     story = story_of(recording.splitlines(), program.run(["replay"], recording).lines, True)
-    return story.rows[-1].outcome
+    # the last row is the end
+    return story.rows[-2].outcome
 
 
 def delivered(document, steps):

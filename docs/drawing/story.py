@@ -4,8 +4,9 @@ import json
 from reader import mumble
 from reader.transcript import told_by_step
 
-from .known import Known
+from .names import Names
 from .rows import SERVER, Row, shortened
+from .silence import packets_by_line, why_nobody
 
 REASONS = {1: "type not read", 2: "malformed", 3: "not logged in", 4: "names what is not there",
            5: "for another user", 6: "empty text", 7: "too long", 8: "session gone"}
@@ -23,9 +24,10 @@ UNNAMED = ("plugin_identity", "texture", "hash", "comment_hash", "texture_hash",
 class Story:
     """The rows of a recording, and what is known of its connections so far."""
 
-    def __init__(self):
+    def __init__(self, packets):
         self.rows = []
-        self.known = Known()
+        self.known = Names()
+        self.packets = packets
         self.worker_of = {}
         self.session_of = {}
         self.names = []
@@ -41,9 +43,9 @@ class Story:
         """A frame of a connection, and what was told of it."""
         kind, payload = mumble.split_frame(digits)
         if told[0] == "heard":
-            target, text, number = packet_parts(payload)
+            text, number = packet_parts(payload)
             row = self.add(line, connection, [SERVER], text, look="voice", number=number)
-            self.held[self.worker_of[connection]] = (row, connection, target)
+            self.held[self.worker_of[connection]] = row
             return
         row = self.add(line, connection, [SERVER], self.frame_text(kind, payload, told))
         row.outcome = taken_text(told)
@@ -89,31 +91,27 @@ class Story:
         if told[0] == "rejected":
             self.names[connection - 1] = f"({message.get('username', '')})"
         if told[0] == "accepted":
-            self.accepted(connection, kind, message, int(told[2]))
+            self.accepted(connection, kind, message)
 
-    def accepted(self, connection, kind, message, revision):
-        """A command was accepted, a login or a leave among them."""
-        session = self.session_of.get(connection)
-        if kind is None:
-            self.known.leaves(session, revision)
-        elif kind == mumble.AUTHENTICATE and session is None:
+    def accepted(self, connection, kind, message):
+        """A command was accepted, which may be a login."""
+        if kind == mumble.AUTHENTICATE and connection not in self.session_of:
             self.names[connection - 1] = message.get("username", "")
-            session = self.session_of[connection] = self.known.joins(self.names[connection - 1], revision)
-        self.known.accepted(session, kind, message, revision)
+            self.session_of[connection] = self.known.joins(self.names[connection - 1])
 
-    def look(self, worker, told):
+    def look(self, line, worker, told):
         """Who hears the packet that a worker holds."""
-        row, connection, target = self.held.pop(worker)
+        row = self.held.pop(worker)
         heard_by = [self.known.user(int(word.split("/")[0])) for word in told[4:]]
         row.outcome = "heard by " + (", ".join(heard_by) or "nobody")
-        why = "" if heard_by else self.known.why_nobody(self.session_of.get(connection), target, int(told[2]))
+        why = "" if heard_by else why_nobody(self.packets.get(line), self.known.names)
         row.outcome += f": {why}" if why else ""
 
     def wire(self, line, connection, digits):
         """A frame that a connection is sent. A frame that others are sent beside it stands in one row."""
         kind, payload = mumble.split_frame(digits)
         if kind != mumble.VOICE:
-            self.known.told(self.session_of.get(connection), kind, mumble.decode(kind, payload))
+            self.known.told(kind, mumble.decode(kind, payload))
         text = self.copy_text(payload) if kind == mumble.VOICE else self.message_text(kind, payload)
         last = self.rows[-1]
         if last.source == SERVER and last.text == text and connection not in last.targets:
@@ -157,11 +155,11 @@ def number_text(kind, name, value):
 
 
 def packet_parts(packet):
-    """A voice packet: its target, its text with a place for its number, and the number."""
+    """A voice packet: its text with a place for its number, and the number."""
     target = packet[0] & 31
     number, _ = mumble.voice_number(packet[1:])
     to = {0: "talks", 31: "talks to itself"}.get(target, f"speaks to voice target {target}")
-    return target, f"{to}: {{}}", number
+    return f"{to}: {{}}", number
 
 
 def taken_text(told):
@@ -205,7 +203,7 @@ def tell(story, line, step, lines):
     elif step[0] == "edit":
         story.edit(line, int(step[1]), told)
     elif step[0] == "look":
-        story.look(step[1], told)
+        story.look(line, step[1], told)
     elif step[0] == "close":
         story.add(line, int(step[1]), [], f"closes: {told[2]}")
     elif step[0] == "end":
@@ -241,7 +239,7 @@ def names_itself(step, told):
 def story_of(recording, transcript, pings):
     """The story of a recording, with its Pings or without."""
     count, document = head_of(recording)
-    story, steps = Story(), recording[count:]
+    story, steps = Story(packets_by_line(recording)), recording[count:]
     story.known.begins(document or {})
     for place, lines in enumerate(told_by_step(steps, transcript)):
         line, step, told = place + count + 1, steps[place].split(" "), [one.split(" ") for one in lines]

@@ -1,5 +1,5 @@
-# Completion of murmur's words for bash: /usr/share/bash-completion/completions/murmur. zsh takes it too, after
-# `autoload -U +X bashcompinit && bashcompinit`.
+# Completion of the words of murmur and murmur-why for bash: /usr/share/bash-completion/completions/murmur and murmur-why.
+# zsh takes it too, after `autoload -U +X bashcompinit && bashcompinit`.
 
 _murmur() {
     # words as they are typed, not cut at ':'
@@ -33,8 +33,12 @@ _murmur() {
         case ${answers[*]} in *: | */) compopt -o nospace 2> /dev/null ;; esac
     elif [ "$place" = 4 ] && [ "${words[1]}" = serve ]; then
         mapfile -t answers < <(compgen -W "1000 1000000" -- "$word")
+    elif [ "$count" -gt 5 ] && [ "${words[1]}" = serve ] && [ "${words[count - 2]}" = keep ]; then
+        mapfile -t answers < <(compgen -f -- "$word")
+    elif [ "$count" = 8 ] && [ "${words[1]}" = serve ] && [ "${words[4]}" = view ]; then
+        mapfile -t answers < <(compgen -W "keep" -- "$word")
     elif [ "$place" = 5 ] && [ "${words[1]}" = serve ]; then
-        mapfile -t answers < <(compgen -W "journal view" -- "$word")
+        mapfile -t answers < <(compgen -W "journal keep view" -- "$word")
     elif [ "$place" = 6 ] && [ "${words[1]}" = serve ] && [ "${words[4]}" = journal ]; then
         mapfile -t answers < <(compgen -W "view" -- "$word")
     fi
@@ -47,3 +51,17 @@ _murmur() {
     for answer in "${answers[@]}"; do COMPREPLY+=("${answer#"$cut"}"); done
 }
 complete -F _murmur murmur
+
+_murmur_why() {
+    local word=${COMP_WORDS[COMP_CWORD]}
+    local -a answers=()
+    if [ "$COMP_CWORD" = 1 ]; then
+        mapfile -t answers < <(compgen -W "heard who may other" -- "$word")
+    elif [ "$COMP_CWORD" = 2 ] && [ "${COMP_WORDS[1]}" = other ]; then
+        mapfile -t answers < <(compgen -f -- "$word")
+    elif [ "$COMP_CWORD" = 2 ] && [ "${COMP_WORDS[1]}" = heard ]; then
+        mapfile -t answers < <(compgen -W "-" -- "$word")
+    fi
+    COMPREPLY=("${answers[@]}")
+}
+complete -F _murmur_why murmur-why

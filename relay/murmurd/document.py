@@ -1,6 +1,8 @@
-"""The configuration of a virtual server, with a report of what is otherwise in it."""
+"""The configuration of a virtual server, or with it its channels as rows to be kept, and a report of what is otherwise
+there."""
 import json
 
+from reader import kept
 from reader.numbering import TooLong, numbering, text_of
 
 from .names import names_of
@@ -13,7 +15,11 @@ from .settings import GREATEST, NO_LOG, TEXT_LIMIT, Settings, server_of
 # The digest of no password that anybody knows.
 NO_DIGEST = "0" * 64
 ACCOUNTS_LIMIT, CHANNELS_LIMIT, DEPTH_LIMIT, LINKS_LIMIT = 1024, 1024, 32, 64
+# How many channels may be kept, with the root.
+KEPT_LIMIT = 2048
 POSITIONS = range(-(1 << 31), 1 << 31)
+# What describes a channel.
+INFO = ("description", "position", "max_users")
 
 
 # ---- accounts
@@ -92,24 +98,51 @@ def rights_of(channel, where, report):
     return rights | ({"groups": groups} if groups else {}) | ({"acls": entries} if entries else {})
 
 
-def channels_of(server, most_users, report):
-    """The channels in the order and with the numbers that they have in a configuration, and these numbers."""
-    refuse_above(len(server.channels), CHANNELS_LIMIT, "channels with the root")
+def order_of(server, limit):
+    """The order of the channels below the root in a configuration, and the numbers that they have there. There may be
+    `limit` channels with the root."""
+    refuse_above(len(server.channels), limit, "channels with the root")
     parents = {number: channel.parent for number, channel in server.channels.items() if number != ROOT}
     order, new = numbering(parents)
-    deepest = depths_of(parents, order)
-    refuse_above(max(deepest.values()), DEPTH_LIMIT, "levels of channels below the root")
-    names, entries = channel_names(server.channels, report), []
+    refuse_above(max(depths_of(parents, order).values()), DEPTH_LIMIT, "levels of channels below the root")
+    return order, new
+
+
+def contents_of(server, order, new, most_users, report):
+    """The names of the channels below the root, and what a configuration says of each beside its number, its parent and
+    its name."""
+    names, contents = channel_names(server.channels, report), {}
     for number in [ROOT, *order]:
         channel = server.channels[number]
         where = f"channel {new[number]} {names[number]}" if number else "the root"
-        head = {"id": new[number]} | ({"parent": new[channel.parent], "name": names[number]} if number else {})
-        entry = head | details_of(channel, where, most_users, report) | rights_of(channel, where, report)
-        if number or len(entry) > 1:
-            entries.append(entry)
+        contents[number] = details_of(channel, where, most_users, report) | rights_of(channel, where, report)
+    return names, contents
+
+
+def channels_of(server, most_users, report):
+    """The channels in the order and with the numbers that they have in a configuration, and these numbers."""
+    order, new = order_of(server, CHANNELS_LIMIT)
+    names, contents = contents_of(server, order, new, most_users, report)
+    entries = [{"id": ROOT} | contents[ROOT]] if contents[ROOT] else []
+    for number in order:
+        parent = new[server.channels[number].parent]
+        entries.append({"id": new[number], "parent": parent, "name": names[number]} | contents[number])
     if any(number != other for number, other in new.items()):
         report.changed("the numbers of channels", "now in the order of the tree: a parent comes before what is in it")
     return entries, new
+
+
+def rows_of(server, most_users, report):
+    """The channels and links as rows that are kept, with the numbers that they have."""
+    order, _ = order_of(server, KEPT_LIMIT)
+    same = {number: number for number in server.channels}
+    names, contents = contents_of(server, order, same, most_users, report)
+    rows = kept.Rows(links=[tuple(link) for link in links_of(server, same, report)])
+    for number, channel in sorted(server.channels.items()):
+        info = {key: value for key, value in contents[number].items() if key in INFO}
+        rows.channels[number] = kept.Channel(number, channel.parent or ROOT, names.get(number, "Root"), **info,
+                                             policy=kept.policy_of(number, contents[number]))
+    return rows
 
 
 def links_of(server, new, report):
@@ -129,22 +162,26 @@ def links_of(server, new, report):
 
 # ---- the whole
 
-def configuration(server, of_file, only_named, report):
-    """The text of a configuration of a virtual server and a file of settings."""
-    settings = Settings(server.settings, of_file, report)
+def migrated(server, of_file, only_named, keeps, report):
+    """The text of a configuration of a virtual server and a file of settings; and the rows of its channels and links
+    where these are kept (`keeps`), which the configuration then does not have, or else None."""
+    settings, rows = Settings(server.settings, of_file, report), None
     document = server_of(settings, report)
     most_users = settings.number("usersperchannel", 0) or 0
     document["accounts"] = accounts_of(server, only_named, report)
-    document["channels"], new = channels_of(server, most_users, report)
-    if links := links_of(server, new, report):
-        document["links"] = links
+    if keeps:
+        rows = rows_of(server, most_users, report)
+    else:
+        document["channels"], new = channels_of(server, most_users, report)
+        if links := links_of(server, new, report):
+            document["links"] = links
     if most_users:
         report.changed("the setting usersperchannel", f"now the limit of each channel that has none: {most_users}")
     settings.report_others()
     report_listen(server, report)
     report_rest(server, report)
     try:
-        return text_of(document)
+        return text_of(document), rows
     except TooLong as error:
         raise Refused(Status.TOO_MUCH, f"{error}; {sizes_of(document)}") from error
 

@@ -15,8 +15,9 @@ FIELDS = with_blocks(fields_of(query="2 flag"), bans=(1, fields_of(
 BANNED = bytes.fromhex("00040000000a0800120662616e6e6564")
 # How many bans there may be, and how long each of their texts, in bytes.
 BANS, TEXT = 1024, 1024
-# Anybody may kick and ban.
-ANYBODY_BANS = {"channels": [{"id": 0, "acls": [{"group": "all", "grant": PERMISSIONS["Ban"]}]}]}
+# Anybody may kick and ban, or kick alone.
+ANYBODY_BANS, ANYBODY_KICKS = ({"channels": [{"id": 0, "acls": [{"group": "all", "grant": PERMISSIONS[name]}]}]}
+                               for name in ("Ban", "Kick"))
 
 
 def bytes_of(address):
@@ -34,6 +35,11 @@ def ban(network, duration=0, **texts):
 
 def send_list(client, *bans):
     client.send(BAN_LIST, encode_by(FIELDS, {"bans": bans}))
+
+
+def send_lists(client, *lists):
+    """Several lists at once."""
+    client.stream.sendall(b"".join(frame(BAN_LIST, encode_by(FIELDS, {"bans": bans})) for bans in lists))
 
 
 def ask_list(client):
@@ -61,6 +67,10 @@ def set_list(client, *bans):
 
 def kick_with_a_ban(client, session, reason=""):
     client.send(USER_REMOVE, encode(USER_REMOVE, {"session": session, "reason": reason, "ban": True}))
+
+
+def kick(client, session, reason):
+    client.send(USER_REMOVE, encode(USER_REMOVE, {"session": session, "reason": reason}))
 
 
 def login(name):

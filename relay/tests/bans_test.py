@@ -9,8 +9,8 @@ import subprocess
 import sys
 import time
 
-from bans import (ANYBODY_BANS, BAN_LIST, BANS, TEXT, ask_list, ban, bytes_of, comes_in, is_banned, kick_with_a_ban,
-                  listed, send_list, set_list, stream_from)
+from bans import (ANYBODY_BANS, ANYBODY_KICKS, BAN_LIST, BANS, TEXT, ask_list, ban, bytes_of, comes_in, is_banned, kick,
+                  kick_with_a_ban, listed, send_list, send_lists, set_list, stream_from)
 from client import PATIENCE
 from crowds import LOGINS_A_SECOND, talkers_beside_the_banned
 from reader.mumble import PERMISSION_DENIED, PERMISSIONS, USER_REMOVE, VOICE, decode
@@ -243,32 +243,74 @@ def a_journal_with_bans_is_legal(folder):
     return f"{len(journal.splitlines())} lines, {totals.strip()}: {audited.stdout.strip()}"
 
 
+def lines_on_bans(server):
+    """What a server that has ended says of bans in its log, of connections by their numbers."""
+    return re.findall(r"^murmur: (\d+ (?:sent|was|banned|is) .*)$", server.log(), re.M)
+
+
 @test
 def bans_are_in_the_log(folder):
-    """A line for each list that is set, each ban that is asked for, and each that is met."""
+    """A line for each ban that is set, added or met, and for each list that is sent."""
     with Server(folder, 3, proxied(), ANYBODY_BANS) as server:
         ann, bob = (comes_in(server, f"203.0.113.{at}", name) for at, name in ((2, "ann"), (3, "bob")))
-        kick_with_a_ban(ann, bob.session, "noise")
+        banned = bob.session
+        kick_with_a_ban(ann, banned, "noise")
         ended_with(bob, USER_REMOVE)
         assert is_banned(server, "203.0.113.3")
         set_list(ann)
         ann.close()
         server.totals()
-        lines = [line for line in server.log().splitlines() if re.search(r"\bbans?\b|\bbanned\b", line)]
-    assert lines == ["murmur: 1 asked for a ban", "murmur: 3 is banned", "murmur: 1 sent a list of bans"], lines
+        assert lines_on_bans(server) == [f"1 banned session {banned}", "3 is banned", "1 sent a list of bans",
+                                         "1 was sent the list of bans"], server.log()
 
 
 @test
-def a_server_where_all_have_one_address_says_what_bans_need(folder):
+def what_is_denied_is_told_apart_in_the_log(folder):
+    """Of who may not ban, and of lists that may not be. A kick is no ban, whatever its reason."""
+    with Server(folder, 3, proxied(), ANYBODY_KICKS) as server:
+        ann, bob, cat = (comes_in(server, f"203.0.113.{at}", name) for at, name in ((2, "ann"), (3, "bob"), (4, "cat")))
+        for ask in (lambda: send_list(ann), lambda: ask_list(ann), lambda: kick_with_a_ban(ann, bob.session)):
+            ask()
+            denied(ann)
+        kick(ann, bob.session, "noise \1")
+        ended_with(bob, USER_REMOVE)
+        ann.close()
+        cat.close()
+        server.totals()
+        assert lines_on_bans(server) == ["1 sent a list of bans", *["1 was denied Ban"] * 3], server.log()
+    with Server(folder, 1, proxied()) as server:
+        ann = comes_in(server, "203.0.113.2", "ann")
+        kick_with_a_ban(ann, ann.session)
+        denied(ann)
+        ann.close()
+        server.totals()
+        assert lines_on_bans(server) == ["1 was denied Kick"], server.log()
+    with Server(folder, 1, proxied(), ANYBODY_BANS) as server:
+        ann = comes_in(server, "203.0.113.2", "ann")
+        send_list(ann, ban("203.0.113.0/24", reason="r" * (TEXT + 1)))
+        denied(ann)
+        # two in one piece, of which the second ends as a query does
+        send_lists(ann, [], [{"address": bytes_of("203.0.113.9"), "mask": 1}])
+        assert len(listed(ann)) == 1
+        ann.close()
+        server.totals()
+        assert lines_on_bans(server) == ["1 sent a list of bans", "1 was refused", *["1 sent a list of bans"] * 2,
+                                         "1 was sent the list of bans"], server.log()
+
+
+@test
+def a_server_without_headers_says_by_which_address_bans_go(folder):
+    """Over a Unix socket and over TCP, where each connection has the address that connects. With headers no line is said."""
     lines = {}
-    for form in ("unix:the.sock", proxied()):
+    for form in ("unix:the.sock", f"127.0.0.1:{free_port()}", proxied()):
         with Server(folder, 1, form) as server:
             comes_in(server, "203.0.113.2" if form.startswith("proxy:") else None, "ann").close()
             server.totals()
             lines[form] = [line for line in server.log().splitlines() if re.search(r"\bbans?\b", line)]
-    without, with_headers = lines.values()
-    assert len(without) == 1 and "proxy:unix:the.sock" in without[0] and not with_headers, lines
-    return without[0]
+    *without, with_headers = lines.values()
+    assert not with_headers and all(len(said) == 1 for said in without), lines
+    assert all(f"proxy:{form}," in said[0] for form, said in zip(lines, without)), lines
+    return without[0][0]
 
 
 @test

@@ -12,7 +12,7 @@ import subprocess
 import sys
 import tempfile
 
-from trial import PROGRAM, RELAY, run_checks
+from trial import PROGRAM, RELAY, WHY, run_checks
 
 PASSWORD = "long enough, with \"quotes\" and \\"
 
@@ -115,12 +115,14 @@ def the_unit_knows_each_status_that_stays_so():
     assert named and set(named) <= set(re.findall(r"^\| (\d+) \|", ends, re.M)), named
 
 
-def the_man_page_is_right():
-    done = passed(run("man", "--warnings", "-l", path("murmur.1"), env={**os.environ, "MANROFFSEQ": "", "LC_ALL": "C.UTF-8"}))
-    assert not done.stderr and "SYNOPSIS" in done.stdout, done.stderr
-    usage = run(PROGRAM).stderr
-    for command in ("replay", "audit", "exercise", "serve"):
-        assert command in usage and f"murmur {command}" in done.stdout, command
+def the_man_pages_are_right():
+    for page, program, commands in (("murmur.1", PROGRAM, ("replay", "audit", "exercise", "serve")),
+                                    ("murmur-why.1", WHY, ("heard", "who", "may", "other"))):
+        done = passed(run("man", "--warnings", "-l", path(page), env={**os.environ, "MANROFFSEQ": "", "LC_ALL": "C.UTF-8"}))
+        assert not done.stderr and "SYNOPSIS" in done.stdout, done.stderr
+        usage = run(program).stderr
+        for command in commands:
+            assert command in usage and f"{page.removesuffix('.1')} {command}" in done.stdout, command
 
 
 def completion_knows_the_words():
@@ -131,16 +133,24 @@ def completion_knows_the_words():
         "murmur serve proxy:u": "unix:",
         "murmur serve proxy:unix:/et": "/etc/",
         "murmur serve 127.0.0.1:64738 1": "1000 1000000",
-        "murmur serve 127.0.0.1:64738 1 ": "journal view",
+        "murmur serve 127.0.0.1:64738 1 ": "journal keep view",
         "murmur serve 127.0.0.1:64738 1 journal ": "view",
         "murmur serve 127.0.0.1:64738 1 journal view unix:/et": "/etc/",
         "murmur serve 127.0.0.1:64738 1 view [::1]:5 1": "1000 1000000",
-        "murmur serve 127.0.0.1:64738 1 view [::1]:5 1 ": "",
+        "murmur serve 127.0.0.1:64738 1 view [::1]:5 1 ": "keep",
+        "murmur serve 127.0.0.1:64738 1 keep /et": "/etc",
+        "murmur serve 127.0.0.1:64738 1 view [::1]:5 1 keep /et": "/etc",
         "murmur replay ": "",
+        "murmur-why ": "heard who may other",
+        "murmur-why h": "heard",
+        "murmur-why heard ": "-",
+        "murmur-why other /et": "/etc",
+        "murmur-why who ": "",
     }
     for line, wanted in asked.items():
-        done = passed(run("bash", "-c", 'source "$1"; COMP_LINE=$2 COMP_POINT=${#2}; _murmur; echo "${COMPREPLY[*]}"', "-",
-                          path("completion.bash"), line))
+        done = passed(run("bash", "-c", 'source "$1"; COMP_LINE=$2 COMP_POINT=${#2} COMP_WORDS=("${@:4}") COMP_CWORD=$(($# - 4))\n'
+                          '"$3"; echo "${COMPREPLY[*]}"', "-", path("completion.bash"), line,
+                          "_" + line.split(" ")[0].replace("-", "_"), *line.split(" ")))
         assert done.stdout.rstrip("\n") == wanted, (line, done.stdout)
 
 
@@ -195,7 +205,7 @@ def a_password_is_set_at_the_terminal_and_not_seen():
 
 CHECKS = [haproxy_takes_the_installed_configuration, murmur_takes_the_configuration, no_known_password_opens_anything,
           the_unit_is_right_and_hardened, the_unit_serves_as_many_connections_as_there_may_be,
-          the_timer_restarts_it_at_night, the_unit_knows_each_status_that_stays_so, the_man_page_is_right,
+          the_timer_restarts_it_at_night, the_unit_knows_each_status_that_stays_so, the_man_pages_are_right,
           completion_knows_the_words,
           a_password_is_set_at_the_terminal_and_not_seen]
 

@@ -14,7 +14,7 @@ import time
 from pathlib import Path
 
 from machine import FOLDER, Machine
-from trial import PASSWORD, PROGRAM, RELAY, free_port, run_checks, wait
+from trial import PASSWORD, PROGRAM, RELAY, WHY, free_port, run_checks, wait
 
 TOP = os.path.dirname(RELAY)
 MAKE_DEB = os.path.join(TOP, "package/make-deb")
@@ -48,7 +48,7 @@ def commands(heading):
 
 def make_package(folder, version, relay=None):
     """A package of the program under test; with `relay`, its relay.cfg is as that function makes it."""
-    subprocess.run([MAKE_DEB, "--for-tests", version, PROGRAM], cwd=folder, check=True, stdout=subprocess.DEVNULL)
+    subprocess.run([MAKE_DEB, "--for-tests", version, PROGRAM, WHY], cwd=folder, check=True, stdout=subprocess.DEVNULL)
     if relay:
         with tempfile.TemporaryDirectory() as room:
             subprocess.run(["dpkg-deb", "-R", "murmur.deb", f"{room}/it"], cwd=folder, check=True)
@@ -253,6 +253,7 @@ class Fresh:
         assert "legal" in self.machine.run(f"murmur-audit {journal}")
         assert "legal" in self.machine.run(f"murmur-redact {journal} > redacted && murmur-audit redacted")
         assert "<svg" in self.machine.run("murmur-picture /usr/share/doc/murmur/examples/three-talk")
+        assert "1 ann is the speaker" in self.machine.run(f"murmur-why who 1 0 < {journal}")
         assert "OK" in self.machine.run("sha256sum -c /usr/share/doc/murmur/sha256")
         assert "relay.cfg" in self.machine.run("zcat /usr/share/man/man1/murmur.1.gz")
         assert "murmur" in self.machine.run("bash -c 'source /usr/share/bash-completion/completions/murmur && complete -p murmur'")

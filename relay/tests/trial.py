@@ -9,6 +9,7 @@ import traceback
 os.environ["PATH"] += ":/usr/sbin"
 RELAY = os.path.dirname(os.path.dirname(os.path.abspath(__file__)))
 PROGRAM = os.path.abspath(os.environ.get("MURMUR") or os.path.join(RELAY, "../crates/murmur/out/murmur"))
+WHY = os.path.abspath(os.environ.get("MURMUR_WHY") or os.path.join(RELAY, "../crates/murmur_why/out/murmur_why"))
 # What makes `relay/try` take a program that was built without proofs.
 UNPROVED = ["--unproved"] if os.path.basename(os.path.realpath(PROGRAM)).startswith("murmur-unproved") else []
 PASSWORD = "a password for the test"

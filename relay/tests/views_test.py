@@ -4,6 +4,7 @@
 Each view is compared with what clients of the same server were sent. Prints a line a test; the status is 1 where one
 failed.
 """
+import json
 import os
 import socket
 import subprocess
@@ -11,12 +12,13 @@ import sys
 import time
 from concurrent.futures import ThreadPoolExecutor
 from contextlib import suppress
+from pathlib import Path
 
 from client import PATIENCE
 from crowds import LONG, LONG_LIVED, VIEWS_A_SECOND, ask, fill, talkers_at_a_door_for_views
 from reader.mumble import CHANNEL_REMOVE, CHANNEL_STATE, PERMISSIONS, USER_REMOVE, USER_STATE, VOICE, decode
 from server import MANY_VIEWS, Server, Tests, ViewServer, read_to_the_end
-from trial import RELAY, free_port, wait
+from trial import RELAY, WHY, free_port, wait
 from viewing import TRAPS, TWO_USERS, channel, document, user
 
 # How many views are open at once, how many come in a second, and how many of them at once.
@@ -25,6 +27,8 @@ OPEN, A_SECOND, AT_ONCE = 16, 10, 20
 VIEW_PATIENCE, SLACK = 10, 2
 # For how long a flood of connections lasts, in seconds.
 FLOOD_SECONDS = 4
+
+WHY_NOW = os.path.join(RELAY, "../docs/why-now")
 
 test = Tests()
 
@@ -146,6 +150,43 @@ def what_two_users_do_is_in_the_next_view(folder):
         totals = server.totals()
         assert totals["viewed"] == len(deeds) + 2 and totals["looks"] >= 2 * len(deeds), totals
     return f"{len(deeds) + 2} views, {totals['looks']} packets"
+
+
+@test
+def why_now_names_those_who_hear(folder):
+    """And says why the others do not: what it says of a view is what comes of a packet of ann's."""
+    silent = {"id": 3, "parent": 0, "name": "Silent", "acls": [{"group": "all", "deny": PERMISSIONS["Speak"]}]}
+    rooms = {"channels": [{"id": 1, "parent": 0, "name": "Lobby"}, {"id": 2, "parent": 0, "name": "Hall"}, silent],
+             "links": [[1, 2], [1, 3]]}
+    deeds = {"ann": [{"channel_id": 1}], "bob": [{"channel_id": 1}], "cat": [{"channel_id": 2}],
+             "dan": [{"channel_id": 3}], "eve": [{"listening_channel_add": [1]}],
+             "fay": [{"channel_id": 1}, {"self_deaf": 1}], "gus": []}
+    with ViewServer(folder, len(deeds), document=rooms) as server:
+        people = {name: server.client().log_in(name) for name in deeds}
+        for name, client in people.items():
+            for deed in deeds[name]:
+                ask(client, USER_STATE, session=client.session, **deed)
+                for other in people.values():
+                    seen_so(other, client.session, **deed)
+        Path(folder, "view.json").write_bytes(server.view())
+        Path(folder, "rooms.json").write_text(json.dumps(rooms), encoding="utf-8")
+        said = subprocess.run([WHY_NOW, "view.json", "rooms.json", "ann"], cwd=folder, capture_output=True, text=True,
+                              env={**os.environ, "MURMUR_WHY": WHY}, check=False)
+        lines = said.stdout.splitlines()[1:]
+        words = dict(zip(people, (line.split(" ", 2)[2] for line in lines)))
+        assert words == {
+            "ann": "is the speaker", "bob": "talk", "cat": "talk",
+            "dan": "the speaker lacks Speak in 3 Silent: denied by entry 0 of 3 Silent (group all)",
+            "eve": "listening", "fay": "deafened itself", "gus": "is not where the speaker is heard",
+        }, (said.stdout, said.stderr)
+        talk(people["ann"])
+        for name, client in people.items():
+            if words[name] in ("talk", "listening"):
+                client.wait(VOICE)
+        for client in people.values():
+            client.read(0.05)
+        hearers = [name for name, client in people.items() if any(kind == VOICE for kind, _ in client.frames)]
+        assert hearers == ["bob", "cat", "eve"], hearers
 
 
 @test

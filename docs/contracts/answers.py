@@ -85,9 +85,8 @@ def named(call, fault, variants):
     return list(found)
 
 
-def answers_of(call, cases):
-    """What a call may answer, in words of code, and whether memory may run out; the enums whose variants a reader needs
-    are put into `cases`."""
+def answers_of(call):
+    """What a call may answer, in words of code, and whether memory may run out."""
     name, inner = parts_of(split(call.signature)[1])
     words, memory = [], False
     if name == "Result" and len(inner) == 2:
@@ -95,10 +94,7 @@ def answers_of(call, cases):
         enum = enum_of(call.file, fault)
         if enum:
             memory = OUT_OF_MEMORY in enum[1] and not is_in_place(call)
-            words = named(call, fault, enum[1])
-            if not words:
-                cases[fault, enum[0]] = enum[1]
-                words = [fault]
+            words = named(call, fault, enum[1]) or [fault]
         elif fault in (OUT_OF_MEMORY, "AllocError"):
             memory = True
         else:
@@ -109,7 +105,6 @@ def answers_of(call, cases):
         name = parts_of(inner[0])[0]
     enum = enum_of(call.file, name)
     if enum and name not in call.name.split("::")[:-1]:
-        cases[name, enum[0]] = enum[1]
         words.append(name)
     return words, memory
 

@@ -1,8 +1,8 @@
 -- Worked rows of the definitions of the outside in memory.
-use Rattle.std.proofs.Common.{◌≡◌, ℕ, List, [], ◌∷◌, refl}
+use Rattle.std.proofs.Common.{◌≡◌, ℕ, true, List, [], ◌∷◌, refl}
 use Rattle.mum_io.specs.MemClock.{ClockState, after_now, new_clock}
 use Rattle.mum_io.specs.MemDoor.{accept_answer, events_behind}
-use Rattle.mum_io.specs.MemLink.{LinkState, after_event, bytes_of, due, read_answer}
+use Rattle.mum_io.specs.MemLink.{LinkState, after_event, after_poll_read, bytes_of, due, poll_read_answer, read_answer}
 use Rattle.mum_io.specs.declared.door.Accept.{Accept}
 use Rattle.mum_io.specs.declared.door.Accept.TheVariants as accepted
 use Rattle.mum_io.specs.declared.link.PollRead.{PollRead}
@@ -28,6 +28,11 @@ empty_pieces_answer_nothing = refl
 -- no event comes behind an end
 an_end_lasts : reads (4 ∷ 4 ∷ []) (End ∷ Piece (5 ∷ []) ∷ []) ≡ read.End ∷ read.End ∷ []
 an_end_lasts = refl
+
+-- once it was shut, a link fails at each read, and leaves its events
+a_shut_link_fails : (link : LinkState) → (poll_read_answer (record link { is_shut = true }) 4 ≡ read.Failed)
+    × ((after_poll_read (record link { is_shut = true }) 4 read.Failed).events ≡ link.events)
+a_shut_link_fails link = (refl, refl)
 
 bytes_before_the_end : bytes_of (Piece (7 ∷ []) ∷ Fail ∷ Piece (8 ∷ 9 ∷ []) ∷ End ∷ Piece (5 ∷ []) ∷ []) ≡ 7 ∷ 8 ∷ 9 ∷ []
 bytes_before_the_end = refl

@@ -1,5 +1,5 @@
 -- A link in memory: what it has, what its reads and writes answer, and what they leave.
-use Rattle.std.specs.Prelude.{ℕ, ◌==◌, Bool, false, List, [], ◌∷◌, ◌++◌, length, min, drop, Some, if◌then◌else◌}
+use Rattle.std.specs.Prelude.{ℕ, ◌==◌, ◌||◌, Bool, false, List, [], ◌∷◌, ◌++◌, length, min, drop, Some, if◌then◌else◌}
 use Rattle.mum_io.specs.Calls.{CallNumbers, after_call, before_calls, next_fails}
 use Rattle.mum_io.specs.Counts.{Counts, next_count, no_counts}
 use Rattle.mum_io.specs.Link.{LinkFacts}
@@ -86,15 +86,27 @@ counts_after read.End counts = record counts { ends = next_count counts.ends }
 counts_after read.NotYet counts = record counts { stalls = next_count counts.stalls }
 counts_after read.Failed counts = record counts { faults = next_count counts.faults }
 
-abbrev pub after_poll_read : LinkState → ℕ → PollRead → LinkState
-after_poll_read link room answer = record link { events = after_event room (due link.events); counts = counts_after answer link.counts }
+-- what a read with this much room answers; once the link was shut it fails
+abbrev pub poll_read_answer : LinkState → ℕ → PollRead
+poll_read_answer link room = if link.is_shut then read.Failed else read_answer room (due link.events)
 
--- a write that failed and is not one of those that fail ran out of memory; none finds the link not ready
+-- and then it takes no event
+abbrev pub after_poll_read : LinkState → ℕ → PollRead → LinkState
+after_poll_read link room answer = record link {
+  events = if link.is_shut then link.events else after_event room (due link.events);
+  counts = counts_after answer link.counts;
+}
+
+-- the next write is one of those that fail, or the link was shut
+abbrev pub refuses : LinkState → Bool
+refuses link = next_fails link.writes || link.is_shut
+
+-- a write that failed and is not one of these ran out of memory; none finds the link not ready
 abbrev pub after_poll_write : LinkState → List ℕ → PollWrite → LinkState
 after_poll_write link piece (written.Took n) = record link { written = link.written ++ piece; writes = after_call link.writes }
 after_poll_write link piece written.NotYet = link
 after_poll_write link piece written.Failed = record link {
   writes = after_call link.writes;
   counts = record link.counts { faults = next_count link.counts.faults };
-  starved = if next_fails link.writes then link.starved else next_count link.starved;
+  starved = if refuses link then link.starved else next_count link.starved;
 }

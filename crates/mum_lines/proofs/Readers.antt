@@ -9,7 +9,7 @@ use Rattle.mum_io.specs.Outside.{Consumes, IsAtEnd, Keeps}
 use Rattle.mum_io.proofs.OutsideLemmas.{Consumes-kept, Consumes-trans}
 use Rattle.mum_record.specs.Lines.{is_line_feed}
 use Rattle.mum_record.specs.declared.split.TheConstants.{LINE_LIMIT}
-use Rattle.mum_lines.specs.Lines.{HasNoLineFeed, IsOpen, Parts, ReaderState, line_length}
+use Rattle.mum_lines.specs.Lines.{HasNoLineFeed, IsUnended, Parts, ReaderState, line_length}
 use Rattle.mum_lines.specs.Seeking.{ReadOn}
 use Rattle.mum_lines.proofs.LineFeeds.{first-stays, found-at, found-none, is-none}
 
@@ -38,7 +38,7 @@ reads_none first mid last a b c read is keeps = record {
 
 -- what is kept may go on
 pub opened : (room : ℕ) (kept mid : List ℕ) → kept ≡ mid → None ≡ position is_line_feed mid → (((LINE_LIMIT < length mid) ⊎ (room < length mid)) → ⊥)
-    → IsOpen (record { kept = kept; room = room })
+    → IsUnended kept room
 opened room kept mid is none few = record {
   unended = ap (position is_line_feed) is ∙ sym none;
   short = elim (cases_lt LINE_LIMIT (length kept)) [
@@ -80,10 +80,10 @@ front_has_none bytes at found =
     ]
 
 -- a line that was found is given
-pub gives_line : (old : ReaderState) (mid : List ℕ) (at : ℕ) (line rest : List ℕ) (room : ℕ) (a b : Option (List ℕ)) → ReadOn old.kept mid a b → position is_line_feed mid ≡ Some at
-    → at < old.room → length mid ≤ LINE_LIMIT + 1 → line ≡ take at mid → rest ≡ drop (at + 1) mid → room ≡ old.room - (at + 1)
-    → Parts line old (record { kept = rest; room = room }) a b
-gives_line old mid at line rest room a b read found within fits line_is rest_is room_is =
+pub gives_line : (old : ReaderState) (mid : List ℕ) (at : ℕ) (line rest : List ℕ) (room buffer : ℕ) (a b : Option (List ℕ)) → ReadOn old.kept mid a b → position is_line_feed mid ≡ Some at
+    → at < old.room → length mid ≤ LINE_LIMIT + 1 → line ≡ take at mid → rest ≡ drop (at + 1) mid → room ≡ old.room - (at + 1) → buffer ≡ old.buffer
+    → Parts line old (record { kept = rest; room = room; buffer = buffer }) a b
+gives_line old mid at line rest room buffer a b read found within fits line_is rest_is room_is buffer_is =
     let f = found-at is_line_feed mid at found in
     let long : length line ≡ at = ap length line_is ∙ length-take-le at mid (omega (arith, f.1)) in
     record {
@@ -93,4 +93,5 @@ gives_line old mid at line rest room a b read found within fits line_is rest_is 
       one_line = rw line_is (front_has_none mid at found);
       short = omega (arith, long, f.1, fits);
       room = omega (arith, long, room_is, within);
+      buffer = buffer_is;
     }

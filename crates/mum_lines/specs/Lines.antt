@@ -27,20 +27,26 @@ IsTooLong room bytes = (LINE_LIMIT < line_length bytes) ⊎ (room < begun bytes)
 
 -- ---- a reader
 
--- the bytes that were read and are not given yet, and how many bytes the input may have from these on
+-- the bytes that were read and are not given yet, how many bytes the input may have from these on, and how many bytes the
+-- buffer has
 pub record ReaderState : Type 0 where
   pub kept : List ℕ
   pub room : ℕ
+  pub buffer : ℕ
 
--- before the first line
+-- before the first line; the buffer has room for the longest line and its line feed
 abbrev pub at_start : ReaderState
-at_start = record { kept = []; room = INPUT_LIMIT }
+at_start = record { kept = []; room = INPUT_LIMIT; buffer = LINE_LIMIT + 1 }
 
--- the line that is kept has not ended, and is not too long yet
-pub record IsOpen (reader : ReaderState) : Type 0 where
-  pub unended : HasNoLineFeed reader.kept
-  pub short : length reader.kept ≤ LINE_LIMIT
-  pub within : length reader.kept ≤ reader.room
+-- a line of which this much was read has not ended, and is not too long yet for an input that may have so many bytes
+pub record IsUnended (line : List ℕ) (room : ℕ) : Type 0 where
+  pub unended : HasNoLineFeed line
+  pub short : length line ≤ LINE_LIMIT
+  pub within : length line ≤ room
+
+-- the line that is kept is such a line
+abbrev pub IsOpen : ReaderState → Type 0
+IsOpen reader = IsUnended reader.kept reader.room
 
 -- bytes were read, and none was given
 pub record Reads (old new : ReaderState) (left left_after : Option (List ℕ)) : Type 0 where
@@ -48,6 +54,7 @@ pub record Reads (old new : ReaderState) (left left_after : Option (List ℕ)) :
   pub consumed : Consumes left left_after taken
   pub kept : new.kept ≡ old.kept ++ taken
   pub room : new.room ≡ old.room
+  pub buffer : new.buffer ≡ old.buffer
 
 -- bytes were read, and a line was given: what was kept and what was read are the line, its line feed and what is kept
 pub record Parts (line : List ℕ) (old new : ReaderState) (left left_after : Option (List ℕ)) : Type 0 where
@@ -57,6 +64,7 @@ pub record Parts (line : List ℕ) (old new : ReaderState) (left left_after : Op
   pub one_line : HasNoLineFeed line
   pub short : length line ≤ LINE_LIMIT
   pub room : old.room ≡ length line + 1 + new.room
+  pub buffer : new.buffer ≡ old.buffer
 
 -- of a source that told its bytes none is left
 abbrev pub IsExhausted : Option (List ℕ) → Option (List ℕ) → Type 0

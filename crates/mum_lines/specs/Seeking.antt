@@ -9,7 +9,7 @@ use Rattle.mum_lines.specs.declared.reader.LineEnd.{LineEnd}
 use Rattle.mum_lines.specs.declared.reader.LineEnd.TheVariants as ends
 use Rattle.mum_lines.specs.declared.reader.Sought.{Sought}
 use Rattle.mum_lines.specs.declared.reader.Sought.TheVariants.{LineFeed, End, TooLong, Failed}
-use Rattle.mum_lines.specs.Lines.{IsExhausted, IsOpen, IsTooLong}
+use Rattle.mum_lines.specs.Lines.{IsExhausted, IsTooLong, IsUnended}
 
 -- the bytes that were read and are not given yet
 abbrev pub kept_in : Buffer → List ℕ
@@ -30,10 +30,11 @@ pub record ReadOn (old new : List ℕ) (left left_after : Option (List ℕ)) : T
 -- and they end at a line feed, or where no more is to be read
 abbrev pub Seeks : Sought → ℕ → List ℕ → List ℕ → Option (List ℕ) → Option (List ℕ) → Type 0
 Seeks (LineFeed at) room old new left left_after = ReadOn old new left left_after × (position is_line_feed new ≡ Some at) × (at < room)
-Seeks End room old new left left_after = ReadOn old new left left_after × IsOpen (record { kept = new; room = room }) × IsExhausted left left_after
+Seeks End room old new left left_after = ReadOn old new left left_after × IsUnended new room × IsExhausted left left_after
 Seeks TooLong room old new left left_after = ReadOn old new left left_after × IsTooLong room new
-Seeks Failed room old new left left_after = ReadOn old new left left_after × IsOpen (record { kept = new; room = room })
+Seeks Failed room old new left left_after = ReadOn old new left left_after × IsUnended new room
 
+-- a failed read is counted, and nothing else
 abbrev pub CountsSought : Sought → ℕ → ℕ → Type 0
 CountsSought Failed old new = Rose old new
 CountsSought others old new = new ≡ old

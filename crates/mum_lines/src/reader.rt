@@ -27,8 +27,8 @@ pub enum LineEnd<'a> {
 }
 
 /// Reads an input line by line through one buffer, which has room for the greatest line and its line feed.
-/// A contract sees the bytes that were read and are not given yet, and how many bytes the input may have
-/// from these on.
+/// A contract sees the bytes that were read and are not given yet, how many bytes the input may have from these
+/// on, and the size of the buffer, in bytes, which never changes.
 #[derive(Drop)]
 pub struct LineReader {
     buffer: Buffer,
@@ -37,13 +37,14 @@ pub struct LineReader {
 
 impl Model for LineReader {
     ghost use Rattle.std.specs.Prelude.{◌≤◌};
+    ghost use Rattle.std.specs.Vec.{vec_len};
     ghost use Rattle.mum_record.specs.declared.split.TheConstants.{INPUT_LIMIT};
     ghost use Rattle.mum_lines.specs.Lines.{ReaderState};
     ghost use Rattle.mum_lines.specs.Seeking.{kept_in};
 
     ghost Value = { ReaderState };
 
-    ghost view = { λ r. record { kept = kept_in r.buffer; room = r.room } };
+    ghost view = { λ r. record { kept = kept_in r.buffer; room = r.room; buffer = vec_len r.buffer.bytes } };
 }
 
 // What a search for the next line feed came to.

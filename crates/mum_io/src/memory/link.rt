@@ -2,9 +2,8 @@
 
 ghost use Rattle.std.specs.Prelude.{◌≡◌, ◌≢◌, ℕ, ◌<◌, ◌++◌, [], true, IsTrue, OnErr, OnOk, Some, length, replicate};
 ghost use Rattle.std.specs.Option.{ForSome};
-ghost use Rattle.mum_io.specs.Calls.{next_fails};
 ghost use Rattle.mum_io.specs.Link.{Keeps, PollReadCounts, PollReadLeaves, PollWriteCounts, PollWriteLeaves};
-ghost use Rattle.mum_io.specs.MemLink.{after_event, after_poll_read, after_poll_write, bytes_of, due, link_facts, read_answer, with_rest};
+ghost use Rattle.mum_io.specs.MemLink.{after_event, after_poll_read, after_poll_write, bytes_of, due, link_facts, poll_read_answer, read_answer, refuses, with_rest};
 
 use super::unread::Unread;
 use crate::calls::Calls;
@@ -82,7 +81,7 @@ impl Kept {
 }
 
 /// A link in memory. Its reads go along a list of events, and behind the last one find the end. A write takes
-/// the whole piece.
+/// the whole piece. Once it was shut each read and each write fails.
 #[derive(Drop)]
 pub struct MemLink {
     piece: Unread,
@@ -201,10 +200,16 @@ impl Link for MemLink {
         ensures address { self.new.address ≡ self.old.address }
         ensures is_shut { self.new.is_shut ≡ self.old.is_shut }
 
-        ensures answer { result ≡ read_answer (length buf.old) (due self.old.events) }
+        // Once it was shut it fails, and no byte is taken.
+        ensures silent { IsTrue self.old.is_shut → (result ≡ PollRead.Failed) × (self.new.events ≡ self.old.events) }
+        ensures answer { result ≡ poll_read_answer self.old (length buf.old) }
         ensures state { self.new ≡ after_poll_read self.old (length buf.old) result }
     {
-        let answer = read_events(&mut self.piece, &mut self.events, buf);
+        let answer = if self.is_shut {
+            PollRead::Failed
+        } else {
+            read_events(&mut self.piece, &mut self.events, buf)
+        };
         match answer {
             PollRead::Got(_) => {}
             PollRead::End => self.tally.count_end(),
@@ -224,11 +229,13 @@ impl Link for MemLink {
         ensures is_shut { self.new.is_shut ≡ self.old.is_shut }
 
         ensures ready { result ≢ PollWrite.NotYet }
-        ensures fails { IsTrue (next_fails self.old.writes) → result ≡ PollWrite.Failed }
+        ensures fails { IsTrue (refuses self.old) → result ≡ PollWrite.Failed }
+        // Once it was shut it fails, and no byte is written.
+        ensures silent { IsTrue self.old.is_shut → (result ≡ PollWrite.Failed) × (self.new.written ≡ self.old.written) }
         ensures whole { (n : ℕ) → result ≡ PollWrite.Took n → n ≡ length piece.now }
         ensures state { self.new ≡ after_poll_write self.old piece.now result }
     {
-        if self.writes.begin() {
+        if self.writes.begin() || self.is_shut {
             self.tally.count_fault();
             return PollWrite::Failed;
         }

@@ -1,4 +1,5 @@
-use Rattle.std.proofs.Common.{◌≡◌, ◌+◌, ◌-◌, ◌≤◌, ◌∙◌, ℕ, length, ap, refl, arith, length-take, length-drop}
+use Rattle.std.proofs.Common.{◌≡◌, ◌+◌, ◌-◌, ◌≤◌, ◌∙◌, ℕ, length, ap, refl, sym, arith, length-take, length-drop}
+use Rattle.std.specs.Vec.{vec_len}
 use Rattle.mum_record.specs.declared.split.TheConstants.{LINE_LIMIT}
 use Rattle.mum_lines.specs.Lines.{ReaderState}
 use Rattle.mum_lines.specs.Seeking.{kept_in}
@@ -16,13 +17,16 @@ returns-in-LineFeed g c =
     let buffer = c.seek.new.buffer in
     let at = c.in-LineFeed.at in
     let kept : kept_in c.self.inside.buffer ≡ c.args.self.now.kept = ap (λ (r : ReaderState). r.kept) c.self.view_is in
-    let room : c.self.inside.room ≡ c.args.self.now.room = ap (λ (r : ReaderState). r.room) c.self.view_is in (
+    let room : c.self.inside.room ≡ c.args.self.now.room = ap (λ (r : ReaderState). r.room) c.self.view_is in
+    let rest = c.drop_line-start.new.self in
+    let stays : vec_len rest.bytes ≡ c.args.self.now.buffer =
+    rest.sized ∙ sym c.self.inside.buffer.sized ∙ ap (λ (r : ReaderState). r.buffer) c.self.view_is in (
       (
         refl,
         λ _. tt,
-        rw room (gives_line c.args.self.now (kept_in buffer) at c.part.result.now (kept_in c.drop_line-start.new.self) (c.args.self.now.room - (at + 1))
+        rw room (gives_line c.args.self.now (kept_in buffer) at c.part.result.now (kept_in rest) (c.args.self.now.room - (at + 1)) (vec_len rest.bytes)
             (left c.args.input.now) (left c.seek.new.input) (rw (← kept) sought.0) sought.1 (rw (← room) sought.2) (fits buffer)
-            (c.part.ensures ∙ c.drop_line-start.ensures.line) c.drop_line-start.ensures.rest refl),
+            (c.part.ensures ∙ c.drop_line-start.ensures.line) c.drop_line-start.ensures.rest refl stays),
       ),
       record { lines = tt; counts = c.in-LineFeed.ensures.counts; unread = rw (← kept) c.in-LineFeed.ensures.unread },
     )

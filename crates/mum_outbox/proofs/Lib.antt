@@ -3,4 +3,5 @@ pub mod Numbers
 pub mod Offers
 pub mod Takes
 pub mod Forks
+pub mod Giving
 pub mod Moments

@@ -7,7 +7,7 @@ use Rattle.crossbeam_queue.proofs.Lists.{set_here}
 use Rattle.mum_outbox.specs.declared.rule.Tagged.{Tagged}
 use Rattle.mum_outbox.specs.declared.rule.Hand.{Hand}
 use Rattle.mum_outbox.specs.Rule.{StandsAt, IsNumbered, IsBefore, IsAsOffered, IsSomewhere, LosesNone, TakeApart, BoxRule, TaggedRule, item_of}
-use Rattle.mum_outbox.proofs.Hands.{within, Contains-cons_cases, pairs_tail, pairs_without, pairs_across, Follows, follows_set, as_offered_still, somewhere_still, each_set, two_set}
+use Rattle.mum_outbox.proofs.Hands.{within, Contains-cons_cases, pairs_front, pairs_tail, pairs_without, pairs_across, Follows, follows_set, as_offered_still, somewhere_still, each_set, two_set}
 use Rattle.mum_outbox.proofs.Numbers.{numbers_kept}
 
 module _ {I : Type 0} where
@@ -54,6 +54,11 @@ module _ {I : Type 0} where
         let h = behind j u e a c numbered (omega arith, omega arith) eq_by in absurd (omega arith))
         (Contains-push_cases v.taken x b d)
 
+    -- all that it has taken is in order
+    taken_so_far : AllPairs IsBefore (v.taken ++ x ∷ [])
+    taken_so_far = pairs_front IsBefore (v.taken ++ x ∷ []) items
+        (subst (AllPairs IsBefore) (sym (append_assoc v.taken (x ∷ []) items)) (rule.taken_in_order port v at))
+
     take_keeps : BoxRule capacity items taken_to
     take_keeps = record {
       bounded = let h = rule.bounded in omega arith;
@@ -71,13 +76,13 @@ module _ {I : Type 0} where
     }
 
   -- the front leaves, with its tag
-  pub takes : (capacity port : ℕ) (v : Hand I) → Pops (TaggedRule {I = I} capacity) port v (λ item w. (x : Tagged I) × (x.item ≡ item) × (w ≡ record v { taken = v.taken ++ x ∷ [] }))
+  pub takes : (capacity port : ℕ) (v : Hand I) → Pops (TaggedRule {I = I} capacity) port v (λ item w. (x : Tagged I) × (x.item ≡ item) × (w ≡ record v { taken = v.taken ++ x ∷ [] }) × AllPairs IsBefore w.taken)
   takes capacity port v item items hands is at = front is.0 is.1 is.2 where
     front : (tagged : List (Tagged I)) → map item_of tagged ≡ item ∷ items → BoxRule capacity tagged hands
-        → (w : Hand I) × TaggedRule capacity items (set hands port w) × ((x : Tagged I) × (x.item ≡ item) × (w ≡ record v { taken = v.taken ++ x ∷ [] }))
+        → (w : Hand I) × TaggedRule capacity items (set hands port w) × ((x : Tagged I) × (x.item ≡ item) × (w ≡ record v { taken = v.taken ++ x ∷ [] }) × AllPairs IsBefore w.taken)
     front [] same rule = absurd (omega (arith, ap length same))
     front (x ∷ rest) same rule = (
       taking capacity x rest hands rule port v at,
       (rest, ap (drop 1) same, take_keeps capacity x rest hands rule port v at),
-      (x, ap (λ xs. get_or xs 0 item) same, refl),
+      (x, ap (λ xs. get_or xs 0 item) same, refl, taken_so_far capacity x rest hands rule port v at),
     )

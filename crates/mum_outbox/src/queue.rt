@@ -1,10 +1,10 @@
 //! One queue of any items and any capacity, and its passes.
 
-ghost use Rattle.std.specs.Prelude.{◌≡◌, ◌<◌, IfOk, MatchResult, [], List, if◌then◌else◌};
+ghost use Rattle.std.specs.Prelude.{◌≡◌, ◌<◌, ◌↔◌, IfOk, IsTrue, MatchResult, [], List, if◌then◌else◌};
 ghost use Rattle.std.specs.List.{AllPairs};
 ghost use Rattle.mum_outbox.specs.Rule.{IsBefore, after_least};
 ghost use Rattle.mum_outbox.specs.declared.queue.Offered.TheVariants.{Sent, Full};
-ghost use Rattle.mum_outbox.specs.Calls.{Offers, Takes, WasThen, IsNewPass, Halves};
+ghost use Rattle.mum_outbox.specs.Calls.{HasNumbers, Halves, IsFirst, IsNewPass, Offers, Takes, WasThen};
 
 use crate::rule::{BoxProtocol, GivesHalf, GivesNumber, Hand, LAST, Offering, Taking};
 use crossbeam_queue::{Pass, RuledArrayQueue};
@@ -25,13 +25,17 @@ pub enum Offered<I> {
 /// The queue below, under the rule.
 type Ruled<I, const CAPACITY: usize> = RuledArrayQueue<I, Hand<I>, BoxProtocol<CAPACITY>>;
 
-/// An owner of a queue of at most `CAPACITY` items, which threads share. The numbers that it may give
-/// to new passes only contracts see.
+/// An owner of a queue of at most `CAPACITY` items, which threads share. Which numbers it may give to
+/// new passes only contracts see; it keeps how many these are.
 #[derive(Drop)]
 pub struct Queue<I, const CAPACITY: usize> {
     ruled: Arc<Ruled<I, CAPACITY>>,
     // The pass that is split for each new one.
     owner: Pass<I, Hand<I>>,
+    // Of the queue. All its owners and passes have it.
+    name: u32,
+    // How many numbers it may give.
+    left: u64,
 }
 
 /// What one thread holds of a queue: it keeps how often an offer of it found the queue full, and a
@@ -40,26 +44,30 @@ pub struct Queue<I, const CAPACITY: usize> {
 #[derive(Drop)]
 pub struct BoxPass<I> {
     pass: Pass<I, Hand<I>>,
+    name: u32,
     full: u64,
     empty: u64,
 }
 
 impl<I, const CAPACITY: usize> Model for Queue<I, CAPACITY> {
-    ghost use Rattle.std.specs.Prelude.{◌≡◌, ◌≤◌};
+    ghost use Rattle.std.specs.Prelude.{◌≡◌, ◌-◌, ◌≤◌};
     ghost use Rattle.crossbeam_queue.specs.Passes.{view as hand_of, IsPassOf, ruled_capacity};
     ghost use Rattle.mum_outbox.specs.Facts.{QueueFacts};
+    ghost use Rattle.mum_outbox.specs.declared.rule.TheConstants.{LAST};
 
     ghost Value = { QueueFacts };
 
     ghost view = { λ q. record {
-      queue = q.ruled.value.table.shared.table_id;
+      queue = record { table = q.ruled.value.table.shared.table_id; name = q.name };
       low = (hand_of q.owner).low;
       end = (hand_of q.owner).end;
     } };
 
     ghost invariant = { λ q. (ruled_capacity q.ruled.value ≡ CAPACITY)
         × IsPassOf q.ruled.value q.owner
-        × ((hand_of q.owner).low ≤ (hand_of q.owner).end) };
+        × ((hand_of q.owner).low ≤ (hand_of q.owner).end)
+        × ((hand_of q.owner).end ≤ LAST)
+        × (q.left ≡ (hand_of q.owner).end - (hand_of q.owner).low) };
 }
 
 impl<I> Model for BoxPass<I> {
@@ -70,7 +78,7 @@ impl<I> Model for BoxPass<I> {
     ghost Value = { PassFacts I };
 
     ghost view = { λ p. record {
-      queue = p.pass.table_id;
+      queue = record { table = p.pass.table_id; name = p.name };
       number = (hand_of p.pass).number;
       offered = (hand_of p.pass).offered;
       taken = (hand_of p.pass).taken;
@@ -82,15 +90,25 @@ impl<I> Model for BoxPass<I> {
 }
 
 impl<I: Drop, const CAPACITY: usize> Queue<I, CAPACITY> {
-    /// An empty queue. Its first owner may give new passes every number below the last.
+    /// An empty queue, whose name is 0. Its first owner may give new passes every number below the last.
     pub fn new(alloc: Global) -> Result<Self, OutOfMemory>
         requires { 0 < CAPACITY }
-        ensures { IfOk result (λ queue. (queue.low ≡ 0) × (queue.end ≡ LAST)) }
+        ensures { IfOk result (IsFirst 0) }
+    {
+        Self::named(alloc, 0)
+    }
+
+    /// The same of a queue of this name.
+    pub fn named(alloc: Global, name: u32) -> Result<Self, OutOfMemory>
+        requires { 0 < CAPACITY }
+        ensures { IfOk result (IsFirst name) }
     {
         let (ruled, owner) = Ruled::<I, CAPACITY>::ruled(alloc, CAPACITY)?;
         Ok(Queue {
             ruled: Arc::new(alloc, ruled)?,
             owner,
+            name,
+            left: LAST,
         })
     }
 
@@ -101,17 +119,35 @@ impl<I: Drop, const CAPACITY: usize> Queue<I, CAPACITY> {
     {
         let ruled = Arc::try_clone(&self.ruled)?;
         let owner = self.ruled.another::<GivesHalf>(&mut self.owner);
-        Ok(Queue { ruled, owner })
+        let half = self.left / 2;
+        let left = self.left - half;
+        self.left = half;
+        Ok(Queue {
+            ruled,
+            owner,
+            name: self.name,
+            left,
+        })
     }
 
-    /// A new pass, for one thread. It gets the least number that this owner has left.
+    /// Whether this owner has a number left for a new pass.
+    pub fn has_number(&self) -> bool
+        ensures { IsTrue result ↔ HasNumbers 1 self.now }
+    {
+        0 < self.left
+    }
+
+    /// A new pass, for one thread. It gets the least number that this owner has left, or the last one where
+    /// none is left: of passes with the last number the rule says less.
     pub fn pass(&mut self) -> BoxPass<I>
         ensures pass { IsNewPass self.old result }
         ensures owner { self.new ≡ record self.old { low = after_least self.old.low self.old.end } }
     {
         let pass = self.ruled.another::<GivesNumber>(&mut self.owner);
+        self.left = self.left.saturating_sub(1);
         BoxPass {
             pass,
+            name: self.name,
             full: 0,
             empty: 0,
         }

@@ -76,10 +76,12 @@ impl<I, const CAPACITY: usize> Lesson<I, Hand<I>> for Offering<CAPACITY> {
 pub(crate) struct Taking<const CAPACITY: usize>;
 
 impl<I, const CAPACITY: usize> Outcome<I, Hand<I>> for Taking<CAPACITY> {
+    ghost use Rattle.std.specs.List.{AllPairs};
+    ghost use Rattle.mum_outbox.specs.Rule.{IsBefore};
     ghost use Rattle.mum_outbox.specs.declared.rule.Tagged.{Tagged};
 
     ghost then = { λ hand item after. (x : Tagged I) × (x.item ≡ item)
-        × (after ≡ record hand { taken = hand.taken ++ x ∷ [] }) };
+        × (after ≡ record hand { taken = hand.taken ++ x ∷ [] }) × AllPairs IsBefore after.taken };
 }
 
 impl<I, const CAPACITY: usize> Lesson<I, Hand<I>> for Taking<CAPACITY> {

@@ -1,5 +1,5 @@
 use Rattle.std.proofs.Common.{rules, [], refl}
-use Rattle.mum_outbox.proofs.queue.Queue.new.Goals as goal
+use Rattle.mum_outbox.proofs.queue.Queue.named.Goals as goal
 
 pub ruled-requires-clause-rule : goal.ruled-requires-clause-rule
 ruled-requires-clause-rule g c = ([], refl, search rules)

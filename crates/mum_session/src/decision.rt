@@ -5,14 +5,25 @@ ghost use Rattle.std.specs.List.{AllByRecursion};
 ghost use Rattle.mum_rules_tree.specs.Decision.{FitsWhereAccepted};
 ghost use Rattle.mum_session.specs.declared.command.Asked.TheVariants as asked;
 ghost use Rattle.mum_notify.specs.Notices.{FitsFrame};
-ghost use Rattle.mum_session.specs.Verdict.{edits_of, verdict};
+ghost use Rattle.mum_session.specs.Verdict.{edits_of, reason_for_nobody, verdict};
 
 use crate::command::Asked;
 use mum_base::{OutOfMemory, Reason, SessionId};
-use mum_rules_tree::{TreeMessage, decide_tree};
+use mum_rules_tree::{TreeMessage, decide_tree, takes_no_edits};
 use mum_rules_user::{UserMessage, decide_user};
 use mum_state::{State, Verdict};
 use std::alloc::Global;
+
+// Why a message on channels is ignored that comes of a connection without a session.
+fn reason_for_nobody(state: &State) -> Reason
+    ensures { result ≡ reason_for_nobody state.now }
+{
+    if takes_no_edits(state) {
+        Reason::Gone
+    } else {
+        Reason::NotLoggedIn
+    }
+}
 
 // What is decided of a message on channels.
 #[tactic(auto, unfolding(crate::specs::Verdict::verdict))]
@@ -27,7 +38,7 @@ fn decide_on_channels(
 {
     match session {
         Some(session) => decide_tree(alloc, state, session, message),
-        None => Ok(Verdict::ignored(Reason::NotLoggedIn)),
+        None => Ok(Verdict::ignored(reason_for_nobody(state))),
     }
 }
 

@@ -4,43 +4,17 @@ use Rattle.std.specs.Prelude.{slice_index_or, slice_set}
 use Rattle.std.specs.List.{AllByRecursion}
 use Rattle.std.proofs.lemmas.List.{length-map, map-append}
 use Rattle.std.proofs.lemmas.Option.{slice_get_read}
-use Rattle.atomic_table.specs.Seated.{TableId}
 use Rattle.mum_outbox.specs.declared.parcel.PostParcel.{PostParcel}
 use Rattle.mum_base.specs.declared.number.TheConstants.{POST_CAPACITY}
 use Rattle.mum_outbox.specs.declared.queue.Offered.{Offered}
 use Rattle.mum_outbox.specs.declared.rule.Tagged.{Tagged}
-use Rattle.mum_outbox.specs.Calls.{Offers, Takes}
+use Rattle.mum_outbox.specs.Calls.{Offers, Takes, new_pass}
 use Rattle.mum_outbox.specs.Facts.{PassFacts, QueueFacts}
-use Rattle.mum_control.specs.Posting.{EmptiesAt, IsEmptied, IsUnused, OffersAt}
-
-abbrev pub names : List (PassFacts PostParcel) → List TableId
-names posts = map (λ (post : PassFacts PostParcel). post.queue) posts
-
-abbrev pub names_of : List QueueFacts → List TableId
-names_of queues = map (λ (queue : QueueFacts). queue.queue) queues
-
--- ---- a pass of one box more
-
-all_more : (posts : List (PassFacts PostParcel)) (post : PassFacts PostParcel) → AllByRecursion IsUnused posts → IsUnused post → AllByRecursion IsUnused (posts ++ post ∷ [])
-all_more [] post all unused = (unused, tt)
-all_more (first ∷ posts) post all unused = (all.0, all_more posts post all.1 unused)
-
-pub passes_more : (posts : List (PassFacts PostParcel)) (post : PassFacts PostParcel) (queue : QueueFacts) (left all : List QueueFacts)
-    → AllByRecursion IsUnused posts → IsUnused post → post.queue ≡ queue.queue → names posts ++ names_of (queue ∷ left) ≡ names_of all
-    → AllByRecursion IsUnused (posts ++ post ∷ []) × (names (posts ++ post ∷ []) ++ names_of left ≡ names_of all)
-passes_more posts post queue left all unused new of so = (
-  all_more posts post unused new,
-  rw (map-append (λ (p : PassFacts PostParcel). p.queue) posts (post ∷ []), append_assoc (names posts) (post.queue ∷ []) (names_of left), of) so,
-)
-
-pub nothing_left : {X : Type 0} (xs : List X) → length xs ≡ 0 → xs ≡ []
-nothing_left [] none = refl
-nothing_left (x ∷ xs) none = absurd (omega (arith, none))
+use Rattle.mum_control.specs.Posting.{EmptiesAt, IsEmptied, OffersAt}
 
 -- as many passes as boxes
-pub as_many : (posts : List (PassFacts PostParcel)) (queues : List QueueFacts) → names posts ≡ names_of queues → length posts ≡ length queues
-as_many posts queues same =
-    sym (length-map posts (λ (post : PassFacts PostParcel). post.queue)) ∙ ap length same ∙ length-map queues (λ (queue : QueueFacts). queue.queue)
+pub as_many : (posts : List (PassFacts PostParcel)) (queues : List QueueFacts) → posts ≡ map new_pass queues → length posts ≡ length queues
+as_many posts queues same = ap length same ∙ length-map queues new_pass
 
 -- ---- a box that is emptied
 

@@ -7,6 +7,7 @@ use Rattle.std.proofs.lemmas.List.{length-set}
 use Rattle.mum_base.specs.declared.number.SessionId.{SessionId}
 use Rattle.mum_base.specs.declared.number.TheConstants.{SLOTS}
 use Rattle.mum_base.specs.declared.reply.Mark.{Mark}
+use Rattle.mum_base.specs.declared.reply.ReplyEnd.{ReplyEnd}
 use Rattle.mum_state.specs.declared.edit.Edit.{Edit}
 use Rattle.mum_state.specs.declared.verdict.Verdict.TheVariants.{Accepted}
 use Rattle.mum_state.specs.Applied.{applied}
@@ -20,7 +21,7 @@ use Rattle.mum_published.specs.Calls.{latest}
 use Rattle.mum_published.specs.Facts.{NoteFacts, Opening, PublisherFacts}
 use Rattle.mum_published.proofs.Latest.{kept_up}
 use Rattle.mum_session.specs.Reply.{mark}
-use Rattle.mum_control.specs.Commanded.{Publishes, accepted, current, next_revision, with_edit}
+use Rattle.mum_control.specs.Commanded.{Publishes, accepted, current, next_revision, with_edit, with_login}
 use Rattle.mum_control.specs.Facts.{ControlFacts}
 use Rattle.mum_control.specs.Kept.{IsInSlot, IsKept, IsListing, is_there}
 use Rattle.mum_control.proofs.Addressed.{all_joined, notices_in_slots}
@@ -68,6 +69,20 @@ accepted_so control more waiting present told edit appends waits stays marks =
     with_parts control.posts more (with_edit control.publisher edit) waiting _ present _ told _ appends waits
     (stays ∙ ap (λ (s : StateValue). filter (is_there s) control.lagged) (latest_more control.publisher more edit appends))
     marks
+
+-- ---- a login that is put on the roll
+
+pub kept_admitting : (opening : Opening) (publisher more : PublisherFacts) (connection : ℕ) (end : ReplyEnd) (posts : List (BoxFacts PostParcel))
+    (pending : List Notice) (lagged : List SessionId) (room : ℕ)
+    → IsKept opening publisher posts pending lagged room → more ≡ with_login publisher connection end → IsKept opening more posts pending lagged room
+kept_admitting opening publisher more connection end posts pending lagged room kept admits =
+    subst (λ (p : PublisherFacts). IsKept opening p posts pending lagged room) (sym admits) (record {
+      same_opening = kept.same_opening;
+      box_each = kept.box_each;
+      in_slots = kept.in_slots;
+      listing = kept.listing;
+      room_is = kept.room_is;
+    })
 
 -- ---- a publish
 

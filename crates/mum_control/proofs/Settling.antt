@@ -1,6 +1,6 @@
 -- What verdicts, publishes and replies come to.
 use Rattle.std.proofs.Common.{◌≡◌, ℕ, Bool, true, false, not, List, [], Option, Some, None, Result, Ok, Err, IfOk, OnErr, OnOk, refl, ap, sym, subst, ◌∙◌, inl, inr}
-use Rattle.std.specs.Prelude.{◌⊎◌, is_none, is_some}
+use Rattle.std.specs.Prelude.{◌⊎◌, IsTrue, is_none, is_some}
 use Rattle.std.specs.Result.{result_ok}
 use Rattle.mum_base.specs.declared.number.SessionId.{SessionId}
 use Rattle.mum_base.specs.declared.reply.ReplyEnd.{ReplyEnd}
@@ -9,10 +9,12 @@ use Rattle.mum_state.specs.declared.verdict.Verdict.{Verdict}
 use Rattle.mum_state.specs.declared.verdict.Verdict.TheVariants.{Accepted, Lacks, Refused, Rejected, Answer, Ignored}
 use Rattle.mum_notify.specs.declared.notice.Notice.{Notice}
 use Rattle.mum_published.specs.Calls.{all_published}
+use Rattle.mum_published.specs.declared.roll.Login.{Login}
 use Rattle.mum_published.specs.Facts.{NoteFacts, PublisherFacts, ReplyFacts}
+use Rattle.mum_published.specs.Rolls.{is_admitted}
 use Rattle.mum_session.specs.Reply.{mark, reply_end}
 use Rattle.mum_session.specs.Verdict.{edits_of}
-use Rattle.mum_control.specs.Commanded.{Accepts, accepted, Decides, Denies, IsDropped, Publishes, note_of}
+use Rattle.mum_control.specs.Commanded.{Accepts, accepted, Decides, Denies, IsDropped, Publishes, note_of, with_accepted, with_edit, with_login}
 use Rattle.mum_control.specs.Facts.{ControlFacts}
 use Rattle.mum_control.specs.Posting.{Posts}
 use Rattle.mum_control.specs.declared.posted.Posted.{Posted}
@@ -38,12 +40,26 @@ denied_so old connection session (Rejected kind) reply new none so = so
 denied_so old connection session (Answer frame) reply new none so = so
 denied_so old connection session (Ignored why) reply new none so = so
 
+-- its end tells of no login
+pub denied_admits_none : (denied : Verdict) (connection : ℕ) (roll : List Login) → edits_of denied ≡ [] → IsTrue (is_admitted (reply_end denied) connection roll)
+denied_admits_none (Accepted edit) connection roll none = cc
+denied_admits_none (Lacks perm channel) connection roll none = refl
+denied_admits_none (Refused kind) connection roll none = refl
+denied_admits_none (Rejected kind) connection roll none = refl
+denied_admits_none (Answer frame) connection roll none = refl
+denied_admits_none (Ignored why) connection roll none = refl
+
 -- ---- a publish that may be refused
 
 pub publishes_so : {E : Type 0} (answer : Result NoteFacts E) (before after : PublisherFacts) → OnOk answer (after ≡ all_published before) → OnErr answer (after ≡ before)
     → IfOk answer (λ note. note ≡ note_of before) → Publishes before (result_ok answer) after
 publishes_so (Ok note) before after ok err is = (is, ok)
 publishes_so (Err error) before after ok err is = err
+
+-- it leaves the roll
+pub roll_left : (before after : PublisherFacts) (note : Option NoteFacts) → Publishes before note after → before.roll ≡ after.roll
+roll_left before after None same = sym (ap (λ (p : PublisherFacts). p.roll) same)
+roll_left before after (Some note) published = sym (ap (λ (p : PublisherFacts). p.roll) published.1)
 
 -- whether there is no note
 pub none_so : {A : Type 0} (note : Option A) (none : Bool) → is_some note ≡ not none → none ≡ is_none note
@@ -54,9 +70,10 @@ none_so {A} (Some note) false is = refl
 
 -- ---- a reply, part by part
 
-pub reply_so : (a b : ℕ) (e f : ReplyEnd) (n m : Option NoteFacts) (w v : List ℕ) (p q : Bool) → a ≡ b → e ≡ f → n ≡ m → w ≡ v → p ≡ q
-    → ◌≡◌ {A = ReplyFacts} (record { connection = a; end = e; note = n; wire = w; no_memory = p }) (record { connection = b; end = f; note = m; wire = v; no_memory = q })
-reply_so a b e f n m w v p q one two three four five = cc
+pub reply_so : (a b : ℕ) (e f : ReplyEnd) (n m : Option NoteFacts) (w v : List ℕ) (p q : Bool) (r s : List Login) → a ≡ b → e ≡ f → n ≡ m → w ≡ v → p ≡ q → r ≡ s
+    → ◌≡◌ {A = ReplyFacts} (record { connection = a; end = e; note = n; wire = w; no_memory = p; roll = r })
+    (record { connection = b; end = f; note = m; wire = v; no_memory = q; roll = s })
+reply_so a b e f n m w v p q r s one two three four five six = cc
 
 -- ---- what a verdict comes to is what is done of it
 
@@ -86,14 +103,21 @@ posts_on old mid rest notice result new taken posted =
     let own : Posts (record old { pending = rest }) notice rest result new = subst (λ (m : ControlFacts). Posts m notice m.pending result new) taken posted in
     record { offered = own.offered; offers = own.offers; others = own.others; answer = own.answer }
 
--- ---- an edit that is accepted, then published
+-- ---- an edit that is appended, its login put on the roll, then published
 
-pub accepts_so : (old mid new : ControlFacts) (edit : Edit) (connection : ℕ) (end : ReplyEnd) (reply : ReplyFacts) → mid ≡ accepted old edit
-    → Publishes mid.publisher reply.note new.publisher → new ≡ record mid { publisher = new.publisher }
+pub accepts_so : (old mid on new : ControlFacts) (edit : Edit) (connection : ℕ) (end : ReplyEnd) (reply : ReplyFacts) → mid ≡ accepted old edit
+    → on ≡ record mid { publisher = with_login mid.publisher connection end }
+    → Publishes on.publisher reply.note new.publisher → new ≡ record on { publisher = new.publisher }
     → reply.connection ≡ connection → reply.end ≡ end → end ≡ reply_end (Accepted edit) → reply.wire ≡ [] → reply.no_memory ≡ is_none reply.note
-    → Accepts old connection edit reply new
-accepts_so old mid new edit connection end reply accepts published others one two three four five = record {
-  published = subst (λ (k : ControlFacts). Publishes k.publisher reply.note new.publisher) accepts published;
-  others = others ∙ ap (λ (k : ControlFacts). record k { publisher = new.publisher }) accepts;
-  answer = reply_so reply.connection connection reply.end (reply_end (Accepted edit)) reply.note reply.note reply.wire [] reply.no_memory (is_none reply.note) one (two ∙ three) refl four five;
-}
+    → reply.roll ≡ new.publisher.roll → Accepts old connection edit reply new
+accepts_so old mid on new edit connection end reply accepts admits published others one two three four five six =
+    let admitted : on ≡ record (accepted old edit) { publisher = with_login (with_edit old.publisher edit) connection end } =
+    admits ∙ ap (λ (k : ControlFacts). record k { publisher = with_login k.publisher connection end }) accepts in
+    let publisher : on.publisher ≡ with_accepted old.publisher connection edit =
+    ap (λ (k : ControlFacts). k.publisher) admitted ∙ ap (with_login (with_edit old.publisher edit) connection) three in
+    record {
+      published = subst (λ (p : PublisherFacts). Publishes p reply.note new.publisher) publisher published;
+      others = others ∙ ap (λ (k : ControlFacts). record k { publisher = new.publisher }) admitted;
+      answer = reply_so reply.connection connection reply.end (reply_end (Accepted edit)) reply.note reply.note reply.wire [] reply.no_memory (is_none reply.note)
+          reply.roll new.publisher.roll one (two ∙ three) refl four five six;
+    }

@@ -1,6 +1,7 @@
 -- What a command changes, and what its sender is answered.
 use Rattle.std.specs.Prelude.{◌≡◌, ℕ, ◌+◌, ◌⊎◌, true, false, [], ◌∷◌, ◌++◌, length, filter, is_none, Option, Some, None}
 use Rattle.mum_base.specs.declared.number.SessionId.{SessionId}
+use Rattle.mum_base.specs.declared.reply.ReplyEnd.{ReplyEnd}
 use Rattle.mum_base.specs.declared.reply.ReplyEnd.TheVariants as ends
 use Rattle.mum_state.specs.declared.edit.Edit.{Edit}
 use Rattle.mum_state.specs.declared.verdict.Verdict.{Verdict}
@@ -10,6 +11,7 @@ use Rattle.mum_state.specs.State.{StateValue}
 use Rattle.mum_notify.specs.Notices.{notices}
 use Rattle.mum_published.specs.Calls.{all_published, appended, latest}
 use Rattle.mum_published.specs.Facts.{NoteFacts, PublisherFacts, ReplyFacts}
+use Rattle.mum_published.specs.Rolls.{login_of}
 use Rattle.mum_session.specs.declared.command.Command.{Command}
 use Rattle.mum_session.specs.Reply.{mark, reply_end, wire}
 use Rattle.mum_session.specs.Verdict.{verdict}
@@ -24,6 +26,15 @@ current control = latest control.publisher
 abbrev pub with_edit : PublisherFacts → Edit → PublisherFacts
 with_edit publisher edit = record publisher { pending = publisher.pending ++ edit ∷ [] }
 
+-- the publisher with the login on its roll that a reply to this connection with this end tells of, if it tells of one
+abbrev pub with_login : PublisherFacts → ℕ → ReplyEnd → PublisherFacts
+with_login publisher connection end = record publisher { roll = publisher.roll ++ login_of connection end }
+
+-- the publisher once it accepted an edit of this connection: the edit is not published yet, and a login is on the roll
+abbrev pub with_accepted : PublisherFacts → ℕ → Edit → PublisherFacts
+with_accepted publisher connection edit =
+    with_login (with_edit publisher edit) connection (reply_end (Accepted edit))
+
 -- the note that all appended edits are published
 abbrev pub note_of : PublisherFacts → NoteFacts
 note_of publisher = record { book = publisher.opening.book; edits = appended publisher }
@@ -37,7 +48,7 @@ Publishes publisher None after = after ≡ publisher
 abbrev pub next_revision : ControlFacts → ℕ
 next_revision control = length (appended control.publisher) + 1
 
--- one more edit is accepted: it is appended, what its sessions are sent waits, and of those that lag the ones that are
+-- one more edit is appended: it is not published yet, what its sessions are sent waits, and of those that lag the ones that are
 -- gone are left out
 abbrev pub accepted : ControlFacts → Edit → ControlFacts
 accepted control edit = record {
@@ -48,9 +59,9 @@ accepted control edit = record {
   mark = Some (mark (next_revision control) (Accepted edit));
 }
 
--- the edit is accepted. The reply has the note of its publish, or says that memory ran out
+-- the edit is accepted, and with it its login. The reply has the note of its publish, or says that memory ran out
 pub record Accepts (old : ControlFacts) (connection : ℕ) (edit : Edit) (reply : ReplyFacts) (new : ControlFacts) : Type 0 where
-  pub published : Publishes (with_edit old.publisher edit) reply.note new.publisher
+  pub published : Publishes (with_accepted old.publisher connection edit) reply.note new.publisher
   pub others : new ≡ record (accepted old edit) { publisher = new.publisher }
   pub answer : reply ≡ record {
     connection = connection;
@@ -58,6 +69,7 @@ pub record Accepts (old : ControlFacts) (connection : ℕ) (edit : Edit) (reply 
     note = reply.note;
     wire = [];
     no_memory = is_none reply.note;
+    roll = new.publisher.roll;
   }
 
 -- the command is denied, answered or ignored: nothing changes but the outcome that is kept
@@ -70,6 +82,7 @@ Denies old connection session denied reply new =
       note = None;
       wire = wire session denied;
       no_memory = false;
+      roll = old.publisher.roll;
     })
 
 -- what the verdict on the command of a connection changes, and what the connection is answered
@@ -81,7 +94,14 @@ Decides old connection session others reply new = Denies old connection session 
 abbrev pub IsDropped : ControlFacts → ℕ → ReplyFacts → ControlFacts → Type 0
 IsDropped old connection reply new =
     (new ≡ record old { mark = None })
-    × (reply ≡ record { connection = connection; end = ends.Decided; note = None; wire = []; no_memory = true })
+    × (reply ≡ record {
+      connection = connection;
+      end = ends.Decided;
+      note = None;
+      wire = [];
+      no_memory = true;
+      roll = old.publisher.roll;
+    })
 
 -- a command is decided at the state after all accepted edits, or dropped
 abbrev pub Commanded : ControlFacts → Command → ReplyFacts → ControlFacts → Type 0

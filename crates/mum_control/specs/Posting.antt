@@ -1,6 +1,5 @@
 -- What posting does: to the next notice, and to the boxes.
 use Rattle.std.specs.Prelude.{◌≡◌, ℕ, ◌&&◌, not, List, [], ◌∷◌, ◌++◌, map, slice_get, slice_set, Option, Some, None, if◌then◌else◌}
-use Rattle.std.specs.List.{AllByRecursion}
 use Rattle.mum_base.specs.declared.number.SessionId.{SessionId}
 use Rattle.mum_base.specs.declared.number.Slot.{Slot}
 use Rattle.mum_state.specs.State.{StateValue}
@@ -10,7 +9,7 @@ use Rattle.mum_base.specs.declared.number.TheConstants.{POST_CAPACITY}
 use Rattle.mum_outbox.specs.declared.queue.Offered.{Offered}
 use Rattle.mum_outbox.specs.declared.queue.Offered.TheVariants.{Sent, Full}
 use Rattle.mum_outbox.specs.declared.rule.Tagged.{Tagged}
-use Rattle.mum_outbox.specs.Calls.{Offers, Takes}
+use Rattle.mum_outbox.specs.Calls.{Offers, Takes, new_pass}
 use Rattle.mum_outbox.specs.Facts.{PassFacts as BoxFacts, QueueFacts}
 use Rattle.mum_published.specs.Facts.{PublisherFacts}
 use Rattle.mum_control.specs.declared.posted.Posted.{Posted}
@@ -23,6 +22,7 @@ use Rattle.mum_control.specs.Commanded.{current}
 abbrev pub parcel_of : Notice → PostParcel
 parcel_of notice = record { to = notice.to; bytes = notice.bytes; last = notice.last }
 
+-- what posting a notice to a session came to: posted, or the session lags
 abbrev pub answer_of : SessionId → Offered PostParcel → Posted
 answer_of session Sent = posted.Posted session
 answer_of session (Full back) = posted.Lagged session
@@ -32,6 +32,7 @@ abbrev pub with_lagging : StateValue → List SessionId → SessionId → List S
 with_lagging state sessions session =
     if is_there state session && not (is_listed sessions session) then sessions ++ session ∷ [] else sessions
 
+-- the sessions that lag, with this one where its box was full and it is there
 abbrev pub lagged_after : ControlFacts → SessionId → Offered PostParcel → List SessionId
 lagged_after control session Sent = control.lagged
 lagged_after control session (Full back) = with_lagging (current control) control.lagged session
@@ -57,10 +58,6 @@ abbrev pub PostsNext : ControlFacts → List Notice → Posted → ControlFacts 
 PostsNext old [] result new = (result ≡ posted.None) × (new ≡ old)
 PostsNext old (notice ∷ rest) result new = Posts old notice rest result new
 
--- the pass has neither offered nor taken anything
-abbrev pub IsUnused : BoxFacts PostParcel → Type 0
-IsUnused pass = pass ≡ record pass { offered = []; taken = []; full = 0; empty = 0 }
-
 -- parcels were taken from the box, one by one, until a take found it empty
 pub record IsEmptied (before after : BoxFacts PostParcel) : Type 0 where
   pub taken : List (Tagged PostParcel)
@@ -79,8 +76,7 @@ abbrev pub EmptiesPost : ControlFacts → Option Slot → ControlFacts → Type 
 EmptiesPost old None new = new ≡ old
 EmptiesPost old (Some slot) new = EmptiesAt old.posts slot.0 new.posts × (new ≡ record old { posts = new.posts })
 
--- the control owner is new: it has the publisher, and an unused pass of each box
+-- the control owner is new: it has the publisher, and a new pass of each box
 pub record IsOpened (publisher : PublisherFacts) (queues : List QueueFacts) (control : ControlFacts) : Type 0 where
-  pub unused : AllByRecursion IsUnused control.posts
-  pub boxes : map (λ pass. pass.queue) control.posts ≡ map (λ queue. queue.queue) queues
+  pub boxes : control.posts ≡ map new_pass queues
   pub others : control ≡ record { publisher = publisher; posts = control.posts; pending = []; lagged = []; mark = None }

@@ -11,10 +11,12 @@ ghost use Rattle.mum_notify.specs.Notices.{FitsFrame};
 ghost use Rattle.mum_rules_tree.specs.Decision.{FitsWhereAccepted};
 ghost use Rattle.mum_session.specs.Reply.{reply_end};
 ghost use Rattle.mum_session.specs.Verdict.{edits_of, verdict};
+ghost use Rattle.mum_outbox.specs.Calls.{new_pass};
 ghost use Rattle.mum_published.specs.Calls.{all_published, latest};
-ghost use Rattle.mum_control.specs.Commanded.{Accepts, Commanded, Decides, Denies, IsDropped, Publishes, accepted, current, note_of};
+ghost use Rattle.mum_published.specs.Rolls.{is_admitted};
+ghost use Rattle.mum_control.specs.Commanded.{Accepts, Commanded, Decides, Denies, IsDropped, Publishes, accepted, current, note_of, with_login};
 ghost use Rattle.mum_control.specs.Kept.{IsInSlot, MayIn, is_there, next_slot, slot_of};
-ghost use Rattle.mum_control.specs.Posting.{EmptiesPost, IsOpened, IsUnused, Posts, PostsNext};
+ghost use Rattle.mum_control.specs.Posting.{EmptiesPost, IsOpened, Posts, PostsNext};
 ghost use Rattle.mum_state.specs.declared.verdict.Verdict.TheVariants.{Accepted};
 
 use crate::edits::Edits;
@@ -27,7 +29,7 @@ use mum_base::{ChannelId, Mark, Octets, OutOfMemory, Perm, ReplyEnd, SLOTS, Sess
 use mum_history::EditList;
 use mum_notify::{Notice, NoticeQueue, accept_edit};
 use mum_outbox::{Offered, PostBox, PostParcel};
-use mum_published::{Naming, Note, Pass, Publisher, Reply};
+use mum_published::{Naming, Note, Pass, Publisher, Reply, Roll};
 use mum_session::{Asked, Command, decide, end_of, mark_of, wire_of};
 use mum_state::{Edit, State, Verdict};
 use std::alloc::Global;
@@ -97,8 +99,7 @@ fn accepted_edit(verdict: Verdict) -> Result<Edit, Verdict>
 fn room_of(alloc: Global, boxes: Vec<PostBox>) -> Result<(Vec<SessionId>, Vec<Post>), OutOfMemory>
     ensures nobody { IfOk result (λ made. made.0.items ≡ []) }
     ensures room { IfOk result (λ made. vec_capacity made.0 ≡ SLOTS) }
-    ensures unused { IfOk result (λ made. AllByRecursion IsUnused made.1.items) }
-    ensures boxes { IfOk result (λ made. map (λ post. post.queue) made.1.items ≡ map (λ queue. queue.queue) boxes.items) }
+    ensures boxes { IfOk result (λ made. made.1.items ≡ map new_pass boxes.items) }
 {
     let lagged = match Vec::with_capacity(alloc, SLOTS) {
         Ok(lagged) => lagged,
@@ -173,6 +174,14 @@ impl<'a, N: Naming> Control<'a, N> {
         self.edits.unpublished()
     }
 
+    /// The logins that were accepted, which each reply has.
+    pub fn roll(&self) -> Roll
+        ensures book { result.book ≡ N.opening.roll }
+        ensures log { result.log ≡ self.now.publisher.roll }
+    {
+        self.edits.roll()
+    }
+
     /// How many notices wait to be posted.
     pub fn pending(&self) -> usize
         ensures { result ≡ length self.now.pending }
@@ -215,9 +224,10 @@ impl<'a, N: Naming> Control<'a, N> {
     fn refuse(&mut self, connection: u32) -> Reply<N>
         ensures { IsDropped self.old connection result self.new }
     {
+        let roll = self.roll();
         self.mark = None;
         let wire = no_bytes(self.alloc);
-        Reply::new(connection, ReplyEnd::Decided, None, wire, true)
+        Reply::new(connection, ReplyEnd::Decided, None, wire, true, roll)
     }
 
     /// Answers a command that is denied, answered or ignored.
@@ -231,8 +241,9 @@ impl<'a, N: Naming> Control<'a, N> {
         drop(denied);
         match wire {
             Ok(wire) => {
+                let roll = self.roll();
                 self.mark = Some(mark);
-                Reply::new(connection, end, None, wire, false)
+                Reply::new(connection, end, None, wire, false, roll)
             }
             Err(_) => self.refuse(connection),
         }
@@ -255,19 +266,30 @@ impl<'a, N: Naming> Control<'a, N> {
         Ok(())
     }
 
+    /// Puts the login that a reply with this end tells of on the roll, if it tells of one.
+    fn admit<R: Wait>(&mut self, rt: &R, connection: u32, end: ReplyEnd)
+        ensures login { self.new ≡ record self.old { publisher = with_login self.old.publisher connection end } }
+        ensures admitted { IsTrue (is_admitted end connection self.new.publisher.roll) }
+    {
+        self.edits.admit(rt, connection, end);
+    }
+
     /// Publishes what is appended, and answers the command that was accepted last.
     fn answer<R: Wait>(&mut self, rt: &R, connection: u32, end: ReplyEnd) -> Reply<N>
+        requires { IsTrue (is_admitted end connection self.old.publisher.roll) }
         ensures published { Publishes self.old.publisher result.note self.new.publisher }
         ensures others { self.new ≡ record self.old { publisher = self.new.publisher } }
         ensures connection { result.connection ≡ connection }
         ensures end { result.end ≡ end }
         ensures wire { result.wire ≡ [] }
         ensures no_memory { result.no_memory ≡ is_none result.note }
+        ensures roll { result.roll ≡ self.new.publisher.roll }
     {
+        let roll = self.roll();
         let note = self.edits.publish_noted(rt);
         let no_memory = note.is_none();
         let wire = no_bytes(self.alloc);
-        Reply::new(connection, end, note, wire, no_memory)
+        Reply::new(connection, end, note, wire, no_memory, roll)
     }
 
     /// Accepts an edit, and answers its command.
@@ -279,7 +301,10 @@ impl<'a, N: Naming> Control<'a, N> {
             ⊎ Accepts self.old connection edit result self.new }
     {
         match self.append(edit) {
-            Ok(()) => self.answer(rt, connection, end),
+            Ok(()) => {
+                self.admit(rt, connection, end);
+                self.answer(rt, connection, end)
+            }
             Err(_) => self.refuse(connection),
         }
     }
@@ -335,12 +360,13 @@ impl<'a, N: Naming> Control<'a, N> {
         self.edits.publish(rt)
     }
 
-    /// Returns once what is published begins with all that a pass of the same `open` saw and learnt, which is at
-    /// once: see `Publisher::has_shown`.
+    /// Returns once what is published, and the roll of accepted logins, begin with all that a pass of the same `open`
+    /// saw and learnt, which is at once: see `Publisher::has_shown`.
     pub fn has_shown<R: Wait>(&self, rt: &R, pass: &Pass)
         requires { pass.now.opening ≡ N.opening }
         ensures known { IsPrefix pass.now.known self.now.publisher.published }
         ensures seen { IsPrefix pass.now.seen self.now.publisher.published }
+        ensures roll { IsPrefix pass.now.roll self.now.publisher.roll }
     {
         self.edits.has_shown(rt, pass);
     }

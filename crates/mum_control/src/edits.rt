@@ -4,11 +4,11 @@ ghost use Rattle.std.specs.Prelude.{◌≡◌, IfOk, OnErr, OnOk, IsTrue, length
 ghost use mathlib.Core.List.{IsPrefix};
 ghost use Rattle.mum_state.specs.Fits.{fits};
 ghost use Rattle.mum_published.specs.Calls.{all_published, appended, latest};
-ghost use Rattle.mum_control.specs.Commanded.{Publishes, note_of, with_edit};
+ghost use Rattle.mum_control.specs.Commanded.{Publishes, note_of, with_edit, with_login};
 
-use mum_base::OutOfMemory;
+use mum_base::{OutOfMemory, ReplyEnd};
 use mum_history::{EditList, Twin};
-use mum_published::{Note, Pass, Publisher};
+use mum_published::{Login, Note, Pass, Publisher, Roll};
 use mum_state::{Edit, State};
 use std::alloc::Global;
 use std::marker::Model;
@@ -93,11 +93,33 @@ impl<'a> Edits<'a> {
         self.publish(rt).ok()
     }
 
-    /// Compares what a pass has seen and learnt with what is published.
+    /// Puts the login that a reply with this end tells of on the roll, if it tells of one.
+    pub(crate) fn admit<R: Wait>(&mut self, rt: &R, connection: u32, end: ReplyEnd)
+        ensures { self.new ≡ with_login self.old connection end }
+    {
+        if let ReplyEnd::Joined(session, _) = end {
+            let login = Login {
+                connection,
+                session,
+            };
+            self.publisher.admit(rt, login);
+        }
+    }
+
+    /// The logins that were accepted.
+    pub(crate) fn roll(&self) -> Roll
+        ensures book { result.book ≡ self.now.opening.roll }
+        ensures log { result.log ≡ self.now.roll }
+    {
+        self.publisher.roll()
+    }
+
+    /// Compares what a pass has seen and learnt with what is published and accepted.
     pub(crate) fn has_shown<R: Wait>(&self, rt: &R, pass: &Pass)
         requires { pass.now.opening ≡ self.now.opening }
         ensures known { IsPrefix pass.now.known self.now.published }
         ensures seen { IsPrefix pass.now.seen self.now.published }
+        ensures roll { IsPrefix pass.now.roll self.now.roll }
     {
         self.publisher.has_shown(rt, pass);
     }

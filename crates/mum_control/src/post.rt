@@ -1,10 +1,9 @@
 //! The boxes into which notices are posted, one for each slot.
 
 ghost use Rattle.std.specs.Prelude.{◌≡◌, ◌<◌, IfOk, length, map};
-ghost use Rattle.std.specs.List.{AllByRecursion};
-ghost use Rattle.mum_outbox.specs.Calls.{Offers};
+ghost use Rattle.mum_outbox.specs.Calls.{Offers, new_pass};
 ghost use Rattle.mum_base.specs.declared.number.TheConstants.{POST_CAPACITY};
-ghost use Rattle.mum_control.specs.Posting.{EmptiesAt, IsEmptied, IsUnused, OffersAt};
+ghost use Rattle.mum_control.specs.Posting.{EmptiesAt, IsEmptied, OffersAt};
 
 use mum_base::OutOfMemory;
 use mum_outbox::{BoxPass, Offered, PostBox, PostParcel};
@@ -47,8 +46,7 @@ fn empty_queue<R: Wait>(rt: &R, queue: &PostBox, pass: &mut BoxPass<PostParcel>)
 impl Post {
     /// A pass of this box.
     fn of(queue: PostBox) -> Post
-        ensures queue { result.queue ≡ queue.queue }
-        ensures unused { IsUnused result }
+        ensures { result ≡ new_pass queue }
     {
         let mut queue = queue;
         let pass = queue.pass();
@@ -72,8 +70,7 @@ impl Post {
 
 /// A pass of each box, in their order.
 pub(crate) fn posts_of(alloc: Global, boxes: Vec<PostBox>) -> Result<Vec<Post>, OutOfMemory>
-    ensures unused { IfOk result (λ posts. AllByRecursion IsUnused posts.items) }
-    ensures boxes { IfOk result (λ posts. map (λ post. post.queue) posts.items ≡ map (λ queue. queue.queue) boxes.items) }
+    ensures { IfOk result (λ posts. posts.items ≡ map new_pass boxes.items) }
 {
     let mut posts = Vec::new(alloc);
     for queue in boxes {

@@ -4,5 +4,6 @@ pub mod Keptness
 pub mod Merging
 pub mod Observing
 pub mod Ordering
+pub mod Seeing
 pub mod Turning
 pub mod Walking

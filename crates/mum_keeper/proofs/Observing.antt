@@ -12,6 +12,7 @@ use Rattle.mum_keeper.specs.Mirror.{Compares, MirrorFacts}
 use Rattle.mum_keeper.specs.Store.{Observes, StoreFacts}
 use Rattle.mum_keeper.specs.declared.keeper.KeepEnd.{KeepEnd}
 use Rattle.mum_keeper.specs.declared.keeper.KeepEnd.TheVariants as ends
+use Rattle.mum_keeper.specs.declared.look.Found.{Found}
 
 module _ {P : Type 0} (facts : P → KeeperFacts) where
   -- memory ran out before anything was compared
@@ -20,13 +21,13 @@ module _ {P : Type 0} (facts : P → KeeperFacts) where
       subst (λ (e : KeepEnd). Compares facts old now e new) (sym is)
       (subst (λ (m : MirrorFacts P). Compares facts old now ends.NoMemory m) (sym so) (record { brings = starved facts old.keeper old.rows now; leaves = refl }))
 
-  pub observes : (old : StoreFacts P) (pass : PassFacts) (now : KeptRows) (mirror : MirrorFacts P) (end : KeepEnd) → Looks old.pass (Ok now) pass → Compares facts old.mirror now end mirror
+  pub observes : (old : StoreFacts P) (pass : PassFacts) (found : Found) (mirror : MirrorFacts P) (end : KeepEnd) → Looks old.pass (Ok found) pass → Compares facts old.mirror found.rows end mirror
       → Observes facts old end (record old { pass = pass; mirror = mirror })
-  observes old pass now mirror end looks compares = record {
+  observes old pass found mirror end looks compares = record {
     edits = looks.edits;
     met = looks.met;
     asked = looks.asked;
-    settles = subst (λ (rows : KeptRows). Compares facts old.mirror rows end mirror) looks.are.0 compares;
+    settles = subst (λ (rows : KeptRows). Compares facts old.mirror rows end mirror) looks.finds.are compares;
     others = refl;
   }
 

@@ -1,11 +1,8 @@
 -- Steps along two lists of rows: what one of them adds, and what is left.
 use Rattle.std.proofs.Common.{◌≡◌, ℕ, zero, suc, ◌+◌, ◌<◌, ◌≤◌, Bool, true, false, if◌then◌else◌, List, [], ◌∷◌, ◌++◌, append_assoc, drop, map, set, length, get_or, Option, Some, None, refl, sym, ap, subst, ◌∙◌, arith}
 use Rattle.std.specs.Prelude.{slice_get}
-use Rattle.std.specs.Borrow.{Bor}
 use Rattle.std.specs.List.{insert}
-use Rattle.std.specs.Option.{option_copied}
-use Rattle.std.specs.Slice.{IsItemAt}
-use Rattle.std.proofs.lemmas.Option.{slice_get_past, slice_get_read, slice_get_within}
+use Rattle.std.proofs.lemmas.Option.{slice_get_within}
 use Rattle.std.proofs.lemmas.List.{append-nil, drop-drop, drop_all, map-append}
 use Rattle.mum_keeper.specs.Order.{any_like, is_alone, is_new, is_taken, others_done, place_of, rows_done, step_of, unmatched, with_row}
 use Rattle.mum_keeper.specs.declared.merge.Step.{Step}
@@ -28,11 +25,6 @@ from_given [] zero given is = sym (ap (λ g. begins g []) is)
 from_given [] (suc at) given is = sym (ap (λ g. begins g []) is)
 from_given (y ∷ xs) zero given is = sym (ap (λ g. begins g xs) is)
 from_given (y ∷ xs) (suc at) given is = from_given xs at given is
-
--- what `get` answers
-pub given_at : {A : Type 0} (xs : List A) (at : ℕ) (given : Option (Bor A)) → IsItemAt xs at given → option_copied given ≡ slice_get xs at
-given_at xs at None item = sym (slice_get_past xs at item.3)
-given_at xs at (Some x) item = sym (slice_get_read xs (length xs) at x.now refl item.3.0 item.1)
 
 -- ---- one step
 

@@ -1,9 +1,8 @@
 -- The bell of a store as whoever publishes sees it, as plain data, and what is offered to it.
 use Rattle.std.specs.Prelude.{◌≡◌, ℕ, Bool, true, false, List, [], ◌∷◌, ◌++◌, map, Option, Some, None, MatchBool}
 use Rattle.std.specs.Option.{option_map, option_map_or}
-use Rattle.atomic_table.specs.Seated.{TableId}
 use Rattle.mum_outbox.specs.Calls.{one_more}
-use Rattle.mum_outbox.specs.Facts.{PassFacts, QueueFacts}
+use Rattle.mum_outbox.specs.Facts.{PassFacts, QueueFacts, QueueId}
 use Rattle.mum_published.specs.Facts.{NoteFacts}
 use Rattle.mum_keeper.specs.Bell.{NoMore, Noted, Ring, ring_of}
 use Rattle.mum_keeper.specs.declared.item.StoreItem.{StoreItem}
@@ -11,17 +10,17 @@ use Rattle.mum_keeper.specs.declared.item.StoreItem.{StoreItem}
 -- which queue the bell is, what was put into it, in order, how often it was found full, and whether it took that no note
 -- comes any more
 pub record ArchiveFacts : Type 0 where
-  pub queue : TableId
+  pub queue : QueueId
   pub put : List Ring
   pub full : ℕ
   pub is_told : Bool
 
 -- nothing yet was put into this queue
-abbrev pub new_archive : TableId → ArchiveFacts
+abbrev pub new_archive : QueueId → ArchiveFacts
 new_archive queue = record { queue = queue; put = []; full = 0; is_told = false }
 
 -- which queue the bell of a store is, where there is one
-abbrev pub queue_of : Option QueueFacts → Option TableId
+abbrev pub queue_of : Option QueueFacts → Option QueueId
 queue_of store = option_map (λ (bell : QueueFacts). bell.queue) store
 
 abbrev pub archive_facts : {N : Type 0} → PassFacts (StoreItem N) → Bool → ArchiveFacts

@@ -1,8 +1,7 @@
 -- What the bell of a store carries, as plain data, and what the store took from it.
 use Rattle.std.specs.Prelude.{◌≡◌, ℕ, List, [], ◌∷◌, ◌++◌, map, Option, Some, None}
-use Rattle.atomic_table.specs.Seated.{TableId}
 use Rattle.mum_outbox.specs.Calls.{one_more}
-use Rattle.mum_outbox.specs.Facts.{PassFacts}
+use Rattle.mum_outbox.specs.Facts.{PassFacts, QueueId}
 use Rattle.mum_outbox.specs.declared.rule.Tagged.{Tagged}
 use Rattle.mum_published.specs.Facts.{NoteFacts}
 use Rattle.mum_keeper.specs.declared.item.StoreItem.{StoreItem}
@@ -15,12 +14,12 @@ pub data Ring : Type 0 where
 
 -- which queue a bell is, the items that were taken from it, in order, and how often there was none
 pub record BellFacts : Type 0 where
-  pub queue : TableId
+  pub queue : QueueId
   pub taken : List Ring
   pub empty : ℕ
 
 -- a bell from which nothing was taken yet
-abbrev pub new_bell : TableId → BellFacts
+abbrev pub new_bell : QueueId → BellFacts
 new_bell queue = record { queue = queue; taken = []; empty = 0 }
 
 module _ {N : Type 0} where

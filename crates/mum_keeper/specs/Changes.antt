@@ -14,9 +14,11 @@ use Rattle.mum_keeper.specs.declared.change.Change.TheVariants as changes
 
 -- ---- the order of rows
 
+-- the order in which channels are kept: by their numbers
 abbrev pub channel_before : KeptChannel → KeptChannel → Bool
 channel_before channel other = nat_lt channel.id.0 other.id.0
 
+-- the order in which links are kept: by their first channel, then by their second
 abbrev pub link_before : Pair → Pair → Bool
 link_before pair other = is_above pair.0 pair.1 other
 
@@ -38,6 +40,7 @@ without_channel id channels = filter (λ channel. not (channel.id.0 == id.0)) ch
 abbrev pub without_link : Pair → List Pair → List Pair
 without_link pair links = filter (λ other. not (is_pair pair.0 pair.1 other)) links
 
+-- the rows after one change; to drop or unlink what is not there changes nothing
 abbrev pub made : Change → KeptRows → KeptRows
 made (changes.Put channel) rows = record rows { channels = with_row channel_before channel rows.channels }
 made (changes.Drop id) rows = record rows { channels = without_channel id rows.channels }
@@ -50,6 +53,7 @@ all_made list rows = fold (λ so_far change. made change so_far) rows list
 
 -- ---- the difference of rows
 
+-- two channels have the same description, position and user limit
 abbrev pub is_same_info : ChannelInfo → ChannelInfo → Bool
 is_same_info info other =
     bytes_eq info.description other.description && int_eq info.position other.position && (info.max_users == other.max_users)

@@ -2,7 +2,7 @@
 use Rattle.std.specs.Prelude.{◌≡◌, Bool, true, false, List, is_some, Option, Some, None}
 use Rattle.mum_crew.specs.declared.role.Turn.{Turn}
 use Rattle.mum_crew.specs.declared.role.Turn.TheVariants as turns
-use Rattle.atomic_table.specs.Seated.{TableId}
+use Rattle.mum_outbox.specs.Facts.{QueueId}
 use Rattle.mum_kept.specs.Kept.{kept}
 use Rattle.mum_kept.specs.declared.rows.KeptRows.{KeptRows}
 use Rattle.mum_published.specs.Calls.{Learnt, MayMeet, looked, state_of}
@@ -23,7 +23,7 @@ pub record StoreFacts (P : Type 0) : Type 0 where
   pub ended : Bool
 
 -- it is new, and nothing was taken or compared
-abbrev pub IsOpened : {P : Type 0} → PassFacts → P → KeptRows → TableId → StoreFacts P → Type 0
+abbrev pub IsOpened : {P : Type 0} → PassFacts → P → KeptRows → QueueId → StoreFacts P → Type 0
 IsOpened pass keeper rows queue store =
     store ≡ record { pass = pass; bell = new_bell queue; mirror = new_mirror keeper rows; ended = false }
 

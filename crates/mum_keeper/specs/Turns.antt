@@ -1,7 +1,7 @@
 -- What came of the turns of a store, and of its settling.
 use Rattle.std.specs.Prelude.{◌≡◌, List, [], ◌∷◌, ◌++◌, IfSome, IsTrue}
 use mathlib.Core.List.{IsPrefix}
-use Rattle.atomic_table.specs.Seated.{TableId}
+use Rattle.mum_outbox.specs.Facts.{QueueId}
 use Rattle.mum_crew.specs.Turns.{TurnsTo}
 use Rattle.mum_crew.specs.declared.role.Turn.{Turn}
 use Rattle.mum_io.specs.Counts.{Rose}
@@ -52,7 +52,7 @@ module _ {P : Type 0} (facts : P → KeeperFacts) where
     pub keeper : P
     pub rows : KeptRows
     pub has : AreRowsOf (facts keeper).rows rows
-    pub queue : TableId
+    pub queue : QueueId
     pub opened : StoreFacts P
     pub opening : IsOpened pass keeper rows queue opened
     pub all : TurnsTo (StoreTurned facts) opened turns store

@@ -98,6 +98,13 @@ impl<P: Keeper, N: Keeping> Mirror<P, N> {
         }
     }
 
+    /// The rows to which the keeper was brought last.
+    pub(crate) fn rows(&self) -> &KeptRows
+        ensures { result.now ≡ self.now.rows }
+    {
+        &self.rows
+    }
+
     /// Brings the keeper to these rows, where they differ from those to which it was brought last.
     pub(crate) fn compare(&mut self, alloc: Global, now: KeptRows) -> KeepEnd
         requires { AreInOrder now }

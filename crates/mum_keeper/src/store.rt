@@ -4,12 +4,13 @@ ghost use Rattle.std.specs.Prelude.{◌≡◌, ◌↔◌, IfErr, IfOk, IsTrue, t
 ghost use Rattle.mum_published.specs.Calls.{Learnt};
 ghost use Rattle.mum_keeper.specs.Bell.{NoMore, Noted, ring_of};
 ghost use Rattle.mum_keeper.specs.Keeping.{AreRowsOf};
+ghost use Rattle.mum_keeper.specs.Look.{policies_left};
 ghost use Rattle.mum_keeper.specs.Mirror.{IsSince, opening_of};
 ghost use Rattle.mum_keeper.specs.Store.{HearsBell, Heeds, IsOpened, Observes, Settles, StoreTurned, turn_of};
 
 use crate::item::{BellEnd, StoreItem, StoreNote};
 use crate::keeper::{KeepEnd, Keeper};
-use crate::look::{look_once, ordered_rows};
+use crate::look::{Found, look_once, ordered_rows};
 use crate::mirror::Mirror;
 use crate::naming::{KeeperOpening, Keeping};
 use mum_crew::{Role, Turn};
@@ -39,18 +40,21 @@ pub struct Store<P: Keeper, N: Keeping, R: Wait + Copy> {
     pass: Pass,
     bell: BellEnd<N>,
     mirror: Mirror<P, N>,
+    // The policy count of the state whose rows the mirror has, where a look found them.
+    policies: Option<u64>,
     ended: bool,
 }
 
 impl<P: Keeper, N: Keeping, R: Wait + Copy> Model for Store<P, N, R> {
     ghost use Rattle.std.specs.Prelude.{◌≡◌};
+    ghost use Rattle.mum_keeper.specs.Look.{AreSeenAt};
     ghost use Rattle.mum_keeper.specs.Store.{StoreFacts};
 
     ghost Value = { StoreFacts P };
 
     ghost view = { λ s. record { pass = s.pass; bell = s.bell; mirror = s.mirror; ended = s.ended } };
 
-    ghost invariant = { λ s. s.pass.opening ≡ N.opening };
+    ghost invariant = { λ s. (s.pass.opening ≡ N.opening) × AreSeenAt s.pass s.mirror.rows s.policies };
 }
 
 fn turn_of(ended: bool, took: bool) -> Turn
@@ -60,6 +64,17 @@ fn turn_of(ended: bool, took: bool) -> Turn
         return Turn::Done;
     }
     if took { Turn::Worked } else { Turn::Idle }
+}
+
+// The policy count of the state whose rows the mirror has after a comparison.
+fn policies_left(end: KeepEnd, before: Option<u64>, now: u64) -> Option<u64>
+    ensures { result ≡ policies_left end before now }
+{
+    match end {
+        KeepEnd::Kept => Some(now),
+        KeepEnd::Failed => before,
+        KeepEnd::NoMemory => before,
+    }
 }
 
 impl<P: Keeper, N: Keeping, R: Wait + Copy> Store<P, N, R> {
@@ -85,6 +100,7 @@ impl<P: Keeper, N: Keeping, R: Wait + Copy> Store<P, N, R> {
             pass,
             bell: BellEnd::new(bell),
             mirror: Mirror::new(keeper, rows),
+            policies: None,
             ended: false,
         })
     }
@@ -94,8 +110,19 @@ impl<P: Keeper, N: Keeping, R: Wait + Copy> Store<P, N, R> {
         ensures { Observes P.facts self.old result self.new }
     {
         let rt = self.rt;
-        match look_once(&rt, self.alloc, &mut self.pass) {
-            Ok(now) => self.mirror.compare(self.alloc, now),
+        match look_once(
+            &rt,
+            self.alloc,
+            &mut self.pass,
+            self.mirror.rows(),
+            self.policies,
+        ) {
+            Ok(found) => {
+                let Found { rows, policies } = found;
+                let end = self.mirror.compare(self.alloc, rows);
+                self.policies = policies_left(end, self.policies, policies);
+                end
+            }
             Err(_) => self.mirror.starve(),
         }
     }
@@ -183,6 +210,7 @@ impl<P: Keeper, N: Keeping, R: Wait + Copy> Store<P, N, R> {
         ensures settles { Settles P.facts self.old.mirror state.now result self.new.mirror }
         ensures others { self.new ≡ record self.old { mirror = self.new.mirror } }
     {
+        self.policies = None;
         match ordered_rows(self.alloc, state) {
             Ok(now) => self.mirror.compare(self.alloc, now),
             Err(_) => self.mirror.starve(),
@@ -203,6 +231,7 @@ impl<P: Keeper, N: Keeping, R: Wait + Copy> Store<P, N, R> {
             pass: _,
             bell: _,
             mirror,
+            policies: _,
             ended: _,
         } = self;
         let (keeper, keeper_failed, no_memory) = mirror.close();

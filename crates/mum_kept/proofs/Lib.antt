@@ -7,5 +7,6 @@ pub mod Seats
 pub mod Payloads
 pub mod Pushed
 mod StandardFacts
+pub mod Standing
 pub mod Unused
 pub mod Whole

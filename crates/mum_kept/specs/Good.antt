@@ -20,12 +20,15 @@ use Rattle.mum_kept.specs.declared.rows.KeptRows.{KeptRows}
 use Rattle.mum_kept.specs.Policy.{holds_policy}
 use Rattle.mum_kept.specs.Rows.{is_top, tree_rows}
 
+-- its name is one by the rules for names
 abbrev pub has_name : KeptChannel → Bool
 has_name channel = is_name channel.name
 
+-- its description is within the limit of texts
 abbrev pub has_text : KeptChannel → Bool
 has_text channel = is_text channel.info.description
 
+-- its policy is the payload of one that this channel may have
 abbrev pub has_policy : KeptChannel → Bool
 has_policy channel = holds_policy channel.id channel.policy
 

@@ -23,6 +23,7 @@ lasts tree id = option_map_or is_lasting (channel_of tree id) false
 abbrev pub kept_policy : StateValue → ChannelId → List ℕ
 kept_policy state id = option_map_or (policy_payload id) (policy_of state id) []
 
+-- the row of a channel
 abbrev pub kept_channel : StateValue → Channel → KeptChannel
 kept_channel state channel = record {
   id = channel.id;
@@ -36,12 +37,15 @@ kept_channel state channel = record {
 abbrev pub is_kept_link : TreeState → Pair → Bool
 is_kept_link tree pair = nat_lt pair.0.0 pair.1.0 && lasts tree pair.0 && lasts tree pair.1
 
+-- the rows of all channels but temporary ones, in the state's order
 abbrev pub kept_channels : StateValue → List KeptChannel
 kept_channels state = map (λ row. kept_channel state row.channel) (filter (λ row. is_lasting row.channel) state.tree.channels)
 
+-- the links between these, each once
 abbrev pub kept_links : TreeState → List Pair
 kept_links tree = filter (is_kept_link tree) tree.links
 
+-- all that is kept of a state
 abbrev pub kept : StateValue → KeptRows
 kept state = record { channels = kept_channels state; links = kept_links state.tree }
 
@@ -51,6 +55,7 @@ kept state = record { channels = kept_channels state; links = kept_links state.t
 abbrev pub kept_if_lasting : StateValue → Channel → List KeptChannel
 kept_if_lasting state channel = if channel.temporary then [] else kept_channel state channel ∷ []
 
+-- the row under a number, if it is kept
 abbrev pub kept_of : StateValue → ChannelId → List KeptChannel
 kept_of state id = option_map_or (kept_if_lasting state) (channel_of state.tree id) []
 

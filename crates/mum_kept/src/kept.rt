@@ -1,12 +1,14 @@
 //! The rows that are kept of a state.
 
-ghost use Rattle.std.specs.Prelude.{◌≡◌, ◌++◌, IfOk, OnOk, filter};
+ghost use Rattle.std.specs.Prelude.{◌≡◌, ◌++◌, ◌<◌, IfOk, IfSome, OnOk, filter, length};
+ghost use Rattle.std.specs.Option.{option_copied};
 ghost use Rattle.mum_tree.specs.Proper.{IsProper as IsProperTree};
 ghost use Rattle.mum_tree.specs.Rows.{Rise};
 ghost use Rattle.mum_tree.specs.State.{partners};
 ghost use Rattle.mum_notify.specs.Channels.{channel_ids};
 ghost use Rattle.mum_kept.specs.Kept.{is_kept_link, kept, kept_channel, kept_channels, kept_links, kept_of, kept_policy, lasts, links_from};
 ghost use Rattle.mum_kept.specs.Policy.{policy_payload};
+ghost use Rattle.mum_kept.specs.Standing.{HasPolicyOf, HavePoliciesOf};
 
 use crate::rows::{KeptChannel, KeptRows};
 use mum_base::{ChannelId, Items, Octets, OutOfMemory};
@@ -39,7 +41,7 @@ fn partners(alloc: Global, tree: &Tree, id: ChannelId) -> Result<Vec<ChannelId>,
     Ok(found)
 }
 
-// What answers a query for the policy of the channel.
+// What answers a query for the policy of the channel, held once for all who share it.
 fn policy_payload(
     alloc: Global,
     id: ChannelId,
@@ -48,10 +50,10 @@ fn policy_payload(
     ensures { IfOk result (λ payload. payload ≡ policy_payload id policy.now) }
 {
     let told = acl_told(alloc, id, policy)?;
-    told.encode(alloc)
+    told.encode(alloc)?.into_shared()
 }
 
-fn kept_policy(alloc: Global, state: &State, id: ChannelId) -> Result<Octets, OutOfMemory>
+fn encoded_policy(alloc: Global, state: &State, id: ChannelId) -> Result<Octets, OutOfMemory>
     ensures { IfOk result (λ payload. payload ≡ kept_policy state.now id) }
 {
     match state.policy(id) {
@@ -60,7 +62,32 @@ fn kept_policy(alloc: Global, state: &State, id: ChannelId) -> Result<Octets, Ou
     }
 }
 
-fn kept_channel(alloc: Global, state: &State, channel: &Channel) -> Result<KeptChannel, OutOfMemory>
+// The policy of a channel: that of the row, where this is the channel's.
+fn kept_policy(
+    alloc: Global,
+    state: &State,
+    id: ChannelId,
+    known: Option<&KeptChannel>,
+) -> Result<Octets, OutOfMemory>
+    requires { IfSome (option_copied known) (HasPolicyOf state.now) }
+    ensures { IfOk result (λ payload. payload ≡ kept_policy state.now id) }
+{
+    let Some(row) = known else {
+        return encoded_policy(alloc, state, id);
+    };
+    if row.id.0 != id.0 {
+        return encoded_policy(alloc, state, id);
+    }
+    row.policy.share()
+}
+
+fn kept_channel(
+    alloc: Global,
+    state: &State,
+    channel: &Channel,
+    known: Option<&KeptChannel>,
+) -> Result<KeptChannel, OutOfMemory>
+    requires { IfSome (option_copied known) (HasPolicyOf state.now) }
     ensures { IfOk result (λ kept. kept ≡ kept_channel state.now channel.now) }
 {
     Ok(KeptChannel {
@@ -68,7 +95,7 @@ fn kept_channel(alloc: Global, state: &State, channel: &Channel) -> Result<KeptC
         parent: channel.parent,
         name: channel.name.share()?,
         info: channel.info.share()?,
-        policy: kept_policy(alloc, state, channel.id)?,
+        policy: kept_policy(alloc, state, channel.id, known)?,
     })
 }
 
@@ -78,7 +105,9 @@ fn add_channel(
     channels: &mut Vec<KeptChannel>,
     state: &State,
     id: ChannelId,
+    known: Option<&KeptChannel>,
 ) -> Result<(), OutOfMemory>
+    requires { IfSome (option_copied known) (HasPolicyOf state.now) }
     ensures { OnOk result (channels.new.items ≡ channels.old.items ++ kept_of state.now id) }
 {
     let tree = state.tree();
@@ -88,22 +117,37 @@ fn add_channel(
     if channel.temporary {
         return Ok(());
     }
-    channels.push(kept_channel(alloc, state, channel)?)?;
+    channels.push(kept_channel(alloc, state, channel, known)?)?;
     Ok(())
 }
 
+// The index of the first row, from this one on, whose number is not below that of the channel.
+fn first_from(rows: &[KeptChannel], from: usize, id: ChannelId) -> usize {
+    let mut at = from;
+    while at < rows.len() && rows[at].id.0 < id.0 {
+        at += 1;
+    }
+    at
+}
+
+// The channels' rows; the policies that the known rows have are shared. Both are in order of number, and each
+// known row is met once.
 fn kept_channels(
     alloc: Global,
     state: &State,
     ids: &[ChannelId],
+    known: &[KeptChannel],
 ) -> Result<Vec<KeptChannel>, OutOfMemory>
     requires ids { ids.now ≡ channel_ids state.now.tree }
     requires rise { Rise state.now.tree.channels }
+    requires known { HavePoliciesOf state.now known.now }
     ensures { IfOk result (λ channels. channels.items ≡ kept_channels state.now) }
 {
     let mut channels = Vec::with_capacity(alloc, ids.len())?;
+    let mut at = 0;
     for id in ids {
-        add_channel(alloc, &mut channels, state, *id)?;
+        at = first_from(known, at, *id);
+        add_channel(alloc, &mut channels, state, *id, known.get(at))?;
     }
     Ok(channels)
 }
@@ -159,17 +203,42 @@ fn kept_links(
     Ok(links)
 }
 
-/// The rows that are kept of a state. It costs in proportion to the channels, their links and their
-/// policies, each link and each channel found by binary search.
-pub fn kept_rows(alloc: Global, state: &State) -> Result<KeptRows, OutOfMemory>
+// The rows that are kept of a state; the policies that the known rows have are shared.
+fn rows_sharing(
+    alloc: Global,
+    state: &State,
+    known: &[KeptChannel],
+) -> Result<KeptRows, OutOfMemory>
+    requires { HavePoliciesOf state.now known.now }
     ensures { IfOk result (λ rows. rows ≡ kept state.now) }
 {
     let tree = state.tree();
     let ids = channel_ids(alloc, tree)?;
-    let channels = kept_channels(alloc, state, &ids)?;
+    let channels = kept_channels(alloc, state, &ids, known)?;
     let links = kept_links(alloc, tree, &ids)?;
     Ok(KeptRows {
         channels: Items::from_vec(channels),
         links: Items::from_vec(links),
     })
+}
+
+/// The rows that are kept of a state. It costs in proportion to the channels, their links and their
+/// policies, each link and each channel found by binary search.
+pub fn kept_rows(alloc: Global, state: &State) -> Result<KeptRows, OutOfMemory>
+    ensures { IfOk result (λ rows. rows ≡ kept state.now) }
+{
+    rows_sharing(alloc, state, &[])
+}
+
+/// The same, where earlier rows have policies of this state: these are shared, and only those of channels that
+/// have no row there are encoded. Policies cost nothing where the earlier rows were made by `kept_rows`.
+pub fn kept_rows_sharing(
+    alloc: Global,
+    state: &State,
+    earlier: &KeptRows,
+) -> Result<KeptRows, OutOfMemory>
+    requires { HavePoliciesOf state.now earlier.now.channels }
+    ensures { IfOk result (λ rows. rows ≡ kept state.now) }
+{
+    rows_sharing(alloc, state, earlier.channels.as_slice())
 }

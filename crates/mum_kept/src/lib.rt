@@ -7,6 +7,7 @@ mod found;
 mod good;
 mod joined;
 mod kept;
+pub mod laws;
 mod order;
 mod prefix;
 mod rebuilt;
@@ -14,6 +15,6 @@ pub mod rows;
 mod siblings;
 
 pub use good::good_rows;
-pub use kept::kept_rows;
+pub use kept::{kept_rows, kept_rows_sharing};
 pub use rebuilt::rebuild;
 pub use rows::{KeptChannel, KeptRows};

@@ -61,7 +61,7 @@ module _ {L V : Type 0} (facts : L → LinkFacts) (routed : V → ℕ → Sessio
       let none = waits_still old machine did mid steps awaits in
       let still : mid.machine.awaits ≡ true = ap (λ (m : Machine). m.awaits) (steps.turn.handles.machine ∙ ap (λ (f : Option Frame). machine_after old.machine f) none) ∙ awaits in
       ap (λ (f : Option Frame). option_to_list f ++ frames_handled events) none ∙ life_waits mid events new lives still unanswered
-  life_waits old (replied wire cause ∷ events) new lives awaits unanswered = absurd unanswered
+  life_waits old (replied heard cause ∷ events) new lives awaits unanswered = absurd unanswered
   life_waits old (lagged cause ∷ events) new (mid, inl stays, lives) awaits unanswered =
       life_waits mid events new lives (ap (λ (p : PortFacts L). p.machine.awaits) stays.same ∙ awaits) unanswered
   life_waits old (lagged cause ∷ events) new (mid, inr lags, lives) awaits unanswered =

@@ -179,11 +179,11 @@ module _ {L V : Type 0} (facts : L → LinkFacts) (routed : V → ℕ → Sessio
       let next = life_so mid events new _ _ (step_so old machine did mid put asked so steps) lives in
       subst (λ (l : List DeskItem). DeskSo new l (asked ++ (option_to_list (asked_item machine did.handled) ++ items_asked events))) (append_assoc put (option_to_list did.put) (items_put events))
       (subst (λ (l : List DeskItem). DeskSo new ((put ++ option_to_list did.put) ++ items_put events) l) (append_assoc asked (option_to_list (asked_item machine did.handled)) (items_asked events)) next)
-  life_so old (replied wire cause ∷ events) new put asked so (mid, (end, passes, inl stays), lives) = life_so mid events new put asked (stays_so old mid put asked so stays.same) lives
-  life_so old (replied wire cause ∷ events) new put asked so (mid, (end, passes, inr (inl takes)), lives) =
-      let now = open-stays mid.stage (ap (λ (p : PortFacts L). is_closed p.stage) takes.rest ∙ after_reply-open end old.stage takes.was_open) in
+  life_so old (replied heard cause ∷ events) new put asked so (mid, inl stays, lives) = life_so mid events new put asked (stays_so old mid put asked so stays.same) lives
+  life_so old (replied heard cause ∷ events) new put asked so (mid, inr (inl takes), lives) =
+      let now = open-stays mid.stage (ap (λ (p : PortFacts L). is_closed p.stage) takes.rest ∙ after_reply-open heard.end old.stage takes.was_open) in
       life_so mid events new put asked (moves old mid put asked so (open-stays old.stage takes.was_open) now (ap (λ (p : PortFacts L). p.waiting) takes.rest)) lives
-  life_so old (replied wire cause ∷ events) new put asked so (mid, (end, passes, inr (inr closes)), lives) =
+  life_so old (replied heard cause ∷ events) new put asked so (mid, inr (inr closes), lives) =
       life_so mid events new put asked (moves old mid put asked so (open-stays old.stage closes.was_open) (ap (λ (p : PortFacts L). has_left p.stage) closes.closes.rest) (ap (λ (p : PortFacts L). p.waiting) closes.closes.rest)) lives
   life_so old (lagged cause ∷ events) new put asked so (mid, inl stays, lives) = life_so mid events new put asked (stays_so old mid put asked so stays.same) lives
   life_so old (lagged cause ∷ events) new put asked so (mid, inr lags, lives) =

@@ -1,3 +1,4 @@
+pub mod Asking
 pub mod Awaiting
 pub mod Balance
 pub mod BoxParts

@@ -99,10 +99,10 @@ module _ {L V : Type 0} (facts : L → LinkFacts) (routed : V → ℕ → Sessio
         ap (λ (l : List ℕ). l ++ bytes_written events) rests.no_write ∙ others.2,
         others.3,
       )
-  closed_life old (replied wire cause ∷ events) new (mid, (end, passes, inl stays), lives) closed =
+  closed_life old (replied heard cause ∷ events) new (mid, inl stays, lives) closed =
       closed_life mid events new lives (ap (λ (p : PortFacts L). is_closed p.stage) stays.same ∙ closed)
-  closed_life old (replied wire cause ∷ events) new (mid, (end, passes, inr (inl takes)), lives) closed = absurd (true≢false (sym closed ∙ takes.was_open))
-  closed_life old (replied wire cause ∷ events) new (mid, (end, passes, inr (inr closes)), lives) closed = absurd (true≢false (sym closed ∙ closes.was_open))
+  closed_life old (replied heard cause ∷ events) new (mid, inr (inl takes), lives) closed = absurd (true≢false (sym closed ∙ takes.was_open))
+  closed_life old (replied heard cause ∷ events) new (mid, inr (inr closes), lives) closed = absurd (true≢false (sym closed ∙ closes.was_open))
   closed_life old (lagged cause ∷ events) new (mid, inl stays, lives) closed =
       closed_life mid events new lives (ap (λ (p : PortFacts L). is_closed p.stage) stays.same ∙ closed)
   closed_life old (lagged cause ∷ events) new (mid, inr lags, lives) closed = absurd (true≢false (sym closed ∙ lags.0))
@@ -165,13 +165,13 @@ module _ {L V : Type 0} (facts : L → LinkFacts) (routed : V → ℕ → Sessio
   }
   life_handled old (stepped machine did ∷ events) new (mid, steps, lives) =
       step_handled old mid new machine did events did.closed refl steps steps.turn.ends.settled (life_handled mid events new lives) lives
-  life_handled old (replied wire cause ∷ events) new (mid, (end, passes, inl stays), lives) =
-      same_handled old mid new (replied wire cause) events (ap (λ (p : PortFacts L). p.framer.kept) stays.same) refl refl (life_handled mid events new lives)
-  life_handled old (replied wire cause ∷ events) new (mid, (end, passes, inr (inl takes)), lives) =
-      same_handled old mid new (replied wire cause) events (ap (λ (p : PortFacts L). p.framer.kept) takes.rest) refl refl (life_handled mid events new lives)
-  life_handled old (replied wire cause ∷ events) new (mid, (end, passes, inr (inr closes)), lives) =
+  life_handled old (replied heard cause ∷ events) new (mid, inl stays, lives) =
+      same_handled old mid new (replied heard cause) events (ap (λ (p : PortFacts L). p.framer.kept) stays.same) refl refl (life_handled mid events new lives)
+  life_handled old (replied heard cause ∷ events) new (mid, inr (inl takes), lives) =
+      same_handled old mid new (replied heard cause) events (ap (λ (p : PortFacts L). p.framer.kept) takes.rest) refl refl (life_handled mid events new lives)
+  life_handled old (replied heard cause ∷ events) new (mid, inr (inr closes), lives) =
       let others = closed_life mid events new lives (ap (λ (p : PortFacts L). is_closed p.stage) closes.closes.rest) in
-      handled_closing old (replied wire cause ∷ events) new others.0 others.1 others.3
+      handled_closing old (replied heard cause ∷ events) new others.0 others.1 others.3
   life_handled old (lagged cause ∷ events) new (mid, inl stays, lives) =
       same_handled old mid new (lagged cause) events (ap (λ (p : PortFacts L). p.framer.kept) stays.same) refl refl (life_handled mid events new lives)
   life_handled old (lagged cause ∷ events) new (mid, inr lags, lives) =
@@ -221,18 +221,18 @@ module _ {L V : Type 0} (facts : L → LinkFacts) (routed : V → ℕ → Sessio
   }
   life_wrote old (stepped machine did ∷ events) new (mid, steps, lives) =
       step_wrote old mid new machine did events did.closed refl steps steps.turn.ends.settled (life_wrote mid events new lives) lives
-  life_wrote old (replied wire cause ∷ events) new (mid, (end, passes, inl stays), lives) =
+  life_wrote old (replied heard cause ∷ events) new (mid, inl stays, lives) =
       let others = closed_life mid events new lives (ap (λ (p : PortFacts L). is_closed p.stage) stays.same ∙ stays.was_closed) in
-      wrote_closing old new (replied wire cause) events others.2 others.3
-  life_wrote old (replied wire cause ∷ events) new (mid, (end, passes, inr (inl takes)), lives) =
+      wrote_closing old new (replied heard cause) events others.2 others.3
+  life_wrote old (replied heard cause ∷ events) new (mid, inr (inl takes), lives) =
       let next = life_wrote mid events new lives in record {
         rest = next.rest;
-        bytes = sym (append_assoc old.out wire (bytes_queued events)) ∙ (ap (λ (p : PortFacts L). p.out ++ bytes_queued events) (sym takes.rest) ∙ next.bytes);
+        bytes = sym (append_assoc old.out heard.wire (bytes_queued events)) ∙ (ap (λ (p : PortFacts L). p.out ++ bytes_queued events) (sym takes.rest) ∙ next.bytes);
         kept = next.kept;
       }
-  life_wrote old (replied wire cause ∷ events) new (mid, (end, passes, inr (inr closes)), lives) =
+  life_wrote old (replied heard cause ∷ events) new (mid, inr (inr closes), lives) =
       let others = closed_life mid events new lives (ap (λ (p : PortFacts L). is_closed p.stage) closes.closes.rest) in
-      wrote_closing old new (replied wire cause) events others.2 others.3
+      wrote_closing old new (replied heard cause) events others.2 others.3
   life_wrote old (lagged cause ∷ events) new (mid, inl stays, lives) =
       let others = closed_life mid events new lives (ap (λ (p : PortFacts L). is_closed p.stage) stays.same ∙ stays.was_closed) in
       wrote_closing old new (lagged cause) events others.2 others.3

@@ -1,3 +1,4 @@
+pub mod Asked
 pub mod Did
 pub mod Facts
 pub mod Handling

@@ -20,10 +20,17 @@ use Rattle.mum_port.specs.declared.stage.Farewell.TheVariants.{LastWord, Done}
 use Rattle.mum_port.specs.declared.stage.Stage.{Stage}
 use Rattle.mum_port.specs.declared.stage.Stage.TheVariants.{Closed}
 
--- a step that did this, with the machine that the connection was before it; a reply with its bytes; or a lag
+-- a reply as a port hears it: how its wait ends, the bytes that its client gets, and the passes that it gives
+pub record Heard : Type 0 where
+  pub end : ReplyEnd
+  pub wire : List ℕ
+  pub passes : Option Passes
+
+-- a step that did this, with the machine that the connection was before it; a reply, or a lag, and for what the port closed
+-- at it, if it did
 pub data Event : Type 0 where
   stepped : Machine → PortDid → Event
-  replied : List ℕ → Option Cause → Event
+  replied : Heard → Option Cause → Event
   lagged : Option Cause → Event
 
 module _ {L V : Type 0} (facts : L → LinkFacts) (routed : V → ℕ → SessionId → List ℕ → V → Type 0) where
@@ -40,7 +47,7 @@ module _ {L V : Type 0} (facts : L → LinkFacts) (routed : V → ℕ → Sessio
 
   abbrev pub Happens : PortFacts L → Event → PortFacts L → Type 0
   Happens old (stepped machine did) new = Steps old machine did new
-  Happens old (replied wire closed) new = (end : ReplyEnd) × (passes : Option Passes) × Answers facts end wire passes old closed new
+  Happens old (replied heard closed) new = Answers facts heard.end heard.wire heard.passes old closed new
   Happens old (lagged closed) new = Lags facts old closed new
 
   -- the events, one after another, lead from this port to that
@@ -63,7 +70,7 @@ frames_handled events = flat_map (in_step (λ machine did. option_to_list did.ha
 
 -- what is to be written of a step, or of a reply, in the order in which it was taken
 abbrev pub queued_by : Event → List ℕ
-queued_by (replied wire closed) = wire
+queued_by (replied heard closed) = heard.wire
 queued_by event = in_step queued event
 
 abbrev pub bytes_queued : List Event → List ℕ
@@ -89,5 +96,5 @@ words_said machine others = []
 -- no reply is among them
 abbrev pub AreUnanswered : List Event → Type 0
 AreUnanswered [] = Unit {0}
-AreUnanswered (replied wire closed ∷ events) = ⊥
+AreUnanswered (replied heard closed ∷ events) = ⊥
 AreUnanswered (event ∷ events) = AreUnanswered events

@@ -3,6 +3,7 @@
 ghost use Rattle.std.specs.Prelude.{◌≡◌, IfOk, OnErr, OnOk, false};
 ghost use Rattle.mum_session.specs.Action.{action, after_frame};
 ghost use Rattle.mum_session.specs.Machine.{answered, fresh_with_bans, session_of};
+ghost use Rattle.mum_port.specs.Asked.{AsksAsHeard};
 ghost use Rattle.mum_port.specs.Facts.{leave};
 
 use mum_base::{OutOfMemory, ReplyEnd, SessionId};
@@ -67,6 +68,7 @@ impl Client {
     pub(crate) fn frame(&mut self, alloc: Global, frame: Frame) -> Result<Action, OutOfMemory>
         requires { self.old.awaits ≡ false }
         ensures action { IfOk result (λ a. a ≡ action self.old frame.kind frame.payload) }
+        ensures asked { IfOk result AsksAsHeard }
         ensures after { OnOk result (self.new ≡ after_frame self.old frame.kind frame.payload) }
         ensures err { OnErr result (self.new ≡ self.old) }
     {

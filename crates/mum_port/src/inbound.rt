@@ -4,12 +4,13 @@ ghost use Rattle.std.specs.Prelude.{◌≡◌, ◌<◌, ℕ, Bool, IsTrue, false
 ghost use Rattle.mum_frame.specs.Frame.{HasFrame};
 ghost use Rattle.mum_session.specs.Machine.{session_of};
 ghost use Rattle.mum_session.specs.declared.action.Action.TheVariants.{Bans};
+ghost use Rattle.mum_port.specs.Asked.{AsksAsHeard};
 ghost use Rattle.mum_port.specs.Facts.{item_of, waiting_after};
 ghost use Rattle.mum_port.specs.Handling.{Acts, HandlesKept, HandlesWhole, TakesFrame};
 ghost use Rattle.mum_port.specs.Linking.{ReadsLink};
 
 use crate::client::Client;
-use crate::item::DeskItem;
+use crate::item::{DeskItem, Request};
 use crate::outgoing::Outgoing;
 use crate::router::VoiceRouter;
 use crate::stage::Went;
@@ -46,14 +47,15 @@ fn act<V: VoiceRouter>(
     out: &mut Outgoing,
     router: &mut V,
 ) -> Went
-    requires { IsTrue (V.has_room router.old) }
+    requires asked { AsksAsHeard action }
+    requires room { IsTrue (V.has_room router.old) }
     ensures { Acts V.routed connection session action
         (record { waiting = waiting.old; out = out.old; router = V.without_room router.old }) result
         (record { waiting = waiting.new; out = out.new; router = V.without_room router.new }) }
 {
     match action {
         Action::Ask(command) => {
-            drop(waiting.replace(DeskItem::Command(command)));
+            drop(waiting.replace(DeskItem::Command(Request::new(command))));
             Went::Worked
         }
         Action::Voice(packet) => match session {

@@ -15,7 +15,7 @@ pub mod port;
 pub mod router;
 pub mod stage;
 
-pub use item::DeskItem;
+pub use item::{DeskItem, Request};
 pub use outgoing::Outgoing;
 pub use passes::Passes;
 pub use port::{Port, Step, UNWRITTEN_LIMIT};

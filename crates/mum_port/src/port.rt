@@ -13,7 +13,7 @@ ghost use Rattle.mum_session.specs.Machine.{session_of};
 use crate::client::Client;
 use crate::desk::{put_waiting, put_word};
 use crate::inbound::{handle, read};
-use crate::item::DeskItem;
+use crate::item::{DeskItem, Request};
 use crate::outbound::{Taking, collect, drain, write};
 use crate::outgoing::Outgoing;
 use crate::passes::Passes;
@@ -144,7 +144,7 @@ impl<L: Link> Port<L> {
             Stage::Closed {
                 farewell: Farewell::Leave,
                 ..
-            } => Some(DeskItem::Command(self.client.leave())),
+            } => Some(DeskItem::Command(Request::new(self.client.leave()))),
             Stage::Closed {
                 farewell: Farewell::LastWord,
                 ..

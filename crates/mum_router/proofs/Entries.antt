@@ -1,5 +1,5 @@
 -- Entries of routes, while packets are routed.
-use Rattle.std.proofs.Common.{◌≡◌, ◌≢◌, ℕ, zero, suc, ◌<◌, ◌≤◌, true, List, [], ◌∷◌, ◌++◌, Option, Some, None, get_or, is_some, set, refl, ap, subst, sym, ◌∙◌, arith, inl, inr}
+use Rattle.std.proofs.Common.{◌≡◌, ◌≢◌, ℕ, zero, suc, ◌<◌, ◌≤◌, true, List, [], ◌∷◌, ◌++◌, Option, Some, None, get_or, is_some, refl, ap, subst, sym, ◌∙◌, arith, inl, inr}
 use Rattle.std.specs.Prelude.{◌⊎◌, IsSome, IsTrue, slice_get}
 use Rattle.std.specs.List.{list_any}
 use Rattle.std.proofs.lemmas.Bool.{cases_eq, cases_lt}
@@ -21,7 +21,7 @@ use Rattle.mum_state.proofs.Numbers.{numbers_never_fall_lem}
 use Rattle.mum_state.proofs.Present.{present_was_present_lem}
 use Rattle.mum_state.proofs.Seats.{seats_stand_lem, session_known}
 use Rattle.mum_published.specs.Calls.{state_of}
-use Rattle.mum_published.specs.Facts.{Opening, PassFacts}
+use Rattle.mum_published.specs.Facts.{Opening}
 use Rattle.mum_published.proofs.Fitting.{prefix_fits}
 use Rattle.mum_published.proofs.Prefixes.{prefix_self, prefix_trans}
 use Rattle.mum_route.specs.declared.routes.TheConstants.{LOOPBACK}

@@ -1,5 +1,5 @@
 -- The copies of a packet, and what became of each.
-use Rattle.std.specs.Prelude.{◌≡◌, ℕ, Bool, true, false, List, [], filter, length, map, min, slice_get, slice_set, Some}
+use Rattle.std.specs.Prelude.{◌≡◌, ℕ, Bool, true, false, List, filter, length, map, min, slice_get, slice_set, Some}
 use Rattle.std.specs.List.{FoldsTo, sum_by}
 use Rattle.mum_base.specs.declared.number.SessionId.{SessionId}
 use Rattle.mum_outbox.specs.Calls.{Offers}
@@ -8,8 +8,7 @@ use Rattle.mum_outbox.specs.declared.parcel.VoiceParcel.{VoiceParcel}
 use Rattle.mum_outbox.specs.declared.queue.Offered.{Offered}
 use Rattle.mum_outbox.specs.declared.queue.Offered.TheVariants.{Sent, Full}
 use Rattle.mum_outbox.specs.declared.rule.TheConstants.{LAST}
-use Rattle.mum_outbox.specs.Facts.{PassFacts, QueueFacts}
-use Rattle.mum_outbox.specs.Rule.{least_number}
+use Rattle.mum_outbox.specs.Facts.{PassFacts}
 use Rattle.mum_record.specs.declared.journal.Marked.{Marked}
 use Rattle.mum_voice.specs.Packet.{Parts}
 use Rattle.mum_route.specs.declared.hearer.Hearer.{Hearer}
@@ -18,10 +17,6 @@ use Rattle.mum_route.specs.Hearers.{copy_for}
 -- the passes of the voice boxes, by their slots
 abbrev pub Outs : Type 0
 Outs = List (PassFacts VoiceParcel)
-
--- the first pass that an owner of a voice box makes
-abbrev pub new_pass : QueueFacts → PassFacts VoiceParcel
-new_pass owner = record { queue = owner.queue; number = least_number owner.low owner.end; offered = []; taken = []; full = 0; empty = 0 }
 
 -- the parcel with the copy of a packet for one who hears it
 abbrev pub parcel_for : SessionId → Parts → Hearer → VoiceParcel
@@ -33,13 +28,16 @@ pub record Delivery : Type 0 where
   pub hearer : Hearer
   pub answer : Offered VoiceParcel
 
+-- the box took the copy
 abbrev pub is_sent : Offered VoiceParcel → Bool
 is_sent Sent = true
 is_sent (Full back) = false
 
+-- the box took the copy of this delivery
 abbrev pub was_sent : Delivery → Bool
 was_sent delivery = is_sent delivery.answer
 
+-- a delivery as a journal has it: to whom, in which context, sent or full
 abbrev pub mark_of : Delivery → Marked
 mark_of delivery = record { session = delivery.hearer.session; context = delivery.hearer.context; sent = was_sent delivery }
 

@@ -33,6 +33,7 @@ pub record RoutesAt
   pub sent : routed.sent ≡ length (filter was_sent deliveries)
   pub full : routed.full ≡ length (filter (λ delivery. not (was_sent delivery)) deliveries)
 
+-- one look at what is published, and then one offer for each who hears the packet there
 abbrev pub Routes : Opening → RouterFacts → SessionId → Parts → RouterFacts → Routed → Type 0
 Routes opening old speaker packet new routed =
     (edits : List Edit) × (deliveries : List Delivery) × RoutesAt opening old speaker packet edits deliveries new routed

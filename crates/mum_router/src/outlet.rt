@@ -1,12 +1,12 @@
 //! The voice box of one slot, as a worker offers to it.
 
 ghost use Rattle.std.specs.Prelude.{◌≡◌, ◌≤◌, [], length, min};
-ghost use Rattle.mum_outbox.specs.Calls.{Offers};
+ghost use Rattle.mum_outbox.specs.Calls.{Offers, new_pass};
 ghost use Rattle.mum_base.specs.declared.number.TheConstants.{VOICE_CAPACITY};
 ghost use Rattle.mum_outbox.specs.declared.parcel.VoiceParcel.{VoiceParcel};
 ghost use Rattle.mum_outbox.specs.declared.queue.Offered.{Offered};
 ghost use Rattle.mum_outbox.specs.declared.rule.TheConstants.{LAST};
-ghost use Rattle.mum_router.specs.Offering.{is_sent, new_pass};
+ghost use Rattle.mum_router.specs.Offering.{is_sent};
 
 use arrayvec::ArrayVec;
 use mum_base::SessionId;

@@ -2,9 +2,10 @@
 
 ghost use Rattle.std.specs.Prelude.{◌≡◌, ◌≤◌, [], ◌++◌, List, length, map, IfOk};
 ghost use Rattle.mum_state.specs.Proper.{IsProper};
-ghost use Rattle.mum_published.specs.Calls.{Learnt};
+ghost use Rattle.mum_published.specs.Calls.{Admitted, Learnt};
 ghost use Rattle.mum_voice.specs.Packet.{IsPacket, plain_parts};
-ghost use Rattle.mum_router.specs.Offering.{copies_of, full_of, new_pass};
+ghost use Rattle.mum_outbox.specs.Calls.{new_pass};
+ghost use Rattle.mum_router.specs.Offering.{copies_of, full_of};
 ghost use Rattle.mum_router.specs.Picking.{EntryStood, Looks, Picks, looks_of};
 ghost use Rattle.mum_router.specs.Routing.{Routes};
 
@@ -15,7 +16,7 @@ use crate::picking::look_for;
 use mum_base::{OutOfMemory, SLOTS, SessionId, Steps};
 use mum_cache::Caches;
 use mum_outbox::VoiceBox;
-use mum_published::{Naming, Note, Pass};
+use mum_published::{Naming, Note, Pass, Roll};
 use mum_record::Marked;
 use mum_route::{Audience, Hearer};
 use mum_tree::Scratch;
@@ -113,6 +114,15 @@ impl<N: Naming> Router<N> {
         ensures same { self.new ≡ record self.old { pass = self.new.pass } }
     {
         self.pass.learn(note);
+    }
+
+    /// Learns of the accepted logins of a roll. It takes no memory and waits for nobody.
+    pub fn admit(&mut self, roll: &Roll)
+        requires { roll.now.book ≡ N.opening.roll }
+        ensures admitted { Admitted self.old.pass roll.now.log self.new.pass }
+        ensures same { self.new ≡ record self.old { pass = self.new.pass } }
+    {
+        self.pass.admit(roll);
     }
 
     // One look for those who hear a packet, who are kept.

@@ -1,6 +1,7 @@
 use Rattle.std.proofs.Common.{◌<◌, [], length, arith}
 use Rattle.std.specs.Option.{option_copied}
-use Rattle.mum_keeper.proofs.Walking.{come_next, given_at, next_within, walked_all}
+use Rattle.mum_kept.proofs.Standing.{given_at}
+use Rattle.mum_keeper.proofs.Walking.{come_next, next_within, walked_all}
 use Rattle.mum_keeper.proofs.merge.add_additions.Goals as goal
 
 pub loop-at-preserved : goal.loop-at-preserved

@@ -1,6 +1,7 @@
 use Rattle.std.proofs.Common.{◌<◌, [], length, arith}
 use Rattle.std.specs.Option.{option_copied}
-use Rattle.mum_keeper.proofs.Walking.{given_at, gone_next, next_within, walked_all}
+use Rattle.mum_kept.proofs.Standing.{given_at}
+use Rattle.mum_keeper.proofs.Walking.{gone_next, next_within, walked_all}
 use Rattle.mum_keeper.specs.Order.{any_like}
 use Rattle.mum_keeper.proofs.merge.add_removals.Goals as goal
 

@@ -4,7 +4,11 @@ use Rattle.std.proofs.lemmas.List.{take_all}
 use Rattle.mum_base.specs.declared.number.ChannelId.{ChannelId}
 use Rattle.mum_kept.specs.Kept.{kept_of}
 use Rattle.mum_kept.proofs.Lasting.{kept_by_id, pieces_at}
+use Rattle.mum_kept.proofs.Standing.{one_has}
 use Rattle.mum_kept.proofs.kept.kept_channels.Goals as goal
+
+pub add_channel-requires : goal.add_channel-requires
+add_channel-requires c = one_has c.args.state.now c.args.known.now c.first_from-at.result c.get.result c.get.ensures.lookup c.requires.known
 
 pub loop-id-preserved : goal.loop-id-preserved
 loop-id-preserved c =

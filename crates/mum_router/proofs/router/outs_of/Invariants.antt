@@ -1,6 +1,6 @@
 use Rattle.std.proofs.Common.{◌≡◌, ◌++◌, map}
 use Rattle.std.specs.Vec.Iter.{into_iter_items}
-use Rattle.mum_router.specs.Offering.{new_pass}
+use Rattle.mum_outbox.specs.Calls.{new_pass}
 use Rattle.mum_router.proofs.router.outs_of.Given as goal
 
 abbrev pub invariant-loop-queue : goal.invariant-loop-queue

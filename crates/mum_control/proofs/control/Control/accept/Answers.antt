@@ -8,8 +8,8 @@ pub returns-in-Ok : goal.returns-in-Ok
 returns-in-Ok g c =
     let reply = c.answer.result in
     let said = c.answer.ensures in
-    inr (accepts_so c.args.self.now c.append.new.self c.answer.new.self c.args.edit c.args.connection c.args.end reply c.in-Ok.ensures.ok
-    said.published said.others said.connection said.end c.requires.end said.wire said.no_memory)
+    inr (accepts_so c.args.self.now c.append.new.self c.admit.new.self c.answer.new.self c.args.edit c.args.connection c.args.end reply c.in-Ok.ensures.ok
+    c.admit.ensures.login said.published said.others said.connection said.end c.requires.end said.wire said.no_memory said.roll)
 
 pub returns-in-Err : goal.returns-in-Err
 returns-in-Err g c =

@@ -1,16 +1,22 @@
-use Rattle.std.proofs.Common.{◌∙◌, Option, ap, subst, sym}
-use Rattle.std.specs.Prelude.{is_none}
+use Rattle.std.proofs.Common.{◌∙◌, List, Option, ap, subst, sym}
+use Rattle.std.specs.Prelude.{IsTrue, is_none}
 use Rattle.std.specs.Vec.{vec_capacity}
+use Rattle.mum_published.specs.declared.roll.Login.{Login}
 use Rattle.mum_published.specs.Facts.{NoteFacts, ReplyFacts}
+use Rattle.mum_published.specs.Rolls.{is_admitted}
 use Rattle.mum_control.specs.Commanded.{Publishes}
 use Rattle.mum_control.specs.Facts.{ControlFacts}
 use Rattle.mum_control.proofs.Keeping.{kept_publishing, note_named}
-use Rattle.mum_control.proofs.Settling.{none_so}
+use Rattle.mum_control.proofs.Settling.{none_so, roll_left}
 use Rattle.mum_control.proofs.control.Control.answer.Goals as goal
 
-pub new-requires : goal.new-requires
-new-requires g c =
+pub new-requires-clause-note : goal.new-requires-clause-note
+new-requires-clause-note g c =
     note_named g.N.Naming.opening c.self.inside.edits c.publish_noted-note.new.self c.publish_noted-note.result c.self.invariant.same_opening c.publish_noted-note.ensures
+
+pub new-requires-clause-admitted : goal.new-requires-clause-admitted
+new-requires-clause-admitted g c =
+    subst (λ (roll : List Login). IsTrue (is_admitted c.args.end c.args.connection roll)) (sym c.roll-roll.ensures.log) c.requires
 
 pub invariant_of-self : goal.invariant_of-self
 invariant_of-self g c =
@@ -29,3 +35,8 @@ returns-clause-others g c = ap (λ (old : ControlFacts). record old { publisher 
 pub returns-clause-no_memory : goal.returns-clause-no_memory
 returns-clause-no_memory g c =
     ap (λ (r : ReplyFacts). r.no_memory) c.new.ensures ∙ none_so c.publish_noted-note.result c.is_none-no_memory.result c.is_none-no_memory.ensures ∙ ap is_none (sym (ap (λ (r : ReplyFacts). r.note) c.new.ensures))
+
+pub returns-clause-roll : goal.returns-clause-roll
+returns-clause-roll g c =
+    ap (λ (r : ReplyFacts). r.roll) c.new.ensures ∙ c.roll-roll.ensures.log ∙ sym (ap (λ (k : ControlFacts). k.publisher.roll) c.self.view_is)
+    ∙ roll_left c.self.inside.edits c.publish_noted-note.new.self c.publish_noted-note.result c.publish_noted-note.ensures

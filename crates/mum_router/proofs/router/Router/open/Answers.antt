@@ -1,4 +1,4 @@
-use Rattle.std.proofs.Common.{List, ap, length, refl, sym, ◌∙◌}
+use Rattle.std.proofs.Common.{List, ap, length, sym, ◌∙◌}
 use Rattle.std.specs.Prelude.{min}
 use Rattle.std.proofs.lemmas.List.{length-map}
 use Rattle.mum_outbox.specs.Facts.{PassFacts as BoxFacts}
@@ -6,7 +6,7 @@ use Rattle.mum_outbox.specs.declared.parcel.VoiceParcel.{VoiceParcel}
 use Rattle.mum_outbox.specs.declared.rule.TheConstants.{LAST}
 use Rattle.mum_published.specs.Calls.{state_of}
 use Rattle.mum_published.specs.declared.rule.AskAt.{AskAt}
-use Rattle.mum_router.specs.Offering.{new_pass}
+use Rattle.mum_outbox.specs.Calls.{new_pass}
 use Rattle.mum_cache.proofs.Staying.{nothing_sound}
 use Rattle.mum_router.proofs.router.Router.open.Goals as goal
 

@@ -12,12 +12,13 @@ use Rattle.mum_published.specs.Facts.{Opening}
 use Rattle.mum_session.specs.declared.action.Action.{Action}
 use Rattle.mum_session.specs.declared.action.Action.TheVariants.{Voice}
 use Rattle.mum_worker.specs.Boxes.{BoxesFacts}
-use Rattle.mum_worker.specs.Facts.{WorkerFacts}
+use Rattle.mum_worker.specs.Facts.{WorkerFacts, intake_of}
 use Rattle.mum_worker.specs.Hearing.{Hears, LagsWhereIts, TakesOrTurns}
 use Rattle.mum_worker.specs.Record.{RecordFacts, after_close}
 use Rattle.mum_worker.specs.Routing.{CommonFacts, RoutesPacket}
 use Rattle.mum_worker.specs.Stepping.{PortSteps, Shares}
 use Rattle.mum_worker.specs.Turning.{Turned}
+use Rattle.mum_worker.specs.declared.intake.Intake.{Intake}
 
 closed_journal : (connection : ℕ) (closed : Option Cause) (kept : RecordFacts) → (after_close connection closed kept).journal ≡ kept.journal
 closed_journal connection None kept = refl
@@ -55,9 +56,9 @@ module _ {L : Type 0} (facts : L → LinkFacts) where
   steps_journal opening boxes [] before (new ∷ news) after along = absurd along
   steps_journal opening boxes (old ∷ olds) before [] after along = absurd along
 
-  takes_journal : (number connection : ℕ) (link : L) (ports : List (PortFacts L)) (kept : RecordFacts) (news : List (PortFacts L)) (after : RecordFacts) → TakesOrTurns number connection link ports kept news after → after.journal ≡ kept.journal
-  takes_journal number connection link ports kept news after (inl takes) = ap (λ (k : RecordFacts). k.journal) takes.kept_is
-  takes_journal number connection link ports kept news after (inr turns) = ap (λ (k : RecordFacts). k.journal) turns.kept_same
+  takes_journal : (intake : Intake) (connection : ℕ) (link : L) (ports : List (PortFacts L)) (kept : RecordFacts) (intake_after : Intake) (news : List (PortFacts L)) (after : RecordFacts) → TakesOrTurns intake connection link ports kept intake_after news after → after.journal ≡ kept.journal
+  takes_journal intake connection link ports kept intake_after news after (inl takes) = ap (λ (k : RecordFacts). k.journal) takes.kept_is
+  takes_journal intake connection link ports kept intake_after news after (inr turns) = ap (λ (k : RecordFacts). k.journal) turns.kept_same
 
   -- what a worker is opened with
   pub record IsSameWorker (old new : WorkerFacts L) : Type 0 where
@@ -72,7 +73,7 @@ module _ {L : Type 0} (facts : L → LinkFacts) where
   }
   hears_same (Some (Comes connection link)) old new hears = record {
     number = ap (λ (w : WorkerFacts L). w.number) hears.rest;
-    journal = takes_journal old.number connection link old.ports old.common.kept new.ports new.common.kept hears.takes;
+    journal = takes_journal (intake_of old) connection link old.ports old.common.kept (intake_of new) new.ports new.common.kept hears.takes;
   }
   hears_same (Some (Lagging session)) old new hears = record {
     number = ap (λ (w : WorkerFacts L). w.number) hears.rest;

@@ -6,14 +6,13 @@ use Rattle.std.specs.Option.{option_map}
 use Rattle.std.proofs.lemmas.List.Elements.{All-cons, All-filter, All-get_or, All-head, All-nil, All-push, All-same, All-set, All-tail, All-weaker}
 use Rattle.std.proofs.lemmas.Option.{get_or_from_slice_get, slice_get-map, slice_get_within}
 use Rattle.std.proofs.Math.ListN.{set}
-use Rattle.atomic_table.specs.Seated.{TableId}
 use Rattle.mum_base.specs.declared.number.Cause.{Cause}
 use Rattle.mum_base.specs.declared.number.SessionId.{SessionId}
 use Rattle.mum_base.specs.declared.reply.ReplyEnd.{ReplyEnd}
 use Rattle.mum_base.specs.declared.reply.ReplyEnd.TheVariants.{Joined, Decided, Rejected}
 use Rattle.mum_crew.specs.Along.{Along, EachAlong}
 use Rattle.mum_io.specs.Link.{LinkFacts}
-use Rattle.mum_outbox.specs.Facts.{PassFacts, QueueFacts}
+use Rattle.mum_outbox.specs.Facts.{PassFacts, QueueFacts, QueueId}
 use Rattle.mum_port.specs.Facts.{PortFacts, new_port}
 use Rattle.mum_port.specs.Replies.{Answers, Lags, passes_after}
 use Rattle.mum_port.specs.Taking.{IsPosted, IsVoiced}
@@ -23,8 +22,9 @@ use Rattle.mum_worker.specs.Facts.{stays}
 use Rattle.mum_worker.specs.Hearing.{AnswersFirst, LagsWhereIts, TakesOrTurns}
 use Rattle.mum_worker.specs.Record.{RecordFacts}
 use Rattle.mum_worker.specs.Stepping.{OwnsPasses}
+use Rattle.mum_worker.specs.declared.intake.Intake.{Intake}
 
-box_of : (found : Option QueueFacts) (queue : TableId) → option_map (λ (box : QueueFacts). box.queue) found ≡ Some queue → (box : QueueFacts) × (found ≡ Some box) × (box.queue ≡ queue)
+box_of : (found : Option QueueFacts) (queue : QueueId) → option_map (λ (box : QueueFacts). box.queue) found ≡ Some queue → (box : QueueFacts) × (found ≡ Some box) × (box.queue ≡ queue)
 box_of None queue e = absurd (cc e)
 box_of (Some box) queue e = (box, refl, cc e)
 
@@ -34,7 +34,7 @@ same_at : (olds news : List QueueFacts) (place : ℕ) (new : QueueFacts) → que
 same_at olds news place new same found =
     box_of (slice_get olds place) new.queue
     (sym (slice_get-map (λ (box : QueueFacts). box.queue) olds place)
-    ∙ (ap (λ (all : List TableId). slice_get all place) (sym same)
+    ∙ (ap (λ (all : List QueueId). slice_get all place) (sym same)
     ∙ (slice_get-map (λ (box : QueueFacts). box.queue) news place ∙ ap (option_map (λ (box : QueueFacts). box.queue)) found)))
 
 posted_still : (olds news : List QueueFacts) (passes : Option Passes) → queues news ≡ queues olds → IsPosted olds passes → IsPosted news passes
@@ -108,12 +108,12 @@ module _ {L : Type 0} (facts : L → LinkFacts) where
       All-same (OwnsPasses boxes) news (set olds first.place first.new) first.others
       (All-set (OwnsPasses boxes) olds first.place first.new (answers_owned boxes end wire given first.old closed first.new is has first.answers) all)
 
-  pub takes_all : (boxes : BoxesFacts) (number connection : ℕ) (link : L) (olds : List (PortFacts L)) (kept : RecordFacts) (news : List (PortFacts L)) (after : RecordFacts)
-      → All (OwnsPasses boxes) olds → TakesOrTurns number connection link olds kept news after → All (OwnsPasses boxes) news
-  takes_all boxes number connection link olds kept news after all (inl takes) =
-      All-same (OwnsPasses boxes) news (olds ++ new_port connection number link ∷ []) takes.ports_are
-      (All-push (OwnsPasses boxes) olds (new_port connection number link) all (record { posted = tt; voiced = tt }))
-  takes_all boxes number connection link olds kept news after all (inr turns) = All-same (OwnsPasses boxes) news olds turns.ports_same all
+  pub takes_all : (boxes : BoxesFacts) (intake : Intake) (connection : ℕ) (link : L) (olds : List (PortFacts L)) (kept : RecordFacts) (intake_after : Intake) (news : List (PortFacts L)) (after : RecordFacts)
+      → All (OwnsPasses boxes) olds → TakesOrTurns intake connection link olds kept intake_after news after → All (OwnsPasses boxes) news
+  takes_all boxes intake connection link olds kept intake_after news after all (inl takes) =
+      All-same (OwnsPasses boxes) news (olds ++ new_port connection intake.number link ∷ []) takes.ports_are
+      (All-push (OwnsPasses boxes) olds (new_port connection intake.number link) all (record { posted = tt; voiced = tt }))
+  takes_all boxes intake connection link olds kept intake_after news after all (inr turns) = All-same (OwnsPasses boxes) news olds turns.ports_same all
 
   where_owned : (boxes : BoxesFacts) (session : SessionId) (old : PortFacts L) (before : RecordFacts) (new : PortFacts L) (after : RecordFacts)
       → OwnsPasses boxes old → LagsWhereIts facts session old before new after → OwnsPasses boxes new

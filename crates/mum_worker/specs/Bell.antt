@@ -1,20 +1,19 @@
 -- What a worker took from its bell, as plain data.
 use Rattle.std.specs.Prelude.{◌≡◌, ℕ, List, [], ◌∷◌, ◌++◌, map, Option, Some, None}
-use Rattle.atomic_table.specs.Seated.{TableId}
 use Rattle.mum_outbox.specs.Calls.{one_more}
-use Rattle.mum_outbox.specs.Facts.{PassFacts}
+use Rattle.mum_outbox.specs.Facts.{PassFacts, QueueId}
 use Rattle.mum_outbox.specs.declared.rule.Tagged.{Tagged}
 use Rattle.mum_published.specs.Bell.{Rung, rung}
 use Rattle.mum_published.specs.declared.bell.BellItem.{BellItem}
 
 -- which queue a bell is, the items that were taken from it, in order, and how often there was none
 pub record BellFacts (L : Type 0) : Type 0 where
-  pub queue : TableId
+  pub queue : QueueId
   pub taken : List (Rung L)
   pub empty : ℕ
 
 -- a bell from which nothing was taken yet
-abbrev pub new_bell : {L : Type 0} → TableId → BellFacts L
+abbrev pub new_bell : {L : Type 0} → QueueId → BellFacts L
 new_bell queue = record { queue = queue; taken = []; empty = 0 }
 
 -- what was taken by a pass

@@ -1,5 +1,5 @@
 -- What a worker makes of what its bell carries.
-use Rattle.std.specs.Prelude.{◌≡◌, ◌≢◌, ◌⊎◌, ℕ, Bool, true, false, ◌&&◌, nat_lt, List, [], ◌∷◌, ◌++◌, length, position, slice_get, slice_set, Option, Some, None}
+use Rattle.std.specs.Prelude.{◌≡◌, ◌≢◌, ◌⊎◌, ◌<◌, ◌≤◌, ℕ, Bool, true, false, ◌&&◌, nat_lt, IsTrue, List, [], ◌∷◌, ◌++◌, length, position, slice_get, slice_set, Option, Some, None}
 use Rattle.mum_base.specs.declared.number.Cause.{Cause}
 use Rattle.mum_base.specs.declared.number.SessionId.{SessionId}
 use Rattle.mum_base.specs.declared.number.TheConstants.{CONNECTION_LIMIT}
@@ -10,39 +10,62 @@ use Rattle.mum_port.specs.Facts.{PortFacts, new_port}
 use Rattle.mum_port.specs.Replies.{Answers, Lags}
 use Rattle.mum_port.specs.declared.passes.Passes.{Passes}
 use Rattle.mum_published.specs.Bell.{Rung, Answer, Comes, Lagging, NoMore}
-use Rattle.mum_published.specs.Calls.{Learnt}
+use Rattle.mum_published.specs.Calls.{Admitted, Learnt}
 use Rattle.mum_published.specs.Facts.{NoteFacts, ReplyFacts}
+use Rattle.mum_published.specs.Rolls.{is_admitted}
+use Rattle.mum_published.specs.declared.roll.Login.{Login}
 use Rattle.mum_router.specs.Facts.{RouterFacts}
 use Rattle.mum_session.specs.Machine.{session_of}
 use Rattle.mum_worker.specs.Boxes.{AreSameBoxes, BoxesFacts, ArePassesFor}
-use Rattle.mum_worker.specs.Facts.{WorkerFacts, is_of, stays}
+use Rattle.mum_worker.specs.Facts.{WorkerFacts, is_of, intake_of, stays}
 use Rattle.mum_worker.specs.Record.{RecordFacts, after_close, may_take_in, taking_in}
+use Rattle.mum_worker.specs.Intake.{worker_of}
+use Rattle.mum_worker.specs.declared.intake.Intake.{Intake}
 
 -- a note, if one came, is learnt: no later look sees less
 abbrev pub LearnsGiven : Option NoteFacts → RouterFacts → RouterFacts → Type 0
 LearnsGiven None old new = new ≡ old
 LearnsGiven (Some note) old new = Learnt old.pass note.edits new.pass × (new ≡ record old { pass = new.pass })
 
+-- a roll is learnt
+abbrev pub Admits : List Login → RouterFacts → RouterFacts → Type 0
+Admits roll old new = Admitted old.pass roll new.pass × (new ≡ record old { pass = new.pass })
+
 module _ {L : Type 0} where
   -- there is room for a port more, and for its closing entry
   abbrev pub has_place : List (PortFacts L) → RecordFacts → Bool
   has_place ports kept = nat_lt (length ports) CONNECTION_LIMIT && may_take_in kept
 
-  -- a connection is taken in as the last port
-  pub record TakesIn (number connection : ℕ) (link : L) (ports : List (PortFacts L)) (kept : RecordFacts) (ports_after : List (PortFacts L)) (kept_after : RecordFacts) : Type 0 where
+  -- a connection of this worker, above the last that it took in, is taken in as the last port
+  pub record TakesIn (intake : Intake) (connection : ℕ) (link : L) (ports : List (PortFacts L)) (kept : RecordFacts)
+      (intake_after : Intake) (ports_after : List (PortFacts L)) (kept_after : RecordFacts) : Type 0 where
     pub room : has_place ports kept ≡ true
-    pub ports_are : ports_after ≡ ports ++ new_port connection number link ∷ []
+    pub above : intake.last < connection
+    pub its : worker_of connection intake.workers ≡ intake.number
+    pub intake_is : intake_after ≡ record intake { last = connection }
+    pub ports_are : ports_after ≡ ports ++ new_port connection intake.number link ∷ []
     pub kept_is : kept_after ≡ taking_in kept
 
-  -- there is no room for it, and nothing changes
-  pub record TurnsAway (ports : List (PortFacts L)) (kept : RecordFacts) (ports_after : List (PortFacts L)) (kept_after : RecordFacts) : Type 0 where
-    pub no_room : has_place ports kept ≡ false
+  -- why a connection is not taken in: there is no room for it, it is not above the last, or it is of another worker
+  abbrev pub MayNotTakeIn : Intake → ℕ → List (PortFacts L) → RecordFacts → Type 0
+  MayNotTakeIn intake connection ports kept =
+      (has_place ports kept ≡ false)
+      ⊎ ((connection ≤ intake.last) ⊎ (worker_of connection intake.workers ≢ intake.number))
+
+  -- it is not taken in, and nothing changes
+  pub record TurnsAway (intake : Intake) (connection : ℕ) (ports : List (PortFacts L)) (kept : RecordFacts)
+      (intake_after : Intake) (ports_after : List (PortFacts L)) (kept_after : RecordFacts) : Type 0 where
+    pub why : MayNotTakeIn intake connection ports kept
+    pub intake_same : intake_after ≡ intake
     pub ports_same : ports_after ≡ ports
     pub kept_same : kept_after ≡ kept
 
-  abbrev pub TakesOrTurns : ℕ → ℕ → L → List (PortFacts L) → RecordFacts → List (PortFacts L) → RecordFacts → Type 0
-  TakesOrTurns number connection link ports kept ports_after kept_after =
-      TakesIn number connection link ports kept ports_after kept_after ⊎ TurnsAway ports kept ports_after kept_after
+  -- a connection is taken in, or there is a reason not to and nothing changes
+  abbrev pub TakesOrTurns : Intake → ℕ → L → List (PortFacts L) → RecordFacts
+      → Intake → List (PortFacts L) → RecordFacts → Type 0
+  TakesOrTurns intake connection link ports kept intake_after ports_after kept_after =
+      TakesIn intake connection link ports kept intake_after ports_after kept_after
+      ⊎ TurnsAway intake connection ports kept intake_after ports_after kept_after
 
 module _ {L : Type 0} (facts : L → LinkFacts) where
   -- the first port of the connection takes a reply
@@ -61,6 +84,7 @@ module _ {L : Type 0} (facts : L → LinkFacts) where
     pub closed_none : closed ≡ None
     pub same : news ≡ olds
 
+  -- the first port of the connection takes the reply, or there is none and it is dropped
   abbrev pub AnswersFirst : ℕ → ReplyEnd → List ℕ → Option Passes → List (PortFacts L) → Option Cause → List (PortFacts L) → Type 0
   AnswersFirst connection end wire passes olds closed news =
       NoneAnswers connection olds closed news ⊎ FirstAnswers connection end wire passes olds closed news
@@ -78,13 +102,18 @@ module _ {L : Type 0} (facts : L → LinkFacts) where
     pub same : new ≡ old
     pub kept_same : after ≡ before
 
+  -- under a lag a port of its session closes, and another stays as it is
   abbrev pub LagsWhereIts : SessionId → PortFacts L → RecordFacts → PortFacts L → RecordFacts → Type 0
   LagsWhereIts session old before new after = PassesPort session old before new after ⊎ LagsPort session old before new after
 
-  -- a reply: its note is learnt first, and then the first port of its connection takes it, with passes where it gives some
+  -- a reply: its note and its roll are learnt first, and then the first port of its connection takes it, with passes
+  -- where it gives some. Where it says that a login was accepted, its roll has that login
   pub record TakesReply (reply : ReplyFacts) (router : RouterFacts) (kept : RecordFacts) (boxes : BoxesFacts) (ports : List (PortFacts L))
       (router_after : RouterFacts) (kept_after : RecordFacts) (boxes_after : BoxesFacts) (ports_after : List (PortFacts L)) : Type 0 where
-    pub learns : LearnsGiven reply.note router router_after
+    pub admitted : IsTrue (is_admitted reply.end reply.connection reply.roll)
+    pub noted_by : RouterFacts
+    pub learns : LearnsGiven reply.note router noted_by
+    pub admits : Admits reply.roll noted_by router_after
     pub passes : Option Passes
     pub given : ArePassesFor boxes reply.end passes
     pub same : AreSameBoxes boxes boxes_after
@@ -92,15 +121,17 @@ module _ {L : Type 0} (facts : L → LinkFacts) where
     pub answers : AnswersFirst reply.connection reply.end reply.wire passes ports closed ports_after
     pub noted : kept_after ≡ after_close reply.connection closed kept
 
+  -- a reply is taken, and nothing else of the worker changes
   pub record HearsReply (reply : ReplyFacts) (old new : WorkerFacts L) : Type 0 where
     pub takes : TakesReply reply old.common.router old.common.kept old.boxes old.ports new.common.router new.common.kept new.boxes new.ports
     pub rest : new ≡ record old { common = new.common; boxes = new.boxes; ports = new.ports }
 
-  -- a connection: it is taken in, where there is room
+  -- a connection: it is taken in, where it is the worker's next and there is room
   pub record HearsConnection (connection : ℕ) (link : L) (old new : WorkerFacts L) : Type 0 where
-    pub takes : TakesOrTurns old.number connection link old.ports old.common.kept new.ports new.common.kept
+    pub takes : TakesOrTurns (intake_of old) connection link old.ports old.common.kept
+        (intake_of new) new.ports new.common.kept
     pub router : new.common.router ≡ old.common.router
-    pub rest : new ≡ record old { common = new.common; ports = new.ports }
+    pub rest : new ≡ record old { last = new.last; common = new.common; ports = new.ports }
 
   -- a lag: each open port of the session closes
   pub record HearsLag (session : SessionId) (old new : WorkerFacts L) : Type 0 where

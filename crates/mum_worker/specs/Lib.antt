@@ -2,6 +2,7 @@ pub mod Bell
 pub mod Boxes
 pub mod Facts
 pub mod Hearing
+pub mod Intake
 pub mod Opening
 pub mod Record
 pub mod Routing

@@ -1,10 +1,9 @@
 -- How a worker begins, and what is asked of it outside its turns.
 use Rattle.std.specs.Prelude.{◌≡◌, ℕ, false, List, [], map, Option, Some}
 use Rattle.std.specs.List.{All}
-use Rattle.atomic_table.specs.Seated.{TableId}
 use Rattle.mum_base.specs.declared.number.SessionId.{SessionId}
-use Rattle.mum_outbox.specs.Calls.{IsNewPass}
-use Rattle.mum_outbox.specs.Facts.{PassFacts as BoxPassFacts}
+use Rattle.mum_outbox.specs.Calls.{IsNewPass, lower_half, new_pass, upper_half}
+use Rattle.mum_outbox.specs.Facts.{PassFacts as BoxPassFacts, QueueId}
 use Rattle.mum_outbox.specs.declared.parcel.VoiceParcel.{VoiceParcel}
 use Rattle.mum_published.specs.Facts.{Opening, PassFacts}
 use Rattle.mum_route.specs.declared.hearer.Hearer.{Hearer}
@@ -14,13 +13,12 @@ use Rattle.mum_router.specs.Routing.{Routes}
 use Rattle.mum_router.specs.declared.offering.Routed.{Routed}
 use Rattle.mum_voice.specs.Packet.{Parts}
 use Rattle.mum_worker.specs.Bell.{new_bell}
-use Rattle.mum_worker.specs.Boxes.{queues}
 use Rattle.mum_worker.specs.Facts.{WorkerFacts, speaker_of}
 use Rattle.mum_worker.specs.Record.{first_record, without_room}
 use Rattle.mum_worker.specs.declared.worker.Shared.{Shared}
 
 -- the queues of passes of voice boxes
-abbrev pub out_queues : Outs → List TableId
+abbrev pub out_queues : Outs → List QueueId
 out_queues outs = map (λ (out : BoxPassFacts VoiceParcel). out.queue) outs
 
 -- nothing was offered by this pass
@@ -28,13 +26,12 @@ abbrev pub IsUnused : BoxPassFacts VoiceParcel → Type 0
 IsUnused out = (out.offered ≡ []) × (out.full ≡ 0)
 
 module _ {L N : Type 0} where
-  -- it takes from the boxes and the bell that it was given, and puts into these voice boxes and onto this desk. It did
-  -- none of that yet
+  -- it takes from the boxes and the bell that it was given, and puts into these voice boxes and onto this desk, by new
+  -- passes. The voice boxes have two owners then: by one it puts, and by the other it takes
   pub record JoinsShared (shared : Shared L N) (worker : WorkerFacts L) : Type 0 where
-    pub posts : queues worker.boxes.posts ≡ queues shared.posts.items
-    pub voices : queues worker.boxes.voices ≡ queues shared.voice.items
-    pub outs : out_queues worker.common.router.outs ≡ queues shared.voice.items
-    pub unused : All IsUnused worker.common.router.outs
+    pub posts : worker.boxes.posts ≡ shared.posts.items
+    pub voices : worker.boxes.voices ≡ map upper_half shared.voice.items
+    pub outs : worker.common.router.outs ≡ map new_pass (map lower_half shared.voice.items)
     pub desk : IsNewPass shared.desk worker.desk
     pub bell : worker.bell ≡ new_bell shared.bell.queue
 
@@ -42,6 +39,7 @@ module _ {L : Type 0} where
   -- it has no port, and did nothing yet
   pub record HasOpened (number : ℕ) (pass : PassFacts) (journal : Option ℕ) (worker : WorkerFacts L) : Type 0 where
     pub number_is : worker.number ≡ number
+    pub none_yet : worker.last ≡ 0
     pub pass_is : worker.common.router.pass ≡ pass
     pub kept_is : worker.common.kept ≡ without_room (first_record journal)
     pub no_port : worker.ports ≡ []

@@ -8,6 +8,7 @@ use Rattle.mum_record.specs.declared.journal.Marked.{Marked}
 use Rattle.mum_record.specs.declared.journal.WorkerEntry.{WorkerEntry}
 use Rattle.mum_record.specs.declared.journal.WorkerEntry.TheVariants as kinds
 
+-- what a worker counts and, where a journal is kept, writes down
 pub record RecordFacts : Type 0 where
   -- whether a journal is kept
   pub journal : Bool

@@ -10,6 +10,7 @@ ghost use Rattle.mum_worker.specs.Record.{without_room};
 ghost use Rattle.mum_worker.specs.Stepping.{OwnsPasses};
 
 use crate::boxes::Boxes;
+use crate::intake::Intake;
 use crate::ports::Ports;
 use crate::record::Record;
 use mum_base::SessionId;
@@ -29,7 +30,7 @@ fn learn_given<N: Naming>(router: &mut Router<N>, note: &Option<Note>)
     }
 }
 
-/// A reply: its note is learnt, and then the first port of its connection takes it.
+/// A reply: its note and its roll are learnt, and then the first port of its connection takes it.
 pub(crate) fn take_reply<L: Link, N: Naming>(
     reply: Reply<N>,
     alloc: Global,
@@ -45,6 +46,7 @@ pub(crate) fn take_reply<L: Link, N: Naming>(
     ensures owned { All (OwnsPasses boxes.new) ports.new }
 {
     learn_given(router, &reply.note);
+    router.admit(&reply.roll);
     let Reply {
         connection,
         end,
@@ -56,23 +58,25 @@ pub(crate) fn take_reply<L: Link, N: Naming>(
     kept.closed(connection, closed);
 }
 
-/// A connection that comes: it is taken in, where there is room.
+/// A connection that comes: it is taken in, where it is the worker's next and there is room.
 pub(crate) fn take_connection<L: Link>(
     connection: u32,
     link: L,
     alloc: Global,
-    number: u8,
+    intake: &mut Intake,
     kept: &mut Record,
     boxes: &mut Boxes,
     ports: &mut Ports<L>,
 )
     requires { All (OwnsPasses boxes.old) ports.old }
-    ensures takes { TakesOrTurns number connection link ports.old (without_room kept.old) ports.new (without_room kept.new) }
+    ensures takes { TakesOrTurns intake.old connection link ports.old (without_room kept.old)
+        intake.new ports.new (without_room kept.new) }
+    ensures same_worker { intake.new ≡ record intake.old { last = intake.new.last } }
     ensures owned { All (OwnsPasses boxes.new) ports.new }
     ensures boxes { boxes.new ≡ boxes.old }
 {
     let _boxes = boxes;
-    ports.take_in(alloc, number, connection, link, kept);
+    ports.take_in(alloc, intake, connection, link, kept);
 }
 
 /// A session whose connection is to close.

@@ -7,6 +7,7 @@ mod common;
 mod desk;
 mod ear;
 mod hearing;
+mod intake;
 mod ports;
 mod record;
 mod role;

@@ -1,11 +1,12 @@
 //! The ports of a worker.
 
-ghost use Rattle.std.specs.Prelude.{◌≡◌, ◌≤◌, ◌<◌, ◌||◌, ◌++◌, ◌∷◌, [], IfOk, IsTrue, false, filter, length, not, position};
+ghost use Rattle.std.specs.Prelude.{◌≡◌, ◌≤◌, ◌<◌, ◌&&◌, ◌||◌, ◌++◌, ◌∷◌, [], IfOk, IsTrue, false, filter, length, not, position};
 ghost use Rattle.std.specs.List.{All};
 ghost use Rattle.std.specs.VecDeque.{deque_capacity, deque_len};
 ghost use Rattle.mum_crew.specs.Along.{Along, EachAlong};
 ghost use Rattle.mum_worker.specs.Facts.{is_empty, is_of, session_at, speaker_of, stays};
-ghost use Rattle.mum_worker.specs.Hearing.{AnswersFirst, LagsWhereIts, TakesOrTurns};
+ghost use Rattle.mum_worker.specs.Hearing.{AnswersFirst, LagsWhereIts, TakesOrTurns, has_place};
+ghost use Rattle.mum_worker.specs.Intake.{is_next};
 ghost use Rattle.mum_worker.specs.Record.{without_room};
 ghost use Rattle.mum_worker.specs.Routing.{bare};
 ghost use Rattle.mum_worker.specs.Stepping.{OwnsPasses, PortSteps};
@@ -13,6 +14,7 @@ ghost use Rattle.mum_worker.specs.Stepping.{OwnsPasses, PortSteps};
 use crate::boxes::Boxes;
 use crate::common::Common;
 use crate::desk::DeskEnd;
+use crate::intake::Intake;
 use crate::record::Record;
 use mum_base::{CONNECTION_LIMIT, Cause, Octets, OutOfMemory, ReplyEnd, SessionId};
 use mum_crew::Gate;
@@ -276,21 +278,32 @@ impl<L: Link> Ports<L> {
         }
     }
 
-    /// Takes a connection in, where there is room for it and for its closing entry. Else its link is shut.
+    // Whether a connection is the worker's next, and there is room for it and for its closing entry.
+    fn is_welcome(&self, intake: Intake, connection: u32, kept: &Record) -> bool
+        ensures { result ≡ (is_next intake connection && has_place self.now (without_room kept.now)) }
+    {
+        intake.is_next(connection) && self.list.len() < CONNECTION_LIMIT && kept.may_take_in()
+    }
+
+    /// Takes a connection in, where it is the worker's next, and there is room for it and for its closing entry. Else
+    /// its link is shut.
     pub(crate) fn take_in(
         &mut self,
         alloc: Global,
-        number: u8,
+        intake: &mut Intake,
         connection: u32,
         link: L,
         kept: &mut Record,
     )
-        ensures { TakesOrTurns number connection link self.old (without_room kept.old) self.new (without_room kept.new) }
+        ensures takes { TakesOrTurns intake.old connection link self.old (without_room kept.old)
+            intake.new self.new (without_room kept.new) }
+        ensures same_worker { intake.new ≡ record intake.old { last = intake.new.last } }
     {
-        if self.list.len() < CONNECTION_LIMIT && kept.may_take_in() {
+        if self.is_welcome(*intake, connection, kept) {
+            intake.last = connection;
             kept.taken_in();
             self.list
-                .push_back_reserved(Port::new(alloc, connection, number, link));
+                .push_back_reserved(Port::new(alloc, connection, intake.number, link));
         } else {
             drop(turned_away(link));
         }

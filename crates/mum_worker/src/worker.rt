@@ -18,6 +18,7 @@ use crate::common::Common;
 use crate::desk::DeskEnd;
 use crate::ear::BellEnd;
 use crate::hearing::{take_connection, take_lag, take_reply};
+use crate::intake::Intake;
 use crate::ports::Ports;
 use crate::record::Record;
 use mum_base::{OutOfMemory, SessionId, Steps};
@@ -79,7 +80,7 @@ pub struct WorkerEnd {
 pub struct Worker<L: Link, G: Gate, N: Naming, R: Wait + Copy> {
     rt: R,
     alloc: Global,
-    number: u8,
+    intake: Intake,
     common: Common<G, N, R>,
     boxes: Boxes,
     bell: BellEnd<L, N>,
@@ -100,7 +101,9 @@ impl<L: Link, G: Gate, N: Naming, R: Wait + Copy> Model for Worker<L, G, N, R> {
     ghost Value = { WorkerFacts L };
 
     ghost view = { λ w. record {
-      number = w.number;
+      number = w.intake.number;
+      workers = w.intake.workers;
+      last = w.intake.last;
       common = bare w.common;
       boxes = w.boxes;
       bell = w.bell;
@@ -120,13 +123,15 @@ fn read_buffer(alloc: Global) -> Result<Vec<u8>, OutOfMemory>
 }
 
 impl<L: Link, G: Gate, N: Naming, R: Wait + Copy> Worker<L, G, N, R> {
-    /// A worker without ports, over a pass that made no look. Where a journal is asked for, the room of the
+    /// A worker without ports, of this number among so many, over a pass that made no look. It takes in the connections
+    /// of its number alone, each once, as their numbers rise. Where a journal is asked for, the room of the
     /// closing entries of so many connections is taken, and no more are taken in. It works over the boxes, the desk
     /// and the bell that it is given, each by new passes.
     pub fn open(
         rt: R,
         alloc: Global,
         number: u8,
+        workers: u8,
         pass: Pass,
         shared: Shared<L, N>,
         gate: G,
@@ -138,6 +143,7 @@ impl<L: Link, G: Gate, N: Naming, R: Wait + Copy> Worker<L, G, N, R> {
         requires voice { length shared.voice.items ≡ SLOTS }
         requires posts { length shared.posts.items ≡ SLOTS }
         ensures opened { IfOk result (HasOpened number pass journal) }
+        ensures workers { IfOk result (λ worker. worker.workers ≡ workers) }
         ensures joins { IfOk result (JoinsShared shared) }
     {
         let Shared {
@@ -154,7 +160,7 @@ impl<L: Link, G: Gate, N: Naming, R: Wait + Copy> Worker<L, G, N, R> {
         Ok(Worker {
             rt,
             alloc,
-            number,
+            intake: Intake::new(number, workers),
             common: Common {
                 number,
                 rt,
@@ -172,7 +178,7 @@ impl<L: Link, G: Gate, N: Naming, R: Wait + Copy> Worker<L, G, N, R> {
         })
     }
 
-    // A reply: its note is learnt before its port goes on.
+    // A reply: its note and its roll are learnt before its port goes on.
     fn heed_reply(&mut self, reply: Reply<N>)
         ensures { HearsReply L.facts reply self.old self.new }
     {
@@ -194,7 +200,7 @@ impl<L: Link, G: Gate, N: Naming, R: Wait + Copy> Worker<L, G, N, R> {
             connection,
             link,
             self.alloc,
-            self.number,
+            &mut self.intake,
             &mut self.common.kept,
             &mut self.boxes,
             &mut self.ports,
@@ -273,8 +279,8 @@ impl<L: Link, G: Gate, N: Naming, R: Wait + Copy> Worker<L, G, N, R> {
         }
     }
 
-    // The session of a port, where it is logged in.
-    fn speaker(&self, port: PortId) -> Option<SessionId>
+    /// The session of a port, where it is logged in.
+    pub fn speaker(&self, port: PortId) -> Option<SessionId>
         ensures { result ≡ speaker_of self.now.ports port.0 }
     {
         self.ports.speaker(port.0)

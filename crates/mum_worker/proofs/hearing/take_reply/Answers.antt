@@ -9,9 +9,12 @@ use Rattle.mum_worker.proofs.hearing.take_reply.Goals as goal
 pub returns-clause-takes : goal.returns-clause-takes
 returns-clause-takes g c =
     subst (λ (reply : ReplyFacts). TakesReply g.L.Link.facts reply c.args.router.now (without_room c.args.kept.now) c.args.boxes.now c.args.ports.now
-    c.learn_given.new.router (without_room c.closed.new.self) c.passes_for-passes.new.self c.answered-closed.new.self) c.reply.view_is
+    c.admit.new.self (without_room c.closed.new.self) c.passes_for-passes.new.self c.answered-closed.new.self) c.reply.view_is
     (record {
+      admitted = c.reply.invariant.2;
+      noted_by = c.learn_given.new.router;
       learns = c.learn_given.ensures;
+      admits = (c.admit.ensures.admitted, c.admit.ensures.same);
       passes = c.passes_for-passes.result;
       given = c.passes_for-passes.ensures.passes;
       same = c.passes_for-passes.ensures.same;

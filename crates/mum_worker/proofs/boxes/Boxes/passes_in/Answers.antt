@@ -1,13 +1,24 @@
-use Rattle.std.proofs.Common.{ap, ◌∙◌}
-use Rattle.mum_outbox.specs.Facts.{QueueFacts}
-use Rattle.mum_worker.specs.Boxes.{BoxesFacts, queues}
-use Rattle.mum_worker.proofs.Queues.{queues_set}
+-- A slot whose boxes have numbers gets passes of them.
+use Rattle.std.proofs.Common.{subst}
+use Rattle.mum_worker.specs.Boxes.{AreNewPasses, AreSameBoxes, BoxesFacts}
+use Rattle.mum_worker.proofs.Queues.{boxes_given, boxes_kept, passes_given}
 use Rattle.mum_worker.proofs.boxes.Boxes.passes_in.Goals as goal
 
+abbrev after : goal.After-pass_at-voice → BoxesFacts
+after c = record { posts = c.pass_at-post.new.boxes.items; voices = c.pass_at-voice.new.boxes.items }
+
+abbrev before : goal.After-pass_at-voice → BoxesFacts
+before c = record { posts = c.self.inside.posts.items; voices = c.self.inside.voices.items }
+
+pub returns-clause-passes : goal.returns-clause-passes
+returns-clause-passes c =
+    subst (λ (b : BoxesFacts). AreNewPasses b c.args.slot (record { slot = c.args.slot; post = c.pass_at-post.result; voice = c.pass_at-voice.result })) c.self.view_is
+    (passes_given (before c) (after c) c.args.slot c.from-place.result c.pass_at-post.result c.pass_at-voice.result c.from-place.ensures c.pass_at-post.ensures c.pass_at-voice.ensures)
+
 pub returns-clause-same : goal.returns-clause-same
-returns-clause-same c = record {
-  posts = queues_set c.self.inside.posts.items c.from-place.result c.pass-post.new.self c.index_mut.result.now c.index_mut.ensures.value
-      (ap (λ (b : QueueFacts). b.queue) c.pass-post.ensures.owner) ∙ ap (λ (b : BoxesFacts). queues b.posts) c.self.view_is;
-  voices = queues_set c.self.inside.voices.items c.from-place.result c.pass-voice.new.self c.index_mut-2.result.now c.index_mut-2.ensures.value
-      (ap (λ (b : QueueFacts). b.queue) c.pass-voice.ensures.owner) ∙ ap (λ (b : BoxesFacts). queues b.voices) c.self.view_is;
-}
+returns-clause-same c =
+    subst (λ (b : BoxesFacts). AreSameBoxes b (after c)) c.self.view_is
+    (boxes_given (before c) (after c) c.from-place.result c.pass_at-post.result c.pass_at-voice.result c.pass_at-post.ensures c.pass_at-voice.ensures)
+
+pub returns-then-not-can_pass-clause-same : goal.returns-then-not-can_pass-clause-same
+returns-then-not-can_pass-clause-same c = boxes_kept c.args.self.now

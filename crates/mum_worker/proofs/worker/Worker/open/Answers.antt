@@ -1,21 +1,18 @@
 -- A worker works over what it was given.
-use Rattle.std.proofs.Common.{◌∙◌, sym, ap, subst, refl}
-use Rattle.std.specs.List.{All}
-use Rattle.mum_router.specs.Offering.{Outs}
-use Rattle.mum_worker.specs.Opening.{IsUnused, out_queues}
-use Rattle.mum_worker.proofs.Outs.{new_queues, new_unused, same_length}
+use Rattle.std.proofs.Common.{◌∙◌, List, ap, length, map, refl}
+use Rattle.std.proofs.lemmas.List.{length-map}
+use Rattle.mum_outbox.specs.Calls.{lower_half, new_pass}
+use Rattle.mum_outbox.specs.Facts.{QueueFacts}
 use Rattle.mum_worker.proofs.worker.Worker.open.Goals as goal
 
 pub open-requires-3-clause-boxes : goal.open-requires-3-clause-boxes
-open-requires-3-clause-boxes g c = same_length _ _ c.in_ok-voice.ensures.owners ∙ c.requires.voice
+open-requires-3-clause-boxes g c = ap (λ (xs : List QueueFacts). length xs) c.in_ok-voice.ensures.owners ∙ length-map _ lower_half ∙ c.requires.voice
 
 pub returns-clause-joins : goal.returns-clause-joins
-returns-clause-joins g c =
-    let outs = c.in_ok-router.ensures.outs in record {
-      posts = refl;
-      voices = c.in_ok-voice.ensures.shares;
-      outs = ap (λ (o : Outs). out_queues o) outs ∙ (new_queues _ ∙ c.in_ok-voice.ensures.owners);
-      unused = subst (λ (o : Outs). All IsUnused o) (sym outs) (new_unused _);
-      desk = c.new-2.ensures;
-      bell = c.new.ensures;
-    }
+returns-clause-joins g c = record {
+  posts = refl;
+  voices = c.in_ok-voice.ensures.shares;
+  outs = c.in_ok-router.ensures.outs ∙ ap (λ (xs : List QueueFacts). map new_pass xs) c.in_ok-voice.ensures.owners;
+  desk = c.new-3.ensures;
+  bell = c.new-2.ensures;
+}

@@ -1,6 +1,6 @@
 -- What one event makes of the life of a port.
-use Rattle.std.proofs.Common.{◌≡◌, ◌==◌, ◌∙◌, ℕ, Bool, true, false, cond, IsTrue, List, [], ◌∷◌, ◌++◌, Option, Some, None, refl, ap, sym, subst, inl, inr}
-use Rattle.std.specs.List.{AllByRecursion as Each, filter_map}
+use Rattle.std.proofs.Common.{◌≡◌, ◌==◌, ◌∙◌, ℕ, Bool, true, false, cond, if◌then◌else◌, IsTrue, List, [], ◌∷◌, ◌++◌, Option, Some, None, refl, ap, sym, subst, inl, inr}
+use Rattle.std.specs.List.{AllByRecursion as Each, cons_option, filter_map}
 use Rattle.std.proofs.lemmas.Bool.{eqb-true}
 use Rattle.std.proofs.lemmas.List.{append-nil}
 use Rattle.std.specs.Prelude.{option_to_list}
@@ -13,7 +13,7 @@ use Rattle.mum_io.specs.Link.{LinkFacts}
 use Rattle.mum_outbox.specs.Facts.{PassFacts}
 use Rattle.mum_port.specs.Did.{PortDid, action_of, desk_after_put, machine_after, waiting_after_put}
 use Rattle.mum_port.specs.Facts.{PortFacts, due_item}
-use Rattle.mum_port.specs.Life.{Event, Happens, Lives, Steps, frames_handled, items_put, lagged, replied, stepped}
+use Rattle.mum_port.specs.Life.{Event, Happens, Heard, Lives, Steps, frames_handled, items_put, lagged, replied, stepped}
 use Rattle.mum_port.specs.Replies.{Answers, Lags}
 use Rattle.mum_port.specs.declared.item.DeskItem.{DeskItem}
 use Rattle.mum_port.specs.declared.passes.Passes.{Passes}
@@ -28,6 +28,7 @@ use Rattle.mum_worker.specs.Routing.{RoutesPacket}
 use Rattle.mum_worker.specs.Stepping.{PortSteps, Shares}
 use Rattle.mum_worker_laws.specs.Laws.{Moment, Told, look_stepped}
 use Rattle.mum_worker_laws.specs.Lives.{IsLife, IsNoReplyTo, Life, Said, is_item_of, items_of, packets_said, put_by, routed_of, said_by}
+use Rattle.mum_worker_laws.specs.Befallen.{Befallen, Happening, Heeded, befell, happenings, happenings_of, lag_befell, shut_for, step_befell}
 use Rattle.mum_worker_laws.proofs.Counts.{nothing_either}
 use Rattle.mum_worker_laws.proofs.Speaking.{step_said}
 use Rattle.mum_worker_laws.proofs.Own.{OwnItem, asked-own, connection-machine_after, due-own, item-of, put-own}
@@ -51,6 +52,53 @@ module _ {L V : Type 0} (facts : L → LinkFacts) (routed : V → ℕ → Sessio
 said-append : (events more : List Event) → packets_said (events ++ more) ≡ packets_said events ++ packets_said more
 said-append events more = flat_map-append _ events more
 
+happenings-append : (events more : List Event) → happenings (events ++ more) ≡ happenings events ++ happenings more
+happenings-append events more = flat_map-append _ events more
+
+-- what befell a port is what befell its connection, and nothing of it befell another
+befell-of : (connection own : ℕ) (b : Bool) (those : List Happening) → (own == connection) ≡ b → happenings_of connection (befell own those) ≡ cond b those []
+befell-of connection own true [] is = refl
+befell-of connection own false [] is = refl
+befell-of connection own true (one ∷ those) is =
+    ap (λ (t : Bool). cons_option (if t then Some one else None) (happenings_of connection (befell own those))) is
+    ∙ ap (λ (l : List Happening). one ∷ l) (befell-of connection own true those is)
+befell-of connection own false (one ∷ those) is =
+    ap (λ (t : Bool). cons_option (if t then Some one else None) (happenings_of connection (befell own those))) is
+    ∙ befell-of connection own false those is
+
+-- ---- what is told of a worker
+
+-- what was heard and routed, and what befell ports
+pub record Course : Type 0 where
+  pub moments : List Moment
+  pub befallen : List Befallen
+
+abbrev pub nothing : Course
+nothing = record { moments = []; befallen = [] }
+
+-- one after the other
+abbrev pub join : Course → Course → Course
+join first then_ = record { moments = first.moments ++ then_.moments; befallen = first.befallen ++ then_.befallen }
+
+pub join-nothing : (course : Course) → join course nothing ≡ course
+join-nothing course = λ i. record { moments = append-nil course.moments i; befallen = append-nil course.befallen i }
+
+-- a reply, as the port hears it
+abbrev pub heard_of : ReplyFacts → Option Passes → Heard
+heard_of reply passes = record { end = reply.end; wire = reply.wire; passes = passes }
+
+abbrev reply_event : ReplyFacts → Option Passes → Option Cause → Event
+reply_event reply passes closed = replied (heard_of reply passes) closed
+
+abbrev pub reply_course : ReplyFacts → Option Passes → Option Cause → Course
+reply_course reply passes closed = record {
+  moments = Told reply ∷ [];
+  befallen = befell reply.connection (Heeded (heard_of reply passes) ∷ shut_for closed);
+}
+
+abbrev lag_course : ℕ → Option Cause → Course
+lag_course connection closed = record { moments = []; befallen = befell connection (shut_for closed) }
+
 -- ---- a life
 
 module _ {L : Type 0} where
@@ -69,8 +117,8 @@ module _ {L : Type 0} where
   Waits connection life = life.first.machine.connection ≡ connection → IsTrue life.first.machine.awaits → Still connection life
 
 module _ {L : Type 0} (facts : L → LinkFacts) (opening : Opening) where
-  -- a life goes on, with what was heard meanwhile, and what its port put on the desk
-  pub record Changes (told : List Moment) (put : List DeskItem) (old new : Life L) : Type 0 where
+  -- a life goes on, with what was told meanwhile, and what its port put on the desk
+  pub record Changes (told : Course) (put : List DeskItem) (old new : Life L) : Type 0 where
     pub first : new.first ≡ old.first
     pub lived : IsLife facts opening old → IsLife facts opening new
     pub owned : IsOwn old → IsOwn new
@@ -78,10 +126,13 @@ module _ {L : Type 0} (facts : L → LinkFacts) (opening : Opening) where
     pub its : IsOwn old → (connection : ℕ) (b : Bool) → (old.first.machine.connection == connection) ≡ b → items_of connection put ≡ cond b put []
     pub since : List Said
     pub says : packets_said new.events ≡ packets_said old.events ++ since
-    pub heard : IsOwn old → (connection : ℕ) (b : Bool) → (old.first.machine.connection == connection) ≡ b → filter_map (routed_of connection) told ≡ cond b since []
-    pub waits : (connection : ℕ) → Each (IsNoReplyTo connection) told → Waits connection old → Waits connection new
+    pub heard : IsOwn old → (connection : ℕ) (b : Bool) → (old.first.machine.connection == connection) ≡ b → filter_map (routed_of connection) told.moments ≡ cond b since []
+    pub befell : List Happening
+    pub happens : happenings new.events ≡ happenings old.events ++ befell
+    pub mine : IsOwn old → (connection : ℕ) (b : Bool) → (old.first.machine.connection == connection) ≡ b → happenings_of connection told.befallen ≡ cond b befell []
+    pub waits : (connection : ℕ) → Each (IsNoReplyTo connection) told.moments → Waits connection old → Waits connection new
 
-  pub unchanged : (life : Life L) → Changes [] [] life life
+  pub unchanged : (life : Life L) → Changes nothing [] life life
   unchanged life = record {
     first = refl;
     lived = λ lives. lives;
@@ -91,11 +142,14 @@ module _ {L : Type 0} (facts : L → LinkFacts) (opening : Opening) where
     since = [];
     says = sym (append-nil (packets_said life.events));
     heard = λ own connection b is. nothing_either b;
+    befell = [];
+    happens = sym (append-nil (happenings life.events));
+    mine = λ own connection b is. nothing_either b;
     waits = λ connection spared waits. waits;
   }
 
   -- the life of this port goes on to that port, beside what the desk was offered
-  pub record One (told : List Moment) (life : Life L) (before : List DeskItem) (new : PortFacts L) (after : List DeskItem) : Type 0 where
+  pub record One (told : Course) (life : Life L) (before : List DeskItem) (new : PortFacts L) (after : List DeskItem) : Type 0 where
     pub put : List DeskItem
     pub now : Life L
     pub changes : Changes told put life now
@@ -150,9 +204,9 @@ module _ {L : Type 0} (facts : L → LinkFacts) (opening : Opening) where
   IsSaid told machine did =
       (connection : ℕ) → filter_map (routed_of connection) told ≡ cond (machine.connection == connection) (said_by machine (action_of machine did.handled)) []
 
-  changes_step : (told : List Moment) (life : Life L) (machine : Machine) (did : PortDid) (new : PortFacts L) → Steps facts (RoutesPacket opening) life.last machine did new
-      → IsSaid told machine did → Changes told (option_to_list did.put) life (stepped_life life machine did new)
-  changes_step told life machine did new steps said = record {
+  changes_step : (told : Course) (life : Life L) (machine : Machine) (did : PortDid) (new : PortFacts L) → Steps facts (RoutesPacket opening) life.last machine did new
+      → IsSaid told.moments machine did → told.befallen ≡ befell machine.connection (shut_for did.closed) → Changes told (option_to_list did.put) life (stepped_life life machine did new)
+  changes_step told life machine did new steps said befallen_is = record {
     first = refl;
     lived = λ lives. lives_more facts (RoutesPacket opening) life.first life.events life.last (stepped machine did) new lives steps;
     owned = own_step life machine did new steps;
@@ -165,11 +219,24 @@ module _ {L : Type 0} (facts : L → LinkFacts) (opening : Opening) where
         said connection
         ∙ ap (λ (t : Bool). cond t (said_by machine (action_of machine did.handled)) [])
         (ap (λ (m : Machine). m.connection == connection) steps.of_port ∙ (ap (λ (n : ℕ). n == connection) own.number ∙ is));
+    befell = shut_for did.closed;
+    happens = happenings-append life.events (stepped machine did ∷ [])
+        ∙ ap (λ (l : List Happening). happenings life.events ++ l) (append-nil (shut_for did.closed));
+    mine = λ own connection b is.
+        ap (λ (l : List Befallen). happenings_of connection l) befallen_is
+        ∙ befell-of connection machine.connection b (shut_for did.closed)
+        (ap (λ (m : Machine). m.connection == connection) steps.of_port ∙ (ap (λ (n : ℕ). n == connection) own.number ∙ is));
     waits = λ connection spared waits of_it awaits. still_step life machine did new steps connection (waits of_it awaits);
   }
 
+  abbrev pub step_course : (boxes : BoxesFacts) (old : PortFacts L) (before : Shares) (new : PortFacts L) (after : Shares) → PortSteps facts opening boxes old before new after → Course
+  step_course boxes old before new after steps = record {
+    moments = look_stepped opening facts boxes old before new after steps;
+    befallen = step_befell facts opening boxes old before new after steps;
+  }
+
   pub one_step : (boxes : BoxesFacts) (life : Life L) (old : PortFacts L) (before : Shares) (new : PortFacts L) (after : Shares) (steps : PortSteps facts opening boxes old before new after) → life.last ≡ old
-      → One (look_stepped opening facts boxes old before new after steps) life before.desk.offered new after.desk.offered
+      → One (step_course boxes old before new after steps) life before.desk.offered new after.desk.offered
   one_step boxes life old before new after steps same =
       let happened : Steps facts (RoutesPacket opening) old old.machine steps.turned.0 new = record {
         of_port = refl;
@@ -184,9 +251,9 @@ module _ {L : Type 0} (facts : L → LinkFacts) (opening : Opening) where
       } in record {
         put = option_to_list steps.turned.0.put;
         now = stepped_life life old.machine steps.turned.0 new;
-        changes = changes_step (look_stepped opening facts boxes old before new after steps) life old.machine steps.turned.0 new
+        changes = changes_step (step_course boxes old before new after steps) life old.machine steps.turned.0 new
             (subst (λ (p : PortFacts L). Steps facts (RoutesPacket opening) p old.machine steps.turned.0 new) (sym same) happened)
-            (λ connection. step_said opening connection facts boxes old before new after steps);
+            (λ connection. step_said opening connection facts boxes old before new after steps) refl;
         last_is = refl;
         desk = offered_more steps.turned.0.put (due_item old) before.desk after.desk steps.turned.1.puts.pass;
       }
@@ -237,20 +304,26 @@ module _ {L : Type 0} (facts : L → LinkFacts) (opening : Opening) where
   }
 
   pub one_reply : (reply : ReplyFacts) (passes : Option Passes) (closed : Option Cause) (life : Life L) (new : PortFacts L) → is_of reply.connection life.last ≡ true
-      → Answers facts reply.end reply.wire passes life.last closed new → One (Told reply ∷ []) life [] new []
+      → Answers facts reply.end reply.wire passes life.last closed new → One (reply_course reply passes closed) life [] new []
   one_reply reply passes closed life new its answers =
       let place = place_answered reply.end reply.wire passes life.last closed new answers in record {
         put = [];
-        now = event_life life (replied reply.wire closed) new;
+        now = event_life life (reply_event reply passes closed) new;
         changes = record {
           first = refl;
-          lived = λ lives. lives_more facts (RoutesPacket opening) life.first life.events life.last (replied reply.wire closed) new lives (reply.end, passes, answers);
-          owned = own_place life (replied reply.wire closed) new place;
-          puts = items_put-append life.events (replied reply.wire closed ∷ []);
+          lived = λ lives. lives_more facts (RoutesPacket opening) life.first life.events life.last (reply_event reply passes closed) new lives answers;
+          owned = own_place life (reply_event reply passes closed) new place;
+          puts = items_put-append life.events (reply_event reply passes closed ∷ []);
           its = λ own connection b is. nothing_either b;
           since = [];
-          says = said-append life.events (replied reply.wire closed ∷ []);
+          says = said-append life.events (reply_event reply passes closed ∷ []);
           heard = λ own connection b is. nothing_either b;
+          befell = Heeded (heard_of reply passes) ∷ shut_for closed;
+          happens = happenings-append life.events (reply_event reply passes closed ∷ [])
+              ∙ ap (λ (l : List Happening). happenings life.events ++ (Heeded (heard_of reply passes) ∷ l)) (append-nil (shut_for closed));
+          mine = λ own connection b is.
+              befell-of connection reply.connection b (Heeded (heard_of reply passes) ∷ shut_for closed)
+              (ap (λ (n : ℕ). n == connection) (sym (eqb-true life.last.machine.connection reply.connection its)) ∙ (ap (λ (n : ℕ). n == connection) own.number ∙ is));
           waits = λ connection spared waits of_it awaits.
               let still = waits of_it awaits in
               absurd (spared.0 (sym (eqb-true life.last.machine.connection reply.connection its) ∙ still.of_it));
@@ -259,7 +332,7 @@ module _ {L : Type 0} (facts : L → LinkFacts) (opening : Opening) where
         desk = refl;
       }
 
-  one_lagged : (closed : Option Cause) (life : Life L) (new : PortFacts L) → Lags facts life.last closed new → One [] life [] new []
+  one_lagged : (closed : Option Cause) (life : Life L) (new : PortFacts L) → Lags facts life.last closed new → One (lag_course life.last.machine.connection closed) life [] new []
   one_lagged closed life new lags =
       let place = place_lagged life.last closed new lags in record {
         put = [];
@@ -273,6 +346,9 @@ module _ {L : Type 0} (facts : L → LinkFacts) (opening : Opening) where
           since = [];
           says = said-append life.events (lagged closed ∷ []);
           heard = λ own connection b is. nothing_either b;
+          befell = shut_for closed;
+          happens = happenings-append life.events (lagged closed ∷ []) ∙ ap (λ (l : List Happening). happenings life.events ++ l) (append-nil (shut_for closed));
+          mine = λ own connection b is. befell-of connection life.last.machine.connection b (shut_for closed) (ap (λ (n : ℕ). n == connection) own.number ∙ is);
           waits = λ connection spared waits of_it awaits.
               let still = waits of_it awaits in record {
                 of_it = place.number ∙ still.of_it;
@@ -284,8 +360,8 @@ module _ {L : Type 0} (facts : L → LinkFacts) (opening : Opening) where
         desk = refl;
       }
 
-  pub one_lag : (session : SessionId) (life : Life L) (old : PortFacts L) (before : RecordFacts) (new : PortFacts L) (after : RecordFacts) → LagsWhereIts facts session old before new after
-      → life.last ≡ old → One [] life [] new []
+  pub one_lag : (session : SessionId) (life : Life L) (old : PortFacts L) (before : RecordFacts) (new : PortFacts L) (after : RecordFacts) (lags : LagsWhereIts facts session old before new after)
+      → life.last ≡ old → One (record { moments = []; befallen = lag_befell facts session old before new after lags }) life [] new []
   one_lag session life old before new after (inl passes) same = record {
     put = [];
     now = life;
@@ -294,4 +370,5 @@ module _ {L : Type 0} (facts : L → LinkFacts) (opening : Opening) where
     desk = refl;
   }
   one_lag session life old before new after (inr lags) same =
-      one_lagged lags.closed life new (subst (λ (p : PortFacts L). Lags facts p lags.closed new) (sym same) lags.lags)
+      subst (λ (p : PortFacts L). One (lag_course p.machine.connection lags.closed) life [] new []) same
+      (one_lagged lags.closed life new (subst (λ (p : PortFacts L). Lags facts p lags.closed new) (sym same) lags.lags))

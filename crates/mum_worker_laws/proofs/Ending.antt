@@ -24,12 +24,13 @@ use Rattle.mum_session.specs.Action.{action}
 use Rattle.mum_session.specs.Machine.{Machine, session_of}
 use Rattle.mum_session.specs.declared.action.Action.{Action}
 use Rattle.mum_session.specs.declared.action.Action.TheVariants.{Ask, Bans}
-use Rattle.mum_worker.specs.Facts.{WorkerFacts, is_of, stays}
+use Rattle.mum_worker.specs.Facts.{WorkerFacts, is_of, intake_of, stays}
 use Rattle.mum_worker.specs.Hearing.{Hears, TakesOrTurns}
 use Rattle.mum_worker.specs.Opening.{HasOpened}
 use Rattle.mum_worker.specs.Record.{RecordFacts}
 use Rattle.mum_worker.specs.Routing.{RoutesPacket}
 use Rattle.mum_worker.specs.Turning.{WorkerTurned}
+use Rattle.mum_worker.specs.declared.intake.Intake.{Intake}
 use Rattle.mum_worker_laws.specs.Lives.{HaveLived, IsLife, IsNew, IsOrderly, Life, count, if_taken, is_closed_of, ports_taken, put_by, put_by_all, taken_in}
 use Rattle.mum_worker_laws.proofs.Changing.{IsOwn}
 use Rattle.mum_worker_laws.proofs.Counts.{count-append, count-cons, count-left, each-append, each_both, each_map, one}
@@ -66,7 +67,7 @@ none_asked connection machine (Some frame) rest = none_acted connection machine.
 asked_closed : (connection : ℕ) (events : List Event) → count (is_closed_of connection) (items_asked events) ≡ 0
 asked_closed connection [] = refl
 asked_closed connection (stepped machine did ∷ events) = none_asked connection machine did.handled (items_asked events) ∙ asked_closed connection events
-asked_closed connection (replied wire closed ∷ events) = asked_closed connection events
+asked_closed connection (replied heard closed ∷ events) = asked_closed connection events
 asked_closed connection (lagged closed ∷ events) = asked_closed connection events
 
 one_or_kept : (gone : Bool) (n : ℕ) → cond gone n 0 + cond (not gone) n 0 ≡ n
@@ -84,16 +85,16 @@ all_closed : (put one_put rest_put left one_left rest_left first one_first rest_
 all_closed put one_put rest_put left one_left rest_left first one_first rest_first a b c d e = omega (arith, a, b, c, d, e)
 
 module _ {L : Type 0} where
-  if_new : (number connection : ℕ) (link : L) (ports : List (PortFacts L)) (kept : RecordFacts) (ports_after : List (PortFacts L)) (kept_after : RecordFacts) (takes : TakesOrTurns number connection link ports kept ports_after kept_after)
-      → Each IsNew (if_taken number connection link ports kept ports_after kept_after takes)
-  if_new number connection link ports kept ports_after kept_after (inl takes) = (record { connection = connection; worker = number; link = link; is = refl }, tt)
-  if_new number connection link ports kept ports_after kept_after (inr turns) = tt
+  if_new : (intake : Intake) (connection : ℕ) (link : L) (ports : List (PortFacts L)) (kept : RecordFacts) (intake_after : Intake) (ports_after : List (PortFacts L)) (kept_after : RecordFacts) (takes : TakesOrTurns intake connection link ports kept intake_after ports_after kept_after)
+      → Each IsNew (if_taken intake connection link ports kept intake_after ports_after kept_after takes)
+  if_new intake connection link ports kept intake_after ports_after kept_after (inl takes) = (record { connection = connection; worker = intake.number; link = link; is = refl }, tt)
+  if_new intake connection link ports kept intake_after ports_after kept_after (inr turns) = tt
 
 module _ {L : Type 0} (facts : L → LinkFacts) (opening : Opening) where
   taken_new : (item : Option (Rung L)) (old new : WorkerFacts L) (hears : Hears facts item old new) → Each IsNew (taken_in facts item old new hears)
   taken_new None old new hears = tt
   taken_new (Some (Answer reply)) old new hears = tt
-  taken_new (Some (Comes connection link)) old new hears = if_new old.number connection link old.ports old.common.kept new.ports new.common.kept hears.takes
+  taken_new (Some (Comes connection link)) old new hears = if_new (intake_of old) connection link old.ports old.common.kept (intake_of new) new.ports new.common.kept hears.takes
   taken_new (Some (Lagging session)) old new hears = tt
   taken_new (Some NoMore) old new hears = tt
 

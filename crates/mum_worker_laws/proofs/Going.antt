@@ -22,6 +22,7 @@ use Rattle.mum_port.specs.Did.{action_of}
 use Rattle.mum_port.specs.Facts.{PortFacts}
 use Rattle.mum_port.specs.Turn.{RoutesPacket as PortRoutes}
 use Rattle.mum_published.specs.Facts.{NoteFacts, Opening, PassFacts, ReplyFacts}
+use Rattle.mum_published.specs.declared.roll.Login.{Login}
 use Rattle.mum_published.proofs.Prefixes.{prefix_self, prefix_trans}
 use Rattle.mum_router.specs.Facts.{RouterFacts}
 use Rattle.mum_router.specs.Laws.{RoutedPacket}
@@ -38,7 +39,7 @@ use Rattle.mum_state.specs.declared.edit.Edit.{Edit}
 use Rattle.mum_voice.specs.Packet.{Parts}
 use Rattle.mum_worker.specs.Boxes.{BoxesFacts}
 use Rattle.mum_worker.specs.Facts.{WorkerFacts}
-use Rattle.mum_worker.specs.Hearing.{Hears, LearnsGiven}
+use Rattle.mum_worker.specs.Hearing.{Admits, Hears, LearnsGiven}
 use Rattle.mum_worker.specs.Routing.{CommonFacts, RoutesPacket}
 use Rattle.mum_worker.specs.Stepping.{PortSteps, Shares}
 use Rattle.mum_worker.specs.Turning.{Turned, WorkerTurned, shares_of}
@@ -101,19 +102,19 @@ delivered slot speaker packet (d ∷ ds) outs after done =
 pub all_on : {X : Type 0} (P Q : X → Type 0) → ((x : X) → P x → Q x) → (xs : List X) → All P xs → All Q xs
 all_on P Q so xs all k d within = so _ (all k d within)
 
-pairs_nil : {X : Type 0} (R : X → X → Type 0) → AllPairs R []
+pub pairs_nil : {X : Type 0} (R : X → X → Type 0) → AllPairs R []
 pairs_nil R i j d below within = absurd (omega (arith, within))
 
-pairs_head : {X : Type 0} (R : X → X → Type 0) (x : X) (xs : List X) → AllPairs R (x ∷ xs) → All (R x) xs
+pub pairs_head : {X : Type 0} (R : X → X → Type 0) (x : X) (xs : List X) → AllPairs R (x ∷ xs) → All (R x) xs
 pairs_head R x xs pairs k d within = pairs 0 (suc k) d (omega arith) (omega (arith, within))
 
-pairs_tail : {X : Type 0} (R : X → X → Type 0) (x : X) (xs : List X) → AllPairs R (x ∷ xs) → AllPairs R xs
+pub pairs_tail : {X : Type 0} (R : X → X → Type 0) (x : X) (xs : List X) → AllPairs R (x ∷ xs) → AllPairs R xs
 pairs_tail R x xs pairs i j d below within = pairs (suc i) (suc j) d (omega (arith, below)) (omega (arith, within))
 
 pub all_tail : {X : Type 0} (P : X → Type 0) (x : X) (xs : List X) → All P (x ∷ xs) → All P xs
 all_tail P x xs all k d within = all (suc k) d (omega (arith, within))
 
-pairs_join : {X : Type 0} (R : X → X → Type 0) (P Q : X → Type 0) → ((x y : X) → P x → Q y → R x y)
+pub pairs_join : {X : Type 0} (R : X → X → Type 0) (P Q : X → Type 0) → ((x y : X) → P x → Q y → R x y)
     → (xs ys : List X) → AllPairs R xs → All P xs → AllPairs R ys → All Q ys → AllPairs R (xs ++ ys)
 pairs_join R P Q both [] ys pairs all others rest = others
 pairs_join R P Q both (x ∷ xs) ys pairs all others rest =
@@ -144,6 +145,7 @@ pub record Goes (opening : Opening) (old new : RouterFacts) (moments : List Mome
   -- what begins the edits that were seen and known begins those that are seen
   pub keeps : (edits : List Edit) → IsPrefix edits old.pass.seen → IsPrefix edits old.pass.known → IsPrefix edits new.pass.seen
   pub looked : All (IsSeen new.pass) moments
+  pub rolls : IsPrefix old.pass.roll new.pass.roll
 
 stays : (opening : Opening) (old new : RouterFacts) → new ≡ old → Goes opening old new []
 stays opening old new same = record {
@@ -157,6 +159,7 @@ stays opening old new same = record {
   sees = λ opened. ap kept_of same;
   keeps = λ edits seen known. subst (λ (r : RouterFacts). IsPrefix edits r.pass.seen) (sym same) seen;
   looked = All-nil (IsSeen new.pass);
+  rolls = subst (λ (r : RouterFacts). IsPrefix old.pass.roll r.pass.roll) (sym same) (prefix_self old.pass.roll);
 }
 
 one_pair : (moment : Moment) → AllPairs Follows (moment ∷ [])
@@ -171,6 +174,11 @@ pub record Learns (edits : List Edit) (old new : RouterFacts) : Type 0 where
   pub its : IsPrefix edits new.pass.known
   pub opening : new.pass.opening ≡ old.pass.opening
   pub kept : kept_of new ≡ kept_of old
+
+-- a note that is learnt leaves the roll
+roll_kept : (note : Option NoteFacts) (old new : RouterFacts) → LearnsGiven note old new → new.pass.roll ≡ old.pass.roll
+roll_kept None old new same = ap (λ (r : RouterFacts). r.pass.roll) same
+roll_kept (Some note) old new learns = ap (λ (p : PassFacts). p.roll) learns.0.same
 
 learnt : (note : Option NoteFacts) (old new : RouterFacts) → LearnsGiven note old new → Learns (edits_told note) old new
 learnt None old new same = record {
@@ -190,9 +198,22 @@ learnt (Some note) old new learns = record {
   kept = λ i. record { seen = ap (λ (p : PassFacts). p.seen) learns.0.same i; routes = ap (λ (r : RouterFacts). r.caches.routes) learns.1 i };
 }
 
-told : (opening : Opening) (reply : ReplyFacts) (old new : RouterFacts) → LearnsGiven reply.note old new → Goes opening old new (Told reply ∷ [])
-told opening reply old new learns =
-    let facts = learnt reply.note old new learns in record {
+-- what was learnt of a note is known still once a roll is
+admitted : (edits : List Edit) (roll : List Login) (old mid new : RouterFacts) → Learns edits old mid → Admits roll mid new → Learns edits old new
+admitted edits roll old mid new facts admits =
+    let known : new.pass.known ≡ mid.pass.known = ap (λ (p : PassFacts). p.known) admits.0.same in record {
+      asks = ap (λ (p : PassFacts). p.asks) admits.0.same ∙ facts.asks;
+      outs = ap (λ (r : RouterFacts). r.outs) admits.1 ∙ facts.outs;
+      mine = subst (λ (l : List Edit). IsPrefix old.pass.known l) (sym known) facts.mine;
+      its = subst (λ (l : List Edit). IsPrefix edits l) (sym known) facts.its;
+      opening = ap (λ (p : PassFacts). p.opening) admits.0.same ∙ facts.opening;
+      kept = (λ i. record { seen = ap (λ (p : PassFacts). p.seen) admits.0.same i; routes = ap (λ (r : RouterFacts). r.caches.routes) admits.1 i }) ∙ facts.kept;
+    }
+
+told : (opening : Opening) (reply : ReplyFacts) (old mid new : RouterFacts) → LearnsGiven reply.note old mid → Admits reply.roll mid new → Goes opening old new (Told reply ∷ [])
+told opening reply old mid new learns admits =
+    let first = learnt reply.note old mid learns in
+    let facts = admitted (edits_told reply.note) reply.roll old mid new first admits in record {
       asks = facts.asks ∙ sym (append-nil old.pass.asks);
       knows = facts.mine;
       within = All-cons (IsKnown new.pass.known) (Told reply) [] facts.its (All-nil (IsKnown new.pass.known));
@@ -203,6 +224,7 @@ told opening reply old new learns =
       sees = λ opened. facts.kept;
       keeps = λ edits seen known. subst (λ (k : Kept). IsPrefix edits k.seen) (sym facts.kept) seen;
       looked = All-cons (IsSeen new.pass) (Told reply) [] tt (All-nil (IsSeen new.pass));
+      rolls = subst (λ (l : List Login). IsPrefix l new.pass.roll) (roll_kept reply.note old mid learns) admits.0.mine;
     }
 
 -- ---- a look
@@ -228,6 +250,7 @@ saw opening connection old speaker packet edits deliveries new routed routes =
       looked = All-cons (IsSeen new.pass) (Looked look) []
           (subst (λ (l : List Edit). IsPrefix edits l) (sym seen) (prefix_self edits), subst (λ (l : List Edit). IsPrefix edits l) (sym known) (prefix_self edits))
           (All-nil (IsSeen new.pass));
+      rolls = subst (λ (l : List Login). IsPrefix old.pass.roll l) (sym (ap (λ (r : RouterFacts). r.pass.roll) routes.router)) (prefix_self old.pass.roll);
     }
 
 -- ---- one thing after another
@@ -272,6 +295,7 @@ goes_on opening old mid new ms ns one other = record {
   keeps = λ edits seen known. other.keeps edits (one.keeps edits seen known) (prefix_trans edits old.pass.known mid.pass.known known one.knows);
   looked = All-append (IsSeen new.pass) ms ns
       (all_on (IsSeen mid.pass) (IsSeen new.pass) (λ m seen. seen_on mid.pass new.pass other.keeps other.knows m seen) ms one.looked) other.looked;
+  rolls = prefix_trans old.pass.roll mid.pass.roll new.pass.roll one.rolls other.rolls;
 }
 
 -- ---- the step of a port
@@ -299,7 +323,7 @@ module _ (opening : Opening) where
         (sym (ap (λ (c : CommonFacts). c.router) steps.noted))
         (go_asked old.machine.connection (session_of old.machine.stage) (action_of old.machine steps.turned.0.handled) before.common steps.routed steps.turned.1.routes)
 
-    go_along : (boxes : BoxesFacts) (olds : List (PortFacts L)) (before : Shares) (news : List (PortFacts L)) (after : Shares) (along : Along (PortSteps facts opening boxes) olds before news after)
+    pub go_along : (boxes : BoxesFacts) (olds : List (PortFacts L)) (before : Shares) (news : List (PortFacts L)) (after : Shares) (along : Along (PortSteps facts opening boxes) olds before news after)
         → Goes opening before.common.router after.common.router (looks_along opening facts boxes olds before news after along)
     go_along boxes [] before [] after same = same_common before.common after.common (ap (λ (s : Shares). s.common) same)
     go_along boxes [] before (new ∷ news) after none = absurd none
@@ -313,9 +337,9 @@ module _ (opening : Opening) where
 
     -- ---- the bell, and the turns
 
-    go_heard : (item : Option (Rung L)) (old new : WorkerFacts L) → Hears facts item old new → Goes opening old.common.router new.common.router (told_by item)
+    pub go_heard : (item : Option (Rung L)) (old new : WorkerFacts L) → Hears facts item old new → Goes opening old.common.router new.common.router (told_by item)
     go_heard None old new same = same_common old.common new.common (ap (λ (w : WorkerFacts L). w.common) same)
-    go_heard (Some (Answer reply)) old new hears = told opening reply old.common.router new.common.router hears.takes.learns
+    go_heard (Some (Answer reply)) old new hears = told opening reply old.common.router hears.takes.noted_by new.common.router hears.takes.learns hears.takes.admits
     go_heard (Some (Comes connection link)) old new hears = stays opening old.common.router new.common.router hears.router
     go_heard (Some (Lagging session)) old new hears = stays opening old.common.router new.common.router hears.router
     go_heard (Some NoMore) old new same = same_common old.common new.common (ap (λ (w : WorkerFacts L). w.common) same)

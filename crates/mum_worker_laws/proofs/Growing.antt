@@ -9,10 +9,10 @@ use Rattle.mum_port.specs.Facts.{PortFacts}
 use Rattle.mum_port.specs.declared.item.DeskItem.{DeskItem}
 use Rattle.mum_published.specs.Facts.{Opening}
 use Rattle.mum_worker.specs.Facts.{is_of, stays}
-use Rattle.mum_worker_laws.specs.Laws.{Moment}
-use Rattle.mum_worker_laws.specs.Lives.{HasAtMostOne, IsLife, IsNoReplyTo, Life, Said, count, is_item_of, is_life_of, items_of, packets_said, put_by, put_by_all, put_of, routed_of, said_by_all}
+use Rattle.mum_worker_laws.specs.Befallen.{Happening, happening_of, happenings, happenings_of}
+use Rattle.mum_worker_laws.specs.Lives.{IsLife, IsNoReplyTo, Life, Said, befell_all, count, is_item_of, is_life_of, items_of, packets_said, put_by, put_by_all, put_of, routed_of, said_by_all}
 use Rattle.mum_worker_laws.proofs.Counts.{added, count-append, count-cons, each_back, each_front, one}
-use Rattle.mum_worker_laws.proofs.Changing.{Changes, IsOwn, One, Waits, unchanged}
+use Rattle.mum_worker_laws.proofs.Changing.{Changes, Course, IsOwn, One, Waits, join, join-nothing, nothing, unchanged}
 
 both_empty : {A : Type 0} (xs ys : List A) → xs ++ ys ≡ [] → (xs ≡ []) × (ys ≡ [])
 both_empty [] ys is = (refl, is)
@@ -24,6 +24,10 @@ module _ {L : Type 0} where
 
   abbrev pub lasts : List (Life L) → List (PortFacts L)
   lasts lives = map (λ (life : Life L). life.last) lives
+
+  -- no two of these ports are of the connection
+  abbrev pub HasAtMostOne : ℕ → List (PortFacts L) → Type 0
+  HasAtMostOne connection ports = count (is_of connection) ports ≤ 1
 
   pub count-its : (connection : ℕ) (life : Life L) (lives : List (Life L)) (b : Bool) → is_life_of connection life ≡ b → count (is_of connection) (firsts (life ∷ lives)) ≡ one b + count (is_of connection) (firsts lives)
   count-its connection life lives b is =
@@ -75,19 +79,20 @@ module _ {L : Type 0} where
 
 module _ {L : Type 0} (facts : L → LinkFacts) (opening : Opening) where
   -- these lives went on to those: what was heard meanwhile, what the desk was put, and the ports that came
-  pub record Grows (told : List Moment) (put : List DeskItem) (taken : List (PortFacts L)) (olds news : List (Life L)) : Type 0 where
+  pub record Grows (told : Course) (put : List DeskItem) (taken : List (PortFacts L)) (olds news : List (Life L)) : Type 0 where
     pub begun : firsts news ≡ firsts olds ++ taken
     pub lived : Each (IsLife facts opening) olds → Each (IsLife facts opening) news
     pub owned : Each IsOwn olds → Each IsOwn news
     pub total : (test : DeskItem → Bool) → count test (put_by_all news) ≡ count test (put_by_all olds) + count test put
     pub order : Each IsOwn olds → (connection : ℕ) → HasAtMostOne connection (firsts news) → put_of connection news ≡ put_of connection olds ++ items_of connection put
-    pub says : Each IsOwn olds → (connection : ℕ) → HasAtMostOne connection (firsts news) → said_by_all connection news ≡ said_by_all connection olds ++ filter_map (routed_of connection) told
-    pub waits : (connection : ℕ) → Each (IsNoReplyTo connection) told → Each (Waits connection) olds → Each (Waits connection) news
+    pub says : Each IsOwn olds → (connection : ℕ) → HasAtMostOne connection (firsts news) → said_by_all connection news ≡ said_by_all connection olds ++ filter_map (routed_of connection) told.moments
+    pub happens : Each IsOwn olds → (connection : ℕ) → HasAtMostOne connection (firsts news) → befell_all connection news ≡ befell_all connection olds ++ happenings_of connection told.befallen
+    pub waits : (connection : ℕ) → Each (IsNoReplyTo connection) told.moments → Each (Waits connection) olds → Each (Waits connection) news
 
   none_more : (test : DeskItem → Bool) (n : ℕ) → n ≡ n + count test []
   none_more test n = omega arith
 
-  pub grows_same : (lives : List (Life L)) → Grows [] [] [] lives lives
+  pub grows_same : (lives : List (Life L)) → Grows nothing [] [] lives lives
   grows_same lives = record {
     begun = sym (append-nil (firsts lives));
     lived = λ lived. lived;
@@ -95,6 +100,7 @@ module _ {L : Type 0} (facts : L → LinkFacts) (opening : Opening) where
     total = λ test. none_more test (count test (put_by_all lives));
     order = λ own connection few. sym (append-nil (put_of connection lives));
     says = λ own connection few. sym (append-nil (said_by_all connection lives));
+    happens = λ own connection few. sym (append-nil (befell_all connection lives));
     waits = λ connection spared waits. waits;
   }
 
@@ -109,8 +115,8 @@ module _ {L : Type 0} (facts : L → LinkFacts) (opening : Opening) where
       (count-append test (put_by old) (put_by_all olds))
       ∙ ap (λ (n : ℕ). count test (put_by_all (old ∷ olds)) + n) (sym (count-append test put more))
 
-  pub grows_cons : (told tells : List Moment) (put more : List DeskItem) (old new : Life L) (olds news : List (Life L)) → Changes facts opening told put old new → Grows tells more [] olds news
-      → Grows (told ++ tells) (put ++ more) [] (old ∷ olds) (new ∷ news)
+  pub grows_cons : (told tells : Course) (put more : List DeskItem) (old new : Life L) (olds news : List (Life L)) → Changes facts opening told put old new → Grows tells more [] olds news
+      → Grows (join told tells) (put ++ more) [] (old ∷ olds) (new ∷ news)
   grows_cons told tells put more old new olds news change grows = record {
     begun = ap (λ (p : PortFacts L). p ∷ firsts news) change.first ∙ ap (λ (l : List (PortFacts L)). old.first ∷ l) grows.begun;
     lived = λ lived. (change.lived lived.0, grows.lived lived.1);
@@ -120,12 +126,16 @@ module _ {L : Type 0} (facts : L → LinkFacts) (opening : Opening) where
         traces-cons (λ (life : Life L). put_by life) connection (old.first.machine.connection == connection) old new olds news put (items_of connection put) (items_of connection more) (items_of connection (put ++ more)) refl change.first
         change.puts (change.its own.0 connection (old.first.machine.connection == connection) refl) (filter-append (is_item_of connection) put more) (grows.order own.1 connection) few;
     says = λ own connection few.
-        traces-cons (λ (life : Life L). packets_said life.events) connection (old.first.machine.connection == connection) old new olds news change.since (filter_map (routed_of connection) told) (filter_map (routed_of connection) tells)
-        (filter_map (routed_of connection) (told ++ tells)) refl change.first change.says (change.heard own.0 connection (old.first.machine.connection == connection) refl)
-        (filter_map-append (routed_of connection) told tells) (grows.says own.1 connection) few;
+        traces-cons (λ (life : Life L). packets_said life.events) connection (old.first.machine.connection == connection) old new olds news change.since (filter_map (routed_of connection) told.moments) (filter_map (routed_of connection) tells.moments)
+        (filter_map (routed_of connection) (told.moments ++ tells.moments)) refl change.first change.says (change.heard own.0 connection (old.first.machine.connection == connection) refl)
+        (filter_map-append (routed_of connection) told.moments tells.moments) (grows.says own.1 connection) few;
+    happens = λ own connection few.
+        traces-cons (λ (life : Life L). happenings life.events) connection (old.first.machine.connection == connection) old new olds news change.befell (happenings_of connection told.befallen) (happenings_of connection tells.befallen)
+        (happenings_of connection (told.befallen ++ tells.befallen)) refl change.first change.happens (change.mine own.0 connection (old.first.machine.connection == connection) refl)
+        (filter_map-append (happening_of connection) told.befallen tells.befallen) (grows.happens own.1 connection) few;
     waits = λ connection spared waits. (
-      change.waits connection (each_front (IsNoReplyTo connection) told tells spared) waits.0,
-      grows.waits connection (each_back (IsNoReplyTo connection) told tells spared) waits.1,
+      change.waits connection (each_front (IsNoReplyTo connection) told.moments tells.moments spared) waits.0,
+      grows.waits connection (each_back (IsNoReplyTo connection) told.moments tells.moments spared) waits.1,
     );
   }
 
@@ -136,8 +146,8 @@ module _ {L : Type 0} (facts : L → LinkFacts) (opening : Opening) where
   fewer connection olds news taken begun few =
       omega (arith, few, ap (λ (l : List (PortFacts L)). count (is_of connection) l) begun ∙ count-append (is_of connection) (firsts olds) taken)
 
-  pub grows_on : (told tells : List Moment) (put puts : List DeskItem) (taken takes : List (PortFacts L)) (olds mids news : List (Life L)) → Grows told put taken olds mids → Grows tells puts takes mids news
-      → Grows (told ++ tells) (put ++ puts) (taken ++ takes) olds news
+  pub grows_on : (told tells : Course) (put puts : List DeskItem) (taken takes : List (PortFacts L)) (olds mids news : List (Life L)) → Grows told put taken olds mids → Grows tells puts takes mids news
+      → Grows (join told tells) (put ++ puts) (taken ++ takes) olds news
   grows_on told tells put puts taken takes olds mids news first other = record {
     begun = other.begun ∙ (ap (λ (l : List (PortFacts L)). l ++ takes) first.begun ∙ append_assoc (firsts olds) taken takes);
     lived = λ lived. other.lived (first.lived lived);
@@ -151,25 +161,30 @@ module _ {L : Type 0} (facts : L → LinkFacts) (opening : Opening) where
         ∙ ap (λ (l : List DeskItem). put_of connection olds ++ l) (sym (filter-append (is_item_of connection) put puts))));
     says = λ own connection few.
         other.says (first.owned own) connection few
-        ∙ (ap (λ (l : List Said). l ++ filter_map (routed_of connection) tells) (first.says own connection (fewer connection mids news takes other.begun few))
-        ∙ (append_assoc (said_by_all connection olds) (filter_map (routed_of connection) told) (filter_map (routed_of connection) tells)
-        ∙ ap (λ (l : List Said). said_by_all connection olds ++ l) (sym (filter_map-append (routed_of connection) told tells))));
+        ∙ (ap (λ (l : List Said). l ++ filter_map (routed_of connection) tells.moments) (first.says own connection (fewer connection mids news takes other.begun few))
+        ∙ (append_assoc (said_by_all connection olds) (filter_map (routed_of connection) told.moments) (filter_map (routed_of connection) tells.moments)
+        ∙ ap (λ (l : List Said). said_by_all connection olds ++ l) (sym (filter_map-append (routed_of connection) told.moments tells.moments))));
+    happens = λ own connection few.
+        other.happens (first.owned own) connection few
+        ∙ (ap (λ (l : List Happening). l ++ happenings_of connection tells.befallen) (first.happens own connection (fewer connection mids news takes other.begun few))
+        ∙ (append_assoc (befell_all connection olds) (happenings_of connection told.befallen) (happenings_of connection tells.befallen)
+        ∙ ap (λ (l : List Happening). befell_all connection olds ++ l) (sym (filter_map-append (happening_of connection) told.befallen tells.befallen))));
     waits = λ connection spared waits.
-        other.waits connection (each_back (IsNoReplyTo connection) told tells spared) (first.waits connection (each_front (IsNoReplyTo connection) told tells spared) waits);
+        other.waits connection (each_back (IsNoReplyTo connection) told.moments tells.moments spared) (first.waits connection (each_front (IsNoReplyTo connection) told.moments tells.moments spared) waits);
   }
 
-  pub with_put : (told : List Moment) (put puts : List DeskItem) (taken : List (PortFacts L)) (olds news : List (Life L)) → put ≡ puts → Grows told put taken olds news → Grows told puts taken olds news
+  pub with_put : (told : Course) (put puts : List DeskItem) (taken : List (PortFacts L)) (olds news : List (Life L)) → put ≡ puts → Grows told put taken olds news → Grows told puts taken olds news
   with_put told put puts taken olds news same grows = subst (λ (l : List DeskItem). Grows told l taken olds news) same grows
 
-  pub with_told : (told tells : List Moment) (put : List DeskItem) (taken : List (PortFacts L)) (olds news : List (Life L)) → told ≡ tells → Grows told put taken olds news → Grows tells put taken olds news
-  with_told told tells put taken olds news same grows = subst (λ (l : List Moment). Grows l put taken olds news) same grows
+  pub with_told : (told tells : Course) (put : List DeskItem) (taken : List (PortFacts L)) (olds news : List (Life L)) → told ≡ tells → Grows told put taken olds news → Grows tells put taken olds news
+  with_told told tells put taken olds news same grows = subst (λ (l : Course). Grows l put taken olds news) same grows
 
-  pub with_taken : (told : List Moment) (put : List DeskItem) (taken takes : List (PortFacts L)) (olds news : List (Life L)) → taken ≡ takes → Grows told put taken olds news → Grows told put takes olds news
+  pub with_taken : (told : Course) (put : List DeskItem) (taken takes : List (PortFacts L)) (olds news : List (Life L)) → taken ≡ takes → Grows told put taken olds news → Grows told put takes olds news
   with_taken told put taken takes olds news same grows = subst (λ (l : List (PortFacts L)). Grows told put l olds news) same grows
 
   -- ---- each makes its step
 
-  pub record Grown (told : List Moment) (lives : List (Life L)) (before : List DeskItem) (news : List (PortFacts L)) (after : List DeskItem) : Type 0 where
+  pub record Grown (told : Course) (lives : List (Life L)) (before : List DeskItem) (news : List (PortFacts L)) (after : List DeskItem) : Type 0 where
     pub put : List DeskItem
     pub now : List (Life L)
     pub grows : Grows told put [] lives now
@@ -178,11 +193,11 @@ module _ {L : Type 0} (facts : L → LinkFacts) (opening : Opening) where
 
   -- what is told of steps that are made one after the other
   module _ {C : Type 0} (step : PortFacts L → C → PortFacts L → C → Type 0) (desk_of : C → List DeskItem)
-      (tell : (old : PortFacts L) (before : C) (new : PortFacts L) (after : C) → step old before new after → List Moment)
-      (tells : (olds : List (PortFacts L)) (before : C) (news : List (PortFacts L)) (after : C) → Along step olds before news after → List Moment)
-      (tells-nil : (before after : C) (same : Along step [] before [] after) → tells [] before [] after same ≡ [])
+      (tell : (old : PortFacts L) (before : C) (new : PortFacts L) (after : C) → step old before new after → Course)
+      (tells : (olds : List (PortFacts L)) (before : C) (news : List (PortFacts L)) (after : C) → Along step olds before news after → Course)
+      (tells-nil : (before after : C) (same : Along step [] before [] after) → tells [] before [] after same ≡ nothing)
       (tells-cons : (old : PortFacts L) (olds : List (PortFacts L)) (before : C) (new : PortFacts L) (news : List (PortFacts L)) (after : C) (along : Along step (old ∷ olds) before (new ∷ news) after)
-      → tells (old ∷ olds) before (new ∷ news) after along ≡ tell old before new along.0 along.1 ++ tells olds along.0 news after along.2)
+      → tells (old ∷ olds) before (new ∷ news) after along ≡ join (tell old before new along.0 along.1) (tells olds along.0 news after along.2))
       (one_more : (life : Life L) (old : PortFacts L) (before : C) (new : PortFacts L) (after : C) (steps : step old before new after) → life.last ≡ old
       → One facts opening (tell old before new after steps) life (desk_of before) new (desk_of after)) where
     grow_first : (life : Life L) (lives : List (Life L)) (old : PortFacts L) (olds : List (PortFacts L)) (before : C) (new : PortFacts L) (news : List (PortFacts L)) (after : C) (along : Along step (old ∷ olds) before (new ∷ news) after)
@@ -192,7 +207,7 @@ module _ {L : Type 0} (facts : L → LinkFacts) (opening : Opening) where
     grow_first life lives old olds before new news after along mine others = record {
       put = mine.put ++ others.put;
       now = mine.now ∷ others.now;
-      grows = with_told (tell old before new along.0 along.1 ++ tells olds along.0 news after along.2) (tells (old ∷ olds) before (new ∷ news) after along) (mine.put ++ others.put) [] (life ∷ lives) (mine.now ∷ others.now)
+      grows = with_told (join (tell old before new along.0 along.1) (tells olds along.0 news after along.2)) (tells (old ∷ olds) before (new ∷ news) after along) (mine.put ++ others.put) [] (life ∷ lives) (mine.now ∷ others.now)
           (sym (tells-cons old olds before new news after along))
           (grows_cons (tell old before new along.0 along.1) (tells olds along.0 news after along.2) mine.put others.put life mine.now lives others.now mine.changes others.grows);
       kept = ap (λ (p : PortFacts L). cond (stays p) (p ∷ filter stays (lasts others.now)) (filter stays (lasts others.now))) mine.last_is
@@ -201,12 +216,12 @@ module _ {L : Type 0} (facts : L → LinkFacts) (opening : Opening) where
     }
 
     -- a port that was let go
-    grow_past : (told : List Moment) (life : Life L) (lives : List (Life L)) (before : List DeskItem) (news : List (PortFacts L)) (after : List DeskItem) → stays life.last ≡ false → Grown told lives before news after
+    grow_past : (told : Course) (life : Life L) (lives : List (Life L)) (before : List DeskItem) (news : List (PortFacts L)) (after : List DeskItem) → stays life.last ≡ false → Grown told lives before news after
         → Grown told (life ∷ lives) before news after
     grow_past told life lives before news after is others = record {
       put = others.put;
       now = life ∷ others.now;
-      grows = grows_cons [] told [] others.put life life lives others.now (unchanged facts opening life) others.grows;
+      grows = grows_cons nothing told [] others.put life life lives others.now (unchanged facts opening life) others.grows;
       kept = ap (λ (b : Bool). cond b (life.last ∷ filter stays (lasts others.now)) (filter stays (lasts others.now))) is ∙ others.kept;
       desk = others.desk;
     }
@@ -230,7 +245,7 @@ module _ {L : Type 0} (facts : L → LinkFacts) (opening : Opening) where
     grow_along [] [] before [] after there same = record {
       put = [];
       now = [];
-      grows = with_told [] (tells [] before [] after same) [] [] [] [] (sym (tells-nil before after same)) (grows_same []);
+      grows = with_told nothing (tells [] before [] after same) [] [] [] [] (sym (tells-nil before after same)) (grows_same []);
       kept = refl;
       desk = ap desk_of same ∙ sym (append-nil (desk_of before));
     }
@@ -241,19 +256,19 @@ module _ {L : Type 0} (facts : L → LinkFacts) (opening : Opening) where
 
   -- ---- one of them changes where it lies
 
-  pub record Set (told : List Moment) (lives : List (Life L)) (ports : List (PortFacts L)) : Type 0 where
+  pub record Set (told : Course) (lives : List (Life L)) (ports : List (PortFacts L)) : Type 0 where
     pub now : List (Life L)
     pub grows : Grows told [] [] lives now
     pub kept : filter stays (lasts now) ≡ ports
 
-  module _ (told : List Moment) (old new : PortFacts L) (stays_on : stays old ≡ true → stays new ≡ true)
+  module _ (told : Course) (old new : PortFacts L) (stays_on : stays old ≡ true → stays new ≡ true)
       (one_set : (life : Life L) → life.last ≡ old → One facts opening told life [] new []) where
     set_here : (life : Life L) (lives : List (Life L)) → One facts opening told life [] new [] → stays new ≡ true → Set told (life ∷ lives) (new ∷ filter stays (lasts lives))
     set_here life lives mine still = record {
       now = mine.now ∷ lives;
-      grows = with_told (told ++ []) told [] [] (life ∷ lives) (mine.now ∷ lives) (append-nil told)
-          (with_put (told ++ []) (mine.put ++ []) [] [] (life ∷ lives) (mine.now ∷ lives) (append-nil mine.put ∙ sym mine.desk)
-          (grows_cons told [] mine.put [] life mine.now lives lives mine.changes (grows_same lives)));
+      grows = with_told (join told nothing) told [] [] (life ∷ lives) (mine.now ∷ lives) (join-nothing told)
+          (with_put (join told nothing) (mine.put ++ []) [] [] (life ∷ lives) (mine.now ∷ lives) (append-nil mine.put ∙ sym mine.desk)
+          (grows_cons told nothing mine.put [] life mine.now lives lives mine.changes (grows_same lives)));
       kept = ap (λ (p : PortFacts L). cond (stays p) (p ∷ filter stays (lasts lives)) (filter stays (lasts lives))) mine.last_is
           ∙ ap (λ (b : Bool). cond b (new ∷ filter stays (lasts lives)) (filter stays (lasts lives))) still;
     }
@@ -268,14 +283,14 @@ module _ {L : Type 0} (facts : L → LinkFacts) (opening : Opening) where
     set_at true life lives (suc k) is rest there =
         let others = rest k there in record {
           now = life ∷ others.now;
-          grows = grows_cons [] told [] [] life life lives others.now (unchanged facts opening life) others.grows;
+          grows = grows_cons nothing told [] [] life life lives others.now (unchanged facts opening life) others.grows;
           kept = ap (λ (b : Bool). cond b (life.last ∷ filter stays (lasts others.now)) (filter stays (lasts others.now))) is
               ∙ ap (λ (l : List (PortFacts L)). life.last ∷ l) others.kept;
         }
     set_at false life lives place is rest there =
         let others = rest place there in record {
           now = life ∷ others.now;
-          grows = grows_cons [] told [] [] life life lives others.now (unchanged facts opening life) others.grows;
+          grows = grows_cons nothing told [] [] life life lives others.now (unchanged facts opening life) others.grows;
           kept = ap (λ (b : Bool). cond b (life.last ∷ filter stays (lasts others.now)) (filter stays (lasts others.now))) is ∙ others.kept;
         }
 

@@ -8,6 +8,7 @@ use Rattle.std.proofs.lemmas.List.Quantifiers.{position-Some}
 use Rattle.mum_base.specs.declared.number.Cause.{Cause}
 use Rattle.mum_base.specs.declared.reply.ReplyEnd.{ReplyEnd}
 use Rattle.mum_base.specs.declared.reply.ReplyEnd.TheVariants as ends
+use Rattle.mum_crew.specs.Along.{Along}
 use Rattle.mum_crew.specs.Turns.{TurnsTo}
 use Rattle.mum_crew.specs.declared.role.Turn.{Turn}
 use Rattle.mum_io.specs.Link.{LinkFacts}
@@ -21,17 +22,20 @@ use Rattle.mum_port.specs.declared.stage.Stage.{Stage}
 use Rattle.mum_port.specs.declared.stage.Stage.TheVariants.{Live, Ending, Closed}
 use Rattle.mum_published.specs.Bell.{Rung, Answer, Comes, Lagging, NoMore}
 use Rattle.mum_published.specs.Facts.{Opening, ReplyFacts}
-use Rattle.mum_worker.specs.Facts.{WorkerFacts, is_of, stays}
+use Rattle.mum_worker.specs.Boxes.{BoxesFacts}
+use Rattle.mum_worker.specs.Facts.{WorkerFacts, is_of, intake_of, stays}
 use Rattle.mum_worker.specs.Hearing.{AnswersFirst, Hears, LagsWhereIts, TakesOrTurns}
 use Rattle.mum_worker.specs.Opening.{HasOpened}
 use Rattle.mum_worker.specs.Record.{RecordFacts}
 use Rattle.mum_worker.specs.Stepping.{PortSteps, Shares}
 use Rattle.mum_worker.specs.Turning.{Turned, WorkerTurned, shares_of}
-use Rattle.mum_worker_laws.specs.Laws.{Moment, Told, history, look_stepped, looks_along, moments_of, told_by}
-use Rattle.mum_worker_laws.specs.Lives.{HandlesNothing, HasAtMostOne, HaveLived, IsLife, IsNoReplyTo, Life, Said, count, if_taken, is_item_of, is_life_of, items_of, packets_said, ports_taken, put_by, put_by_all, put_of, routed_of, said_by_all, taken_in}
-use Rattle.mum_worker_laws.proofs.Changing.{IsOwn, One, Waits, one_lag, one_reply, one_step}
+use Rattle.mum_worker.specs.declared.intake.Intake.{Intake}
+use Rattle.mum_worker_laws.specs.Laws.{Told, history, looks_along, moments_of, told_by}
+use Rattle.mum_worker_laws.specs.Befallen.{Happening, befallen, bell_befell, happenings, happenings_of, lag_befell, lags_befell, reply_befell, steps_befell, turn_befell}
+use Rattle.mum_worker_laws.specs.Lives.{HandlesNothing, HaveLived, IsLife, IsNoReplyTo, Life, Said, befell_all, count, if_taken, is_item_of, is_life_of, items_of, packets_said, ports_taken, put_by, put_by_all, put_of, routed_of, said_by_all, taken_in}
+use Rattle.mum_worker_laws.proofs.Changing.{Course, IsOwn, One, Waits, join, nothing, one_lag, one_reply, one_step, reply_course, step_course}
 use Rattle.mum_worker_laws.proofs.Counts.{count-append, each-append, each_so, left_twice}
-use Rattle.mum_worker_laws.proofs.Growing.{Grows, firsts, grow_along, grow_set, grows_on, grows_same, lasts, with_put, with_taken}
+use Rattle.mum_worker_laws.proofs.Growing.{Grows, HasAtMostOne, firsts, grow_along, grow_set, grows_on, grows_same, lasts, with_put, with_taken}
 use Rattle.mum_worker_laws.proofs.Own.{OwnItem}
 
 -- ---- a reply does not let a port go
@@ -80,6 +84,9 @@ module _ {L : Type 0} where
   nothing_said : (connection : ℕ) (ports : List (PortFacts L)) → said_by_all connection (map begin ports) ≡ []
   nothing_said connection ports = no_trace (λ (life : Life L). packets_said life.events) (λ port. refl) connection ports
 
+  nothing_befell : (connection : ℕ) (ports : List (PortFacts L)) → befell_all connection (map begin ports) ≡ []
+  nothing_befell connection ports = no_trace (λ (life : Life L). happenings life.events) (λ port. refl) connection ports
+
   -- a port that waits for the desk does so with an item of its own connection
   abbrev pub WaitsForOwn : PortFacts L → Type 0
   WaitsForOwn port = OwnItem port.machine.connection port.waiting
@@ -111,12 +118,12 @@ module _ {L : Type 0} (facts : L → LinkFacts) (opening : Opening) where
   stays_on end wire passes old closed new (inr (inr closes)) there = ap (λ (p : PortFacts L). stays p) closes.closes.rest
 
   -- what was heard leads from these ports to those
-  pub record HeardLives (told : List Moment) (taken : List (PortFacts L)) (lives : List (Life L)) (ports : List (PortFacts L)) : Type 0 where
+  pub record HeardLives (told : Course) (taken : List (PortFacts L)) (lives : List (Life L)) (ports : List (PortFacts L)) : Type 0 where
     pub now : List (Life L)
     pub grows : Grows facts opening told [] taken lives now
     pub kept : ports ≡ filter stays (lasts now)
 
-  same_ports : (lives : List (Life L)) (old new : List (PortFacts L)) → new ≡ old → old ≡ filter stays (lasts lives) → HeardLives [] [] lives new
+  same_ports : (lives : List (Life L)) (old new : List (PortFacts L)) → new ≡ old → old ≡ filter stays (lasts lives) → HeardLives nothing [] lives new
   same_ports lives old new same kept = record {
     now = lives;
     grows = grows_same facts opening lives;
@@ -133,7 +140,7 @@ module _ {L : Type 0} (facts : L → LinkFacts) (opening : Opening) where
       read_there (y ∷ xs) (suc k) x is = read_there xs k x is
 
   -- a reply that no port takes
-  reply_dropped : (reply : ReplyFacts) (lives : List (Life L)) → Grows facts opening (Told reply ∷ []) [] [] lives lives
+  reply_dropped : (reply : ReplyFacts) (lives : List (Life L)) → Grows facts opening (record { moments = Told reply ∷ []; befallen = [] }) [] [] lives lives
   reply_dropped reply lives =
       let same = grows_same facts opening lives in record {
         begun = same.begun;
@@ -142,11 +149,13 @@ module _ {L : Type 0} (facts : L → LinkFacts) (opening : Opening) where
         total = same.total;
         order = same.order;
         says = same.says;
+        happens = same.happens;
         waits = λ connection spared waits. waits;
       }
 
   hear_reply : (reply : ReplyFacts) (passes : Option Passes) (closed : Option Cause) (olds news : List (PortFacts L)) (lives : List (Life L)) → olds ≡ filter stays (lasts lives)
-      → AnswersFirst facts reply.connection reply.end reply.wire passes olds closed news → HeardLives (Told reply ∷ []) [] lives news
+      → (answers : AnswersFirst facts reply.connection reply.end reply.wire passes olds closed news)
+      → HeardLives (record { moments = Told reply ∷ []; befallen = reply_befell facts reply passes olds closed news answers }) [] lives news
   hear_reply reply passes closed olds news lives kept (inl none) = record {
     now = lives;
     grows = reply_dropped reply lives;
@@ -156,11 +165,11 @@ module _ {L : Type 0} (facts : L → LinkFacts) (opening : Opening) where
       let its = first_is_of reply.connection olds first.place first.old first.first first.there in
       let there : slice_get (filter stays (lasts lives)) first.place ≡ Some first.old =
       subst (λ (l : List (PortFacts L)). slice_get l first.place ≡ Some first.old) kept first.there in
-      let one_set : (life : Life L) → life.last ≡ first.old → One facts opening (Told reply ∷ []) life [] first.new [] =
+      let one_set : (life : Life L) → life.last ≡ first.old → One facts opening (reply_course reply passes closed) life [] first.new [] =
       λ life same. one_reply facts opening reply passes closed life first.new
       (ap (λ (p : PortFacts L). is_of reply.connection p) same ∙ its)
       (subst (λ (p : PortFacts L). Answers facts reply.end reply.wire passes p closed first.new) (sym same) first.answers) in
-      let set = grow_set facts opening (Told reply ∷ []) first.old first.new
+      let set = grow_set facts opening (reply_course reply passes closed) first.old first.new
       (stays_on reply.end reply.wire passes first.old closed first.new first.answers) one_set lives first.place there in record {
         now = set.now;
         grows = set.grows;
@@ -172,7 +181,7 @@ module _ {L : Type 0} (facts : L → LinkFacts) (opening : Opening) where
 
   -- a port more
   grows_new : (lives : List (Life L)) (connection number : ℕ) (link : L)
-      → Grows facts opening [] [] (new_port connection number link ∷ []) lives (lives ++ begin (new_port connection number link) ∷ [])
+      → Grows facts opening nothing [] (new_port connection number link ∷ []) lives (lives ++ begin (new_port connection number link) ∷ [])
   grows_new lives connection number link =
       let port : PortFacts L = new_port connection number link in record {
         begun = map-append (λ (life : Life L). life.first) lives (begin port ∷ []);
@@ -181,6 +190,7 @@ module _ {L : Type 0} (facts : L → LinkFacts) (opening : Opening) where
         total = λ test. count_new test;
         order = λ own asked few. order_new asked;
         says = λ own asked few. says_new asked;
+        happens = λ own asked few. befell_new asked;
         waits = λ asked spared waits. each-append (Waits asked) lives (begin port ∷ []) waits (λ of_it awaits. absurd (true≢false (sym awaits)), tt);
       }
     where
@@ -206,32 +216,36 @@ module _ {L : Type 0} (facts : L → LinkFacts) (opening : Opening) where
       says_new : (asked : ℕ) → said_by_all asked (lives ++ begin (new_port connection number link) ∷ []) ≡ said_by_all asked lives ++ []
       says_new asked = trace_new (λ (life : Life L). packets_said life.events) refl asked
 
-  hear_new : (number connection : ℕ) (link : L) (olds : List (PortFacts L)) (kept_before : RecordFacts) (news : List (PortFacts L)) (kept_after : RecordFacts) (takes : TakesOrTurns number connection link olds kept_before news kept_after)
-      (lives : List (Life L)) → olds ≡ filter stays (lasts lives) → HeardLives [] (if_taken number connection link olds kept_before news kept_after takes) lives news
-  hear_new number connection link olds kept_before news kept_after (inl takes) lives kept = record {
-    now = lives ++ begin (new_port connection number link) ∷ [];
-    grows = grows_new lives connection number link;
+      befell_new : (asked : ℕ) → befell_all asked (lives ++ begin (new_port connection number link) ∷ []) ≡ befell_all asked lives ++ []
+      befell_new asked = trace_new (λ (life : Life L). happenings life.events) refl asked
+
+  hear_new : (intake : Intake) (connection : ℕ) (link : L) (olds : List (PortFacts L)) (kept_before : RecordFacts) (intake_after : Intake) (news : List (PortFacts L)) (kept_after : RecordFacts) (takes : TakesOrTurns intake connection link olds kept_before intake_after news kept_after)
+      (lives : List (Life L)) → olds ≡ filter stays (lasts lives) → HeardLives nothing (if_taken intake connection link olds kept_before intake_after news kept_after takes) lives news
+  hear_new intake connection link olds kept_before intake_after news kept_after (inl takes) lives kept = record {
+    now = lives ++ begin (new_port connection intake.number link) ∷ [];
+    grows = grows_new lives connection intake.number link;
     kept = takes.ports_are
-        ∙ (ap (λ (l : List (PortFacts L)). l ++ new_port connection number link ∷ []) kept
-        ∙ (sym (filter-append stays (lasts lives) (new_port connection number link ∷ []))
-        ∙ ap (λ (l : List (PortFacts L)). filter stays l) (sym (map-append (λ (life : Life L). life.last) lives (begin (new_port connection number link) ∷ [])))));
+        ∙ (ap (λ (l : List (PortFacts L)). l ++ new_port connection intake.number link ∷ []) kept
+        ∙ (sym (filter-append stays (lasts lives) (new_port connection intake.number link ∷ []))
+        ∙ ap (λ (l : List (PortFacts L)). filter stays l) (sym (map-append (λ (life : Life L). life.last) lives (begin (new_port connection intake.number link) ∷ [])))));
   }
-  hear_new number connection link olds kept_before news kept_after (inr turns) lives kept = same_ports lives olds news turns.ports_same kept
+  hear_new intake connection link olds kept_before intake_after news kept_after (inr turns) lives kept = same_ports lives olds news turns.ports_same kept
 
   hear_lives : (item : Option (Rung L)) (old new : WorkerFacts L) (hears : Hears facts item old new) (lives : List (Life L)) → old.ports ≡ filter stays (lasts lives)
-      → HeardLives (told_by item) (taken_in facts item old new hears) lives new.ports
+      → HeardLives (record { moments = told_by item; befallen = bell_befell facts item old new hears }) (taken_in facts item old new hears) lives new.ports
   hear_lives None old new same lives kept = same_ports lives old.ports new.ports (ap (λ (w : WorkerFacts L). w.ports) same) kept
   hear_lives (Some (Answer reply)) old new hears lives kept =
       hear_reply reply hears.takes.passes hears.takes.closed old.ports new.ports lives kept hears.takes.answers
   hear_lives (Some (Comes connection link)) old new hears lives kept =
-      hear_new old.number connection link old.ports old.common.kept new.ports new.common.kept hears.takes lives kept
+      hear_new (intake_of old) connection link old.ports old.common.kept (intake_of new) new.ports new.common.kept hears.takes lives kept
   hear_lives (Some (Lagging session)) old new hears lives kept =
       let grown = grow_along facts opening (LagsWhereIts facts session) (λ (r : RecordFacts). [])
-      (λ port before after_port after lags. []) (λ ports before ports_after after along. []) (λ before after same. refl) (λ port ports before after_port after_ports after along. refl)
+      (λ port before after_port after lags. record { moments = []; befallen = lag_befell facts session port before after_port after lags })
+      (λ ports before ports_after after along. record { moments = []; befallen = lags_befell facts session ports before ports_after after along }) (λ before after same. refl) (λ port ports before after_port after_ports after along. refl)
       (λ life port before after_port after lags same. one_lag facts opening session life port before after_port after lags same)
       lives old.ports old.common.kept hears.each.stepped new.common.kept kept hears.each.along in record {
         now = grown.now;
-        grows = with_put facts opening [] grown.put [] [] lives grown.now (sym grown.desk) grown.grows;
+        grows = with_put facts opening (record { moments = []; befallen = lags_befell facts session old.ports old.common.kept hears.each.stepped new.common.kept hears.each.along }) grown.put [] [] lives grown.now (sym grown.desk) grown.grows;
         kept = hears.each.left ∙ sym grown.kept;
       }
   hear_lives (Some NoMore) old new same lives kept = same_ports lives old.ports new.ports (ap (λ (w : WorkerFacts L). w.ports) same) kept
@@ -247,35 +261,45 @@ module _ {L : Type 0} (facts : L → LinkFacts) (opening : Opening) where
   -- ---- the turns
 
   -- these lives lead from a worker to one that has these ports, and these items on the desk
-  pub record Lasts (told : List Moment) (taken : List (PortFacts L)) (lives : List (Life L)) (before : List DeskItem) (ports : List (PortFacts L)) (after : List DeskItem) : Type 0 where
+  pub record Lasts (told : Course) (taken : List (PortFacts L)) (lives : List (Life L)) (before : List DeskItem) (ports : List (PortFacts L)) (after : List DeskItem) : Type 0 where
     pub put : List DeskItem
     pub now : List (Life L)
     pub grows : Grows facts opening told put taken lives now
     pub kept : ports ≡ filter stays (lasts now)
     pub desk : after ≡ before ++ put
 
+  abbrev steps_course : (boxes : BoxesFacts) (olds : List (PortFacts L)) (before : Shares) (news : List (PortFacts L)) (after : Shares) → Along (PortSteps facts opening boxes) olds before news after → Course
+  steps_course boxes olds before news after along = record {
+    moments = looks_along opening facts boxes olds before news after along;
+    befallen = steps_befell facts opening boxes olds before news after along;
+  }
+
   turn_lives : (old new : WorkerFacts L) (turn : Turn) (turned : Turned facts opening old new turn) (lives : List (Life L)) → old.ports ≡ filter stays (lasts lives)
-      → Lasts (moments_of facts opening old new turn turned)
+      → Lasts (record { moments = moments_of facts opening old new turn turned; befallen = turn_befell facts opening old new turn turned })
       (taken_in facts turned.hears.item (record old { bell = turned.hears.bell }) turned.between turned.hears.hears) lives old.desk.offered new.ports new.desk.offered
   turn_lives old new turn turned lives kept =
       let heard = hear_lives turned.hears.item (record old { bell = turned.hears.bell }) turned.between turned.hears.hears lives kept in
-      let looks : List Moment = looks_along opening facts turned.between.boxes turned.between.ports (shares_of turned.between turned.heard)
+      let rung : Course = record {
+        moments = told_by turned.hears.item;
+        befallen = bell_befell facts turned.hears.item (record old { bell = turned.hears.bell }) turned.between turned.hears.hears;
+      } in
+      let looks : Course = steps_course turned.between.boxes turned.between.ports (shares_of turned.between turned.heard)
       turned.steps.steps.stepped (shares_of new turned.worked) turned.steps.steps.along in
       let stepped = grow_along facts opening (PortSteps facts opening turned.between.boxes) (λ (s : Shares). s.desk.offered)
-      (look_stepped opening facts turned.between.boxes) (looks_along opening facts turned.between.boxes) (λ before after same. refl) (λ port ports before after_port after_ports after along. refl)
+      (step_course facts opening turned.between.boxes) (steps_course turned.between.boxes) (λ before after same. refl) (λ port ports before after_port after_ports after along. refl)
       (λ life port before after_port after steps same. one_step facts opening turned.between.boxes life port before after_port after steps same)
       heard.now turned.between.ports (shares_of turned.between turned.heard) turned.steps.steps.stepped (shares_of new turned.worked) heard.kept turned.steps.steps.along in
       let taken : List (PortFacts L) = taken_in facts turned.hears.item (record old { bell = turned.hears.bell }) turned.between turned.hears.hears in record {
         put = stepped.put;
         now = stepped.now;
-        grows = with_taken facts opening (told_by turned.hears.item ++ looks) stepped.put (taken ++ []) taken lives stepped.now (append-nil taken)
-            (grows_on facts opening (told_by turned.hears.item) looks [] stepped.put taken [] lives heard.now stepped.now heard.grows stepped.grows);
+        grows = with_taken facts opening (join rung looks) stepped.put (taken ++ []) taken lives stepped.now (append-nil taken)
+            (grows_on facts opening rung looks [] stepped.put taken [] lives heard.now stepped.now heard.grows stepped.grows);
         kept = turned.steps.steps.left ∙ sym stepped.kept;
         desk = stepped.desk ∙ ap (λ (d : PassFacts DeskItem). d.offered ++ stepped.put) (hear_desk turned.hears.item (record old { bell = turned.hears.bell }) turned.between turned.hears.hears);
       }
 
   pub turns_live : (old : WorkerFacts L) (turns : List Turn) (new : WorkerFacts L) (all : TurnsTo (WorkerTurned facts opening) old turns new) (lives : List (Life L)) → old.ports ≡ filter stays (lasts lives)
-      → Lasts (history facts opening old turns new all) (ports_taken facts opening old turns new all) lives old.desk.offered new.ports new.desk.offered
+      → Lasts (record { moments = history facts opening old turns new all; befallen = befallen facts opening old turns new all }) (ports_taken facts opening old turns new all) lives old.desk.offered new.ports new.desk.offered
   turns_live old [] new same lives kept = record {
     put = [];
     now = lives;
@@ -288,7 +312,9 @@ module _ {L : Type 0} (facts : L → LinkFacts) (opening : Opening) where
       let others = turns_live mid turns new rest first.now first.kept in record {
         put = first.put ++ others.put;
         now = others.now;
-        grows = grows_on facts opening (moments_of facts opening old mid turn turned) (history facts opening mid turns new rest)
+        grows = grows_on facts opening
+            (record { moments = moments_of facts opening old mid turn turned; befallen = turn_befell facts opening old mid turn turned })
+            (record { moments = history facts opening mid turns new rest; befallen = befallen facts opening mid turns new rest })
             first.put others.put (taken_in facts turned.hears.item (record old { bell = turned.hears.bell }) turned.between turned.hears.hears)
             (ports_taken facts opening mid turns new rest) lives first.now others.now first.grows others.grows;
         kept = others.kept;
@@ -318,8 +344,9 @@ module _ {L : Type 0} (facts : L → LinkFacts) (opening : Opening) where
   sums new old now none put a b c = omega (arith, a, b, c)
 
   pub have_lived : (old : WorkerFacts L) (turns : List Turn) (new : WorkerFacts L) (all : TurnsTo (WorkerTurned facts opening) old turns new) → IsSettled old.ports
+      → ((connection : ℕ) → HasAtMostOne connection (old.ports ++ ports_taken facts opening old turns new all))
       → HaveLived facts opening old turns new all
-  have_lived old turns new all settled =
+  have_lived old turns new all settled few =
       let lasting = turns_live old turns new all (map begin old.ports) (sym settled.stay ∙ ap (λ (l : List (PortFacts L)). filter stays l) (sym (lasts-begin old.ports))) in
       let begun : firsts lasting.now ≡ old.ports ++ ports_taken facts opening old turns new all =
       lasting.grows.begun ∙ ap (λ (l : List (PortFacts L)). l ++ ports_taken facts opening old turns new all) (firsts-begin old.ports) in record {
@@ -332,15 +359,18 @@ module _ {L : Type 0} (facts : L → LinkFacts) (opening : Opening) where
             (ap (λ (l : List DeskItem). count test l) lasting.desk ∙ count-append test old.desk.offered lasting.put)
             (lasting.grows.total test)
             (ap (λ (l : List DeskItem). count test l) (nothing_put old.ports));
-        order = λ connection few.
+        order = λ connection.
             ap (λ (l : List DeskItem). items_of connection l) lasting.desk
             ∙ (filter-append (is_item_of connection) old.desk.offered lasting.put
             ∙ ap (λ (l : List DeskItem). items_of connection old.desk.offered ++ l)
-            (sym (lasting.grows.order (own_begin old.ports settled.own) connection (subst (λ (l : List (PortFacts L)). HasAtMostOne connection l) (sym begun) few)
+            (sym (lasting.grows.order (own_begin old.ports settled.own) connection (subst (λ (l : List (PortFacts L)). HasAtMostOne connection l) (sym begun) (few connection))
             ∙ ap (λ (l : List DeskItem). l ++ items_of connection lasting.put) (nothing_put_of connection old.ports))));
-        routed = λ connection few.
-            sym (lasting.grows.says (own_begin old.ports settled.own) connection (subst (λ (l : List (PortFacts L)). HasAtMostOne connection l) (sym begun) few)
+        routed = λ connection.
+            sym (lasting.grows.says (own_begin old.ports settled.own) connection (subst (λ (l : List (PortFacts L)). HasAtMostOne connection l) (sym begun) (few connection))
             ∙ ap (λ (l : List Said). l ++ filter_map (routed_of connection) (history facts opening old turns new all)) (nothing_said connection old.ports));
+        befallen_to = λ connection.
+            sym (lasting.grows.happens (own_begin old.ports settled.own) connection (subst (λ (l : List (PortFacts L)). HasAtMostOne connection l) (sym begun) (few connection))
+            ∙ ap (λ (l : List Happening). l ++ happenings_of connection (befallen facts opening old turns new all)) (nothing_befell connection old.ports));
         waits = λ connection none.
             All-from_recursion (HandlesNothing connection) lasting.now
             (each_so (Waits connection) (HandlesNothing connection) (λ life waits of_it awaits. (waits of_it awaits).nothing) lasting.now

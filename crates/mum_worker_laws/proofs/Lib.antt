@@ -1,3 +1,4 @@
+mod Admitted
 mod Causing
 mod Changing
 mod Closings
@@ -5,9 +6,13 @@ mod Counts
 mod Ending
 mod Going
 mod Growing
+mod Lagging
 mod Lasting
 mod LinkEnds
 mod Own
+mod Parcels
+mod Partings
+mod Rising
 mod Speaking
 mod Voices
 mod Waiting

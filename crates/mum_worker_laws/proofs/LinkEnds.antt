@@ -57,10 +57,10 @@ module _ {L : Type 0} (facts : L → LinkFacts) (opening : Opening) where
       let rests = quiet facts (RoutesPacket opening) old machine did mid steps closed in
       closed_cause mid events new lives (ap is_closed rests.stage ∙ (stage_once_put-closed did.put old.waiting old.stage ∙ closed))
       ∙ (ap cause_of rests.stage ∙ once_put-cause did.put old.waiting old.stage)
-  closed_cause old (replied wire cause ∷ events) new (mid, (end, passes, inl stays), lives) closed =
+  closed_cause old (replied heard cause ∷ events) new (mid, inl stays, lives) closed =
       closed_cause mid events new lives (ap (λ (p : PortFacts L). is_closed p.stage) stays.same ∙ closed) ∙ ap (λ (p : PortFacts L). cause_of p.stage) stays.same
-  closed_cause old (replied wire cause ∷ events) new (mid, (end, passes, inr (inl takes)), lives) closed = absurd (true≢false (sym closed ∙ takes.was_open))
-  closed_cause old (replied wire cause ∷ events) new (mid, (end, passes, inr (inr closes)), lives) closed = absurd (true≢false (sym closed ∙ closes.was_open))
+  closed_cause old (replied heard cause ∷ events) new (mid, inr (inl takes), lives) closed = absurd (true≢false (sym closed ∙ takes.was_open))
+  closed_cause old (replied heard cause ∷ events) new (mid, inr (inr closes), lives) closed = absurd (true≢false (sym closed ∙ closes.was_open))
   closed_cause old (lagged cause ∷ events) new (mid, inl stays, lives) closed =
       closed_cause mid events new lives (ap (λ (p : PortFacts L). is_closed p.stage) stays.same ∙ closed) ∙ ap (λ (p : PortFacts L). cause_of p.stage) stays.same
   closed_cause old (lagged cause ∷ events) new (mid, inr lags, lives) closed = absurd (true≢false (sym closed ∙ lags.0))
@@ -123,11 +123,11 @@ module _ {L : Type 0} (facts : L → LinkFacts) (opening : Opening) where
       absurd (cc (sym (ap (λ (p : PortFacts L). cause_of p.stage) same ∙ no_cause old.stage opened) ∙ ended))
   ends_at old (stepped machine did ∷ events) new (mid, steps, lives) opened ended =
       ends_step old mid new machine did events did.closed refl steps steps.turn.ends.settled lives opened ended (λ open_on. ends_at mid events new lives open_on ended)
-  ends_at old (replied wire cause ∷ events) new (mid, (end, passes, inl stays), lives) opened ended = absurd (true≢false (sym stays.was_closed ∙ opened))
-  ends_at old (replied wire cause ∷ events) new (mid, (end, passes, inr (inl takes)), lives) opened ended =
-      ends_later old mid new (replied wire cause) events (end, passes, inr (inl takes))
-      (ends_at mid events new lives (ap (λ (p : PortFacts L). is_closed p.stage) takes.rest ∙ answered-open end old.stage opened) ended)
-  ends_at old (replied wire cause ∷ events) new (mid, (end, passes, inr (inr closes)), lives) opened ended =
+  ends_at old (replied heard cause ∷ events) new (mid, inl stays, lives) opened ended = absurd (true≢false (sym stays.was_closed ∙ opened))
+  ends_at old (replied heard cause ∷ events) new (mid, inr (inl takes), lives) opened ended =
+      ends_later old mid new (replied heard cause) events (inr (inl takes))
+      (ends_at mid events new lives (ap (λ (p : PortFacts L). is_closed p.stage) takes.rest ∙ answered-open heard.end old.stage opened) ended)
+  ends_at old (replied heard cause ∷ events) new (mid, inr (inr closes), lives) opened ended =
       absurd (cc (sym ended ∙ (closed_cause mid events new lives (ap (λ (p : PortFacts L). is_closed p.stage) closes.closes.rest) ∙ ap (λ (p : PortFacts L). cause_of p.stage) closes.closes.rest)))
   ends_at old (lagged cause ∷ events) new (mid, inl stays, lives) opened ended = absurd (true≢false (sym stays.was_closed ∙ opened))
   ends_at old (lagged cause ∷ events) new (mid, inr lags, lives) opened ended =

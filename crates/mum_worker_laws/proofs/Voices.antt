@@ -25,13 +25,14 @@ use Rattle.mum_session.specs.declared.action.Action.TheVariants.{Voice}
 use Rattle.mum_voice.specs.Packet.{Parts, packet}
 use Rattle.mum_voice.specs.declared.fault.BadVoice.{BadVoice}
 use Rattle.mum_worker.specs.Boxes.{BoxesFacts}
-use Rattle.mum_worker.specs.Facts.{WorkerFacts}
+use Rattle.mum_worker.specs.Facts.{WorkerFacts, intake_of}
 use Rattle.mum_worker.specs.Hearing.{Hears, LagsWhereIts, TakesOrTurns}
 use Rattle.mum_worker.specs.Opening.{HasOpened}
 use Rattle.mum_worker.specs.Record.{RecordFacts, after_close, after_step, has_closing_room}
 use Rattle.mum_worker.specs.Routing.{CommonFacts, RoutesPacket}
 use Rattle.mum_worker.specs.Stepping.{PortSteps, Shares}
 use Rattle.mum_worker.specs.Turning.{Turned, WorkerTurned, shares_of}
+use Rattle.mum_worker.specs.declared.intake.Intake.{Intake}
 use Rattle.mum_worker_laws.specs.Laws.{Look, Moment, Told, history, look_asked, look_in, look_made, look_stepped, looks_along, looks_in, moments_of, told_by}
 use Rattle.mum_worker_laws.specs.Voices.{talk_in, talk_made}
 
@@ -146,12 +147,12 @@ module _ (opening : Opening) where
     lagged session (old ∷ olds) before (new ∷ news) after (between, inr lags, rest) =
         behind [] before between after (closed old.machine.connection lags.closed before between lags.noted) (lagged session olds between news after rest)
 
-    comes : (number connection : ℕ) (link : L) (ports : List (PortFacts L)) (kept : RecordFacts) (ports_after : List (PortFacts L)) (kept_after : RecordFacts) → TakesOrTurns number connection link ports kept ports_after kept_after → Writes [] kept kept_after
-    comes number connection link ports kept ports_after kept_after (inl takes) = record {
+    comes : (intake : Intake) (connection : ℕ) (link : L) (ports : List (PortFacts L)) (kept : RecordFacts) (intake_after : Intake) (ports_after : List (PortFacts L)) (kept_after : RecordFacts) → TakesOrTurns intake connection link ports kept intake_after ports_after kept_after → Writes [] kept kept_after
+    comes intake connection link ports kept intake_after ports_after kept_after (inl takes) = record {
       journal = ap (λ (k : RecordFacts). k.journal) takes.kept_is;
       voices = λ asked. ap (λ (k : RecordFacts). filter_map talk_in k.entries) takes.kept_is ∙ sym (append-nil (filter_map talk_in kept.entries));
     }
-    comes number connection link ports kept ports_after kept_after (inr turns) = rests kept kept_after turns.kept_same
+    comes intake connection link ports kept intake_after ports_after kept_after (inr turns) = rests kept kept_after turns.kept_same
 
     -- a reply is no look
     told : (reply : _) (old new : RecordFacts) → Writes [] old new → Writes (Told reply ∷ []) old new
@@ -160,7 +161,7 @@ module _ (opening : Opening) where
     heard : (item : Option (Rung L)) (old new : WorkerFacts L) → Hears facts item old new → Writes (told_by item) old.common.kept new.common.kept
     heard None old new same = same_common old.common new.common (ap (λ (w : WorkerFacts L). w.common) same)
     heard (Some (Answer reply)) old new hears = told reply old.common.kept new.common.kept (closed reply.connection hears.takes.closed old.common.kept new.common.kept hears.takes.noted)
-    heard (Some (Comes connection link)) old new hears = comes old.number connection link old.ports old.common.kept new.ports new.common.kept hears.takes
+    heard (Some (Comes connection link)) old new hears = comes (intake_of old) connection link old.ports old.common.kept (intake_of new) new.ports new.common.kept hears.takes
     heard (Some (Lagging session)) old new hears = lagged session old.ports old.common.kept hears.each.stepped new.common.kept hears.each.along
     heard (Some NoMore) old new same = same_common old.common new.common (ap (λ (w : WorkerFacts L). w.common) same)
 

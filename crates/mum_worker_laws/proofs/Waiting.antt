@@ -24,12 +24,13 @@ use Rattle.mum_session.specs.Machine.{Machine, session_of}
 use Rattle.mum_session.specs.declared.action.Action.{Action}
 use Rattle.mum_session.specs.declared.action.Action.TheVariants.{Voice}
 use Rattle.mum_worker.specs.Boxes.{BoxesFacts}
-use Rattle.mum_worker.specs.Facts.{WorkerFacts, stays}
+use Rattle.mum_worker.specs.Facts.{WorkerFacts, intake_of, stays}
 use Rattle.mum_worker.specs.Hearing.{AnswersFirst, Hears, LagsWhereIts, TakesOrTurns}
 use Rattle.mum_worker.specs.Record.{RecordFacts}
 use Rattle.mum_worker.specs.Routing.{CommonFacts, RoutesPacket}
 use Rattle.mum_worker.specs.Stepping.{PortSteps, Shares}
 use Rattle.mum_worker.specs.Turning.{WorkerTurned, shares_of}
+use Rattle.mum_worker.specs.declared.intake.Intake.{Intake}
 use Rattle.mum_worker_laws.specs.Laws.{Moment, history, look_asked, look_made, look_stepped, looks_along, moments_of, told_by}
 use Rattle.mum_worker_laws.specs.Lives.{AwaitsReply, IsNoPacketOf, IsNoReplyTo, IsOfAnother, if_taken, ports_taken, taken_in}
 use Rattle.mum_worker_laws.proofs.Changing.{awaits_lagged, place_answered, place_lagged}
@@ -40,7 +41,7 @@ use Rattle.mum_worker_laws.proofs.Own.{connection-machine_after}
 -- ---- no packet meanwhile
 
 module _ {L : Type 0} where
-  each_set : (P : PortFacts L → Type 0) (xs : List (PortFacts L)) (k : ℕ) (x : PortFacts L) → P x → Each P xs → Each P (slice_set xs k x)
+  pub each_set : (P : PortFacts L → Type 0) (xs : List (PortFacts L)) (k : ℕ) (x : PortFacts L) → P x → Each P xs → Each P (slice_set xs k x)
   each_set P [] k x is each = tt
   each_set P (y ∷ xs) zero x is each = (is, each.1)
   each_set P (y ∷ xs) (suc k) x is each = (each.0, each_set P xs k x is each.1)
@@ -117,12 +118,12 @@ module _ (opening : Opening) (asked : ℕ) where
         subst (λ (l : List (PortFacts L)). Each (AwaitsReply asked) l) (sym first.others)
         (each_set (AwaitsReply asked) olds first.place first.new (λ of_it. absurd (another (sym its ∙ (sym place.number ∙ of_it)))) await)
 
-    taken_awaits : (number connection : ℕ) (link : L) (ports : List (PortFacts L)) (kept : RecordFacts) (ports_after : List (PortFacts L)) (kept_after : RecordFacts) (takes : TakesOrTurns number connection link ports kept ports_after kept_after)
-        → Each (IsOfAnother asked) (if_taken number connection link ports kept ports_after kept_after takes) → Each (AwaitsReply asked) ports → Each (AwaitsReply asked) ports_after
-    taken_awaits number connection link ports kept ports_after kept_after (inl takes) others await =
+    taken_awaits : (intake : Intake) (connection : ℕ) (link : L) (ports : List (PortFacts L)) (kept : RecordFacts) (intake_after : Intake) (ports_after : List (PortFacts L)) (kept_after : RecordFacts) (takes : TakesOrTurns intake connection link ports kept intake_after ports_after kept_after)
+        → Each (IsOfAnother asked) (if_taken intake connection link ports kept intake_after ports_after kept_after takes) → Each (AwaitsReply asked) ports → Each (AwaitsReply asked) ports_after
+    taken_awaits intake connection link ports kept intake_after ports_after kept_after (inl takes) others await =
         subst (λ (l : List (PortFacts L)). Each (AwaitsReply asked) l) (sym takes.ports_are)
-        (each-append (AwaitsReply asked) ports (new_port connection number link ∷ []) await (λ its. absurd (others.0 its), tt))
-    taken_awaits number connection link ports kept ports_after kept_after (inr turns) others await = subst (λ (l : List (PortFacts L)). Each (AwaitsReply asked) l) (sym turns.ports_same) await
+        (each-append (AwaitsReply asked) ports (new_port connection intake.number link ∷ []) await (λ its. absurd (others.0 its), tt))
+    taken_awaits intake connection link ports kept intake_after ports_after kept_after (inr turns) others await = subst (λ (l : List (PortFacts L)). Each (AwaitsReply asked) l) (sym turns.ports_same) await
 
     lag_awaits : (session : SessionId) (old : PortFacts L) (before : RecordFacts) (new : PortFacts L) (after : RecordFacts) → LagsWhereIts facts session old before new after → AwaitsReply asked old → AwaitsReply asked new
     lag_awaits session old before new after (inl passes) awaits = subst (λ (p : PortFacts L). AwaitsReply asked p) (sym passes.same) awaits
@@ -143,7 +144,7 @@ module _ (opening : Opening) (asked : ℕ) where
     hear_awaits (Some (Answer reply)) old new hears spared others await =
         answer_awaits reply.connection reply.end reply.wire hears.takes.passes old.ports hears.takes.closed new.ports hears.takes.answers spared.0 await
     hear_awaits (Some (Comes connection link)) old new hears spared others await =
-        taken_awaits old.number connection link old.ports old.common.kept new.ports new.common.kept hears.takes others await
+        taken_awaits (intake_of old) connection link old.ports old.common.kept (intake_of new) new.ports new.common.kept hears.takes others await
     hear_awaits (Some (Lagging session)) old new hears spared others await =
         subst (λ (l : List (PortFacts L)). Each (AwaitsReply asked) l) (sym hears.each.left)
         (each_left (AwaitsReply asked) stays hears.each.stepped (lags_await session old.ports old.common.kept hears.each.stepped new.common.kept hears.each.along await))

@@ -18,6 +18,7 @@ use Rattle.mum_worker.specs.Routing.{RoutesPacket}
 use Rattle.mum_worker.specs.Stepping.{PortSteps}
 use Rattle.mum_worker.specs.Turning.{shares_of}
 
+-- the bell says that no connection comes any more
 abbrev pub is_no_more : {L : Type 0} → Rung L → Bool
 is_no_more NoMore = true
 is_no_more other = false
@@ -61,5 +62,6 @@ module _ {L : Type 0} (facts : L → LinkFacts) where
         old.ports (shares_of old false) new.ports (shares_of new true)
     pub one : StepWorked opening old.boxes old.ports ports.stepped
 
+  -- the bell gave something, or it gave nothing and one of the ports did something
   abbrev pub HasWorked : Opening → WorkerFacts L → WorkerFacts L → Type 0
   HasWorked opening old new = HasHeard old new ⊎ OneWorked opening old new

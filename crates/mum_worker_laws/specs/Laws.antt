@@ -1,7 +1,8 @@
 -- The turns of a worker, one after another, and what came of them.
 use Rattle.std.specs.Prelude.{◌==◌, ◌⊎◌, ⊤, ℕ, Bool, true, false, List, [], ◌∷◌, ◌++◌, map, slice_get, Option, Some, None}
 use mathlib.Core.Logic.{inl, inr}
-use Rattle.std.specs.List.{filter_map}
+use Rattle.std.specs.List.{Contains, filter_map}
+use Rattle.std.specs.Option.{ForSome}
 use mathlib.Core.List.{IsPrefix}
 use Rattle.mum_base.specs.declared.number.SessionId.{SessionId}
 use Rattle.mum_crew.specs.Along.{Along}
@@ -18,11 +19,13 @@ use Rattle.mum_port.specs.Turn.{RoutesPacket as PortRoutes}
 use Rattle.mum_published.specs.Bell.{Rung, Answer}
 use Rattle.mum_published.specs.Calls.{ask_at}
 use Rattle.mum_published.specs.Facts.{NoteFacts, Opening, ReplyFacts}
+use Rattle.mum_published.specs.Rolls.{login}
+use Rattle.mum_published.specs.declared.roll.Login.{Login}
 use Rattle.mum_published.specs.declared.rule.AskAt.{AskAt}
 use Rattle.mum_router.specs.Laws.{RoutedPacket}
 use Rattle.mum_router.specs.Offering.{Delivery, Outs, parcel_for}
 use Rattle.mum_router.specs.Picking.{ask_of}
-use Rattle.mum_session.specs.Machine.{session_of}
+use Rattle.mum_session.specs.Machine.{Machine, session_of}
 use Rattle.mum_session.specs.declared.action.Action.TheVariants.{Voice}
 use Rattle.mum_session.specs.declared.action.Action.{Action}
 use Rattle.mum_state.specs.declared.edit.Edit.{Edit}
@@ -48,6 +51,7 @@ pub data Moment : Type 0 where
   Told : ReplyFacts → Moment
   Looked : Look → Moment
 
+-- the look of a moment, if it is one
 abbrev pub look_in : Moment → Option Look
 look_in (Told reply) = None
 look_in (Looked look) = Some look
@@ -64,11 +68,13 @@ ask_made look = ask_at look.edits (ask_of look.speaker look.packet)
 abbrev pub routed_packet : Look → RoutedPacket
 routed_packet look = record { speaker = look.speaker; packet = look.packet; edits = look.edits }
 
+-- the packets that these moments routed, in order
 abbrev pub packets_in : List Moment → List RoutedPacket
 packets_in moments = map routed_packet (looks_in moments)
 
 -- ---- what is known
 
+-- the list that a note says is published; no note says none
 abbrev pub edits_told : Option NoteFacts → List Edit
 edits_told None = []
 edits_told (Some note) = note.edits
@@ -90,6 +96,20 @@ Follows before after = SeesFrom (edits_of before) after
 -- one of the two lists goes on from the other
 abbrev pub AreOfOneList : List Edit → List Edit → Type 0
 AreOfOneList edits others = IsPrefix edits others ⊎ IsPrefix others edits
+
+-- ---- whose packets they are
+
+-- the login that gave the session that a packet was routed for, to the connection that sent it
+abbrev pub login_made : Look → Login
+login_made look = login look.connection look.speaker
+
+-- the session of a connection, where it has one, was given by a login of it that is on the roll
+abbrev pub IsLoggedIn : List Login → Machine → Type 0
+IsLoggedIn roll machine =
+    ForSome (session_of machine.stage) (λ session. Contains roll (login machine.connection session))
+
+abbrev pub HasLogin : {L : Type 0} → List Login → PortFacts L → Type 0
+HasLogin roll port = IsLoggedIn roll port.machine
 
 -- ---- the copies
 

@@ -1,5 +1,5 @@
 -- The ports that a worker has over its turns, what happens to each of them, and what they put on the desk.
-use Rattle.std.specs.Prelude.{◌≡◌, ◌≢◌, ◌==◌, ◌≤◌, ◌+◌, ⊤, ℕ, Bool, false, IsTrue, List, [], ◌∷◌, ◌++◌, All, filter, length, map, Option, Some, None, Result, Ok, Err, if◌then◌else◌, option_to_list}
+use Rattle.std.specs.Prelude.{◌≡◌, ◌≢◌, ◌==◌, ◌<◌, ◌+◌, ⊤, ℕ, Bool, false, IsTrue, List, [], ◌∷◌, ◌++◌, All, filter, length, map, Option, Some, None, Result, Ok, Err, if◌then◌else◌, option_to_list}
 use mathlib.Core.Logic.{inl, inr}
 use Rattle.std.specs.List.{filter_map, flat_map}
 use Rattle.mum_base.specs.declared.number.Cause.TheVariants.{End}
@@ -23,15 +23,19 @@ use Rattle.mum_session.specs.declared.action.Action.TheVariants.{Voice}
 use Rattle.mum_session.specs.declared.action.Action.{Action}
 use Rattle.mum_voice.specs.Packet.{Parts, packet}
 use Rattle.mum_voice.specs.declared.fault.BadVoice.{BadVoice}
-use Rattle.mum_worker.specs.Facts.{WorkerFacts, is_of, stays}
+use Rattle.mum_worker.specs.Facts.{WorkerFacts, is_of, intake_of, stays}
 use Rattle.mum_worker.specs.Hearing.{Hears, TakesOrTurns}
 use Rattle.mum_worker.specs.Record.{RecordFacts}
 use Rattle.mum_worker.specs.Routing.{RoutesPacket}
+use Rattle.mum_worker.specs.Intake.{worker_of}
 use Rattle.mum_worker.specs.Turning.{WorkerTurned}
+use Rattle.mum_worker.specs.declared.intake.Intake.{Intake}
 use Rattle.mum_worker_laws.specs.Laws.{Moment, Told, Looked, history}
+use Rattle.mum_worker_laws.specs.Befallen.{Happening, befallen, happenings, happenings_of}
 
 -- ---- counting
 
+-- how many pass the test
 abbrev pub count : {A : Type 0} → (A → Bool) → List A → ℕ
 count test xs = length (filter test xs)
 
@@ -105,13 +109,13 @@ module _ {L : Type 0} where
   abbrev pub put_of : ℕ → List (Life L) → List DeskItem
   put_of connection lives = put_by_all (filter (is_life_of connection) lives)
 
+  -- what befell the ports of one connection
+  abbrev pub befell_all : ℕ → List (Life L) → List Happening
+  befell_all connection lives = flat_map (λ (life : Life L). happenings life.events) (filter (is_life_of connection) lives)
+
   -- the packets that the ports of one connection said
   abbrev pub said_by_all : ℕ → List (Life L) → List Said
   said_by_all connection lives = flat_map (λ (life : Life L). packets_said life.events) (filter (is_life_of connection) lives)
-
-  -- no two of these ports are of the connection
-  abbrev pub HasAtMostOne : ℕ → List (PortFacts L) → Type 0
-  HasAtMostOne connection ports = count (is_of connection) ports ≤ 1
 
   -- a port of the connection that awaits a reply at first handles no frame
   abbrev pub HandlesNothing : ℕ → Life L → Type 0
@@ -176,12 +180,25 @@ module _ {L : Type 0} where
   abbrev pub IsOfAnother : ℕ → PortFacts L → Type 0
   IsOfAnother connection port = port.machine.connection ≢ connection
 
+  -- the number of its connection is above this one
+  abbrev pub IsAbove : ℕ → PortFacts L → Type 0
+  IsAbove last port = last < port.machine.connection
+
+  -- that of the later one is above that of the first
+  abbrev pub IsBelow : PortFacts L → PortFacts L → Type 0
+  IsBelow port later = IsAbove port.machine.connection later
+
+  -- its connection belongs to the worker of this number, of so many
+  abbrev pub IsOfWorker : ℕ → ℕ → PortFacts L → Type 0
+  IsOfWorker number workers port = worker_of port.machine.connection workers ≡ number
+
   -- the port of a connection, where it was taken in
-  abbrev pub if_taken : (number connection : ℕ) (link : L) (ports : List (PortFacts L)) (kept : RecordFacts)
-      (ports_after : List (PortFacts L)) (kept_after : RecordFacts)
-      → TakesOrTurns number connection link ports kept ports_after kept_after → List (PortFacts L)
-  if_taken number connection link ports kept ports_after kept_after (inl takes) = new_port connection number link ∷ []
-  if_taken number connection link ports kept ports_after kept_after (inr turns) = []
+  abbrev pub if_taken : (intake : Intake) (connection : ℕ) (link : L) (ports : List (PortFacts L)) (kept : RecordFacts)
+      (intake_after : Intake) (ports_after : List (PortFacts L)) (kept_after : RecordFacts)
+      → TakesOrTurns intake connection link ports kept intake_after ports_after kept_after → List (PortFacts L)
+  if_taken intake connection link ports kept intake_after ports_after kept_after (inl takes) =
+      new_port connection intake.number link ∷ []
+  if_taken intake connection link ports kept intake_after ports_after kept_after (inr turns) = []
 
 module _ {L : Type 0} (facts : L → LinkFacts) where
   -- the port that was taken in of what the bell gave, if one was
@@ -190,7 +207,8 @@ module _ {L : Type 0} (facts : L → LinkFacts) where
   taken_in None old new hears = []
   taken_in (Some (Answer reply)) old new hears = []
   taken_in (Some (Comes connection link)) old new hears =
-      if_taken old.number connection link old.ports old.common.kept new.ports new.common.kept hears.takes
+      if_taken (intake_of old) connection link old.ports old.common.kept
+      (intake_of new) new.ports new.common.kept hears.takes
   taken_in (Some (Lagging session)) old new hears = []
   taken_in (Some NoMore) old new hears = []
 
@@ -219,11 +237,15 @@ module _ {L : Type 0} (facts : L → LinkFacts) (opening : Opening) where
     -- the desk got what they put there, each item once, and nothing else
     pub put : (test : DeskItem → Bool) → count test new.desk.offered ≡ count test old.desk.offered + count test (put_by_all lives)
     -- what it got of a connection is what the port of this connection put there, in the same order
-    pub order : (connection : ℕ) → HasAtMostOne connection (old.ports ++ ports_taken old turns new all)
+    pub order : (connection : ℕ)
         → items_of connection new.desk.offered ≡ items_of connection old.desk.offered ++ put_of connection lives
     -- the packets of a connection that were routed are those that the port of this connection said, each once and in order
-    pub routed : (connection : ℕ) → HasAtMostOne connection (old.ports ++ ports_taken old turns new all)
+    pub routed : (connection : ℕ)
         → filter_map (routed_of connection) (history facts opening old turns new all) ≡ said_by_all connection lives
+    -- each reply that came while a port of its connection was there was heard by that port, once, in order, and as it was: with
+    -- its end, its bytes and the passes that it gave. No other reply was heard. And a port closed for what it is said to have
+    pub befallen_to : (connection : ℕ)
+        → happenings_of connection (befallen facts opening old turns new all) ≡ befell_all connection lives
     -- a port that awaits a reply handles no frame before a reply to its connection is heard
     pub waits : (connection : ℕ) → All (IsNoReplyTo connection) (history facts opening old turns new all)
         → All (HandlesNothing connection) lives

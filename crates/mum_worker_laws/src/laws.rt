@@ -2,7 +2,7 @@
 //! functions do nothing: each contract is a theorem.
 
 ghost use Rattle.std.specs.Prelude.{◌≡◌, ◌++◌, ℕ, Bool, List, Option, Some, map};
-ghost use Rattle.std.specs.List.{All, AllPairs, filter_map, flat_map};
+ghost use Rattle.std.specs.List.{All, AllPairs, Contains, filter_map, flat_map};
 ghost use mathlib.Core.List.{IsPrefix};
 ghost use Rattle.mum_crew.specs.Turns.{TurnsTo};
 ghost use Rattle.mum_crew.specs.declared.role.Turn.{Turn};
@@ -13,7 +13,7 @@ ghost use Rattle.mum_state.specs.declared.edit.Edit.{Edit};
 ghost use Rattle.mum_worker.specs.Facts.{WorkerFacts};
 ghost use Rattle.mum_worker.specs.Opening.{HasOpened};
 ghost use Rattle.mum_worker.specs.Turning.{Turned, WorkerTurned};
-ghost use Rattle.mum_worker_laws.specs.Laws.{AreOfOneList, Follows, SeesFrom, ask_made, copies_at, copies_made, history, looks_in, moments_of, packets_in};
+ghost use Rattle.mum_worker_laws.specs.Laws.{AreOfOneList, Follows, HasLogin, SeesFrom, ask_made, copies_at, copies_made, history, login_made, looks_in, moments_of, packets_in};
 ghost use Rattle.mum_worker_laws.specs.Voices.{talk_in, talk_made};
 
 use mum_io::Link;
@@ -50,6 +50,21 @@ pub fn later_looks_see_more<L: Link>()
         (opened worker : WorkerFacts L) (turns : List Turn) → HasOpened number pass journal opened →
         (all : TurnsTo (WorkerTurned L.facts opening) opened turns worker) →
         All (SeesFrom pass.known) (history L.facts opening opened turns worker all) }
+{}
+
+/// Nobody speaks for another: each packet is routed for a session that an accepted login gave to the connection that
+/// sent it, and the worker learnt of that login.
+pub fn speakers_are_admitted<L: Link>()
+    ensures looks { (opening : Opening) (number : ℕ) (pass : PassFacts) (journal : Option ℕ)
+        (opened worker : WorkerFacts L) (turns : List Turn) → HasOpened number pass journal opened →
+        (all : TurnsTo (WorkerTurned L.facts opening) opened turns worker) →
+        All (λ look. Contains worker.common.router.pass.roll (login_made look))
+        (looks_in (history L.facts opening opened turns worker all)) }
+    // So is the session of each port.
+    ensures ports { (opening : Opening) (number : ℕ) (pass : PassFacts) (journal : Option ℕ)
+        (opened worker : WorkerFacts L) (turns : List Turn) → HasOpened number pass journal opened →
+        TurnsTo (WorkerTurned L.facts opening) opened turns worker →
+        All (HasLogin worker.common.router.pass.roll) worker.ports }
 {}
 
 /// Each packet is routed at a beginning of the list of edits that the worker's pass saw last, from any moment of a

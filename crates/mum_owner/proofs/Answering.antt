@@ -25,7 +25,7 @@ use Rattle.mum_owner.specs.Facts.{KeptFacts, OwnerFacts}
 use Rattle.mum_owner.specs.Guests.{is_of, owned, session_of}
 use Rattle.mum_owner.specs.Laws.{connections_of, connections_settled, leave_where, made, one_tested, replies_made, settled, settled_by, settled_given, settled_item, settled_owned, settled_waiting}
 use Rattle.mum_owner.specs.Banning.{Answers, IsGivenOrRefused, ListComesTo, SettledBy, SettlesList, TestedBy, ban_reply, banned_in, book_after, is_banned, list_reply, with_warden}
-use Rattle.mum_owner.specs.Given.{IsGiven}
+use Rattle.mum_owner.specs.Given.{IsGiven, roll_of}
 use Rattle.mum_owner.specs.Serving.{LeaveIsGiven, Next, Receives, ReceivesBy, ReceivesItem, Serves, ServesDesk, kept_after, leave_of, may_go, must_wait, next, next_by, with_pass}
 use Rattle.mum_owner.specs.Serving.Next.{Again, Goes, Rest, Take}
 use Rattle.mum_owner.specs.Turned.{OwnerTurned}
@@ -111,7 +111,7 @@ module _ {D L : Type 0} where
 
   tested_answered : (banned : Bool) (old : OwnerFacts D L) (login : Command) (new : OwnerFacts D L) (lay : Command) → TestedBy banned old login new → login.connection ≡ lay.connection
       → answered_to new.kept.reply ≡ connections_of (one_tested banned lay)
-  tested_answered true old login new lay answers same = replied_answered old (ban_reply login.connection) new answers ∙ ap (λ (n : ℕ). n ∷ []) same
+  tested_answered true old login new lay answers same = replied_answered old (ban_reply (roll_of old) login.connection) new answers ∙ ap (λ (n : ℕ). n ∷ []) same
   tested_answered false old login new lay given same = given_answered old login new given ∙ ap (λ (n : ℕ). n ∷ []) same
 
   settled_answered : (login : Bool) (banned : Option SessionId) (old : OwnerFacts D L) (command : Command) (new : OwnerFacts D L) (given : SettledBy login banned old command new) (lay : Command)
@@ -133,7 +133,7 @@ module _ {D L : Type 0} where
   list_answered : (old : OwnerFacts D L) (connection : ℕ) (session : SessionId) (payload : List ℕ) (new : OwnerFacts D L) → SettlesList old connection session payload new
       → answered_to new.kept.reply ≡ connection ∷ []
   list_answered old connection session payload new settles =
-      list_comes_answered settles.warden old (list_reply connection (sent session (verdict_in old.warden.book settles.allowed payload)))
+      list_comes_answered settles.warden old (list_reply (roll_of old) connection (sent session (verdict_in old.warden.book settles.allowed payload)))
       (book_after old.warden.book settles.allowed payload settles.warden.last) new settles.comes_to
 
   -- ---- leaves and items

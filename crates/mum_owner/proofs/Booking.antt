@@ -1,7 +1,7 @@
 -- The bans, over each part of a turn and over turns.
 use Rattle.std.proofs.Common.{◌≡◌, ◌∙◌, ℕ, Bool, true, false, cond, List, [], ◌∷◌, ◌++◌, Option, Some, None, refl, ap, sym, inl, inr}
 use Rattle.std.specs.Prelude.{◌&&◌, MatchBool, MatchOption, fold, is_none, is_some, option_to_list, unwrap_or}
-use Rattle.atomic_table.specs.Seated.{TableId}
+use Rattle.mum_outbox.specs.Facts.{QueueId}
 use Rattle.mum_bans.specs.Book.{Adds, Book, Event, after, after_call, bans_of}
 use Rattle.mum_bans.specs.declared.ban.Ban.{Ban}
 use Rattle.mum_base.specs.declared.number.SessionId.{SessionId}
@@ -19,6 +19,7 @@ use Rattle.mum_warden.specs.Warden.{WardenFacts, event_in, noted, verdict_in}
 use Rattle.mum_owner.specs.Banning.{Answers, IsGivenOrRefused, ListComesTo, SettledBy, TestedBy, ban_reply, banned_in, book_after, has_note, is_banned, list_reply, with_ban, with_warden}
 use Rattle.mum_owner.specs.Events.{ban_added, ban_events, events_given, events_item, events_listed, events_owned, events_received, events_served, events_waiting}
 use Rattle.mum_owner.specs.Facts.{OwnerFacts}
+use Rattle.mum_owner.specs.Given.{roll_of}
 use Rattle.mum_owner.specs.Guests.{guest_with, owned}
 use Rattle.mum_owner.specs.Opened.{IsOpened}
 use Rattle.mum_owner.specs.Serving.{LeaveIsGiven, Next, Receives, ReceivesBy, ReceivesItem, Rests, Serves, must_wait, next, with_pass}
@@ -60,7 +61,7 @@ module _ {D L : Type 0} where
   answered_warden old reply new (inr is) = ap (λ (o : OwnerFacts D L). o.warden) is
 
   tested_warden : (banned : Bool) (old : OwnerFacts D L) (login : Command) (new : OwnerFacts D L) → TestedBy banned old login new → new.warden ≡ old.warden
-  tested_warden true old login new answers = answered_warden old (ban_reply login.connection) new answers
+  tested_warden true old login new answers = answered_warden old (ban_reply (roll_of old) login.connection) new answers
   tested_warden false old login new given = warden_stays old login new given
 
   given_on : (login : Bool) (banned : Option SessionId) (old : OwnerFacts D L) (command : Command) (new : OwnerFacts D L) (given : SettledBy login banned old command new)
@@ -108,7 +109,7 @@ module _ {D L : Type 0} where
   item_on old (Some (items.Closed connection)) new received = still old new (ap (λ (o : OwnerFacts D L). o.warden) received)
   item_on old (Some (items.Command command)) new received = owned_on (owned old.guests.rows command) old new received
   item_on old (Some (items.Bans connection session payload)) new settles =
-      listed_on settles.allowed payload settles.warden old (list_reply connection (sent session (verdict_in old.warden.book settles.allowed payload))) new settles.comes_to
+      listed_on settles.allowed payload settles.warden old (list_reply (roll_of old) connection (sent session (verdict_in old.warden.book settles.allowed payload))) new settles.comes_to
 
   waiting_on : (own : Option Command) (old new : OwnerFacts D L) (given : MatchOption own (new ≡ old) (λ command. IsGivenOrRefused old command new))
       → LeavesBans old new (events_waiting own old new given)
@@ -164,7 +165,7 @@ module _ {D L : Type 0} (door_facts : D → DoorFacts) (link_facts : L → LinkF
       all_on all.0 turns new all.2 ∙ ap (λ (bans : List Ban). fold after bans later) one ∙ sym (fold_more old.warden.book.bans events later)
 
   -- from the opening on
-  pub bans_of_turns : (control : ControlFacts) (door : D) (connections : ℕ) (journal : Bool) (queues : List TableId) (store : Option TableId) (opened owner : OwnerFacts D L) (turns : List Turn)
+  pub bans_of_turns : (control : ControlFacts) (door : D) (connections : ℕ) (journal : Bool) (queues : List QueueId) (store : Option QueueId) (opened owner : OwnerFacts D L) (turns : List Turn)
       → IsOpened control door connections journal queues store opened → (all : TurnsTo (OwnerTurned door_facts link_facts) opened turns owner)
       → owner.warden.book.bans ≡ bans_of (ban_events door_facts link_facts opened turns owner all)
   bans_of_turns control door connections journal queues store opened owner turns new all =

@@ -14,7 +14,7 @@ use Rattle.mum_published.specs.Calls.{all_published, appended}
 use Rattle.mum_published.specs.Facts.{NoteFacts, PublisherFacts, ReplyFacts}
 use Rattle.mum_session.specs.Verdict.{verdict}
 use Rattle.mum_session.specs.declared.command.Command.{Command}
-use Rattle.mum_control.specs.Commanded.{Commanded, Decides, Publishes, current, with_edit}
+use Rattle.mum_control.specs.Commanded.{Commanded, Decides, Publishes, current, with_accepted, with_edit}
 use Rattle.mum_control.specs.Facts.{ControlFacts}
 use Rattle.mum_base.specs.declared.reply.Mark.{Mark}
 use Rattle.mum_base.specs.declared.reply.ReplyEnd.{ReplyEnd}
@@ -48,7 +48,7 @@ decided_count : (old : ControlFacts) (connection : ℕ) (session : Option Sessio
     → Decides old connection session decided reply new → accepted ≡ length (appended old.publisher) → accepted_by new.mark accepted ≡ length (appended new.publisher)
 decided_count old connection session (Accepted edit) reply new accepted accepts so =
     ap (λ (c : ControlFacts). accepted_by c.mark accepted) accepts.others
-    ∙ sym (published_count (with_edit old.publisher edit) reply.note new.publisher accepts.published ∙ one_more_appended old.publisher edit)
+    ∙ sym (published_count (with_accepted old.publisher connection edit) reply.note new.publisher accepts.published ∙ one_more_appended old.publisher edit)
 decided_count old connection session (Lacks perm channel) reply new accepted denies so =
     ap (λ (c : ControlFacts). accepted_by c.mark accepted) denies.0 ∙ so ∙ sym (ap (λ (c : ControlFacts). length (appended c.publisher)) denies.0)
 decided_count old connection session (Refused kind) reply new accepted denies so =

@@ -3,7 +3,7 @@ use Rattle.std.proofs.Common.{◌≡◌, ◌∙◌, ℕ, ◌+◌, Bool, true, fa
 use Rattle.mum_base.specs.declared.number.SessionId.{SessionId}
 use Rattle.mum_base.specs.declared.number.Slot.{Slot}
 use Rattle.mum_base.specs.declared.reply.Mark.{Mark}
-use Rattle.mum_control.specs.Commanded.{Commanded, Decides, Publishes, current, next_revision, with_edit}
+use Rattle.mum_control.specs.Commanded.{Commanded, Decides, Publishes, current, next_revision, with_accepted}
 use Rattle.mum_control.specs.Facts.{ControlFacts}
 use Rattle.mum_control.specs.Kept.{slot_of}
 use Rattle.mum_control.specs.Posting.{EmptiesPost, PostsNext}
@@ -46,14 +46,14 @@ pub record Grows (old : PublisherFacts) (edits : List Edit) (new : PublisherFact
   pub opening : new.opening ≡ old.opening
   pub all : appended new ≡ appended old ++ edits
 
-grown_by : (publisher : PublisherFacts) (edit : Edit) (note : Option NoteFacts) (after : PublisherFacts) → Publishes (with_edit publisher edit) note after → Grows publisher (edit ∷ []) after
-grown_by publisher edit (Some note) after publishes = record {
+grown_by : (publisher : PublisherFacts) (connection : ℕ) (edit : Edit) (note : Option NoteFacts) (after : PublisherFacts) → Publishes (with_accepted publisher connection edit) note after → Grows publisher (edit ∷ []) after
+grown_by publisher connection edit (Some note) after publishes = record {
   opening = ap (λ (p : PublisherFacts). p.opening) publishes.1;
   all =
-      ap (λ (p : PublisherFacts). appended p) publishes.1 ∙ published_same (with_edit publisher edit)
+      ap (λ (p : PublisherFacts). appended p) publishes.1 ∙ published_same (with_accepted publisher connection edit)
       ∙ sym (append_assoc publisher.published publisher.pending (edit ∷ []));
 }
-grown_by publisher edit None after publishes = record {
+grown_by publisher connection edit None after publishes = record {
   opening = ap (λ (p : PublisherFacts). p.opening) publishes;
   all = ap (λ (p : PublisherFacts). appended p) publishes ∙ sym (append_assoc publisher.published publisher.pending (edit ∷ []));
 }
@@ -68,7 +68,7 @@ not_grown old outcome new is = record {
 decided_grows : (old : ControlFacts) (connection : ℕ) (session : Option SessionId) (decided : Verdict) (reply : ReplyFacts) (new : ControlFacts)
     → Decides old connection session decided reply new → Grows old.publisher (edits_of decided) new.publisher × (new.mark ≡ Some (mark (next_revision old) decided))
 decided_grows old connection session (Accepted edit) reply new accepts =
-    (grown_by old.publisher edit reply.note new.publisher accepts.published, ap (λ (c : ControlFacts). c.mark) accepts.others)
+    (grown_by old.publisher connection edit reply.note new.publisher accepts.published, ap (λ (c : ControlFacts). c.mark) accepts.others)
 decided_grows old connection session (Lacks perm channel) reply new denies = (not_grown old _ new denies.0, ap (λ (c : ControlFacts). c.mark) denies.0)
 decided_grows old connection session (Refused kind) reply new denies = (not_grown old _ new denies.0, ap (λ (c : ControlFacts). c.mark) denies.0)
 decided_grows old connection session (Rejected kind) reply new denies = (not_grown old _ new denies.0, ap (λ (c : ControlFacts). c.mark) denies.0)

@@ -1,22 +1,43 @@
 -- What was taken from the desk, logins that wait, and what was posted.
-use Rattle.std.proofs.Common.{◌≡◌, ◌∙◌, ℕ, Bool, true, false, cond, List, [], length, Option, ap, subst, sym}
+use Rattle.std.proofs.Common.{◌≡◌, ◌∙◌, ℕ, Bool, true, false, cond, List, [], ◌∷◌, ◌++◌, length, Option, Some, None, ap, subst, sym}
 use Rattle.std.specs.Prelude.{◌==◌, IsTrue, MatchBool, is_none, is_some}
+use Rattle.std.specs.List.{AllByRecursion}
+use Rattle.std.specs.Option.{option_map}
 use Rattle.mum_control.specs.Facts.{ControlFacts}
 use Rattle.mum_control.specs.Posting.{PostsNext}
 use Rattle.mum_control.specs.declared.posted.Posted.{Posted}
 use Rattle.mum_outbox.specs.Calls.{Takes}
 use Rattle.mum_outbox.specs.declared.parcel.TheConstants.{DESK_CAPACITY}
+use Rattle.mum_port.specs.Asked.{WasAsked}
 use Rattle.mum_port.specs.declared.item.DeskItem.{DeskItem}
+use Rattle.mum_port.specs.declared.item.DeskItem.TheVariants as items
 use Rattle.mum_session.specs.declared.command.Command.{Command}
 use Rattle.mum_owner.specs.Facts.{DeskFacts, OwnerFacts}
-use Rattle.mum_owner.specs.Serving.{ReceivesItem, Rests, TakesItem, blocker, may_go, with_pass}
+use Rattle.mum_owner.specs.Serving.{ReceivesItem, Rests, TakesItem, WasAskedIn, blocker, may_go, with_pass}
 use Rattle.mum_owner.specs.Turned.{PostsNotice, PostsOne, has_posted, lag_at, with_lag}
+use Rattle.mum_owner.specs.declared.guests.Guest.{Guest}
+
+-- one more behind
+pub all_more : {X : Type 0} (P : X → Type 0) (xs : List X) (x : X) → AllByRecursion P xs → P x → AllByRecursion P (xs ++ x ∷ [])
+all_more {X} P [] x all last = (last, tt)
+all_more {X} P (first ∷ xs) x all last = (all.0, all_more P xs x all.1 last)
+
+asked_of : (item : Option DeskItem) → WasAskedIn item → (command : Command) → item ≡ Some (items.Command command) → WasAsked command.what
+asked_of None was command is = cc
+asked_of (Some (items.Closed connection)) was command is = cc
+asked_of (Some (items.Command other)) was command is = let same : other ≡ command = cc in subst (λ (c : Command). WasAsked c.what) same was
+asked_of (Some (items.Bans connection session payload)) was command is = cc
+
+-- a command keeps what it asks, whatever session it gets
+pub owned_what : (found : Option Guest) (command own : Command) → option_map (λ guest. record command { session = guest.session }) found ≡ Some own → own.what ≡ command.what
+owned_what None command own is = cc
+owned_what (Some guest) command own is = let same : record command { session = guest.session } ≡ own = cc in sym (ap (λ (c : Command). c.what) same)
 
 module _ {D L : Type 0} where
   pub taken_item : (old before : OwnerFacts D L) (desk : DeskFacts) (item : Option DeskItem) (worked : Bool) (new : OwnerFacts D L) → before ≡ old
       → Takes DESK_CAPACITY before.desk.pass item desk.pass → desk.leave ≡ before.desk.leave → worked ≡ is_some item → ReceivesItem (record before { desk = desk }) item new
-      → TakesItem old worked new
-  taken_item old before desk item worked new is takes leave so received =
+      → WasAskedIn item → TakesItem old worked new
+  taken_item old before desk item worked new is takes leave so received was =
       let kept : record before { desk = desk } ≡ with_pass desk.pass old =
       ap (λ (l : Option ℕ). record before { desk = record { pass = desk.pass; leave = l } }) leave
       ∙ ap (λ (o : OwnerFacts D L). with_pass desk.pass o) is in
@@ -26,6 +47,7 @@ module _ {D L : Type 0} where
         taken = subst (λ (o : OwnerFacts D L). Takes DESK_CAPACITY o.desk.pass item desk.pass) is takes;
         so = so;
         received = subst (λ (o : OwnerFacts D L). ReceivesItem o item new) kept received;
+        asked = λ command here. asked_of item was command here;
       }
 
   -- where no login waits, none may go

@@ -5,7 +5,7 @@ use Rattle.std.specs.List.{list_any}
 use Rattle.std.specs.Option.{option_map}
 use Rattle.std.proofs.lemmas.Bool.{and_from, and_parts, eqb-true, or_right}
 use Rattle.std.proofs.lemmas.List.{nil_from_length}
-use Rattle.atomic_table.specs.Seated.{TableId}
+use Rattle.mum_outbox.specs.Facts.{QueueId}
 use Rattle.mum_base.specs.declared.number.TheConstants.{CONNECTION_LIMIT}
 use Rattle.mum_bans.specs.Book.{Book}
 use Rattle.mum_control.specs.Commanded.{note_of}
@@ -27,6 +27,7 @@ use Rattle.mum_warden.specs.Answer.{sent}
 use Rattle.mum_warden.specs.Warden.{WardenFacts, verdict_in}
 use Rattle.mum_owner.specs.Banning.{IsGivenOrRefused, ListComesTo, book_after, has_note, list_reply}
 use Rattle.mum_owner.specs.Facts.{GuestsFacts, OwnerFacts}
+use Rattle.mum_owner.specs.Given.{roll_of}
 use Rattle.mum_owner.specs.Guests.{is_not_of, is_of, lag_noted, owned}
 use Rattle.mum_owner.specs.Noting.{AreNotes, EndsOnce}
 use Rattle.mum_owner.specs.Opened.{IsOpened}
@@ -155,7 +156,7 @@ module _ {D L : Type 0} where
   }
 
   list_quiet : (warden : WardenFacts) (old : OwnerFacts D L) (connection : ℕ) (wire : List ℕ) (book : Book) (new : OwnerFacts D L) → old.guests.rows ≡ []
-      → ListComesTo warden old (list_reply connection wire) book new → IsQuiet old new
+      → ListComesTo warden old (list_reply (roll_of old) connection wire) book new → IsQuiet old new
   list_quiet warden old connection wire book new none (inl both) = record {
     rows = ap (λ (o : OwnerFacts D L). o.guests.rows) both.1 ∙ none;
     leave = ap (λ (o : OwnerFacts D L). o.desk.leave) both.1;
@@ -397,11 +398,11 @@ module _ {D L : Type 0} (door_facts : D → DoorFacts) (link_facts : L → LinkF
   all_told old [] new all told = subst (λ (o : OwnerFacts D L). HasTold o) (sym all) told
   all_told old (turn ∷ turns) new all told = all_told all.0 turns new all.2 (turned_told old turn all.0 all.1 told)
 
-  new_told : (store : Option TableId) (opened : OwnerFacts D L) → opened.archive ≡ option_map new_archive store → HasTold opened
+  new_told : (store : Option QueueId) (opened : OwnerFacts D L) → opened.archive ≡ option_map new_archive store → HasTold opened
   new_told None opened is = subst (λ (a : Option ArchiveFacts). IfSome a (λ side. IsTold side opened)) (sym is) tt
   new_told (Some queue) opened is = some_told (new_archive queue) opened is (open_told (new_archive queue) opened (record { told = refl; notes = refl }))
 
-  told_turns : (control : ControlFacts) (door : D) (connections : ℕ) (journal : Bool) (queues : List TableId) (store : Option TableId) (opened owner : OwnerFacts D L) (turns : List Turn)
+  told_turns : (control : ControlFacts) (door : D) (connections : ℕ) (journal : Bool) (queues : List QueueId) (store : Option QueueId) (opened owner : OwnerFacts D L) (turns : List Turn)
       → IsOpened control door connections journal queues store opened → TurnsTo (OwnerTurned door_facts link_facts) opened turns owner → HasTold owner
   told_turns control door connections journal queues store opened owner turns new all =
       all_told opened turns owner all (new_told store opened (ap (λ (o : OwnerFacts D L). o.archive) new))
@@ -416,12 +417,12 @@ module _ {D L : Type 0} (door_facts : D → DoorFacts) (link_facts : L → LinkF
   through_where owner (Some side) told = λ so. is_through_so owner (told.through so)
 
   -- from the opening on
-  pub ends_once : (control : ControlFacts) (door : D) (connections : ℕ) (journal : Bool) (queues : List TableId) (store : Option TableId) (opened owner : OwnerFacts D L) (turns : List Turn)
+  pub ends_once : (control : ControlFacts) (door : D) (connections : ℕ) (journal : Bool) (queues : List QueueId) (store : Option QueueId) (opened owner : OwnerFacts D L) (turns : List Turn)
       → IsOpened control door connections journal queues store opened → TurnsTo (OwnerTurned door_facts link_facts) opened turns owner → IfSome owner.archive EndsOnce
   ends_once control door connections journal queues store opened owner turns new all =
       ends_of owner owner.archive (told_turns control door connections journal queues store opened owner turns new all)
 
-  pub told_through : (control : ControlFacts) (door : D) (connections : ℕ) (journal : Bool) (queues : List TableId) (store : Option TableId) (opened owner : OwnerFacts D L) (turns : List Turn)
+  pub told_through : (control : ControlFacts) (door : D) (connections : ℕ) (journal : Bool) (queues : List QueueId) (store : Option QueueId) (opened owner : OwnerFacts D L) (turns : List Turn)
       → IsOpened control door connections journal queues store opened → TurnsTo (OwnerTurned door_facts link_facts) opened turns owner
       → IfSome owner.archive (λ side. IsTrue side.is_told → IsTrue (is_through owner))
   told_through control door connections journal queues store opened owner turns new all =

@@ -6,14 +6,13 @@ use Rattle.std.proofs.lemmas.Bool.{eqb-true}
 use Rattle.std.proofs.lemmas.List.{append-nil, map-append}
 use Rattle.std.proofs.lemmas.List.Elements.{filter-append, filter_map-append}
 use Rattle.mum_base.specs.declared.number.TheConstants.{CONNECTION_LIMIT}
-use Rattle.atomic_table.specs.Seated.{TableId}
 use Rattle.mum_control.specs.Facts.{ControlFacts}
 use Rattle.mum_crew.specs.Turns.{TurnsTo}
 use Rattle.mum_crew.specs.declared.role.Turn.{Turn}
 use Rattle.mum_io.specs.Door.{DoorFacts}
 use Rattle.mum_io.specs.Link.{LinkFacts}
 use Rattle.mum_outbox.specs.Calls.{Takes}
-use Rattle.mum_outbox.specs.Facts.{PassFacts}
+use Rattle.mum_outbox.specs.Facts.{PassFacts, QueueId}
 use Rattle.mum_outbox.specs.declared.parcel.TheConstants.{DESK_CAPACITY}
 use Rattle.mum_port.specs.declared.item.DeskItem.{DeskItem}
 use Rattle.mum_port.specs.declared.item.DeskItem.TheVariants as items
@@ -32,7 +31,7 @@ use Rattle.mum_owner.specs.Guests.{owned}
 use Rattle.mum_owner.specs.Laws.{Settled, command_in, commands_given, commands_owned, commands_settled, commands_taken, is_other, items_taken, leave_in, leave_where, leaves_decided, nothing, one_tested, settled, settled_by, settled_given, settled_item, settled_owned, settled_waiting}
 use Rattle.mum_owner.specs.Opened.{IsOpened}
 use Rattle.mum_owner.specs.Banning.{Answers, IsGivenOrRefused, ListComesTo, SettledBy, SettlesList, TestedBy, ban_reply, banned_in, book_after, is_banned, list_reply, with_warden}
-use Rattle.mum_owner.specs.Given.{IsGiven}
+use Rattle.mum_owner.specs.Given.{IsGiven, roll_of}
 use Rattle.mum_owner.specs.Serving.{GivesWaiting, LeaveIsGiven, Next, Receives, ReceivesBy, ReceivesItem, Serves, ServesDesk, leave_after, may_go, must_wait, next, next_by, with_pass}
 use Rattle.mum_owner.specs.Serving.Next.{Again, Goes, Rest, Take}
 use Rattle.mum_owner.specs.Turned.{Asks, OwnerTurned, is_not_to_ask, is_over}
@@ -259,7 +258,7 @@ module _ {D L : Type 0} where
   replied_desk old reply new (inr is) = (ap (λ (o : OwnerFacts D L). o.desk) is, ap (λ (o : OwnerFacts D L). o.logins) is)
 
   tested_desk : (banned : Bool) (old : OwnerFacts D L) (login : Command) (new : OwnerFacts D L) → TestedBy banned old login new → (new.desk ≡ old.desk) × (new.logins ≡ old.logins)
-  tested_desk true old login new answers = replied_desk old (ban_reply login.connection) new answers
+  tested_desk true old login new answers = replied_desk old (ban_reply (roll_of old) login.connection) new answers
   tested_desk false old login new given = given_desk old login new given
 
   settled_desk : (login : Bool) (banned : Option SessionId) (old : OwnerFacts D L) (command : Command) (new : OwnerFacts D L) → SettledBy login banned old command new
@@ -289,7 +288,7 @@ module _ {D L : Type 0} where
   list_desk : (old : OwnerFacts D L) (connection : ℕ) (session : SessionId) (payload : List ℕ) (new : OwnerFacts D L) → SettlesList old connection session payload new
       → (new.desk ≡ old.desk) × (new.logins ≡ old.logins)
   list_desk old connection session payload new settles =
-      list_comes_desk settles.warden old (list_reply connection (sent session (verdict_in old.warden.book settles.allowed payload)))
+      list_comes_desk settles.warden old (list_reply (roll_of old) connection (sent session (verdict_in old.warden.book settles.allowed payload)))
       (book_after old.warden.book settles.allowed payload settles.warden.last) new settles.comes_to
 
   -- ---- leaves and items
@@ -616,7 +615,7 @@ module _ {D L : Type 0} (door_facts : D → DoorFacts) (link_facts : L → LinkF
       ∙ append_assoc (filter_map command_in (items_taken old.desk)) what.taken past
 
   -- from the opening on
-  pub given_once : (control : ControlFacts) (door : D) (connections : ℕ) (journal : Bool) (queues : List TableId) (store : Option TableId) (opened owner : OwnerFacts D L) (turns : List Turn)
+  pub given_once : (control : ControlFacts) (door : D) (connections : ℕ) (journal : Bool) (queues : List QueueId) (store : Option QueueId) (opened owner : OwnerFacts D L) (turns : List Turn)
       → IsOpened control door connections journal queues store opened → (all : TurnsTo (OwnerTurned door_facts link_facts) opened turns owner)
       → IsServed owner.desk.leave owner.logins (commands_owned door_facts link_facts opened turns owner all) (commands_given door_facts link_facts opened turns owner all)
       (commands_settled door_facts link_facts opened turns owner all) (leaves_decided door_facts link_facts opened turns owner all)

@@ -4,7 +4,7 @@ use Rattle.std.specs.Prelude.{◌&&◌, ◌||◌, filter, is_none, is_some, not,
 use Rattle.std.specs.List.{filter_map}
 use Rattle.std.proofs.lemmas.List.{append-nil, map-append}
 use Rattle.std.proofs.lemmas.List.Elements.{filter-append}
-use Rattle.atomic_table.specs.Seated.{TableId}
+use Rattle.mum_outbox.specs.Facts.{QueueId}
 use Rattle.mum_control.specs.Facts.{ControlFacts}
 use Rattle.mum_published.specs.Facts.{ReplyFacts}
 use Rattle.mum_crew.specs.Turns.{TurnsTo}
@@ -113,15 +113,15 @@ reply_same accepted.Failed connection kept = refl
 -- ---- new bells
 
 module _ {L : Type 0} where
-  abbrev pub new_bells : List TableId → List (SideFacts L)
+  abbrev pub new_bells : List QueueId → List (SideFacts L)
   new_bells queues = map new_side queues
 
-  new_side_at : (place : ℕ) (queues : List TableId) → puts_at place (new_bells queues) ≡ []
+  new_side_at : (place : ℕ) (queues : List QueueId) → puts_at place (new_bells queues) ≡ []
   new_side_at place [] = refl
   new_side_at zero (queue ∷ queues) = refl
   new_side_at (suc place) (queue ∷ queues) = new_side_at place queues
 
-  many_new : (bells : List (SideFacts L)) (queues : List TableId) → bells ≡ new_bells queues → length bells ≡ length queues
+  many_new : (bells : List (SideFacts L)) (queues : List QueueId) → bells ≡ new_bells queues → length bells ≡ length queues
   many_new bells [] is = ap (λ (l : List (SideFacts L)). length l) is
   many_new bells (queue ∷ queues) is = ap (λ (l : List (SideFacts L)). length l) is ∙ ap suc (many_new (new_bells queues) queues refl)
 
@@ -283,7 +283,7 @@ module _ {D L : Type 0} (door_facts : D → DoorFacts) (link_facts : L → LinkF
       (subst (λ (l : List (Coming L)). Hands place workers new l ((replies ++ more) ++ replies_made door_facts link_facts all.0 turns new all.2)) (append_assoc given (came old turn all.0 t) later)
       (all_hands place workers all.0 turns new all.2 (given ++ came old turn all.0 t) (replies ++ more) some (turned_hands place workers old turn all.0 t given replies some hands)))
 
-  new_hands : (control : ControlFacts) (door : D) (connections place : ℕ) (journal : Bool) (queues : List TableId) (store : Option TableId) (opened : OwnerFacts D L) → IsOpened control door connections journal queues store opened
+  new_hands : (control : ControlFacts) (door : D) (connections place : ℕ) (journal : Bool) (queues : List QueueId) (store : Option QueueId) (opened : OwnerFacts D L) → IsOpened control door connections journal queues store opened
       → Hands place (length queues) opened [] []
   new_hands control door connections place journal queues store opened new =
       let fresh : List (SideFacts L) = new_bells queues in
@@ -301,7 +301,7 @@ module _ {D L : Type 0} (door_facts : D → DoorFacts) (link_facts : L → LinkF
       }
 
   -- from the opening on
-  pub handed_once : (control : ControlFacts) (door : D) (connections place : ℕ) (journal : Bool) (queues : List TableId) (store : Option TableId) (opened owner : OwnerFacts D L) (turns : List Turn) → 0 < length queues
+  pub handed_once : (control : ControlFacts) (door : D) (connections place : ℕ) (journal : Bool) (queues : List QueueId) (store : Option QueueId) (opened owner : OwnerFacts D L) (turns : List Turn) → 0 < length queues
       → IsOpened control door connections journal queues store opened → (all : TurnsTo (OwnerTurned door_facts link_facts) opened turns owner)
       → Hands place (length queues) owner (connections_given door_facts link_facts opened turns owner all) (replies_made door_facts link_facts opened turns owner all)
   handed_once control door connections place journal queues store opened owner turns some new all =
@@ -351,7 +351,7 @@ module _ {D L : Type 0} (door_facts : D → DoorFacts) (link_facts : L → LinkF
       ∙ all_numbered all.0 turns new all.2 more now
 
   -- from the opening on
-  pub numbered_from : (control : ControlFacts) (door : D) (connections : ℕ) (journal : Bool) (queues : List TableId) (store : Option TableId) (opened owner : OwnerFacts D L) (turns : List Turn)
+  pub numbered_from : (control : ControlFacts) (door : D) (connections : ℕ) (journal : Bool) (queues : List QueueId) (store : Option QueueId) (opened owner : OwnerFacts D L) (turns : List Turn)
       → IsOpened control door connections journal queues store opened → (all : TurnsTo (OwnerTurned door_facts link_facts) opened turns owner)
       → map number_of (connections_given door_facts link_facts opened turns owner all) ≡ numbers owner.guests.given
   numbered_from control door connections journal queues store opened owner turns new all =
@@ -381,7 +381,7 @@ module _ {D L : Type 0} (door_facts : D → DoorFacts) (link_facts : L → LinkF
   all_counted before old (turn ∷ turns) new all counted = all_counted before all.0 turns new all.2 (turned_count before old turn all.0 all.1 counted)
 
   -- from the opening on
-  pub counted_from : (control : ControlFacts) (door : D) (connections : ℕ) (journal : Bool) (queues : List TableId) (store : Option TableId) (opened owner : OwnerFacts D L) (turns : List Turn)
+  pub counted_from : (control : ControlFacts) (door : D) (connections : ℕ) (journal : Bool) (queues : List QueueId) (store : Option QueueId) (opened owner : OwnerFacts D L) (turns : List Turn)
       → IsOpened control door connections journal queues store opened → TurnsTo (OwnerTurned door_facts link_facts) opened turns owner → (door_facts owner.doorway.door).given ≡ given_after_all (door_facts door).given owner.guests.given
   counted_from control door connections journal queues store opened owner turns new all =
       all_counted (door_facts door).given opened turns owner all

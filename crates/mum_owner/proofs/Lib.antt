@@ -18,3 +18,4 @@ mod Booking
 mod Noting
 mod Ending
 mod Sitting
+pub mod Rolling

@@ -5,7 +5,7 @@ use Rattle.std.specs.List.{AllByRecursion, cons_option, filter_map}
 use Rattle.std.proofs.Math.Bool.{or-true}
 use Rattle.mum_base.specs.declared.number.SessionId.{SessionId}
 use Rattle.mum_base.specs.declared.number.TheConstants.{CONNECTION_LIMIT}
-use Rattle.mum_control.specs.Commanded.{Commanded, Decides, Publishes as ControlPublishes, current, note_of, with_edit}
+use Rattle.mum_control.specs.Commanded.{Commanded, Decides, Publishes as ControlPublishes, current, note_of, with_accepted}
 use Rattle.mum_control.specs.Facts.{ControlFacts}
 use Rattle.mum_crew.specs.declared.role.Turn.{Turn}
 use Rattle.mum_io.specs.Door.{DoorFacts}
@@ -26,7 +26,7 @@ use Rattle.mum_warden.specs.Answer.{sent}
 use Rattle.mum_warden.specs.Warden.{verdict_in}
 use Rattle.mum_owner.specs.Banning.{Answers, IsGivenOrRefused, ListComesTo, SettledBy, TestedBy, ban_reply, banned_in, book_after, has_note, is_banned, list_reply, with_warden}
 use Rattle.mum_owner.specs.Facts.{KeptFacts, OwnerFacts, ScribeFacts}
-use Rattle.mum_owner.specs.Given.{IsGiven}
+use Rattle.mum_owner.specs.Given.{IsGiven, roll_of}
 use Rattle.mum_owner.specs.Guests.{owned, session_of}
 use Rattle.mum_owner.specs.Laws.{made}
 use Rattle.mum_owner.specs.Noting.{HasFurther, note_in, notes_given, published_note}
@@ -63,7 +63,7 @@ without publisher reply other is none = subst (λ (n : Option NoteFacts). IfSome
 
 decided_shown : (old : ControlFacts) (connection : ℕ) (session : Option SessionId) (decided : Verdict) (reply : ReplyFacts) (new : ControlFacts)
     → Decides old connection session decided reply new → HasShown new.publisher reply
-decided_shown old connection session (Accepted edit) reply new accepts = shown_by reply.note (with_edit old.publisher edit) new.publisher accepts.published
+decided_shown old connection session (Accepted edit) reply new accepts = shown_by reply.note (with_accepted old.publisher connection edit) new.publisher accepts.published
 decided_shown old connection session (Lacks perm channel) reply new denies = without new.publisher reply _ denies.1 refl
 decided_shown old connection session (Refused kind) reply new denies = without new.publisher reply _ denies.1 refl
 decided_shown old connection session (Rejected kind) reply new denies = without new.publisher reply _ denies.1 refl
@@ -142,7 +142,7 @@ module _ {D L : Type 0} where
   answers_shown old reply new none (inr is) = keeps_as _ new is tt
 
   tested_shown : (banned : Bool) (old : OwnerFacts D L) (login : Command) (new : OwnerFacts D L) → TestedBy banned old login new → KeepsShown new
-  tested_shown true old login new answers = answers_shown old (ban_reply login.connection) new refl answers
+  tested_shown true old login new answers = answers_shown old (ban_reply (roll_of old) login.connection) new refl answers
   tested_shown false old login new given = given_shown old login new given
 
   settled_shown : (login : Bool) (banned : Option SessionId) (old : OwnerFacts D L) (command : Command) (new : OwnerFacts D L) → SettledBy login banned old command new → KeepsShown new
@@ -183,7 +183,7 @@ module _ {D L : Type 0} where
   item_shown old (Some (items.Closed connection)) new received none = keeps_none old new (ap (λ (o : OwnerFacts D L). o.kept.reply) received) none
   item_shown old (Some (items.Command command)) new received none = owned_shown (owned old.guests.rows command) old new received none
   item_shown old (Some (items.Bans connection session payload)) new settles none =
-      list_comes_shown settles.warden old (list_reply connection (sent session (verdict_in old.warden.book settles.allowed payload)))
+      list_comes_shown settles.warden old (list_reply (roll_of old) connection (sent session (verdict_in old.warden.book settles.allowed payload)))
       (book_after old.warden.book settles.allowed payload settles.warden.last) new refl settles.comes_to
 
   -- the note in the reply that was made, if one was, is of all that is published then

@@ -4,7 +4,7 @@ use Rattle.std.specs.Prelude.{◌&&◌, All, is_none, option_to_list}
 use Rattle.std.specs.List.{AllPairs}
 use Rattle.std.proofs.lemmas.List.Elements.{All-append, All-cons}
 use Rattle.std.proofs.lemmas.List.Kept.{AllPairs-cons}
-use Rattle.atomic_table.specs.Seated.{TableId}
+use Rattle.mum_outbox.specs.Facts.{QueueId}
 use Rattle.mum_control.specs.Facts.{ControlFacts}
 use Rattle.mum_crew.specs.Turns.{TurnsTo}
 use Rattle.mum_crew.specs.declared.role.Turn.{Turn}
@@ -200,7 +200,7 @@ module _ {D L : Type 0} (door_facts : D → DoorFacts) (link_facts : L → LinkF
       (apart t.after_desk t.after_press (made t.after_archive.kept.lag t.after_post.kept.lag ++ behind) pressed.given at_press from_press from_post pressed.lags)
 
   -- from the opening on
-  pub lags_once : (control : ControlFacts) (door : D) (connections : ℕ) (journal : Bool) (queues : List TableId) (store : Option TableId) (opened owner : OwnerFacts D L) (turns : List Turn)
+  pub lags_once : (control : ControlFacts) (door : D) (connections : ℕ) (journal : Bool) (queues : List QueueId) (store : Option QueueId) (opened owner : OwnerFacts D L) (turns : List Turn)
       → IsOpened control door connections journal queues store opened → (all : TurnsTo (OwnerTurned door_facts link_facts) opened turns owner)
       → AllPairs (λ one other. one.connection ≢ other.connection) (lags_made door_facts link_facts opened turns owner all)
   lags_once control door connections journal queues store opened owner turns new all =

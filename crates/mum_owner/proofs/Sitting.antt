@@ -5,7 +5,7 @@ use Rattle.std.specs.List.{AllByRecursion, list_any}
 use Rattle.std.specs.Option.{option_map, option_map_or}
 use Rattle.std.proofs.lemmas.Bool.{eqb-true, ne_eqb}
 use Rattle.std.proofs.lemmas.Grind.{fold-append}
-use Rattle.atomic_table.specs.Seated.{TableId}
+use Rattle.mum_outbox.specs.Facts.{QueueId}
 use Rattle.mum_base.specs.declared.number.SessionId.{SessionId}
 use Rattle.mum_base.specs.declared.number.Slot.{Slot}
 use Rattle.mum_base.specs.declared.number.TheConstants.{CONNECTION_LIMIT}
@@ -46,7 +46,7 @@ use Rattle.mum_warden.specs.Answer.{sent}
 use Rattle.mum_warden.specs.Warden.{WardenFacts, verdict_in}
 use Rattle.mum_owner.specs.Banning.{Answers, IsGivenOrRefused, ListComesTo, SettledBy, TestedBy, ban_reply, banned_in, book_after, is_banned, list_reply, with_warden}
 use Rattle.mum_owner.specs.Facts.{GuestsFacts, KeptFacts, OwnerFacts}
-use Rattle.mum_owner.specs.Given.{IsGiven}
+use Rattle.mum_owner.specs.Given.{IsGiven, roll_of}
 use Rattle.mum_owner.specs.Guests.{is_not_of, is_of, joined_by, lag_noted, new_guest, owned, seated, session_of}
 use Rattle.mum_owner.specs.Laws.{made, replies_made}
 use Rattle.mum_owner.specs.Opened.{IsOpened}
@@ -64,7 +64,7 @@ use Rattle.mum_owner.proofs.Steps.{LagStays, MakesLag, MakesNone, post_stays, pr
 -- ---- replies that give no session
 
 -- a reply of this end gives no session
-abbrev GivesNone : ReplyEnd → Type 0
+abbrev pub GivesNone : ReplyEnd → Type 0
 GivesNone end = (before : Option SessionId) → session_by end before ≡ before
 
 abbrev VerdictGivesNone : Verdict → Type 0
@@ -104,7 +104,7 @@ decides_end old connection session (Rejected kind) reply new denies = ap (λ (r 
 decides_end old connection session (Answer frame) reply new denies = ap (λ (r : ReplyFacts). r.end) denies.1
 decides_end old connection session (Ignored why) reply new denies = ap (λ (r : ReplyFacts). r.end) denies.1
 
-leave_gives : (old : ControlFacts) (connection : ℕ) (session : Option SessionId) (reply : ReplyFacts) (new : ControlFacts) → Commanded old (leave_of connection session) reply new → GivesNone reply.end
+pub leave_gives : (old : ControlFacts) (connection : ℕ) (session : Option SessionId) (reply : ReplyFacts) (new : ControlFacts) → Commanded old (leave_of connection session) reply new → GivesNone reply.end
 leave_gives old connection session reply new (inl dropped) = subst (λ (e : ReplyEnd). GivesNone e) (sym (ap (λ (r : ReplyFacts). r.end) dropped.1)) (λ before. refl)
 leave_gives old connection session reply new (inr decides) =
     subst (λ (e : ReplyEnd). GivesNone e)
@@ -307,7 +307,7 @@ module _ {D L : Type 0} where
 
   tested_seats : (replies : List ReplyFacts) (banned : Bool) (old : OwnerFacts D L) (login : Command) (new : OwnerFacts D L) → login.connection ≤ old.guests.given → AreSeated old.guests replies
       → TestedBy banned old login new → SeatsNow replies new
-  tested_seats replies true old login new within are answers = answered_seats replies old (ban_reply login.connection) new (λ before. refl) are answers
+  tested_seats replies true old login new within are answers = answered_seats replies old (ban_reply (roll_of old) login.connection) new (λ before. refl) are answers
   tested_seats replies false old login new within are given = given_seats replies old login new within are given
 
   settled_seats : (replies : List ReplyFacts) (login : Bool) (banned : Option SessionId) (old : OwnerFacts D L) (command : Command) (new : OwnerFacts D L) → command.connection ≤ old.guests.given
@@ -323,7 +323,7 @@ module _ {D L : Type 0} where
   settled_seats replies false None old command new within are given = given_seats replies old command new within are given
 
   list_seats : (replies : List ReplyFacts) (warden : WardenFacts) (old : OwnerFacts D L) (connection : ℕ) (wire : List ℕ) (book : Book) (new : OwnerFacts D L) → AreSeated old.guests replies
-      → ListComesTo warden old (list_reply connection wire) book new → SeatsNow replies new
+      → ListComesTo warden old (list_reply (roll_of old) connection wire) book new → SeatsNow replies new
   list_seats replies warden old connection wire book new are (inl both) =
       quiet_reply replies _ old new (ap (λ (o : OwnerFacts D L). o.guests) both.1) (ap (λ (o : OwnerFacts D L). o.kept.reply) both.1) (λ before. refl) are
   list_seats replies warden old connection wire book new are (inr both) =
@@ -455,7 +455,7 @@ module _ {D L : Type 0} (door_facts : D → DoorFacts) (link_facts : L → LinkF
       (all_seats (replies ++ here) all.0 turns new all.2 (turned_seats replies old turn all.0 t are))
 
   -- from the opening on
-  pub sessions_kept : (control : ControlFacts) (door : D) (connections : ℕ) (journal : Bool) (queues : List TableId) (store : Option TableId) (opened owner : OwnerFacts D L) (turns : List Turn)
+  pub sessions_kept : (control : ControlFacts) (door : D) (connections : ℕ) (journal : Bool) (queues : List QueueId) (store : Option QueueId) (opened owner : OwnerFacts D L) (turns : List Turn)
       → IsOpened control door connections journal queues store opened → (all : TurnsTo (OwnerTurned door_facts link_facts) opened turns owner)
       → AllByRecursion (HasLastSession (replies_made door_facts link_facts opened turns owner all)) owner.guests.rows
   sessions_kept control door connections journal queues store opened owner turns new all =

@@ -24,7 +24,7 @@ use Rattle.mum_bans.specs.Book.{Book}
 use Rattle.mum_owner.specs.Facts.{GuestsFacts, KeptFacts, OwnerFacts}
 use Rattle.mum_owner.specs.Guests.{is_gone_from, is_not_of, is_of, joined_by, lag_for, lag_noted, lagging, may_lag, owned}
 use Rattle.mum_owner.specs.Banning.{Answers, IsGivenOrRefused, ListComesTo, SettledBy, SettlesList, TestedBy, ban_reply, banned_in, book_after, is_banned, list_reply, with_warden}
-use Rattle.mum_owner.specs.Given.{IsGiven, replied, starved}
+use Rattle.mum_owner.specs.Given.{IsGiven, replied, roll_of, starved}
 use Rattle.mum_owner.specs.Serving.{GivesWaiting, LeaveIsGiven, Next, Receives, ReceivesBy, ReceivesItem, Rests, Serves, ServesDesk, TakesItem, blocker, kept_after, may_go, next, next_by}
 use Rattle.mum_owner.specs.Serving.Next.{Again, Goes, Rest, Take}
 use Rattle.mum_owner.specs.Written.{is_login}
@@ -192,7 +192,7 @@ module _ {D L : Type 0} where
   answered_so old reply new (inr is) = desk_as old _ new is (starved_so old reply.connection)
 
   tested_so : (banned : Bool) (old : OwnerFacts D L) (login : Command) (new : OwnerFacts D L) → TestedBy banned old login new → DeskStays old new
-  tested_so true old login new answers = answered_so old (ban_reply login.connection) new answers
+  tested_so true old login new answers = answered_so old (ban_reply (roll_of old) login.connection) new answers
   tested_so false old login new given = given_so old login new given
 
   settled_so : (login : Bool) (banned : Option SessionId) (old : OwnerFacts D L) (command : Command) (new : OwnerFacts D L) → SettledBy login banned old command new → DeskStays old new
@@ -215,7 +215,7 @@ module _ {D L : Type 0} where
 
   list_so : (old : OwnerFacts D L) (connection : ℕ) (session : SessionId) (payload : List ℕ) (new : OwnerFacts D L) → SettlesList old connection session payload new → DeskStays old new
   list_so old connection session payload new settles =
-      list_comes_so settles.warden old (list_reply connection (sent session (verdict_in old.warden.book settles.allowed payload)))
+      list_comes_so settles.warden old (list_reply (roll_of old) connection (sent session (verdict_in old.warden.book settles.allowed payload)))
       (book_after old.warden.book settles.allowed payload settles.warden.last) new settles.comes_to
 
   -- ---- leaves and items

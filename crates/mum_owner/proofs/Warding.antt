@@ -16,7 +16,7 @@ use Rattle.mum_warden.specs.Answer.{sent}
 use Rattle.mum_warden.specs.Warden.{WardenFacts, event_in, verdict_in}
 use Rattle.mum_owner.specs.Banning.{LacksRoom, ListComesTo, Removes, SettlesList, TestedBy, TestsLogin, book_after, is_banned, list_reply, reason_in, with_ban, with_warden}
 use Rattle.mum_owner.specs.Facts.{KeptFacts, OwnerFacts}
-use Rattle.mum_owner.specs.Given.{IsGiven, starved, with_reply}
+use Rattle.mum_owner.specs.Given.{IsGiven, roll_of, starved, with_reply}
 use Rattle.mum_owner.specs.Guests.{address_of, guest_with}
 use Rattle.mum_owner.specs.declared.guests.Guest.{Guest}
 
@@ -80,8 +80,8 @@ module _ {D L : Type 0} where
   listed : (before : OwnerFacts D L) (connection : ℕ) (session : SessionId) (payload bytes : List ℕ) (allowed : Bool) (warden : WardenFacts) (wire : List ℕ) (reply : ReplyFacts) (kept : KeptFacts L)
       → bytes ≡ payload → wire ≡ sent session (verdict_in before.warden.book allowed bytes)
       → warden.book.bans ≡ after_call before.warden.book.bans (event_in before.warden.book allowed bytes warden.last) → warden.book.reserved ≡ before.warden.book.reserved
-      → reply ≡ list_reply connection wire → kept ≡ with_reply reply before.kept
-      → ListComesTo warden before (list_reply connection (sent session (verdict_in before.warden.book allowed payload))) (book_after before.warden.book allowed payload warden.last)
+      → reply ≡ list_reply (roll_of before) connection wire → kept ≡ with_reply reply before.kept
+      → ListComesTo warden before (list_reply (roll_of before) connection (sent session (verdict_in before.warden.book allowed payload))) (book_after before.warden.book allowed payload warden.last)
       (record before { warden = warden; kept = kept })
   listed before connection session payload bytes allowed warden wire reply kept same told bans reserved answer keeps =
       inl (
@@ -89,12 +89,12 @@ module _ {D L : Type 0} where
             (bans ∙ ap (λ (p : List ℕ). after_call before.warden.book.bans (event_in before.warden.book allowed p warden.last)) same) reserved,
         ap (λ (k : KeptFacts L). record before { warden = warden; kept = k }) keeps
             ∙ ap (λ (r : ReplyFacts). record before { warden = warden; kept = with_reply r before.kept })
-            (answer ∙ ap (λ (w : List ℕ). list_reply connection w) (told ∙ ap (λ (p : List ℕ). sent session (verdict_in before.warden.book allowed p)) same)),
+            (answer ∙ ap (λ (w : List ℕ). list_reply (roll_of before) connection w) (told ∙ ap (λ (p : List ℕ). sent session (verdict_in before.warden.book allowed p)) same)),
       )
 
   pub settled : (old before : OwnerFacts D L) (connection : ℕ) (session : SessionId) (payload : List ℕ) (allowed : Bool) (warden : WardenFacts) (new : OwnerFacts D L) → before ≡ old
       → (IsTrue allowed ↔ MayIn (current before.control) session BAN ROOT) → Rose before.warden.calls warden.calls
-      → ListComesTo warden before (list_reply connection (sent session (verdict_in before.warden.book allowed payload))) (book_after before.warden.book allowed payload warden.last) new
+      → ListComesTo warden before (list_reply (roll_of before) connection (sent session (verdict_in before.warden.book allowed payload))) (book_after before.warden.book allowed payload warden.last) new
       → SettlesList old connection session payload new
   settled old before connection session payload allowed warden new is may asked comes = record {
     allowed = allowed;
@@ -103,7 +103,7 @@ module _ {D L : Type 0} where
     asked = subst (λ (o : OwnerFacts D L). Rose o.warden.calls warden.calls) is asked;
     comes_to =
         subst
-        (λ (o : OwnerFacts D L). ListComesTo warden o (list_reply connection (sent session (verdict_in o.warden.book allowed payload))) (book_after o.warden.book allowed payload warden.last) new)
+        (λ (o : OwnerFacts D L). ListComesTo warden o (list_reply (roll_of o) connection (sent session (verdict_in o.warden.book allowed payload))) (book_after o.warden.book allowed payload warden.last) new)
         is comes;
   }
 
@@ -111,7 +111,7 @@ module _ {D L : Type 0} where
       → (IsTrue allowed ↔ MayIn (current before.control) session BAN ROOT) → Rose before.warden.calls warden.calls → bytes ≡ payload
       → wire ≡ sent session (verdict_in before.warden.book allowed bytes)
       → warden.book.bans ≡ after_call before.warden.book.bans (event_in before.warden.book allowed bytes warden.last) → warden.book.reserved ≡ before.warden.book.reserved
-      → reply ≡ list_reply connection wire → kept ≡ with_reply reply before.kept
+      → reply ≡ list_reply (roll_of before) connection wire → kept ≡ with_reply reply before.kept
       → SettlesList old connection session payload (record before { warden = warden; kept = kept })
   decided old before connection session payload bytes allowed warden wire reply kept is may asked same told bans reserved answer keeps =
       settled old before connection session payload allowed warden (record before { warden = warden; kept = kept }) is may asked

@@ -10,6 +10,7 @@ use Rattle.mum_base.specs.declared.reply.ReplyEnd.TheVariants as ends
 use Rattle.mum_control.specs.Commanded.{current}
 use Rattle.mum_control.specs.Kept.{MayIn}
 use Rattle.mum_io.specs.Counts.{Rose}
+use Rattle.mum_published.specs.declared.roll.Login.{Login}
 use Rattle.mum_published.specs.Facts.{ReplyFacts}
 use Rattle.mum_rules_user.specs.Asked.{session_numbered}
 use Rattle.mum_rules_user.specs.Needs.{is_ban}
@@ -20,7 +21,7 @@ use Rattle.mum_session.specs.declared.command.Command.{Command}
 use Rattle.mum_warden.specs.Answer.{refusal as banned_frame, sent}
 use Rattle.mum_warden.specs.Warden.{WardenFacts, event_in, noted, verdict_in}
 use Rattle.mum_owner.specs.Facts.{OwnerFacts}
-use Rattle.mum_owner.specs.Given.{IsGiven, replied, starved}
+use Rattle.mum_owner.specs.Given.{IsGiven, replied, roll_of, starved}
 use Rattle.mum_owner.specs.Guests.{address_of, guest_with}
 use Rattle.mum_owner.specs.Written.{is_login}
 use Rattle.mum_owner.specs.declared.guests.Guest.{Guest}
@@ -33,12 +34,26 @@ pub record AsksClock (old new : WardenFacts) : Type 0 where
 -- ---- replies
 
 -- to a login that is refused
-abbrev pub ban_reply : ℕ → ReplyFacts
-ban_reply connection = record { connection = connection; end = ends.Rejected; note = None; wire = banned_frame; no_memory = false }
+abbrev pub ban_reply : List Login → ℕ → ReplyFacts
+ban_reply roll connection = record {
+  connection = connection;
+  end = ends.Rejected;
+  note = None;
+  wire = banned_frame;
+  no_memory = false;
+  roll = roll;
+}
 
 -- to a list of bans
-abbrev pub list_reply : ℕ → List ℕ → ReplyFacts
-list_reply connection wire = record { connection = connection; end = ends.Decided; note = None; wire = wire; no_memory = false }
+abbrev pub list_reply : List Login → ℕ → List ℕ → ReplyFacts
+list_reply roll connection wire = record {
+  connection = connection;
+  end = ends.Decided;
+  note = None;
+  wire = wire;
+  no_memory = false;
+  roll = roll;
+}
 
 -- ---- a removal with a ban
 
@@ -48,6 +63,7 @@ banned_by actor (User (Kick message)) =
     if is_ban message then option_map_or (λ number. Some (session_numbered number)) message.session actor else None
 banned_by actor others = None
 
+-- whom a command removes with a ban
 abbrev pub banned_in : Command → Option SessionId
 banned_in command = banned_by command.session command.what
 
@@ -56,6 +72,7 @@ abbrev pub reason_in : Asked → List ℕ
 reason_in (User (Kick message)) = unwrap_or message.reason []
 reason_in others = []
 
+-- a reply was made, and has the note of what it accepted
 abbrev pub has_note : Option ReplyFacts → Bool
 has_note reply = option_map_or (λ reply. is_some reply.note) reply false
 
@@ -83,7 +100,7 @@ module _ {D L : Type 0} where
 
   -- a login of somebody who is banned is answered, and not given
   abbrev pub TestedBy : (banned : Bool) → OwnerFacts D L → Command → OwnerFacts D L → Type 0
-  TestedBy true old login new = Answers old (ban_reply login.connection) new
+  TestedBy true old login new = Answers old (ban_reply (roll_of old) login.connection) new
   TestedBy false old login new = IsGiven old login new
 
   -- some ban covers the address of the login's connection, and is living at this moment
@@ -116,6 +133,7 @@ module _ {D L : Type 0} where
 
   -- ---- any command
 
+  -- what becomes of a command: a login is tested, a removal with a ban needs room for the ban, all else is given
   abbrev pub SettledBy : (login : Bool) → (banned : Option SessionId) → OwnerFacts D L → Command → OwnerFacts D L → Type 0
   SettledBy true banned old command new = TestsLogin old command new
   SettledBy false (Some banned) old command new = LacksRoom old command.connection new ⊎ Removes old banned command new
@@ -141,5 +159,5 @@ module _ {D L : Type 0} where
     pub warden : WardenFacts
     pub asked : Rose old.warden.calls warden.calls
     pub comes_to : ListComesTo warden old
-        (list_reply connection (sent session (verdict_in old.warden.book allowed payload)))
+        (list_reply (roll_of old) connection (sent session (verdict_in old.warden.book allowed payload)))
         (book_after old.warden.book allowed payload warden.last) new

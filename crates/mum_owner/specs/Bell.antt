@@ -1,7 +1,6 @@
 -- What is put into the bell of a worker, as plain data.
 use Rattle.std.specs.Prelude.{ℕ, Bool, false, List, [], map, Option, Some, None}
-use Rattle.atomic_table.specs.Seated.{TableId}
-use Rattle.mum_outbox.specs.Facts.{PassFacts, QueueFacts}
+use Rattle.mum_outbox.specs.Facts.{PassFacts, QueueFacts, QueueId}
 use Rattle.mum_published.specs.Bell.{Rung, rung}
 use Rattle.mum_published.specs.Facts.{ReplyFacts}
 use Rattle.mum_published.specs.declared.bell.BellItem.{BellItem}
@@ -21,17 +20,17 @@ coming_in others = None
 -- which queue the bell of a worker is, what the owner has put into it, how often the owner found it full, and whether it
 -- took that no more connections come
 pub record SideFacts (L : Type 0) : Type 0 where
-  pub queue : TableId
+  pub queue : QueueId
   pub put : List (Rung L)
   pub full : ℕ
   pub is_told : Bool
 
 -- nothing yet was put into this queue
-abbrev pub new_side : {L : Type 0} → TableId → SideFacts L
+abbrev pub new_side : {L : Type 0} → QueueId → SideFacts L
 new_side queue = record { queue = queue; put = []; full = 0; is_told = false }
 
 -- which queues these are
-abbrev pub queues : List QueueFacts → List TableId
+abbrev pub queues : List QueueFacts → List QueueId
 queues bells = map (λ (bell : QueueFacts). bell.queue) bells
 
 abbrev pub side_facts : {L N : Type 0} → PassFacts (BellItem L N) → Bool → SideFacts L

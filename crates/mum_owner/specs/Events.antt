@@ -13,6 +13,7 @@ use Rattle.mum_warden.specs.Answer.{sent}
 use Rattle.mum_warden.specs.Warden.{WardenFacts, event_in, verdict_in}
 use Rattle.mum_owner.specs.Banning.{IsGivenOrRefused, ListComesTo, SettledBy, banned_in, book_after, has_note, list_reply}
 use Rattle.mum_owner.specs.Facts.{OwnerFacts}
+use Rattle.mum_owner.specs.Given.{roll_of}
 use Rattle.mum_owner.specs.Guests.{guest_with, owned}
 use Rattle.mum_owner.specs.Laws.{FromTurns, over_turns}
 use Rattle.mum_owner.specs.Serving.{Next, Receives, ReceivesBy, ReceivesItem, Serves, must_wait, next, with_pass}
@@ -28,6 +29,7 @@ ban_added (Some guest) reply warden =
     if has_note reply then Adds guest.address (unwrap_or warden.book.reserved []) warden.last ∷ [] else []
 
 module _ {D L : Type 0} where
+  -- the events of the book by a command that is settled: the ban of a removal, if one is added
   abbrev pub events_given : (login : Bool) (banned : Option SessionId) (old : OwnerFacts D L) (command : Command) (new : OwnerFacts D L)
       → SettledBy login banned old command new → List Event
   events_given true banned old command new tests = []
@@ -36,12 +38,14 @@ module _ {D L : Type 0} where
       ban_added (guest_with banned old.guests.rows) removes.after.kept.reply removes.after.warden
   events_given false None old command new given = []
 
+  -- the same of one that comes from the desk: a leave and a login that waits have none
   abbrev pub events_received : (leave waits : Bool) (old : OwnerFacts D L) (command : Command) (new : OwnerFacts D L)
       → ReceivesBy leave waits old command new → List Event
   events_received true waits old command new received = []
   events_received false true old command new received = []
   events_received false false old command new received = events_given (is_login command) (banned_in command) old command new received
 
+  -- the same of one that may be of no open connection
   abbrev pub events_owned : (own : Option Command) (old new : OwnerFacts D L) → Receives old own new → List Event
   events_owned None old new same = []
   events_owned (Some command) old new received =
@@ -53,15 +57,17 @@ module _ {D L : Type 0} where
   events_listed event warden old reply book new (inl decided) = option_to_list event
   events_listed event warden old reply book new (inr starved) = []
 
+  -- the events by an item of the desk
   abbrev pub events_item : (old : OwnerFacts D L) (item : Option DeskItem) (new : OwnerFacts D L) → ReceivesItem old item new → List Event
   events_item old None new received = []
   events_item old (Some (items.Closed connection)) new received = []
   events_item old (Some (items.Command command)) new received = events_owned (owned old.guests.rows command) old new received
   events_item old (Some (items.Bans connection session payload)) new settles =
       events_listed (event_in old.warden.book settles.allowed payload settles.warden.last) settles.warden old
-      (list_reply connection (sent session (verdict_in old.warden.book settles.allowed payload)))
+      (list_reply (roll_of old) connection (sent session (verdict_in old.warden.book settles.allowed payload)))
       (book_after old.warden.book settles.allowed payload settles.warden.last) new settles.comes_to
 
+  -- the events by a login that waited for its slot
   abbrev pub events_waiting : (own : Option Command) (old new : OwnerFacts D L)
       → MatchOption own (new ≡ old) (λ command. IsGivenOrRefused old command new) → List Event
   events_waiting None old new same = []

@@ -42,6 +42,7 @@ pub record ScribeFacts : Type 0 where
   pub accepted : ℕ
   pub no_memory : Bool
 
+-- an owner: its control, door, connections, bells, what waits for one, desk, waiting logins, journal, bans, archive
 pub record OwnerFacts (D L : Type 0) : Type 0 where
   pub control : ControlFacts
   pub doorway : DoorwayFacts D

@@ -1,7 +1,7 @@
 -- What an owner is opened with.
 use Rattle.std.specs.Prelude.{◌≡◌, ℕ, Bool, false, List, [], map, Option, None}
 use Rattle.std.specs.Option.{option_map}
-use Rattle.atomic_table.specs.Seated.{TableId}
+use Rattle.mum_outbox.specs.Facts.{QueueId}
 use Rattle.mum_control.specs.Facts.{ControlFacts}
 use Rattle.mum_state.specs.State.{StateValue}
 use Rattle.mum_doorway.specs.Asking.{new_doorway}
@@ -18,7 +18,7 @@ opening_of state door connections journal =
 
 -- the owner is new: it has the control owner and the door, keeps nothing, has no bans, and its bells are these queues, in
 -- order, into which it has put nothing; so is the bell of the store, where there is one
-abbrev pub IsOpened : {D L : Type 0} → ControlFacts → D → ℕ → Bool → List TableId → Option TableId → OwnerFacts D L → Type 0
+abbrev pub IsOpened : {D L : Type 0} → ControlFacts → D → ℕ → Bool → List QueueId → Option QueueId → OwnerFacts D L → Type 0
 IsOpened control door connections journal queues store owner =
     owner ≡ record {
       control = control;

@@ -1,5 +1,5 @@
 -- What an owner does with the desk.
-use Rattle.std.specs.Prelude.{◌≡◌, ◌⊎◌, ℕ, ◌==◌, ◌&&◌, nat_lt, Bool, true, false, List, [], ◌∷◌, ◌++◌, find, length, is_none, is_some, Option, Some, None, MatchOption, if◌then◌else◌}
+use Rattle.std.specs.Prelude.{◌≡◌, ◌⊎◌, ℕ, ◌==◌, ◌&&◌, nat_lt, ⊤, Bool, true, false, List, [], ◌∷◌, ◌++◌, find, length, is_none, is_some, Option, Some, None, MatchOption, if◌then◌else◌}
 use Rattle.std.specs.Option.{option_and_then}
 use Rattle.mum_base.specs.declared.number.SessionId.{SessionId}
 use Rattle.mum_base.specs.declared.number.TheConstants.{CONNECTION_LIMIT}
@@ -10,6 +10,7 @@ use Rattle.mum_control.specs.Posting.{EmptiesPost}
 use Rattle.mum_outbox.specs.Calls.{Takes}
 use Rattle.mum_outbox.specs.Facts.{PassFacts}
 use Rattle.mum_outbox.specs.declared.parcel.TheConstants.{DESK_CAPACITY}
+use Rattle.mum_port.specs.Asked.{WasAsked}
 use Rattle.mum_port.specs.declared.item.DeskItem.{DeskItem}
 use Rattle.mum_port.specs.declared.item.DeskItem.TheVariants as items
 use Rattle.mum_published.specs.Facts.{ReplyFacts}
@@ -23,6 +24,11 @@ use Rattle.mum_owner.specs.Guests.{is_gone_from, left, owned, session_of}
 use Rattle.mum_owner.specs.Written.{is_leave, is_login, recorded, refused}
 use Rattle.mum_owner.specs.declared.desk.TheConstants.{PENDING_LIMIT}
 use Rattle.mum_owner.specs.declared.guests.Guest.{Guest}
+
+-- the command of an item, if it is one, was asked for
+abbrev pub WasAskedIn : Option DeskItem → Type 0
+WasAskedIn (Some (items.Command command)) = WasAsked command.what
+WasAskedIn others = ⊤
 
 -- the leave of a connection, which has this session
 abbrev pub leave_of : ℕ → Option SessionId → Command
@@ -127,13 +133,14 @@ module _ {D L : Type 0} where
   abbrev pub with_pass : PassFacts DeskItem → OwnerFacts D L → OwnerFacts D L
   with_pass pass owner = record owner { desk = record owner.desk { pass = pass } }
 
-  -- one item was taken from the desk, or it gave none
+  -- one item was taken from the desk, or it gave none. A command was asked for
   pub record TakesItem (old : OwnerFacts D L) (worked : Bool) (new : OwnerFacts D L) : Type 0 where
     pub item : Option DeskItem
     pub pass : PassFacts DeskItem
     pub taken : Takes DESK_CAPACITY old.desk.pass item pass
     pub so : worked ≡ is_some item
     pub received : ReceivesItem (with_pass pass old) item new
+    pub asked : (command : Command) → item ≡ Some (items.Command command) → WasAsked command.what
 
   -- the first login that waited does not wait any more: it was given or refused, for the session that is kept for its
   -- connection, or dropped, where that is not open any more
@@ -141,6 +148,7 @@ module _ {D L : Type 0} where
     pub login : Command
     pub rest : List Command
     pub first : old.logins ≡ login ∷ rest
+    pub asked : WasAsked login.what
     pub so : worked ≡ true
     pub given : MatchOption (owned old.guests.rows login) (new ≡ record old { logins = rest }) (λ own. IsGivenOrRefused (record old { logins = rest }) own new)
 

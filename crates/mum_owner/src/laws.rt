@@ -3,7 +3,7 @@
 
 ghost use Rattle.std.specs.Prelude.{◌≡◌, ◌≢◌, ◌++◌, ◌<◌, [], ℕ, Bool, IfSome, IsTrue, List, Option, Some, filter, length, map, option_to_list};
 ghost use Rattle.std.specs.List.{AllByRecursion, AllPairs, filter_map};
-ghost use Rattle.atomic_table.specs.Seated.{TableId};
+ghost use Rattle.mum_outbox.specs.Facts.{QueueId};
 ghost use Rattle.mum_bans.specs.Book.{bans_of};
 ghost use Rattle.mum_control.specs.Facts.{ControlFacts};
 ghost use Rattle.mum_crew.specs.Turns.{TurnsTo};
@@ -19,7 +19,8 @@ ghost use Rattle.mum_owner.specs.Facts.{OwnerFacts};
 ghost use Rattle.mum_owner.specs.Laws.{answered, command_in, connections_given, commands_given, commands_owned, commands_settled, commands_taken, connections_settled, handed, is_of_worker, is_other, items_taken, lags_made, leave_in, leaves_decided, numbers, puts_at, replies_made};
 ghost use Rattle.mum_owner.specs.Noting.{EndsOnce, HasFurther, notes_given};
 ghost use Rattle.mum_owner.specs.Opened.{IsOpened};
-ghost use Rattle.mum_owner.specs.Sessions.{HasLastSession};
+ghost use Rattle.mum_owner.specs.Given.{roll_of};
+ghost use Rattle.mum_owner.specs.Sessions.{HasLastSession, logins_in};
 ghost use Rattle.mum_owner.specs.Turned.{OwnerTurned, is_through};
 ghost use Rattle.mum_owner.specs.Written.{IsWrittenAs, is_login, version_with};
 
@@ -35,8 +36,8 @@ pub fn limits()
 /// what the bell of a worker took, and then what is kept for it, are those of its connections that were given, in
 /// order.
 pub fn connections_are_handed_over_once<D: Entrance>()
-    ensures handed { (control : ControlFacts) (door : D) (connections place : ℕ) (journal : Bool) (queues : List TableId)
-        (store : Option TableId) (opened owner : OwnerFacts D D.Peer) (turns : List Turn) → 0 < length queues →
+    ensures handed { (control : ControlFacts) (door : D) (connections place : ℕ) (journal : Bool) (queues : List QueueId)
+        (store : Option QueueId) (opened owner : OwnerFacts D D.Peer) (turns : List Turn) → 0 < length queues →
         IsOpened control door connections journal queues store opened →
         (all : TurnsTo (OwnerTurned D.facts D.Peer.facts) opened turns owner) →
         filter_map handed (puts_at place owner.bells)
@@ -44,15 +45,15 @@ pub fn connections_are_handed_over_once<D: Entrance>()
         ≡ filter (λ coming. is_of_worker place (length queues) coming.connection)
         (connections_given D.facts D.Peer.facts opened turns owner all) }
     // They are numbered from 1 in the order in which the door gave them.
-    ensures numbered { (control : ControlFacts) (door : D) (connections : ℕ) (journal : Bool) (queues : List TableId)
-        (store : Option TableId) (opened owner : OwnerFacts D D.Peer) (turns : List Turn) →
+    ensures numbered { (control : ControlFacts) (door : D) (connections : ℕ) (journal : Bool) (queues : List QueueId)
+        (store : Option QueueId) (opened owner : OwnerFacts D D.Peer) (turns : List Turn) →
         IsOpened control door connections journal queues store opened →
         (all : TurnsTo (OwnerTurned D.facts D.Peer.facts) opened turns owner) →
         map (λ coming. coming.connection) (connections_given D.facts D.Peer.facts opened turns owner all)
         ≡ numbers owner.guests.given }
     // As many are counted as the door gave.
-    ensures given { (control : ControlFacts) (door : D) (connections : ℕ) (journal : Bool) (queues : List TableId)
-        (store : Option TableId) (opened owner : OwnerFacts D D.Peer) (turns : List Turn) →
+    ensures given { (control : ControlFacts) (door : D) (connections : ℕ) (journal : Bool) (queues : List QueueId)
+        (store : Option QueueId) (opened owner : OwnerFacts D D.Peer) (turns : List Turn) →
         IsOpened control door connections journal queues store opened →
         TurnsTo (OwnerTurned D.facts D.Peer.facts) opened turns owner →
         (D.facts owner.doorway.door).given ≡ given_after_all (D.facts door).given owner.guests.given }
@@ -61,8 +62,8 @@ pub fn connections_are_handed_over_once<D: Entrance>()
 /// Each reply is kept until the bell of the worker of its connection took it, once: what the bell of a worker
 /// took, and then what is kept for it, are the replies to its connections, in the order in which they were made.
 pub fn replies_are_handed_over_once<D: Entrance>()
-    ensures { (control : ControlFacts) (door : D) (connections place : ℕ) (journal : Bool) (queues : List TableId)
-        (store : Option TableId) (opened owner : OwnerFacts D D.Peer) (turns : List Turn) → 0 < length queues →
+    ensures { (control : ControlFacts) (door : D) (connections place : ℕ) (journal : Bool) (queues : List QueueId)
+        (store : Option QueueId) (opened owner : OwnerFacts D D.Peer) (turns : List Turn) → 0 < length queues →
         IsOpened control door connections journal queues store opened →
         (all : TurnsTo (OwnerTurned D.facts D.Peer.facts) opened turns owner) →
         filter_map answered (puts_at place owner.bells)
@@ -73,8 +74,8 @@ pub fn replies_are_handed_over_once<D: Entrance>()
 
 /// At most one lag item is made for a connection.
 pub fn a_connection_lags_once<D: Entrance>()
-    ensures { (control : ControlFacts) (door : D) (connections : ℕ) (journal : Bool) (queues : List TableId)
-        (store : Option TableId) (opened owner : OwnerFacts D D.Peer) (turns : List Turn) →
+    ensures { (control : ControlFacts) (door : D) (connections : ℕ) (journal : Bool) (queues : List QueueId)
+        (store : Option QueueId) (opened owner : OwnerFacts D D.Peer) (turns : List Turn) →
         IsOpened control door connections journal queues store opened →
         (all : TurnsTo (OwnerTurned D.facts D.Peer.facts) opened turns owner) →
         AllPairs (λ one other. one.connection ≢ other.connection)
@@ -88,28 +89,28 @@ pub fn a_connection_lags_once<D: Entrance>()
 /// that is not open settles nothing.
 pub fn commands_are_given_once<D: Entrance>()
     // The commands that the turns took are all that lay on the desk, in order.
-    ensures taken { (control : ControlFacts) (door : D) (connections : ℕ) (journal : Bool) (queues : List TableId)
-        (store : Option TableId) (opened owner : OwnerFacts D D.Peer) (turns : List Turn) →
+    ensures taken { (control : ControlFacts) (door : D) (connections : ℕ) (journal : Bool) (queues : List QueueId)
+        (store : Option QueueId) (opened owner : OwnerFacts D D.Peer) (turns : List Turn) →
         IsOpened control door connections journal queues store opened → opened.desk.pass.taken ≡ [] →
         (all : TurnsTo (OwnerTurned D.facts D.Peer.facts) opened turns owner) →
         filter_map command_in (items_taken owner.desk)
         ≡ commands_taken D.facts D.Peer.facts opened turns owner all }
     // A login may wait for its slot, behind those that came before it.
-    ensures logins { (control : ControlFacts) (door : D) (connections : ℕ) (journal : Bool) (queues : List TableId)
-        (store : Option TableId) (opened owner : OwnerFacts D D.Peer) (turns : List Turn) →
+    ensures logins { (control : ControlFacts) (door : D) (connections : ℕ) (journal : Bool) (queues : List QueueId)
+        (store : Option QueueId) (opened owner : OwnerFacts D D.Peer) (turns : List Turn) →
         IsOpened control door connections journal queues store opened →
         (all : TurnsTo (OwnerTurned D.facts D.Peer.facts) opened turns owner) →
         filter is_login (commands_owned D.facts D.Peer.facts opened turns owner all)
         ≡ filter is_login (commands_settled D.facts D.Peer.facts opened turns owner all) ++ owner.logins }
-    ensures others { (control : ControlFacts) (door : D) (connections : ℕ) (journal : Bool) (queues : List TableId)
-        (store : Option TableId) (opened owner : OwnerFacts D D.Peer) (turns : List Turn) →
+    ensures others { (control : ControlFacts) (door : D) (connections : ℕ) (journal : Bool) (queues : List QueueId)
+        (store : Option QueueId) (opened owner : OwnerFacts D D.Peer) (turns : List Turn) →
         IsOpened control door connections journal queues store opened →
         (all : TurnsTo (OwnerTurned D.facts D.Peer.facts) opened turns owner) →
         filter is_other (commands_owned D.facts D.Peer.facts opened turns owner all)
         ≡ filter is_other (commands_given D.facts D.Peer.facts opened turns owner all) }
     // A leave is given until it is decided, and nothing is taken before.
-    ensures leaves { (control : ControlFacts) (door : D) (connections : ℕ) (journal : Bool) (queues : List TableId)
-        (store : Option TableId) (opened owner : OwnerFacts D D.Peer) (turns : List Turn) →
+    ensures leaves { (control : ControlFacts) (door : D) (connections : ℕ) (journal : Bool) (queues : List QueueId)
+        (store : Option QueueId) (opened owner : OwnerFacts D D.Peer) (turns : List Turn) →
         IsOpened control door connections journal queues store opened →
         (all : TurnsTo (OwnerTurned D.facts D.Peer.facts) opened turns owner) →
         filter_map leave_in (commands_owned D.facts D.Peer.facts opened turns owner all)
@@ -130,8 +131,8 @@ pub fn each_command_has_one_reply<D: Entrance>()
 /// them, where its session has Ban on the root and the list is within the limits; a removal with a ban adds one, where
 /// its reply has a note and whom it removes had an open connection. Nothing else changes them.
 pub fn bans_are_of_the_turns<D: Entrance>()
-    ensures { (control : ControlFacts) (door : D) (connections : ℕ) (journal : Bool) (queues : List TableId)
-        (store : Option TableId) (opened owner : OwnerFacts D D.Peer) (turns : List Turn) →
+    ensures { (control : ControlFacts) (door : D) (connections : ℕ) (journal : Bool) (queues : List QueueId)
+        (store : Option QueueId) (opened owner : OwnerFacts D D.Peer) (turns : List Turn) →
         IsOpened control door connections journal queues store opened →
         (all : TurnsTo (OwnerTurned D.facts D.Peer.facts) opened turns owner) →
         owner.warden.book.bans ≡ bans_of (ban_events D.facts D.Peer.facts opened turns owner all) }
@@ -140,11 +141,19 @@ pub fn bans_are_of_the_turns<D: Entrance>()
 /// The session that is kept for an open connection is that of its last accepted login: of the last reply to it that
 /// gave one.
 pub fn sessions_are_of_logins<D: Entrance>()
-    ensures { (control : ControlFacts) (door : D) (connections : ℕ) (journal : Bool) (queues : List TableId)
-        (store : Option TableId) (opened owner : OwnerFacts D D.Peer) (turns : List Turn) →
+    ensures { (control : ControlFacts) (door : D) (connections : ℕ) (journal : Bool) (queues : List QueueId)
+        (store : Option QueueId) (opened owner : OwnerFacts D D.Peer) (turns : List Turn) →
         IsOpened control door connections journal queues store opened →
         (all : TurnsTo (OwnerTurned D.facts D.Peer.facts) opened turns owner) →
         AllByRecursion (HasLastSession (replies_made D.facts D.Peer.facts opened turns owner all)) owner.guests.rows }
+{}
+
+/// The roll of accepted logins, with which each reply goes, grows by the logins that the replies tell of, in the order
+/// in which they are made, and by nothing else.
+pub fn logins_are_of_the_replies<D: Entrance>()
+    ensures { (old new : OwnerFacts D D.Peer) (turns : List Turn) →
+        (all : TurnsTo (OwnerTurned D.facts D.Peer.facts) old turns new) →
+        roll_of new ≡ roll_of old ++ logins_in (replies_made D.facts D.Peer.facts old turns new all) }
 {}
 
 /// For each note that a turn gave, one that says the same was offered once to the bell of the store, where there is
@@ -157,14 +166,14 @@ pub fn each_note_has_a_further_one<D: Entrance>()
 
 /// The bell of the store got notes, and that none comes any more once, behind all of them.
 pub fn last_is_last<D: Entrance>()
-    ensures last { (control : ControlFacts) (door : D) (connections : ℕ) (journal : Bool) (queues : List TableId)
-        (store : Option TableId) (opened owner : OwnerFacts D D.Peer) (turns : List Turn) →
+    ensures last { (control : ControlFacts) (door : D) (connections : ℕ) (journal : Bool) (queues : List QueueId)
+        (store : Option QueueId) (opened owner : OwnerFacts D D.Peer) (turns : List Turn) →
         IsOpened control door connections journal queues store opened →
         TurnsTo (OwnerTurned D.facts D.Peer.facts) opened turns owner →
         IfSome owner.archive EndsOnce }
     // Once it took that, no more connections come, none is open, and all that was accepted is published.
-    ensures through { (control : ControlFacts) (door : D) (connections : ℕ) (journal : Bool) (queues : List TableId)
-        (store : Option TableId) (opened owner : OwnerFacts D D.Peer) (turns : List Turn) →
+    ensures through { (control : ControlFacts) (door : D) (connections : ℕ) (journal : Bool) (queues : List QueueId)
+        (store : Option QueueId) (opened owner : OwnerFacts D D.Peer) (turns : List Turn) →
         IsOpened control door connections journal queues store opened →
         TurnsTo (OwnerTurned D.facts D.Peer.facts) opened turns owner →
         IfSome owner.archive (λ side. IsTrue side.is_told → IsTrue (is_through owner)) }

@@ -1,7 +1,8 @@
 //! Logins that wait for their slot.
 
-ghost use Rattle.std.specs.Prelude.{◌≡◌, ◌<◌, ◌==◌, ◌++◌, ◌∷◌, [], nat_lt, length, IfOk, MatchOption};
+ghost use Rattle.std.specs.Prelude.{◌≡◌, ◌<◌, ◌==◌, ◌++◌, ◌∷◌, [], nat_lt, length, IfOk, IfSome, MatchOption};
 ghost use Rattle.mum_base.specs.declared.number.TheConstants.{CONNECTION_LIMIT};
+ghost use Rattle.mum_port.specs.Asked.{WasAsked};
 ghost use Rattle.mum_owner.specs.Written.{is_join, is_leave, is_login};
 
 use mum_base::{CONNECTION_LIMIT, OutOfMemory};
@@ -34,7 +35,7 @@ pub(crate) fn is_leave(what: &Asked) -> bool
     matches!(what, Asked::User(UserMessage::Leave))
 }
 
-/// Logins in the order in which they came. Each connection waits for its reply, so there is at most one of each,
+/// Logins in the order in which they came, each of which was asked for. Each connection waits for its reply, so there is at most one of each,
 /// and there is room for one of each that may be open.
 #[derive(Drop)]
 pub(crate) struct Logins {
@@ -43,15 +44,18 @@ pub(crate) struct Logins {
 
 impl Model for Logins {
     ghost use Rattle.std.specs.Prelude.{ℕ, ◌≤◌, List};
+    ghost use Rattle.std.specs.List.{AllByRecursion};
     ghost use Rattle.std.specs.VecDeque.{deque_capacity};
     ghost use Rattle.mum_base.specs.declared.number.TheConstants.{CONNECTION_LIMIT};
+    ghost use Rattle.mum_port.specs.Asked.{WasAsked};
     ghost use Rattle.mum_session.specs.declared.command.Command.{Command};
 
     ghost Value = { List Command };
 
     ghost view = { λ l. l.waiting.items };
 
-    ghost invariant = { λ l. CONNECTION_LIMIT ≤ deque_capacity l.waiting };
+    ghost invariant = { λ l. (CONNECTION_LIMIT ≤ deque_capacity l.waiting)
+        × AllByRecursion (λ login. WasAsked login.what) l.waiting.items };
 }
 
 impl Logins {
@@ -79,7 +83,8 @@ impl Logins {
 
     /// One more waits, behind the others.
     pub(crate) fn wait(&mut self, login: Command)
-        requires { length self.old < CONNECTION_LIMIT }
+        requires room { length self.old < CONNECTION_LIMIT }
+        requires asked { WasAsked login.what }
         ensures { self.new ≡ self.old ++ login ∷ [] }
     {
         self.waiting.push_back_reserved(login);
@@ -87,7 +92,8 @@ impl Logins {
 
     /// The first that waits goes.
     pub(crate) fn next(&mut self) -> Option<Command>
-        ensures { MatchOption result ((self.old ≡ []) × (self.new ≡ [])) (λ login. self.old ≡ login ∷ self.new) }
+        ensures first { MatchOption result ((self.old ≡ []) × (self.new ≡ [])) (λ login. self.old ≡ login ∷ self.new) }
+        ensures asked { IfSome result (λ login. WasAsked login.what) }
     {
         self.waiting.pop_front()
     }

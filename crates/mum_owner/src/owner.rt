@@ -6,16 +6,17 @@ ghost use Rattle.mum_base.specs.declared.number.TheConstants.{CONNECTION_LIMIT};
 ghost use Rattle.mum_control.specs.Commanded.{current};
 ghost use Rattle.mum_io.specs.Counts.{NoneFalls, Rose};
 ghost use Rattle.mum_keeper.specs.Archive.{queue_of};
+ghost use Rattle.mum_port.specs.Asked.{WasAsked};
 ghost use Rattle.mum_published.specs.Calls.{appended};
 ghost use Rattle.mum_outbox.specs.Calls.{IsNewPass};
 ghost use Rattle.mum_record.specs.Journal.{Each, IsWritableControl};
 ghost use Rattle.mum_owner.specs.Banning.{Answers, IsGivenOrRefused, LacksRoom, Removes, SettlesList, TestsLogin, ban_reply, has_note, with_ban, with_warden};
 ghost use Rattle.mum_owner.specs.Decided.{HasWritten};
 ghost use Rattle.mum_doorway.specs.Doors.{NoMoreCome, given_after_all};
-ghost use Rattle.mum_owner.specs.Given.{IsGiven, starved};
+ghost use Rattle.mum_owner.specs.Given.{IsGiven, roll_of, starved};
 ghost use Rattle.mum_owner.specs.Guests.{entered, has_room, joined_by, lagging, no_guests, owned};
 ghost use Rattle.mum_owner.specs.Opened.{IsOpened, opening_of};
-ghost use Rattle.mum_owner.specs.Serving.{EmptiesFor, GivesWaiting, LeaveIsGiven, Receives, ReceivesItem, Serves, ServesDesk, TakesItem, blocker, kept_after, leave_after, leave_of, may_go, must_wait, next_by};
+ghost use Rattle.mum_owner.specs.Serving.{EmptiesFor, GivesWaiting, LeaveIsGiven, Receives, ReceivesItem, Serves, ServesDesk, TakesItem, WasAskedIn, blocker, kept_after, leave_after, leave_of, may_go, must_wait, next_by};
 ghost use Rattle.mum_owner.specs.Bell.{new_side, queues};
 ghost use Rattle.mum_owner.specs.Turned.{Archives, Asks, LacksNote, Offered, OffersFurther, OwnerTurned, PostsNotice, Presses, Publishes, ended, has_ended, is_not_to_ask, is_over, is_through, makes_note, pressing, turn_of, with_lag};
 
@@ -306,7 +307,8 @@ impl<'a, D: Entrance, K: Clock, N: Serving, R: Wait + Copy> Owner<'a, D, K, N, R
         ensures { self.new ≡ starved connection self.old }
     {
         self.scribe.refuse();
-        self.kept.keep_reply(refusal(self.alloc, connection));
+        let roll = self.control.roll();
+        self.kept.keep_reply(refusal(self.alloc, connection, roll));
     }
 
     // A login of a connection without a session is tested before it is given, a removal with a ban makes room for
@@ -339,10 +341,13 @@ impl<'a, D: Entrance, K: Clock, N: Serving, R: Wait + Copy> Owner<'a, D, K, N, R
 
     // Answers a login of somebody who is banned.
     fn refuse_login(&mut self, connection: u32)
-        ensures { Answers self.old (ban_reply connection) self.new }
+        ensures { Answers self.old (ban_reply (roll_of self.old) connection) self.new }
     {
         match mum_warden::refusal(self.alloc) {
-            Ok(wire) => self.kept.keep_reply(ban_reply(connection, wire)),
+            Ok(wire) => {
+                let roll = self.control.roll();
+                self.kept.keep_reply(ban_reply(connection, wire, roll));
+            }
             Err(_) => self.starve(connection),
         }
     }
@@ -384,7 +389,10 @@ impl<'a, D: Entrance, K: Clock, N: Serving, R: Wait + Copy> Owner<'a, D, K, N, R
     {
         let allowed = self.control.holds(session, Perm::BAN, ChannelId::ROOT);
         match self.warden.settle(allowed, session, payload.as_slice()) {
-            Ok(wire) => self.kept.keep_reply(list_reply(connection, wire)),
+            Ok(wire) => {
+                let roll = self.control.roll();
+                self.kept.keep_reply(list_reply(connection, wire, roll));
+            }
             Err(_) => self.starve(connection),
         }
     }
@@ -427,7 +435,8 @@ impl<'a, D: Entrance, K: Clock, N: Serving, R: Wait + Copy> Owner<'a, D, K, N, R
 
     // A command came from the desk. It is dropped where its connection is not open.
     fn receive(&mut self, command: Command)
-        requires { length self.old.logins < CONNECTION_LIMIT }
+        requires room { length self.old.logins < CONNECTION_LIMIT }
+        requires asked { WasAsked command.what }
         ensures { Receives self.old (owned self.old.guests.rows command) self.new }
     {
         if let Some(command) = self.guests.owned(command) {
@@ -437,7 +446,8 @@ impl<'a, D: Entrance, K: Clock, N: Serving, R: Wait + Copy> Owner<'a, D, K, N, R
 
     // A command of an open connection came, with the session that is kept for it.
     fn receive_owned(&mut self, command: Command)
-        requires { length self.old.logins < CONNECTION_LIMIT }
+        requires room { length self.old.logins < CONNECTION_LIMIT }
+        requires asked { WasAsked command.what }
         ensures { Receives self.old (Some command) self.new }
     {
         if is_leave(&command.what) {
@@ -485,7 +495,7 @@ impl<'a, D: Entrance, K: Clock, N: Serving, R: Wait + Copy> Owner<'a, D, K, N, R
     // What came from the desk, if something did.
     fn receive_item(&mut self, item: Option<DeskItem>) -> bool
         requires { length self.old.logins < CONNECTION_LIMIT }
-        ensures { (result ≡ is_some item) × ReceivesItem self.old item self.new }
+        ensures { (result ≡ is_some item) × ReceivesItem self.old item self.new × WasAskedIn item }
     {
         match item {
             Some(item) => self.receive_one(item),
@@ -496,15 +506,15 @@ impl<'a, D: Entrance, K: Clock, N: Serving, R: Wait + Copy> Owner<'a, D, K, N, R
     // An item came from the desk.
     fn receive_one(&mut self, item: DeskItem) -> bool
         requires { length self.old.logins < CONNECTION_LIMIT }
-        ensures { (result ≡ true) × ReceivesItem self.old (Some item) self.new }
+        ensures { (result ≡ true) × ReceivesItem self.old (Some item) self.new × WasAskedIn (Some item) }
     {
         match item {
             DeskItem::Closed { connection } => {
                 self.guests.leave(connection);
                 true
             }
-            DeskItem::Command(command) => {
-                self.receive(command);
+            DeskItem::Command(request) => {
+                self.receive(request.into_command());
                 true
             }
             DeskItem::Bans {
@@ -781,12 +791,13 @@ impl<'a, D: Entrance, K: Clock, N: Serving, R: Wait + Copy> Owner<'a, D, K, N, R
         turn_of(has_ended, worked)
     }
 
-    /// Returns once what is published begins with all that a pass of the same `open` saw and learnt, which is at
-    /// once: see `Publisher::has_shown`.
+    /// Returns once what is published, and the roll of accepted logins, begin with all that a pass of the same `open`
+    /// saw and learnt, which is at once: see `Publisher::has_shown`.
     pub fn has_shown(&self, pass: &Pass)
         requires { pass.now.opening ≡ N.opening }
         ensures known { IsPrefix pass.now.known self.now.control.publisher.published }
         ensures seen { IsPrefix pass.now.seen self.now.control.publisher.published }
+        ensures roll { IsPrefix pass.now.roll (roll_of self.now) }
     {
         self.control.has_shown(&self.rt, pass);
     }

@@ -1,13 +1,14 @@
 //! The socket of a link: a stream, the polls of the crew's threads, and the lines on standard error about it.
 
-ghost use Rattle.std.specs.Prelude.{◌≡◌, None, OnOk, Some};
+ghost use Rattle.std.specs.Prelude.{◌≡◌, None, OnOk, Some, not};
 ghost use Rattle.std.specs.Net.Addr.{ipv6_octets};
 ghost use Rattle.std.specs.Option.{option_map};
+ghost use Rattle.mum_link.specs.Faults.{CountsOneIf};
 
 use crate::stream::Stream;
 use mio::Registry;
 use mum_address::is_made;
-use mum_link::{Life, Sightings, Socket};
+use mum_link::{Life, Sightings, Socket, is_passing};
 use std::io;
 use std::io::{Eprint, ErrorKind};
 use std::net::Ipv6Addr;
@@ -26,12 +27,24 @@ pub struct Peer<X> {
     from: Ipv6Addr,
     address: Ipv6Addr,
     refusals: u64,
+    failures: u64,
     registries: Arc<Vec<Registry>>,
     watched: Option<(usize, usize)>,
     pub life: Life<X>,
     pub connection: u64,
     pub opened: u64,
     sightings: Sightings,
+}
+
+// A call was refused by an error, which is counted if it is no passing one.
+fn after_refusal(failures: u64, is_passing: bool) -> u64
+    ensures { CountsOneIf (not is_passing) failures result }
+{
+    if is_passing {
+        failures
+    } else {
+        failures.saturating_add(1)
+    }
 }
 
 impl<X> Peer<X> {
@@ -50,6 +63,7 @@ impl<X> Peer<X> {
             from,
             address,
             refusals: 0,
+            failures: 0,
             registries,
             watched: None,
             life,
@@ -81,6 +95,7 @@ impl<X> Peer<X> {
     fn unwatch(&mut self)
         ensures address { self.new.address ≡ self.old.address }
         ensures refusals { self.new.refusals ≡ self.old.refusals }
+        ensures failures { self.new.failures ≡ self.old.failures }
     {
         if let Some((thread, _)) = self.watched {
             if let Some(registry) = self.registries.get(thread) {
@@ -88,6 +103,22 @@ impl<X> Peer<X> {
             }
         }
         self.watched = None;
+    }
+
+    // Has room for bytes reported too. Whether it will be.
+    fn watch_for_room(&mut self) -> bool
+        ensures address { self.new.address ≡ self.old.address }
+        ensures watched { self.new.watched ≡ self.old.watched }
+        ensures refusals { self.new.refusals ≡ self.old.refusals }
+        ensures failures { self.new.failures ≡ self.old.failures }
+    {
+        let Some((thread, slot)) = self.watched else {
+            return false;
+        };
+        match self.registries.get(thread) {
+            Some(registry) => self.stream.register_both(registry, slot).is_ok(),
+            None => false,
+        }
     }
 
     fn drain(&self) {
@@ -112,20 +143,32 @@ impl<X: Eprint + Drop> Socket for Peer<X> {
 
     ghost refusals = { λ p. p.refusals };
 
+    ghost failures = { λ p. p.failures };
+
+    #[tactic(auto, using(crate::proofs::Counting::counted))]
     fn read(&mut self, buf: &mut [u8]) -> io::Result<usize> {
-        let count = self.stream.read(buf)?;
-        // before the connection begins it is a relay that sends
-        if self.connection > 0 {
-            let sent = &buf[..count.min(buf.len())];
-            self.sightings.sent(sent, &self.life, self.connection);
+        match self.stream.read(buf) {
+            Ok(count) => {
+                // before the connection begins it is a relay that sends
+                if self.connection > 0 {
+                    let sent = &buf[..count.min(buf.len())];
+                    self.sightings.sent(sent, &self.life, self.connection);
+                }
+                Ok(count)
+            }
+            Err(error) => {
+                self.failures = after_refusal(self.failures, is_passing(error.kind()));
+                Err(error)
+            }
         }
-        Ok(count)
     }
 
+    #[tactic(auto, using(crate::proofs::Counting::counted))]
     fn write(&mut self, piece: &[u8]) -> io::Result<usize> {
         match self.stream.write(piece) {
             Ok(0) => {
                 self.refusals = self.refusals.saturating_add(1);
+                self.failures = self.failures.saturating_add(1);
                 Ok(0)
             }
             Ok(count) => {
@@ -135,19 +178,18 @@ impl<X: Eprint + Drop> Socket for Peer<X> {
             }
             Err(error) => {
                 self.refusals = self.refusals.saturating_add(1);
+                self.failures = after_refusal(self.failures, is_passing(error.kind()));
                 Err(error)
             }
         }
     }
 
     fn await_room(&mut self) -> bool {
-        let Some((thread, slot)) = self.watched else {
-            return false;
-        };
-        match self.registries.get(thread) {
-            Some(registry) => self.stream.register_both(registry, slot).is_ok(),
-            None => false,
+        let is_awaited = self.watch_for_room();
+        if !is_awaited {
+            self.failures = self.failures.saturating_add(1);
         }
+        is_awaited
     }
 
     fn leave(&mut self, milliseconds: u64, received: u64, sent: u64) {

@@ -102,5 +102,11 @@ fn a_crew_runs_its_roles_together(rt: HostRuntime) {
     let end = crew.run(alloc, roles).end;
     assert_eq!(rt; end, CrewEnd::Ran);
     assert!(rt; !meeting.was_in_vain.load(Ordering::SeqCst));
+    // its threads have their stations back
+    let again = Arc::new(alloc, Meeting::new()).expect(&rt, "memory");
+    let mut roles = Vec::new(alloc);
+    put_attendants(&mut roles, &again).expect(&rt, "memory");
+    assert_eq!(rt; crew.run(alloc, roles).end, CrewEnd::Ran);
+    assert!(rt; !again.was_in_vain.load(Ordering::SeqCst));
     assert_eq!(rt; crew.late_rounds(), 0);
 }

@@ -1,4 +1,5 @@
 pub mod Coming
 pub mod Dealing
+pub mod Faulting
 pub mod Reading
 pub mod ReadingOn

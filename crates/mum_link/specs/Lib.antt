@@ -1,5 +1,6 @@
 pub mod Comings
 pub mod Doors
+pub mod Faults
 pub mod Headers
 pub mod Origins
 pub mod Paces

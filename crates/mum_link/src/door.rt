@@ -6,12 +6,14 @@ ghost use Rattle.std.specs.Option.{option_map};
 ghost use Rattle.mum_io.specs.Counts.{no_counts};
 ghost use Rattle.mum_io.specs.Door.{AcceptCounts, OpenCounts, OpensAt, given_after};
 ghost use Rattle.mum_link.specs.Doors.{BeginsAt, BeginsWhereOpen, FailsOnlyClosed, ForConn, IsOpenAt, ListensAt};
+ghost use Rattle.mum_link.specs.Faults.{EndsWhereOver};
 ghost use Rattle.mum_link.specs.Origins.{ComesIn};
 ghost use Rattle.mum_link.specs.Paces.{IsNew};
 ghost use Rattle.mum_link.specs.Sharing.{IsWatched};
 ghost use Rattle.mum_pace.specs.Meters.{state_of};
 
 use crate::entrance::Entrance;
+use crate::hub::Ending;
 use crate::link::SocketLink;
 use crate::listener::Listener;
 use crate::socket::Socket;
@@ -23,6 +25,8 @@ pub struct SocketDoor<L, S: Socket> {
     tally: Tally,
     given: u64,
     opened_at: Option<String>,
+    // why the last accept found the end, if it did
+    ending: Option<Ending>,
     entrance: Entrance<L, S>,
 }
 
@@ -38,6 +42,7 @@ impl<L, S: Socket> SocketDoor<L, S> {
             tally: Tally::new(),
             given: 0,
             opened_at: None,
+            ending: None,
             entrance,
         }
     }
@@ -103,6 +108,8 @@ impl<S: Socket + Send, L: Listener<Socket = S>> Door for SocketDoor<L, S> {
         ensures headers { self.new.entrance.has_headers ≡ self.old.entrance.has_headers }
         ensures step { self.new.entrance.step ≡ self.old.entrance.step }
         ensures fails { FailsOnlyClosed result self.old.opened_at }
+        // It ends only where the hub says that the server stops, or that the owner has ended, if the door ends with that.
+        ensures ends { EndsWhereOver result self.old.entrance.step.ends_with_owner self.new.ending }
         ensures comes { ForConn result (λ link. ComesIn self.old.entrance.has_headers (S.origin link.wire.line.socket)
             (S.left link.wire.line.socket) (ipv6_octets link.address)) }
         ensures pace { ForConn result (λ link. IsNew self.old.entrance.step.pace (state_of link.wire.meter)) }
@@ -114,7 +121,8 @@ impl<S: Socket + Send, L: Listener<Socket = S>> Door for SocketDoor<L, S> {
             self.tally.count_fault();
             return Accept::Failed;
         }
-        if self.entrance.is_over() {
+        self.ending = self.entrance.ending();
+        if self.ending.is_some() {
             self.tally.count_end();
             return Accept::End;
         }

@@ -19,7 +19,7 @@ ghost use Rattle.mum_pace.specs.Meters as meter;
 
 use crate::board::Board;
 use crate::doorstep::Doorstep;
-use crate::hub::{Hub, READABLE};
+use crate::hub::{Ending, Hub, READABLE};
 use crate::kept::Kept;
 use crate::link::SocketLink;
 use crate::listener::Listener;
@@ -132,9 +132,11 @@ impl<L, S: Socket> Entrance<L, S> {
         String::from_str(self.alloc, text)
     }
 
-    /// Whether nobody is let in any more: the server stops, or the owner has ended and the door ends with it.
-    pub fn is_over(&self) -> bool {
-        self.hub.is_stopping() || (self.step.ends_with_owner && self.hub.has_owner_ended())
+    /// Why nobody is let in any more, if so: the server stops, or the owner has ended and the door ends with it.
+    pub fn ending(&self) -> Option<Ending>
+        ensures { ForSome result (λ ending. ending.is_stop ≡ false → self.now.step.ends_with_owner ≡ true) }
+    {
+        self.hub.ending(self.step.ends_with_owner)
     }
 
     // An accept failed. Whether that is to be reported: of failures in a row only the first is.

@@ -1,6 +1,7 @@
 //! What the links, the door and the stations share: which slots are ready, who sleeps, who worked.
 
-ghost use Rattle.std.specs.Prelude.{◌≡◌, ◌+◌, ◌*◌, ◌-◌, ◌<◌, ◌≤◌, IfSome};
+ghost use Rattle.std.specs.Prelude.{◌≡◌, ◌+◌, ◌*◌, ◌-◌, ◌<◌, ◌≤◌, IfSome, false, true};
+ghost use Rattle.std.specs.Option.{ForSome};
 ghost use Rattle.mum_link.specs.Sharing.{IsEnough};
 
 use crate::shares::{LaterRoles, Shares};
@@ -164,10 +165,10 @@ impl Hub {
     }
 
     /// The threads that are to be woken by this one, which it alone then wakes. The roles behind the workers have no news for
-    /// others; and of the news of others they may ask to hear of the owner's.
+    /// others, but for an owner that waits for one of them; and of the news of others they may ask to hear of the owner's.
     pub fn take_sleepers(&self, thread: usize, with_owner: bool) -> Sleepers {
         if self.is_later(thread) {
-            return Sleepers { bits: 0 };
+            return self.take_waiting_owner();
         }
         let later = self.later.load(Ordering::SeqCst);
         let hears = thread == 0 && self.later_hear_owner.load(Ordering::SeqCst);
@@ -179,6 +180,15 @@ impl Hub {
             spared |= later;
         }
         self.take_all_but(spared)
+    }
+
+    // The owner's thread, where that may wait for a role that hears of it: in the end alone, once no link is open.
+    fn take_waiting_owner(&self) -> Sleepers {
+        if self.later_hear_owner.load(Ordering::SeqCst) && !self.has_links() {
+            self.take_all_but(!bit(0))
+        } else {
+            Sleepers { bits: 0 }
+        }
     }
 
     /// Whether the thread is that of the roles behind the workers.
@@ -241,8 +251,28 @@ impl Hub {
         self.is_stopping.store(true, Ordering::SeqCst);
     }
 
-    pub fn is_stopping(&self) -> bool {
-        self.is_stopping.load(Ordering::SeqCst)
+    /// Why links are to end, if they are: the server stops.
+    pub fn stopping(&self) -> Option<Ending>
+        ensures { ForSome result (λ ending. ending.is_stop ≡ true) }
+    {
+        if self.is_stopping.load(Ordering::SeqCst) {
+            Some(Ending { is_stop: true })
+        } else {
+            None
+        }
+    }
+
+    /// Why a door is to end, if it is: the server stops, or, where it ends with the owner, that has ended.
+    pub fn ending(&self, with_owner: bool) -> Option<Ending>
+        ensures { ForSome result (λ ending. ending.is_stop ≡ false → with_owner ≡ true) }
+    {
+        if self.is_stopping.load(Ordering::SeqCst) {
+            Some(Ending { is_stop: true })
+        } else if with_owner && self.has_owner_ended() {
+            Some(Ending { is_stop: false })
+        } else {
+            None
+        }
     }
 
     /// The owner has ended.
@@ -278,6 +308,12 @@ impl Hub {
     pub fn shares(&self) -> Shares {
         shares_of(self.shares.load(Ordering::SeqCst))
     }
+}
+
+/// Why a door is to end, or a link: the server stops, or else the owner has ended. Nothing but a hub makes one.
+#[derive(Clone, Copy, Debug, PartialEq, Eq)]
+pub struct Ending {
+    is_stop: bool,
 }
 
 /// Threads that are to be woken.

@@ -1,14 +1,16 @@
 //! What the contracts of a link come to. These functions do nothing: each contract is a theorem.
 
-ghost use Rattle.std.specs.Prelude.{◌≡◌, ◌<◌, ◌≤◌, ℕ, List, [], false, length, slice_index_or};
+ghost use Rattle.std.specs.Prelude.{◌≡◌, ◌<◌, ◌≤◌, ℕ, List, [], false, true, length, slice_index_or, vec_len};
 ghost use Rattle.std.specs.List.{Contains};
+ghost use Rattle.std.specs.Option.{ForSome};
 ghost use Rattle.mum_crew.specs.Deal.{IsDealt, thread_at};
+ghost use Rattle.mum_link.specs.Faults.{IsBroken, has_cause, is_of_shut};
 ghost use Rattle.mum_link.specs.Sharing.{thread_of_link, worker_of};
 ghost use Rattle.mum_link.specs.Wires.{taken};
 ghost use Rattle.mum_link.specs.declared.shares.Shares.{Shares};
 
 use crate::doorstep::VIEW_PATIENCE;
-use crate::entrance::WAITING_LIMIT;
+use crate::entrance::{Entrance, WAITING_LIMIT};
 use crate::kept::KEPT_LIMIT;
 use crate::link::SocketLink;
 use crate::socket::Socket;
@@ -34,6 +36,19 @@ pub fn little_is_kept_back<S: Socket>(link: &SocketLink<S>)
 {
     let _count = link.wire.kept.len();
 }
+
+/// A fault of a link has its cause. A link that was shut has a fault, and no other link has that of a shut one.
+pub fn faults_have_causes<S: Socket>(link: &SocketLink<S>)
+    ensures cause { ForSome link.now.wire.line.fault (λ cause. has_cause cause (S.failures link.now.wire.line.socket)
+        link.now.wire.line.patience link.now.wire.line.hang_up.since ≡ true) }
+    ensures shut { link.now.is_shut ≡ true → IsBroken link.now.wire.line.fault }
+    ensures open { is_of_shut link.now.wire.line.fault ≡ true → link.now.is_shut ≡ true }
+{}
+
+/// No more connections wait for their headers than the limit.
+pub fn few_wait_for_headers<L, S: Socket>(entrance: &Entrance<L, S>)
+    ensures { vec_len entrance.now.waiting ≤ WAITING_LIMIT }
+{}
 
 /// The thread that watches the link of a connection is the one whose lane has the connection's worker, whatever roles are
 /// dealt to whatever lanes.

@@ -1,7 +1,10 @@
 //! The place of a link.
 
+ghost use Rattle.std.specs.Prelude.{◌≡◌, true};
+ghost use Rattle.std.specs.Option.{ForSome};
+
 use crate::board::Board;
-use crate::hub::{HUNG_UP, Hub, READABLE, WRITABLE};
+use crate::hub::{Ending, HUNG_UP, Hub, READABLE, WRITABLE};
 use std::sync::Arc;
 
 /// The slot of a link among those of all links, and the board of the thread that it is on.
@@ -38,8 +41,11 @@ impl Seat {
         self.hub.clear(self.slot, WRITABLE);
     }
 
-    pub fn is_stopping(&self) -> bool {
-        self.hub.is_stopping()
+    /// Why the link is to end, if it is: the server stops.
+    pub fn stopping(&self) -> Option<Ending>
+        ensures { ForSome result (λ ending. ending.is_stop ≡ true) }
+    {
+        self.hub.stopping()
     }
 
     /// The link is open.

@@ -1,8 +1,9 @@
 //! A connected socket, as a link uses it.
 
-ghost use Rattle.std.specs.Prelude.{◌≡◌, ℕ, List, Option, length};
+ghost use Rattle.std.specs.Prelude.{◌≡◌, ℕ, List, Option, length, not};
 ghost use Rattle.std.specs.Io.{ReadsAtMost, WritesAtMost};
 ghost use Rattle.std.specs.Io.KnownBytes.{Keeps, ReadConsumes, WriteAppends};
+ghost use Rattle.mum_link.specs.Faults.{CountsFailedRead, CountsFailedWrite, CountsOneIf};
 ghost use Rattle.mum_link.specs.Origins.{Origin};
 ghost use Rattle.mum_link.specs.Refusals.{CountsRefusal};
 
@@ -25,6 +26,10 @@ pub trait Socket: Drop {
     /// How many writes took nothing. The count is of 64 bits and stays at its last value, `u64::MAX`.
     ghost refusals: { Self → ℕ };
 
+    /// How many calls failed, otherwise than since nothing had come yet or there was no room yet. The count is of 64 bits and
+    /// stays at its last value, `u64::MAX`.
+    ghost failures: { Self → ℕ };
+
     /// Takes the first bytes that have come to the front of the slice. An error of the kind `WouldBlock`: none has come
     /// yet.
     fn read(&mut self, buf: &mut [u8]) -> io::Result<usize>
@@ -32,7 +37,8 @@ pub trait Socket: Drop {
         ensures left { ReadConsumes (left self.old) (left self.new) result buf.new }
         ensures written { Keeps (written self.old) (written self.new) }
         ensures origin { origin self.new ≡ origin self.old }
-        ensures refusals { refusals self.new ≡ refusals self.old };
+        ensures refusals { refusals self.new ≡ refusals self.old }
+        ensures failures { CountsFailedRead result (failures self.old) (failures self.new) };
 
     /// Writes a front of the piece behind what was written before. An error of the kind `WouldBlock`: there is no room
     /// yet.
@@ -41,14 +47,16 @@ pub trait Socket: Drop {
         ensures written { WriteAppends (written self.old) (written self.new) result piece.now }
         ensures left { Keeps (left self.old) (left self.new) }
         ensures origin { origin self.new ≡ origin self.old }
-        ensures refusals { CountsRefusal result (refusals self.old) (refusals self.new) };
+        ensures refusals { CountsRefusal result (refusals self.old) (refusals self.new) }
+        ensures failures { CountsFailedWrite result (failures self.old) (failures self.new) };
 
-    /// Has room for bytes reported from now on. Whether it will be.
+    /// Has room for bytes reported from now on. Whether it will be; that it will not is a failure.
     fn await_room(&mut self) -> bool
         ensures left { Keeps (left self.old) (left self.new) }
         ensures written { Keeps (written self.old) (written self.new) }
         ensures origin { origin self.new ≡ origin self.old }
-        ensures refusals { refusals self.new ≡ refusals self.old };
+        ensures refusals { refusals self.new ≡ refusals self.old }
+        ensures failures { CountsOneIf (not result) (failures self.old) (failures self.new) };
 
     /// Tells the peer that no more comes, and stops reporting what the socket is ready for, at this time in milliseconds:
     /// so many bytes were received and sent. What the peer has still sent is thrown away, or else the close would be a reset,
@@ -57,5 +65,6 @@ pub trait Socket: Drop {
         ensures left { Keeps (left self.old) (left self.new) }
         ensures written { Keeps (written self.old) (written self.new) }
         ensures origin { origin self.new ≡ origin self.old }
-        ensures refusals { refusals self.new ≡ refusals self.old };
+        ensures refusals { refusals self.new ≡ refusals self.old }
+        ensures failures { failures self.new ≡ failures self.old };
 }

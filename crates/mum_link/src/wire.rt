@@ -1,10 +1,12 @@
 //! How a link reads and writes: it reads as its pace and the allowance for long frames allow, and keeps what is written in
 //! batches where more is coming.
 
-ghost use Rattle.std.specs.Prelude.{◌≡◌, ◌<◌, ◌⊎◌, [], false, length};
+ghost use Rattle.std.specs.Prelude.{◌≡◌, ◌<◌, ◌⊎◌, [], None, false, length};
 ghost use Rattle.std.specs.Io.KnownBytes.{Keeps};
 ghost use Rattle.mum_io.specs.Link.{PollReadLeaves, PollWriteLeaves};
 ghost use Rattle.mum_io.specs.declared.link.PollRead.TheVariants as read;
+ghost use Rattle.mum_io.specs.declared.link.PollWrite.TheVariants as write;
+ghost use Rattle.mum_link.specs.Faults.{Closes, IsBroken, Stays};
 ghost use Rattle.mum_link.specs.Paces.{HoldsForFrame, ReadsInPace};
 ghost use Rattle.mum_link.specs.Refusals.{IsSentOrRefused};
 ghost use Rattle.mum_link.specs.Wires.{taken};
@@ -19,14 +21,13 @@ use crate::patience::Patience;
 use crate::seat::Seat;
 use crate::socket::Socket;
 use mum_io::{PollRead, PollWrite};
-use mum_pace::{HangUp, Meter, Reservation};
+use mum_pace::{Meter, Reservation};
 
 /// A line, how fast it may be read, and what is kept back of what was written.
 #[derive(Drop)]
-pub(crate) struct Wire<S> {
+pub(crate) struct Wire<S: Socket> {
     pub(crate) line: Line<S>,
     pub(crate) meter: Meter,
-    hang_up: HangUp,
     pub(crate) reservation: Reservation,
     pub(crate) in_batches: bool,
     pub(crate) kept: Kept,
@@ -51,13 +52,13 @@ impl<S: Socket> Wire<S> {
         ensures reservation { result.reservation ≡ reservation }
         ensures kept { result.kept ≡ kept }
         ensures batches { result.in_batches ≡ delivery.in_batches }
+        ensures fault { result.line.fault ≡ None }
         ensures patience { result.line.patience ≡ record { limit = delivery.patience; since = milliseconds } }
     {
         let patience = Patience::new(delivery.patience, milliseconds);
         Wire {
             line: Line::new(socket, seat, patience),
             meter,
-            hang_up: HangUp::new(),
             reservation,
             in_batches: delivery.in_batches,
             kept,
@@ -67,6 +68,7 @@ impl<S: Socket> Wire<S> {
 
     /// Reads what has come, if its pace and the allowance for long frames allow that. What was kept in an earlier batch
     /// is sent before.
+    #[tactic(auto, using(crate::proofs::Faulting::stays_same, crate::proofs::Faulting::stays_on, crate::proofs::Faulting::broken_still))]
     pub(crate) fn read(&mut self, buf: &mut [u8]) -> PollRead
         requires { 0 < length buf.old }
         ensures left { PollReadLeaves result (S.left self.old.line.socket) (S.left self.new.line.socket) buf.new }
@@ -74,6 +76,9 @@ impl<S: Socket> Wire<S> {
             (taken (S.written self.new.line.socket) self.new.kept) }
         ensures pace { ReadsInPace result buf.new (state_of self.old.meter) (state_of self.new.meter) }
         ensures held { HoldsForFrame result (state_of self.old.meter) (state_of self.new.meter) self.new.reservation.bytes }
+        ensures fails { result ≡ read.Failed → IsBroken self.new.line.fault }
+        ensures fault { Stays self.old.line.fault self.new.line.fault }
+        ensures broken { IsBroken self.old.line.fault → (result ≡ read.Failed) × (self.new.line.socket ≡ self.old.line.socket) }
     {
         self.line.seat.board.ask();
         if self.keeps_an_earlier_batch() {
@@ -87,6 +92,7 @@ impl<S: Socket> Wire<S> {
         read
     }
 
+    #[tactic(auto, using(crate::proofs::Faulting::stays_same, crate::proofs::Faulting::stays_on, crate::proofs::Faulting::none_not_broken, crate::proofs::Faulting::broken_still))]
     fn read_in_pace(&mut self, buf: &mut [u8]) -> PollRead
         requires { 0 < length buf.old }
         ensures left { PollReadLeaves result (S.left self.old.line.socket) (S.left self.new.line.socket) buf.new }
@@ -94,8 +100,11 @@ impl<S: Socket> Wire<S> {
         ensures kept { self.new.kept ≡ self.old.kept }
         ensures pace { ReadsInPace result buf.new (state_of self.old.meter) (state_of self.new.meter) }
         ensures held { HoldsForFrame result (state_of self.old.meter) (state_of self.new.meter) self.new.reservation.bytes }
+        ensures fails { result ≡ read.Failed → IsBroken self.new.line.fault }
+        ensures fault { Stays self.old.line.fault self.new.line.fault }
+        ensures broken { IsBroken self.old.line.fault → (result ≡ read.Failed) × (self.new.line.socket ≡ self.old.line.socket) }
     {
-        if self.is_over() {
+        if self.line.is_over() {
             return PollRead::Failed;
         }
         if !self.line.seat.is_readable() {
@@ -103,7 +112,7 @@ impl<S: Socket> Wire<S> {
         }
         let allowance = self.meter.allowance(self.line.seat.board.milliseconds());
         if allowance == 0 || !self.reservation.covers(self.meter.payload()) {
-            return self.wait();
+            return self.line.wait_to_read();
         }
         let length = buf.len().min(allowance);
         let read = self.line.read(&mut buf[..length]);
@@ -113,28 +122,10 @@ impl<S: Socket> Wire<S> {
         read
     }
 
-    // No byte may be read now, by the pace or because a long frame finds no room beside those of other links. What a
-    // client that has hung up left behind is not waited for for long: else it would keep its slot. It is lost then, and
-    // so the link fails.
-    fn wait(&mut self) -> PollRead
-        ensures answer { (result ≡ read.NotYet) ⊎ (result ≡ read.Failed) }
-        ensures socket { self.new.line.socket ≡ self.old.line.socket }
-        ensures kept { self.new.kept ≡ self.old.kept }
-        ensures meter { self.new.meter ≡ self.old.meter }
-    {
-        let has_hung_up = self.line.seat.has_hung_up();
-        let milliseconds = self.line.seat.board.milliseconds();
-        if self.hang_up.is_over(has_hung_up, milliseconds) {
-            self.line.is_broken = true;
-            return PollRead::Failed;
-        }
-        self.line.seat.board.slow_down();
-        PollRead::NotYet
-    }
-
     // Links hold back where more is coming; other threads may have to hear of everything but Pings.
     fn note_read(&mut self, bytes: &[u8])
-        ensures line { self.new.line.socket ≡ self.old.line.socket }
+        ensures socket { self.new.line.socket ≡ self.old.line.socket }
+        ensures fault { self.new.line.fault ≡ self.old.line.fault }
         ensures kept { self.new.kept ≡ self.old.kept }
         ensures meter { state_of self.new.meter ≡ after_read (state_of self.old.meter) bytes.now }
         ensures held { self.new.reservation.bytes
@@ -151,11 +142,15 @@ impl<S: Socket> Wire<S> {
     }
 
     /// Sends the piece where nothing is kept and nobody holds back, and else keeps it as far as there is room.
+    #[tactic(auto, using(crate::proofs::Faulting::stays_same, crate::proofs::Faulting::stays_on, crate::proofs::Faulting::broken_still))]
     pub(crate) fn write(&mut self, piece: &[u8]) -> PollWrite
         requires { 0 < length piece.now }
         ensures taken { PollWriteLeaves result (taken (S.written self.old.line.socket) self.old.kept)
             (taken (S.written self.new.line.socket) self.new.kept) piece.now }
         ensures left { Keeps (S.left self.old.line.socket) (S.left self.new.line.socket) }
+        ensures fails { result ≡ write.Failed → IsBroken self.new.line.fault }
+        ensures fault { Stays self.old.line.fault self.new.line.fault }
+        ensures broken { IsBroken self.old.line.fault → (result ≡ write.Failed) × (self.new.line.socket ≡ self.old.line.socket) }
     {
         let milliseconds = self.line.seat.board.milliseconds();
         if self.keeps_an_earlier_batch() || self.kept.room() < piece.len() {
@@ -183,13 +178,18 @@ impl<S: Socket> Wire<S> {
         }
     }
 
+    #[tactic(auto, using(crate::proofs::Faulting::stays_same, crate::proofs::Faulting::stays_on, crate::proofs::Faulting::none_not_broken, crate::proofs::Faulting::broken_still))]
     fn send_or_keep(&mut self, piece: &[u8], milliseconds: u64) -> PollWrite
         requires { 0 < length piece.now }
         ensures taken { PollWriteLeaves result (taken (S.written self.old.line.socket) self.old.kept)
             (taken (S.written self.new.line.socket) self.new.kept) piece.now }
         ensures left { Keeps (S.left self.old.line.socket) (S.left self.new.line.socket) }
+        ensures fails { result ≡ write.Failed → IsBroken self.new.line.fault }
+        ensures fault { Stays self.old.line.fault self.new.line.fault }
+        ensures broken { IsBroken self.old.line.fault → (result ≡ write.Failed) × (self.new.line.socket ≡ self.old.line.socket) }
     {
-        if self.is_over() {
+        // what it keeps is sent when it is shut
+        if self.line.is_over() {
             return PollWrite::Failed;
         }
         let is_sent_now = !self.in_batches
@@ -204,21 +204,19 @@ impl<S: Socket> Wire<S> {
         }
     }
 
-    // Whether no byte goes over it any more: it failed, or the server stops. What it keeps is sent when it is shut.
-    fn is_over(&self) -> bool {
-        self.line.is_broken || self.line.seat.is_stopping()
-    }
-
     fn keeps_an_earlier_batch(&self) -> bool {
         !self.kept.is_empty() && self.kept.batch() != self.line.seat.board.batch()
     }
 
     // Sends what is kept, as far as the socket takes it.
+    #[tactic(auto, using(crate::proofs::Faulting::stays_same, crate::proofs::Faulting::stays_on, crate::proofs::Faulting::broken_still))]
     fn send_kept(&mut self, milliseconds: u64)
         ensures taken { Keeps (taken (S.written self.old.line.socket) self.old.kept)
             (taken (S.written self.new.line.socket) self.new.kept) }
         ensures left { Keeps (S.left self.old.line.socket) (S.left self.new.line.socket) }
         ensures meter { self.new.meter ≡ self.old.meter }
+        ensures fault { Stays self.old.line.fault self.new.line.fault }
+        ensures broken { IsBroken self.old.line.fault → self.new.line.socket ≡ self.old.line.socket }
     {
         for _ in 0..KEPT_LIMIT {
             if self.kept.is_empty() {
@@ -237,6 +235,7 @@ impl<S: Socket> Wire<S> {
             (taken (S.written self.new.line.socket) self.new.kept) }
         ensures left { Keeps (S.left self.old.line.socket) (S.left self.new.line.socket) }
         ensures sent { IsSentOrRefused self.new.kept (S.refusals self.old.line.socket) (S.refusals self.new.line.socket) }
+        ensures fault { self.new.line.fault ≡ self.old.line.fault }
     {
         while !self.kept.is_empty() {
             let Some(sent) = self.line.press(self.kept.as_slice()) else {
@@ -247,18 +246,17 @@ impl<S: Socket> Wire<S> {
     }
 
     /// Sends what is kept, takes the socket out of its poll and the link out of its slot.
+    #[tactic(auto, using(crate::proofs::Faulting::closes_from))]
     pub(crate) fn shut(&mut self)
         ensures taken { Keeps (taken (S.written self.old.line.socket) self.old.kept)
             (taken (S.written self.new.line.socket) self.new.kept) }
         ensures left { Keeps (S.left self.old.line.socket) (S.left self.new.line.socket) }
         ensures sent { IsSentOrRefused self.new.kept (S.refusals self.old.line.socket) (S.refusals self.new.line.socket) }
+        ensures fault { Closes self.old.line.fault self.new.line.fault }
     {
         self.send_all();
-        let milliseconds = self.line.seat.board.milliseconds();
-        let (received, sent) = (self.line.bytes_read, self.line.bytes_written);
-        self.line.socket.leave(milliseconds, received, sent);
-        self.line.is_broken = true;
         self.reservation.give_back();
-        self.line.seat.leave();
+        let milliseconds = self.line.seat.board.milliseconds();
+        self.line.leave(milliseconds);
     }
 }

@@ -1,5 +1,6 @@
 use Rattle.std.proofs.Common.{◌≡◌}
 use Rattle.std.specs.Io.KnownBytes.{Keeps}
+use Rattle.mum_link.specs.Faults.{IsBroken, Stays}
 use Rattle.mum_link.specs.Wires.{taken}
 use Rattle.mum_link.proofs.wire.Wire.send_kept.Given as goal
 
@@ -8,3 +9,5 @@ invariant-loop g l =
     Keeps (taken (g.S.Socket.written l.fn.self.line.socket) l.fn.self.kept) (taken (g.S.Socket.written l.self.line.socket) l.self.kept)
     × Keeps (g.S.Socket.left l.fn.self.line.socket) (g.S.Socket.left l.self.line.socket)
     × (l.self.meter ≡ l.fn.self.meter)
+    × Stays l.fn.self.line.fault l.self.line.fault
+    × (IsBroken l.fn.self.line.fault → l.self.line.socket ≡ l.fn.self.line.socket)

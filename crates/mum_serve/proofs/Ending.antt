@@ -11,10 +11,9 @@ use Rattle.mum_io.specs.Door.{DoorFacts}
 use Rattle.mum_keeper.specs.Store.{StoreFacts}
 use Rattle.mum_owner.specs.Facts.{OwnerFacts}
 use Rattle.mum_owner.specs.Turned.{has_ended as owner_has_ended}
-use Rattle.mum_published.specs.Facts.{Opening, PassFacts}
+use Rattle.mum_published.specs.Facts.{Opening, PassFacts, PublisherFacts}
 use Rattle.mum_record.specs.Journal.{Each, IsWritableEntry}
 use Rattle.mum_record.specs.declared.journal.WorkerEntry.{WorkerEntry}
-use Rattle.mum_state.specs.declared.edit.Edit.{Edit}
 use Rattle.mum_viewer.specs.Viewer.{ViewerFacts, has_ended as viewer_has_ended}
 use Rattle.mum_worker.specs.Facts.{WorkerFacts, is_done}
 use Rattle.mum_worker.specs.Turning.{WorkerTurned}
@@ -31,8 +30,9 @@ use Rattle.mum_serve.specs.declared.totals.WorkerTotals.{WorkerTotals}
 -- ---- what the workers saw, compared with what was published, one worker after another
 
 -- the pass that a worker lent is its own
-pub is_within : (published : List Edit) (pass lent : PassFacts) → lent ≡ pass → IsPrefix lent.seen published → IsPrefix lent.known published → IsWithin published pass
-is_within published pass lent same seen known = subst (IsWithin published) same (record { seen = seen; known = known })
+pub is_within : (publisher : PublisherFacts) (pass lent : PassFacts) → lent ≡ pass → IsPrefix lent.seen publisher.published → IsPrefix lent.known publisher.published
+    → IsPrefix lent.roll publisher.roll → IsWithin publisher pass
+is_within publisher pass lent same seen known roll = subst (IsWithin publisher) same (record { seen = seen; known = known; roll = roll })
 
 -- ---- what they wrote down
 
@@ -46,19 +46,19 @@ each_more before after one pushed writable all = subst (Each (Each IsWritableEnt
 
 module _ {L : Type 0} where
   -- these are left of all, and the others were compared
-  abbrev pub Compared : List Edit → List (WorkerFacts L) → List (WorkerFacts L) → Type 0
-  Compared published left all = AreWithin published left → AreWithin published all
+  abbrev pub Compared : PublisherFacts → List (WorkerFacts L) → List (WorkerFacts L) → Type 0
+  Compared publisher left all = AreWithin publisher left → AreWithin publisher all
 
-  pub compared_one : (published : List Edit) (all : List (WorkerFacts L)) (i : ℕ) (worker : WorkerFacts L) → i < length all → worker ≡ get_or all i worker
-      → IsWithin published worker.common.router.pass → Compared published (drop i all) all → Compared published (drop (i + 1) all) all
-  compared_one published all i worker inside is within before =
+  pub compared_one : (publisher : PublisherFacts) (all : List (WorkerFacts L)) (i : ℕ) (worker : WorkerFacts L) → i < length all → worker ≡ get_or all i worker
+      → IsWithin publisher worker.common.router.pass → Compared publisher (drop i all) all → Compared publisher (drop (i + 1) all) all
+  compared_one publisher all i worker inside is within before =
       let left : drop i all ≡ worker ∷ drop (i + 1) all = drop_more all i worker inside ∙ ap (λ (w : WorkerFacts L). w ∷ drop (i + 1) all) (sym is) in
-      let now : Compared published (worker ∷ drop (i + 1) all) all = subst (λ (xs : List (WorkerFacts L)). Compared published xs all) left before in
+      let now : Compared publisher (worker ∷ drop (i + 1) all) all = subst (λ (xs : List (WorkerFacts L)). Compared publisher xs all) left before in
       λ rest. now (within, rest)
 
-  pub all_compared : (published : List Edit) (all : List (WorkerFacts L)) (i : ℕ) → length all ≤ i → Compared published (drop i all) all → AreWithin published all
-  all_compared published all i over before =
-      let now : Compared published [] all = subst (λ (left : List (WorkerFacts L)). Compared published left all) (drop_all i all over) before in
+  pub all_compared : (publisher : PublisherFacts) (all : List (WorkerFacts L)) (i : ℕ) → length all ≤ i → Compared publisher (drop i all) all → AreWithin publisher all
+  all_compared publisher all i over before =
+      let now : Compared publisher [] all = subst (λ (left : List (WorkerFacts L)). Compared publisher left all) (drop_all i all over) before in
       now tt
 
   -- ---- their ends, one after another

@@ -1,6 +1,8 @@
+mod Naming
 mod Sharing
+mod Numbering
 mod Refused
-mod Judged
+mod Written
 mod Doors
 mod Together
 mod Joining

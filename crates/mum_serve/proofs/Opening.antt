@@ -1,37 +1,39 @@
 -- The roles before their first turn, one after another.
-use Rattle.std.proofs.Common.{◌≡◌, ◌∙◌, ℕ, ◌+◌, Bool, List, [], ◌∷◌, ◌++◌, append_assoc, append-nil, length, length-append, Option, None, Some, sym, ap, subst, arith}
-use Rattle.std.specs.List.{AllZip}
-use Rattle.atomic_table.specs.Seated.{TableId}
+use Rattle.std.proofs.Common.{◌≡◌, ◌∙◌, ℕ, ◌+◌, Bool, List, [], ◌∷◌, ◌++◌, append_assoc, append-nil, length, length-append, map, Option, None, Some, sym, ap, subst, arith}
+use Rattle.std.specs.List.{All, AllByRecursion, AllZip}
 use Rattle.mum_control.specs.Facts.{ControlFacts}
 use Rattle.mum_control.specs.Posting.{IsOpened as IsOpenedControl}
-use Rattle.mum_outbox.specs.Calls.{IsNewPass}
-use Rattle.mum_outbox.specs.Facts.{QueueFacts}
+use Rattle.mum_outbox.specs.Calls.{IsNewPass, lower_half}
+use Rattle.mum_outbox.specs.Facts.{QueueFacts, QueueId}
 use Rattle.mum_owner.specs.Facts.{OwnerFacts}
 use Rattle.mum_owner.specs.Opened.{IsOpened}
 use Rattle.mum_published.specs.Calls.{IsFresh, appended}
 use Rattle.mum_published.specs.Facts.{Opening, PassFacts as Pass, PublisherFacts}
 use Rattle.mum_worker.specs.Facts.{WorkerFacts}
-use Rattle.mum_worker.specs.Opening.{HasOpened, JoinsShared}
+use Rattle.mum_router.specs.Offering.{Outs}
+use Rattle.mum_worker.specs.Opening.{HasOpened, IsUnused, JoinsShared}
+use Rattle.mum_worker.proofs.Outs.{new_unused}
 use Rattle.mum_worker.specs.declared.worker.Shared.{Shared}
 use Rattle.mum_serve.specs.Clocks.{ClockFacts, clock_of}
 use Rattle.mum_serve.specs.Stores.{archive_queue}
 use Rattle.mum_serve.specs.Opened.{AreOpenedFrom, ControlBegins, OwnerBegins, WorkerBegins}
 
--- a control owner that was opened over a published state, to which nothing was appended, is new
+-- a control owner that was opened over a published state, to which nothing was appended, and with an empty roll, is new
 pub control_begins : (opening : Opening) (publisher : PublisherFacts) (posts : List QueueFacts) (control : ControlFacts)
-    → publisher.opening ≡ opening → appended publisher ≡ [] → IsOpenedControl publisher posts control → ControlBegins opening control
-control_begins opening publisher posts control of nothing opened =
+    → publisher.opening ≡ opening → appended publisher ≡ [] → publisher.roll ≡ [] → IsOpenedControl publisher posts control → ControlBegins opening control
+control_begins opening publisher posts control of nothing no_login opened =
     let is = ap (λ (k : ControlFacts). k.publisher) opened.others in
     record {
       posts = posts;
       opened = subst (λ (p : PublisherFacts). IsOpenedControl p posts control) (sym is) opened;
       opening_is = ap (λ (p : PublisherFacts). p.opening) is ∙ of;
       nothing = ap (λ (p : PublisherFacts). appended p) is ∙ nothing;
+      no_login = ap (λ (p : PublisherFacts). p.roll) is ∙ no_login;
     }
 
 module _ {D L : Type 0} where
   -- and so is the owner that was opened over it
-  pub owner_begins : (opening : Opening) (control : ControlFacts) (door : D) (clock : ClockFacts) (journal : Bool) (connections : ℕ) (bells : List TableId) (store : Option TableId) (desk : QueueFacts) (owner : OwnerFacts D L)
+  pub owner_begins : (opening : Opening) (control : ControlFacts) (door : D) (clock : ClockFacts) (journal : Bool) (connections : ℕ) (bells : List QueueId) (store : Option QueueId) (desk : QueueFacts) (owner : OwnerFacts D L)
       → ControlBegins opening control → IsOpened control door connections journal bells store owner → IsNewPass desk owner.desk.pass
       → clock_of owner ≡ clock → OwnerBegins opening door clock journal connections owner
   owner_begins opening control door clock journal connections bells store desk owner begins opened new asks =
@@ -47,7 +49,7 @@ module _ {D L : Type 0} where
       }
 
   -- it puts into the queue of the store's bell
-  pub archive_is : (control : ControlFacts) (door : D) (connections : ℕ) (journal : Bool) (bells : List TableId) (store : Option TableId) (owner : OwnerFacts D L) → IsOpened control door connections journal bells store owner → archive_queue owner ≡ store
+  pub archive_is : (control : ControlFacts) (door : D) (connections : ℕ) (journal : Bool) (bells : List QueueId) (store : Option QueueId) (owner : OwnerFacts D L) → IsOpened control door connections journal bells store owner → archive_queue owner ≡ store
   archive_is control door connections journal bells None owner opened = ap (λ (o : OwnerFacts D L). archive_queue o) opened
   archive_is control door connections journal bells (Some queue) owner opened = ap (λ (o : OwnerFacts D L). archive_queue o) opened
 
@@ -65,6 +67,16 @@ module _ {L : Type 0} where
   opened_more opening closings number old new worker many pushed begins all =
       subst (AreOpenedFrom opening closings 0) (sym pushed) (opened_behind opening closings 0 number old worker (omega (arith, many)) all begins)
 
+  among_behind : (count : ℕ) (old : List (WorkerFacts L)) (worker : WorkerFacts L) → worker.workers ≡ count → AllByRecursion (λ (w : WorkerFacts L). w.workers ≡ count) old
+      → AllByRecursion (λ (w : WorkerFacts L). w.workers ≡ count) (old ++ worker ∷ [])
+  among_behind count [] worker is all = (is, tt)
+  among_behind count (one ∷ old) worker is all = (all.0, among_behind count old worker is all.1)
+
+  pub among_more : (count : ℕ) (old new : List (WorkerFacts L)) (worker : WorkerFacts L) → new ≡ old ++ worker ∷ [] → worker.workers ≡ count
+      → AllByRecursion (λ (w : WorkerFacts L). w.workers ≡ count) old → AllByRecursion (λ (w : WorkerFacts L). w.workers ≡ count) new
+  among_more count old new worker pushed is all =
+      subst (AllByRecursion (λ (w : WorkerFacts L). w.workers ≡ count)) (sym pushed) (among_behind count old worker is all)
+
   pub many_more : (number : ℕ) (old new : List (WorkerFacts L)) (worker : WorkerFacts L) → length old ≡ number → new ≡ old ++ worker ∷ [] → length new ≡ number + 1
   many_more number old new worker many pushed =
       let all = ap (λ (ws : List (WorkerFacts L)). length ws) pushed in
@@ -76,7 +88,7 @@ module _ {L N : Type 0} where
   pub worker_begins : (opening : Opening) (pass : Pass) (closings : Option ℕ) (number : ℕ) (one : Shared L N) (worker : WorkerFacts L)
       → IsFresh opening pass → HasOpened number pass closings worker → JoinsShared one worker → WorkerBegins opening closings number worker
   worker_begins opening pass closings number one worker fresh opened joins =
-      record { opened = subst (λ (p : Pass). HasOpened number p closings worker) fresh opened; unused = joins.unused }
+      record { opened = subst (λ (p : Pass). HasOpened number p closings worker) fresh opened; unused = subst (λ (o : Outs). All IsUnused o) (sym joins.outs) (new_unused (map lower_half one.voice.items)) }
 
   -- ---- over what is shared
 

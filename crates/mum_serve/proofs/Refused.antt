@@ -82,7 +82,6 @@ refusal_runs ends.DoorFault counts is = absurd is
 refusal_runs ends.CrewFault counts is = absurd is
 refusal_runs ends.KeeperFault counts is = absurd is
 refusal_runs ends.BadStore counts is = absurd is
-refusal_runs (ends.AuditWrong line given defined) counts is = absurd is
 
 pub refusal_writes : (end : ServerEnd) (faults : ℕ) → IsRefusal end → WritesCounted end faults faults
 refusal_writes (ends.BadConfig code key) faults is = refl
@@ -94,7 +93,6 @@ refusal_writes ends.DoorFault faults is = absurd is
 refusal_writes ends.CrewFault faults is = absurd is
 refusal_writes ends.KeeperFault faults is = absurd is
 refusal_writes ends.BadStore faults is = absurd is
-refusal_writes (ends.AuditWrong line given defined) faults is = absurd is
 
 -- the settings and the accounts of what was read fit alone
 pub settings_alone : (bytes : List ℕ) (r : Result Config BadConfig) → ReadsDescribed bytes r → IfOk r (λ config. FitAfterLimits (settings_and_accounts config.edits))

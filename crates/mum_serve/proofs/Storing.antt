@@ -1,6 +1,6 @@
 -- The store of a server, from its opening to its end.
 use Rattle.std.proofs.Common.{◌≡◌, ◌∙◌, Bool, true, Option, None, Some, is_some, false, refl, sym, ap, subst}
-use Rattle.atomic_table.specs.Seated.{TableId}
+use Rattle.mum_outbox.specs.Facts.{QueueId}
 use Rattle.mum_crew.specs.declared.crew.CrewEnd.{CrewEnd}
 use Rattle.mum_crew.specs.declared.crew.CrewEnd.TheVariants.{Ran, Refused, NoMemory}
 use Rattle.mum_keeper.specs.Keeping.{KeeperFacts}
@@ -15,18 +15,18 @@ use Rattle.mum_serve.specs.Stores.{CameToStore, EndsStore, GivesKeeperBack, HasS
 
 module _ {P : Type 0} where
   -- a store that was opened by a fresh pass, over the queue into which the owner puts
-  pub store_begins : (opening : Opening) (rows : KeptRows) (pass : PassFacts) (keeper : P) (archive : Option TableId) (queue : TableId) (store : StoreFacts P) → pass ≡ fresh_pass opening → archive ≡ Some queue
+  pub store_begins : (opening : Opening) (rows : KeptRows) (pass : PassFacts) (keeper : P) (archive : Option QueueId) (queue : QueueId) (store : StoreFacts P) → pass ≡ fresh_pass opening → archive ≡ Some queue
       → IsOpened pass keeper rows queue store → StoreBegins opening rows keeper archive store
   store_begins opening rows pass keeper archive queue store fresh is opened =
       record { queue = queue; is_archive = is; opened = subst (λ (p : PassFacts). IsOpened p keeper rows queue store) fresh opened }
 
   -- the owner puts into the queue that it was given
-  pub over_archive : (opening : Opening) (rows : Option KeptRows) (keeper : P) (given archive : Option TableId) (store : Option (StoreFacts P)) (unused : Option P) → archive ≡ given → IsStoreOver opening rows keeper given store unused
+  pub over_archive : (opening : Opening) (rows : Option KeptRows) (keeper : P) (given archive : Option QueueId) (store : Option (StoreFacts P)) (unused : Option P) → archive ≡ given → IsStoreOver opening rows keeper given store unused
       → IsStoreOver opening rows keeper archive store unused
-  over_archive opening rows keeper given archive store unused same is = subst (λ (a : Option TableId). IsStoreOver opening rows keeper a store unused) (sym same) is
+  over_archive opening rows keeper given archive store unused same is = subst (λ (a : Option QueueId). IsStoreOver opening rows keeper a store unused) (sym same) is
 
   -- without a store the keeper is kept
-  pub keeper_kept : (opening : Opening) (rows : Option KeptRows) (keeper : P) (archive : Option TableId) (opened store : Option (StoreFacts P)) (unused : Option P) → IsStoreOver opening rows keeper archive opened unused
+  pub keeper_kept : (opening : Opening) (rows : Option KeptRows) (keeper : P) (archive : Option QueueId) (opened store : Option (StoreFacts P)) (unused : Option P) → IsStoreOver opening rows keeper archive opened unused
       → (store ≡ None → opened ≡ None) → is_some store ≡ false → is_some unused ≡ true
   keeper_kept opening rows keeper archive opened (Some store) unused is kept absent = absurd (cc absent)
   keeper_kept opening None keeper archive opened None unused is kept _ = ap (λ (u : Option P). is_some u) is.2
@@ -34,7 +34,7 @@ module _ {P : Type 0} where
   keeper_kept opening (Some rows) keeper archive (Some opened) None unused is kept _ = absurd (let same = kept refl in cc same)
 
   -- where the store made no turn, the keeper that comes back is the one that it was opened over
-  pub keeper_back : (opening : Opening) (rows : Option KeptRows) (keeper : P) (archive : Option TableId) (opened store : Option (StoreFacts P)) (unused : Option P) (left : P)
+  pub keeper_back : (opening : Opening) (rows : Option KeptRows) (keeper : P) (archive : Option QueueId) (opened store : Option (StoreFacts P)) (unused : Option P) (left : P)
       → IsStoreOver opening rows keeper archive opened unused → store ≡ opened → GivesKeeperBack unused store left → left ≡ keeper
   keeper_back opening None keeper archive opened (Some store) unused left is same gives = absurd (let no = same ∙ is.0 in cc no)
   keeper_back opening None keeper archive opened None unused left is same gives = let both = sym gives ∙ is.2 in cc both
@@ -46,7 +46,7 @@ module _ {P : Type 0} where
 
 module _ {P : Type 0} (keeper_facts : P → KeeperFacts) where
   -- a store that turns led from its opening to its end
-  pub has_stored : (opening : Opening) (rows : Option KeptRows) (keeper : P) (archive : Option TableId) (opened store : Option (StoreFacts P)) (unused : Option P) → IsStoreOver opening rows keeper archive opened unused
+  pub has_stored : (opening : Opening) (rows : Option KeptRows) (keeper : P) (archive : Option QueueId) (opened store : Option (StoreFacts P)) (unused : Option P) → IsStoreOver opening rows keeper archive opened unused
       → StoresTurned keeper_facts opened store → ((one : StoreFacts P) → store ≡ Some one → one.ended ≡ true) → HasStored keeper_facts opening rows keeper archive store
   has_stored opening None keeper archive None None unused is turned ended = is.1
   has_stored opening None keeper archive None (Some store) unused is turned ended = absurd turned
@@ -57,7 +57,7 @@ module _ {P : Type 0} (keeper_facts : P → KeeperFacts) where
       record { first = opened; begun = is; turned = turned; ended = ended store refl }
 
   -- what came of the keeper that was not used, or of the store
-  pub store_came : (counted now : KeeperOpening) (opening : Opening) (rows : Option KeptRows) (keeper : P) (archive : Option TableId) (opened store : Option (StoreFacts P)) (unused : Option P) (state : StateValue) (failed no_memory : Bool) (left : P) → counted ≡ now
+  pub store_came : (counted now : KeeperOpening) (opening : Opening) (rows : Option KeptRows) (keeper : P) (archive : Option QueueId) (opened store : Option (StoreFacts P)) (unused : Option P) (state : StateValue) (failed no_memory : Bool) (left : P) → counted ≡ now
       → IsStoreOver opening rows keeper archive opened unused → StoresTurned keeper_facts opened store → CameToStore keeper_facts now state unused store failed no_memory left
       → CameToStore keeper_facts counted state (Some keeper) store failed no_memory left
   store_came counted now opening None keeper archive None None unused state failed no_memory left same is turned came = (came.0, came.1, sym is.2 ∙ came.2)

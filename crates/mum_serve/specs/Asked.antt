@@ -22,6 +22,7 @@ pub record Service : Type 0 where
 abbrev pub view_service : ViewAsked → ViewService
 view_service asked = record { address = asked.address.now; views = asked.views }
 
+-- what a run is asked for, as contracts see it
 abbrev pub service : Asked → Service
 service asked = record {
   address = asked.address.now;
@@ -38,5 +39,6 @@ pub record Lent (D K P : Type 0) : Type 0 where
   pub clock : Option K
   pub keeper : Option P
 
+-- the objects that a run was handed, all there
 abbrev pub lent : {D K P : Type 0} → Objects D K P → Lent D K P
 lent objects = record { door = Some objects.door; view = Some objects.view; clock = Some objects.clock; keeper = Some objects.keeper }

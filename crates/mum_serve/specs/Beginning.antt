@@ -17,6 +17,7 @@ pub record Begins (publisher : PublisherFacts) (asked : Asked) (rows : Option Ke
   pub state : beginning.state ≡ latest publisher
   pub fresh : appended publisher ≡ []
   pub pending : publisher.pending ≡ []
+  pub no_login : publisher.roll ≡ []
   pub proper : IsProper publisher.opening.state
   pub passes : All (IsFresh publisher.opening) beginning.passes.items
   pub one_each : length beginning.passes.items ≡ beginning.workers + passes_for (service asked).view + store_passes rows

@@ -11,6 +11,7 @@ use Rattle.mum_serve.specs.declared.entries.Entries.{Entries}
 abbrev pub per_worker : ℕ → ℕ → ℕ
 per_worker connections workers = connections / workers + min 1 (connections % workers)
 
+-- for how many connections a worker keeps room of a closing entry, where a journal is asked for
 abbrev pub closing_room : Bool → ℕ → ℕ → Option ℕ
 closing_room false connections workers = None
 closing_room true connections workers = Some (per_worker connections workers)

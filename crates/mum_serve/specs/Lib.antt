@@ -3,6 +3,7 @@ pub mod Clocks
 pub mod OneList
 pub mod Opened
 pub mod Queues
+pub mod Numbers
 pub mod Totals
 pub mod Journals
 pub mod Roles

@@ -15,9 +15,6 @@ use Rattle.mum_io.specs.Door.{DoorFacts}
 use Rattle.mum_keeper.specs.Keeping.{KeeperFacts}
 use Rattle.mum_opening.specs.Opening.{described, document_edits, document_fault}
 use Rattle.mum_record.specs.Words.{line_of_words}
-use Rattle.mum_audit.specs.Audit.{audited}
-use Rattle.mum_audit.specs.Legal.{IsLegal}
-use Rattle.mum_audit.specs.declared.audited.Audited.TheVariants.{Wrong}
 use Rattle.mum_record.specs.declared.journal.Journal.{Journal}
 use Rattle.mum_serve.specs.Asked.{Lent, Service}
 use Rattle.mum_serve.specs.Journals.{journal_of, journal_text, where_asked}
@@ -25,7 +22,7 @@ use Rattle.mum_serve.specs.Serving.{RunsCounted, ServesOver}
 use Rattle.mum_serve.specs.declared.entries.Entries.{Entries}
 use Rattle.mum_serve.specs.declared.program.Input.{Input}
 use Rattle.mum_serve.specs.declared.program.ServerEnd.{ServerEnd}
-use Rattle.mum_serve.specs.declared.program.ServerEnd.TheVariants.{Finished, BadConfig, BadStore, ReadFault, WriteFault, DoorFault, CrewFault, KeeperFault, AuditWrong, OutOfMemory}
+use Rattle.mum_serve.specs.declared.program.ServerEnd.TheVariants.{Finished, BadConfig, BadStore, ReadFault, WriteFault, DoorFault, CrewFault, KeeperFault, OutOfMemory}
 use Rattle.mum_serve.specs.declared.server.Served.{Served}
 use Rattle.mum_serve.specs.declared.server.Served.TheVariants.{Whole, KeeperFault as KeeperFails, BadStore as RowsAreBad, DoorFault as DoorStaysShut, CrewFault as CrewIsRefused, OutOfMemory as NothingStarts}
 use Rattle.mum_serve.specs.declared.summary.Summary.{Summary}
@@ -83,10 +80,9 @@ abbrev pub WritesCounted : ServerEnd → ℕ → ℕ → Type 0
 WritesCounted WriteFault old new = Rose old new
 WritesCounted others old new = new ≡ old
 
--- a run that wrote, or whose journal was wrong, was one of the crew, and a crew that did not start counted that
+-- a run that wrote was one of the crew, and a crew that did not start counted that
 abbrev pub RunsInCrew : ServerEnd → CrewCounts → CrewCounts → Type 0
 RunsInCrew Finished old new = Rose old.runs new.runs
-RunsInCrew (AuditWrong line given defined) old new = Rose old.runs new.runs
 RunsInCrew WriteFault old new = Rose old.runs new.runs
 RunsInCrew CrewFault old new = Rose old.refused new.refused
 RunsInCrew others old new = ⊤
@@ -135,27 +131,10 @@ WritesText text summary WriteFault old new = AppendsFront old new text
 WritesText text summary OutOfMemory old new = Keeps old new ⊎ ((summary.no_memory ≡ true) × Appends old new text)
 WritesText text summary others old new = ⊥
 
--- the text of a legal journal that was made, or the first wrong line of another, or memory ran out
-abbrev pub GivesText : Journal → Result (List ℕ) ServerEnd → Type 0
-GivesText journal (Ok text) = IsLegal journal × (text ≡ journal_text journal)
-GivesText journal (Err (AuditWrong line given defined)) = audited journal ≡ Wrong line given defined
-GivesText journal (Err OutOfMemory) = ⊤
-GivesText journal (Err others) = ⊥
-
--- a journal is written whole where it is legal, and then the last lines; of another its first wrong line is named, and
--- nothing is written
-abbrev pub WritesJournal : Journal → Summary → ServerEnd → Option (List ℕ) → Option (List ℕ) → Type 0
-WritesJournal journal summary (AuditWrong line given defined) old new =
-    (audited journal ≡ Wrong line given defined) × Keeps old new
-WritesJournal journal summary OutOfMemory old new =
-    Keeps old new ⊎ (IsLegal journal × (summary.no_memory ≡ true) × Appends old new (journal_text journal ++ last_lines summary))
-WritesJournal journal summary end old new =
-    IsLegal journal × WritesText (journal_text journal ++ last_lines summary) summary end old new
-
--- the journal, where one was made, and the last lines
-abbrev pub WritesAll : Option Journal → Summary → ServerEnd → Option (List ℕ) → Option (List ℕ) → Type 0
-WritesAll (Some journal) summary end old new = WritesJournal journal summary end old new
-WritesAll None summary end old new = WritesText (last_lines summary) summary end old new
+-- what is written of a run that came to its end: the journal, where one was made, and the last lines
+abbrev pub text_of : Option Journal → Summary → List ℕ
+text_of (Some journal) summary = journal_text journal ++ last_lines summary
+text_of None summary = last_lines summary
 
 -- ---- how it ends
 
@@ -167,7 +146,7 @@ module _ {D K P L : Type 0} (facts : L → LinkFacts) (door_facts : D → DoorFa
     pub entries : Entries
     pub serves : ServesOver facts door_facts last calls keeper_facts (document_edits input.document) asked input.config.workers objects (Whole summary entries) left
     pub ran : RunCounts Ran crew crew_after
-    pub writes : WritesAll (where_asked asked.journal (journal_of input.config.workers input.document entries)) summary end old new
+    pub writes : WritesText (text_of (where_asked asked.journal (journal_of input.config.workers input.document entries)) summary) summary end old new
 
   -- nobody was served, which is what it came to, and nothing is written
   pub record ServesNobody (asked : Service) (input : Input) (served : Served) (objects left : Lent D K P) (old new : Option (List ℕ)) (crew crew_after : CrewCounts) : Type 0 where

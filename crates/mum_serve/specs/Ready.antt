@@ -74,9 +74,9 @@ module _ {D K P G N R L : Type 0} (door_facts : D → DoorFacts) (last calls : K
     pub store_came : EndsStore keeper_facts end keeper (current owner.control) unused.keeper store summary.keeper_failed starved left.keeper
     pub memory : summary.no_memory ≡ ((ran_out owner crew || viewer_memory viewer) || starved)
     pub failed : summary.door_failed ≡ (owner.doorway.failed || viewer_failed viewer)
-    pub one_list : AreWithin owner.control.publisher.published crew
-    pub views_of_it : SeesWithin owner.control.publisher.published viewer
-    pub kept_of_it : KeepsWithin owner.control.publisher.published store
+    pub one_list : AreWithin owner.control.publisher crew
+    pub views_of_it : SeesWithin owner.control.publisher viewer
+    pub kept_of_it : KeepsWithin owner.control.publisher store
     pub clock_back : clock_at last calls left.clock ≡ clock_of owner
 
 -- how a server ends whose roles a crew was given

@@ -12,14 +12,16 @@ use Rattle.mum_worker.specs.Turning.{WorkerTurned}
 use Rattle.mum_serve.specs.Clocks.{ClockFacts}
 use Rattle.mum_serve.specs.Joined.{AreJoinedTo}
 use Rattle.mum_serve.specs.Journals.{closing_room}
+use Rattle.mum_serve.specs.Numbers.{AreNumbered}
 use Rattle.mum_serve.specs.Opened.{AreOpened, OwnerBegins}
 
 module _ {D L : Type 0} where
-  -- an owner and workers that are new, joined by their queues
+  -- an owner and workers that are new, joined by their queues, with passes that have numbers of their own
   pub record HaveBegun (opening : Opening) (door : D) (clock : ClockFacts) (journal : Bool) (connections workers : ℕ) (owner : OwnerFacts D L) (crew : List (WorkerFacts L)) : Type 0 where
     pub owner_begins : OwnerBegins opening door clock journal connections owner
     pub crew_begins : AreOpened opening (closing_room journal connections workers) workers crew
     pub joined : AreJoinedTo owner crew
+    pub numbered : AreNumbered owner crew
 
 module _ {D L : Type 0} (facts : L → LinkFacts) (door_facts : D → DoorFacts) where
   -- they were opened so, and turns of its own led each of them to what it is

@@ -119,9 +119,9 @@ module _ {D K P L : Type 0} (facts : L → LinkFacts) (door_facts : D → DoorFa
     pub store_came : CameToStore keeper_facts (opening_of (keeper_facts opened.keeper)) (current owner.control) (Some opened.keeper) store summary.keeper_failed starved left.keeper
     pub memory : summary.no_memory ≡ ((ran_out owner crew || viewer_memory viewer) || starved)
     pub failed : summary.door_failed ≡ (owner.doorway.failed || viewer_failed viewer)
-    pub one_list : AreWithin owner.control.publisher.published crew
-    pub views_of_it : SeesWithin owner.control.publisher.published viewer
-    pub kept_of_it : KeepsWithin owner.control.publisher.published store
+    pub one_list : AreWithin owner.control.publisher crew
+    pub views_of_it : SeesWithin owner.control.publisher viewer
+    pub kept_of_it : KeepsWithin owner.control.publisher store
     pub clock_back : clock_at last calls left.clock ≡ clock_of owner
 
   -- where all were served, the roles have run, and else the doors and the keeper are as they were

@@ -1,7 +1,7 @@
 -- The store of a server, where channels are kept, and what it came to.
 use Rattle.std.specs.Option.{option_map, option_map_or}
-use Rattle.std.specs.Prelude.{◌≡◌, ⊤, ℕ, Bool, true, false, List, IfSome, Option, Some, None}
-use Rattle.atomic_table.specs.Seated.{TableId}
+use Rattle.std.specs.Prelude.{◌≡◌, ⊤, ℕ, Bool, true, false, IfSome, Option, Some, None}
+use Rattle.mum_outbox.specs.Facts.{QueueId}
 use Rattle.mum_crew.specs.Turns.{TurnsLead}
 use Rattle.mum_crew.specs.declared.crew.CrewEnd.{CrewEnd}
 use Rattle.mum_crew.specs.declared.crew.CrewEnd.TheVariants.{Ran}
@@ -13,9 +13,8 @@ use Rattle.mum_keeper.specs.declared.keeper.KeepEnd.{KeepEnd}
 use Rattle.mum_keeper.specs.declared.naming.KeeperOpening.{KeeperOpening}
 use Rattle.mum_kept.specs.declared.rows.KeptRows.{KeptRows}
 use Rattle.mum_owner.specs.Facts.{OwnerFacts}
-use Rattle.mum_published.specs.Facts.{Opening}
+use Rattle.mum_published.specs.Facts.{Opening, PublisherFacts}
 use Rattle.mum_state.specs.State.{StateValue}
-use Rattle.mum_state.specs.declared.edit.Edit.{Edit}
 use Rattle.mum_serve.specs.OneList.{IsWithin}
 use Rattle.mum_serve.specs.Opened.{fresh_pass}
 
@@ -24,26 +23,26 @@ abbrev pub store_passes : Option KeptRows → ℕ
 store_passes rows = option_map_or (λ one. 1) rows 0
 
 -- the queue into which an owner puts what is for the store, if there is one
-abbrev pub archive_queue : {D L : Type 0} → OwnerFacts D L → Option TableId
+abbrev pub archive_queue : {D L : Type 0} → OwnerFacts D L → Option QueueId
 archive_queue owner = option_map (λ (side : ArchiveFacts). side.queue) owner.archive
 
 module _ {P : Type 0} where
   -- a store is new, over this keeper that gave these rows, and takes from the queue into which the owner puts
-  pub record StoreBegins (opening : Opening) (rows : KeptRows) (keeper : P) (archive : Option TableId) (store : StoreFacts P) : Type 0 where
-    pub queue : TableId
+  pub record StoreBegins (opening : Opening) (rows : KeptRows) (keeper : P) (archive : Option QueueId) (store : StoreFacts P) : Type 0 where
+    pub queue : QueueId
     pub is_archive : archive ≡ Some queue
     pub opened : IsOpened (fresh_pass opening) keeper rows queue store
 
   -- a store was opened over this keeper where rows were loaded; and else the owner puts into no queue for one, and the keeper
   -- is not used
-  abbrev pub IsStoreOver : Opening → Option KeptRows → P → Option TableId → Option (StoreFacts P) → Option P → Type 0
+  abbrev pub IsStoreOver : Opening → Option KeptRows → P → Option QueueId → Option (StoreFacts P) → Option P → Type 0
   IsStoreOver opening None keeper archive store unused = (store ≡ None) × (archive ≡ None) × (unused ≡ Some keeper)
   IsStoreOver opening (Some rows) keeper archive None unused = ⊥
   IsStoreOver opening (Some rows) keeper archive (Some store) unused = StoreBegins opening rows keeper archive store
 
-  -- what the store saw and learnt begins what was published
-  abbrev pub KeepsWithin : List Edit → Option (StoreFacts P) → Type 0
-  KeepsWithin published store = IfSome store (λ one. IsWithin published one.pass)
+  -- what the store saw and learnt begins what was published and accepted
+  abbrev pub KeepsWithin : PublisherFacts → Option (StoreFacts P) → Type 0
+  KeepsWithin publisher store = IfSome store (λ one. IsWithin publisher one.pass)
 
   -- a store that made no turn leaves its keeper as it was
   abbrev pub GivesKeeperBack : Option P → Option (StoreFacts P) → P → Type 0
@@ -63,14 +62,14 @@ module _ {P : Type 0} (keeper_facts : P → KeeperFacts) where
   StoresTurned (Some old) (Some new) = TurnsLead (StoreTurned keeper_facts) old new
 
   -- a store was opened so, and turns of its own led it to its end
-  pub record HasKept (opening : Opening) (rows : KeptRows) (keeper : P) (archive : Option TableId) (store : StoreFacts P) : Type 0 where
+  pub record HasKept (opening : Opening) (rows : KeptRows) (keeper : P) (archive : Option QueueId) (store : StoreFacts P) : Type 0 where
     pub first : StoreFacts P
     pub begun : StoreBegins opening rows keeper archive first
     pub turned : TurnsLead (StoreTurned keeper_facts) first store
     pub ended : store.ended ≡ true
 
   -- there was a store exactly where rows were loaded
-  abbrev pub HasStored : Opening → Option KeptRows → P → Option TableId → Option (StoreFacts P) → Type 0
+  abbrev pub HasStored : Opening → Option KeptRows → P → Option QueueId → Option (StoreFacts P) → Type 0
   HasStored opening None keeper archive None = archive ≡ None
   HasStored opening None keeper archive (Some store) = ⊥
   HasStored opening (Some rows) keeper archive None = ⊥

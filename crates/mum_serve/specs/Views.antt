@@ -1,14 +1,13 @@
 -- The views of a server: the viewer, where a second door is asked for, and what it came to.
 use Rattle.std.specs.Option.{option_map_or}
-use Rattle.std.specs.Prelude.{◌≡◌, ⊤, ℕ, Bool, true, false, List, length, IfSome, Option, Some, None}
+use Rattle.std.specs.Prelude.{◌≡◌, ⊤, ℕ, Bool, true, false, length, IfSome, Option, Some, None}
 use Rattle.std.specs.List.{AllByRecursion}
 use Rattle.mum_crew.specs.Turns.{TurnsLead}
 use Rattle.mum_doorway.specs.Doors.{IsSince, given_after_all}
 use Rattle.mum_doorway.specs.declared.opening.DoorOpening.{DoorOpening}
 use Rattle.mum_io.specs.Door.{DoorFacts}
 use Rattle.mum_io.specs.Link.{LinkFacts}
-use Rattle.mum_published.specs.Facts.{Opening}
-use Rattle.mum_state.specs.declared.edit.Edit.{Edit}
+use Rattle.mum_published.specs.Facts.{Opening, PublisherFacts}
 use Rattle.mum_viewer.specs.Look.{IsViewAsk}
 use Rattle.mum_viewer.specs.Viewer.{IsOpened, ViewerFacts, ViewerTurned, has_ended}
 use Rattle.mum_serve.specs.Asked.{ViewService}
@@ -34,9 +33,9 @@ module _ {D L : Type 0} where
   IsViewDoor opening (Some asked) door None unused = ⊥
   IsViewDoor opening (Some asked) door (Some viewer) unused = IsOpened (fresh_pass opening) door asked.views viewer
 
-  -- what the viewer saw and learnt begins what was published
-  abbrev pub SeesWithin : List Edit → Option (ViewerFacts D L) → Type 0
-  SeesWithin published viewer = IfSome viewer (λ one. IsWithin published one.views.pass)
+  -- what the viewer saw and learnt begins what was published and accepted
+  abbrev pub SeesWithin : PublisherFacts → Option (ViewerFacts D L) → Type 0
+  SeesWithin publisher viewer = IfSome viewer (λ one. IsWithin publisher one.views.pass)
 
 module _ {D L : Type 0} (facts : L → LinkFacts) (door_facts : D → DoorFacts) where
   -- turns of its own led each viewer to what it is

@@ -45,7 +45,7 @@ fn compare<D: Entrance, K: Clock, G: Gate, N: Serving, R: Wait + Copy>(
     owner: &Owner<'_, D, K, N, R>,
     workers: &[Worker<D::Peer, G, N, R>],
 )
-    ensures { AreWithin owner.now.control.publisher.published workers.now }
+    ensures { AreWithin owner.now.control.publisher workers.now }
 {
     for worker in workers {
         owner.has_shown(worker.pass());
@@ -57,7 +57,7 @@ fn compare_views<D: Entrance, K: Clock, N: Serving + Viewing, R: Wait + Copy>(
     owner: &Owner<'_, D, K, N, R>,
     viewer: &Option<Viewer<D, N, R>>,
 )
-    ensures { SeesWithin owner.now.control.publisher.published viewer.now }
+    ensures { SeesWithin owner.now.control.publisher viewer.now }
 {
     if let Some(viewer) = viewer {
         owner.has_shown(viewer.pass());
@@ -69,7 +69,7 @@ fn compare_store<D: Entrance, K: Clock, P: Keeper, N: Serving + Keeping, R: Wait
     owner: &Owner<'_, D, K, N, R>,
     store: &Option<Store<P, N, R>>,
 )
-    ensures { KeepsWithin owner.now.control.publisher.published store.now }
+    ensures { KeepsWithin owner.now.control.publisher store.now }
 {
     if let Some(store) = store {
         owner.has_shown(store.pass());
@@ -129,10 +129,10 @@ pub(crate) fn collect<
         roles.entry.viewer) || starved)) }
     ensures failed { result.summary.door_failed ≡ (roles.entry.owner.doorway.failed || viewer_failed
         roles.entry.viewer) }
-    ensures one_list { AreWithin roles.entry.owner.control.publisher.published roles.entry.workers.items }
+    ensures one_list { AreWithin roles.entry.owner.control.publisher roles.entry.workers.items }
     ensures clock { clock_at K.last K.calls result.objects.clock ≡ clock_of roles.entry.owner }
-    ensures views_of_it { SeesWithin roles.entry.owner.control.publisher.published roles.entry.viewer }
-    ensures kept_of_it { KeepsWithin roles.entry.owner.control.publisher.published roles.entry.store }
+    ensures views_of_it { SeesWithin roles.entry.owner.control.publisher roles.entry.viewer }
+    ensures kept_of_it { KeepsWithin roles.entry.owner.control.publisher roles.entry.store }
 {
     let Parted {
         owner,

@@ -6,7 +6,6 @@
 pub mod asked;
 mod collect;
 pub mod entries;
-mod judge;
 mod later;
 mod load;
 pub mod program;

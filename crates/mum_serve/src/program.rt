@@ -1,21 +1,19 @@
 //! A run of the program that serves: from the configuration that the input is to the line of the totals.
 
-ghost use Rattle.std.specs.Prelude.{◌≡◌, ◌<◌, ◌≤◌, ◌++◌, ℕ, IfErr, IfOk, IfSome, IsTrue, None, is_some, length};
+ghost use Rattle.std.specs.Prelude.{◌≡◌, ◌<◌, ◌≤◌, ◌++◌, ℕ, IfErr, IfOk, IfSome, IsTrue, is_some, length};
 ghost use Rattle.std.specs.Prelude.{string_bytes, true};
-ghost use Rattle.mum_audit.specs.Audit.{IsAuditable};
 ghost use Rattle.mum_config.specs.Limits.{FitAfterLimits, settings_and_accounts};
-ghost use Rattle.mum_opening.specs.Opening.{document_fault};
+ghost use Rattle.mum_record.specs.Journal.{IsWritableJournal};
 ghost use Rattle.mum_serve.specs.Asked.{service};
-ghost use Rattle.mum_serve.specs.Journals.{AreWritable, journal_of, where_asked};
+ghost use Rattle.mum_serve.specs.Journals.{AreWritable, journal_of, journal_text, where_asked};
 ghost use Rattle.mum_serve.specs.Program.{Describes, DescribesConfig, EndsAt, EndsWith, IsRefusal, ReadsCounted};
-ghost use Rattle.mum_serve.specs.Program.{RunsInCrew, Says, WritesAll, WritesCounted, WritesJournal, WritesText};
-ghost use Rattle.mum_serve.specs.Program.{last_lines, refusal, served_line, written_of};
+ghost use Rattle.mum_serve.specs.Program.{RunsInCrew, Says, WritesCounted, WritesText};
+ghost use Rattle.mum_serve.specs.Program.{last_lines, refusal, served_line, text_of, written_of};
 ghost use Rattle.mum_state.specs.After.{all_fit};
 ghost use Rattle.mum_state.specs.State.{empty_state};
 
 use crate::asked::Asked;
 use crate::entries::{Entries, journal_of};
-use crate::judge::legal_text;
 use crate::server::{Served, serve};
 use crate::summary::Summary;
 use crate::totals::Totals;
@@ -25,7 +23,7 @@ use mum_crew::Crew;
 use mum_io::{Clock, Door, ReadFault, Sink, Source, read_up_to, write_all};
 use mum_keeper::Keeper;
 use mum_opening::read_document;
-use mum_record::{Journal, Word, push_line};
+use mum_record::{Journal, Word, push_line, write_journal};
 use std::alloc::Global;
 use std::mem::drop;
 use std::sync::Wait;
@@ -36,10 +34,7 @@ pub enum ServerEnd {
     /// All connections were served to their ends. The journal, where one was asked for, and the last lines are written.
     Finished,
     /// The configuration has this first fault, by its number. Nothing was opened or written.
-    BadConfig {
-        code: u8,
-        key: Text,
-    },
+    BadConfig { code: u8, key: Text },
     /// The rows of the keeper are not those of channels that a server may have. No door was opened, and nothing is written.
     BadStore,
     /// The input failed. Nothing was opened or written.
@@ -52,12 +47,6 @@ pub enum ServerEnd {
     CrewFault,
     /// A call of the keeper failed: before any door was opened; or later, and the last lines are written.
     KeeperFault,
-    /// The journal has this first wrong line: what it says, and what it had to say. Nothing is written.
-    AuditWrong {
-        line: u64,
-        given: Text,
-        defined: Text,
-    },
     /// Memory ran out: before the run, or on the way, where the last lines are written.
     OutOfMemory,
 }
@@ -203,20 +192,20 @@ fn write_behind<O: Sink>(text: &[u8], lines: &[u8], summary: &Summary, output: &
     written(summary)
 }
 
-// Writes a journal that its audit finds legal, and the last lines. All text is made before any is written.
+// Writes a journal, and the last lines. All text is made before any is written.
 fn write_journal_and_last<O: Sink>(
     alloc: Global,
     journal: &Journal,
     summary: &Summary,
     output: &mut O,
 ) -> ServerEnd
-    requires { IsAuditable journal.now }
-    ensures writes { WritesJournal journal.now summary.now result (O.written output.old) (O.written output.new) }
+    requires { IsWritableJournal journal.now }
+    ensures writes { WritesText (journal_text journal.now ++ last_lines summary.now) summary.now result
+        (O.written output.old) (O.written output.new) }
     ensures counts { WritesCounted result (O.faults output.old) (O.faults output.new) }
 {
-    let text = match legal_text(alloc, journal) {
-        Ok(text) => text,
-        Err(end) => return end,
+    let Ok(text) = write_journal(alloc, journal) else {
+        return ServerEnd::OutOfMemory;
     };
     let Ok(lines) = last_lines(alloc, summary) else {
         return ServerEnd::OutOfMemory;
@@ -229,9 +218,8 @@ fn journal_asked(journal: bool, workers: u8, document: Octets, entries: Entries)
     requires workers { (1 ≤ workers) × (workers ≤ 8) }
     requires lists { length entries.by_worker ≡ workers }
     requires writable { AreWritable entries }
-    requires faultless { document_fault document ≡ None }
     ensures journal { result ≡ where_asked journal (journal_of workers document entries) }
-    ensures auditable { IfSome result IsAuditable }
+    ensures writable { IfSome result IsWritableJournal }
 {
     if journal {
         return Some(journal_of(workers, document, entries));
@@ -248,8 +236,9 @@ fn write_out<O: Sink>(
     summary: &Summary,
     output: &mut O,
 ) -> ServerEnd
-    requires { IfSome journal IsAuditable }
-    ensures writes { WritesAll journal summary.now result (O.written output.old) (O.written output.new) }
+    requires { IfSome journal IsWritableJournal }
+    ensures writes { WritesText (text_of journal summary.now) summary.now result (O.written output.old)
+        (O.written output.new) }
     ensures counts { WritesCounted result (O.faults output.old) (O.faults output.new) }
 {
     match journal {

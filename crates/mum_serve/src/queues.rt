@@ -1,9 +1,11 @@
 //! The queues between the roles of a server.
 
-ghost use Rattle.std.specs.Prelude.{◌≡◌, ◌+◌, ◌<◌, [], ◌∷◌, ◌++◌, IfOk, OnErr, OnOk, length};
-ghost use Rattle.std.specs.List.{All, AllByRecursion};
+ghost use Rattle.std.specs.Prelude.{◌≡◌, ◌+◌, ◌<◌, ◌≤◌, [], ◌∷◌, ◌++◌, IfOk, OnErr, OnOk, length, map};
+ghost use Rattle.std.specs.List.{All};
 ghost use Rattle.mum_base.specs.declared.number.TheConstants.{SLOTS};
-ghost use Rattle.mum_serve.specs.Queues.{AreFor, HasBoxes, SharesQueues, bells_of};
+ghost use Rattle.mum_outbox.specs.Calls.{HasNumbers, lower_half, upper_half};
+ghost use Rattle.mum_outbox.specs.declared.rule.TheConstants.{LAST};
+ghost use Rattle.mum_serve.specs.Queues.{AreFor, AreNamedFrom, HaveShared, SharesHalf};
 ghost use Rattle.mum_worker.specs.Boxes.{queues as queues_of};
 
 use mum_base::{OutOfMemory, SLOTS};
@@ -25,17 +27,20 @@ pub struct Queues<L, N: Naming> {
     pub shared: Vec<Shared<L, N>>,
 }
 
-// Adds a box for each slot.
+// Adds a box for each slot, whose name is the number of the slot.
 fn add_boxes<I: Drop, const CAPACITY: usize>(
     alloc: Global,
     boxes: &mut Vec<Queue<I, CAPACITY>>,
 ) -> Result<(), OutOfMemory>
     requires capacity { 0 < CAPACITY }
     requires none { boxes.old.items ≡ [] }
-    ensures { OnOk result (length boxes.new.items ≡ SLOTS) }
+    ensures many { OnOk result (length boxes.new.items ≡ SLOTS) }
+    ensures names { OnOk result (AreNamedFrom 0 (queues_of boxes.new.items)) }
+    ensures numbers { OnOk result (All (HasNumbers LAST) boxes.new.items) }
 {
-    'boxes: for _slot in 0..SLOTS {
-        boxes.push(Queue::new(alloc)?)?;
+    'boxes: for slot in 0..SLOTS {
+        let queue = Queue::named(alloc, slot as u32)?;
+        boxes.push(queue)?;
     }
     Ok(())
 }
@@ -45,7 +50,9 @@ fn boxes<I: Drop, const CAPACITY: usize>(
     alloc: Global,
 ) -> Result<Vec<Queue<I, CAPACITY>>, OutOfMemory>
     requires { 0 < CAPACITY }
-    ensures { IfOk result (λ boxes. length boxes.items ≡ SLOTS) }
+    ensures many { IfOk result (λ boxes. length boxes.items ≡ SLOTS) }
+    ensures names { IfOk result (λ boxes. AreNamedFrom 0 (queues_of boxes.items)) }
+    ensures numbers { IfOk result (λ boxes. All (HasNumbers LAST) boxes.items) }
 {
     let mut boxes = Vec::new(alloc);
     match add_boxes(alloc, &mut boxes) {
@@ -79,10 +86,10 @@ fn share_boxes(
     voices: Vec<VoiceBox>,
     posts: Vec<PostBox>,
 ) -> Result<SharedBoxes, OutOfMemory>
-    ensures voices { IfOk result (λ boxes. queues_of boxes.voices.items ≡ queues_of voices.items) }
-    ensures posts { IfOk result (λ boxes. queues_of boxes.posts.items ≡ queues_of posts.items) }
-    ensures voice { IfOk result (λ boxes. queues_of boxes.voice.items ≡ queues_of voices.items) }
-    ensures post { IfOk result (λ boxes. queues_of boxes.post.items ≡ queues_of posts.items) }
+    ensures voices { IfOk result (λ boxes. boxes.voices.items ≡ map lower_half voices.items) }
+    ensures posts { IfOk result (λ boxes. boxes.posts.items ≡ map lower_half posts.items) }
+    ensures voice { IfOk result (λ boxes. boxes.voice.items ≡ map upper_half voices.items) }
+    ensures post { IfOk result (λ boxes. boxes.post.items ≡ map upper_half posts.items) }
 {
     let (voices, voice) = match share_each(alloc, voices) {
         Ok(both) => both,
@@ -112,17 +119,7 @@ fn share<L: Drop, N: Naming>(
     ends: Ends,
     bell: Bell<BellItem<L, N>>,
 ) -> Result<(Ends, Shared<L, N>), OutOfMemory>
-    requires voices { length ends.voices.items ≡ SLOTS }
-    requires posts { length ends.posts.items ≡ SLOTS }
-    ensures voices { IfOk result (λ both. length both.0.voices.items ≡ SLOTS) }
-    ensures posts { IfOk result (λ both. length both.0.posts.items ≡ SLOTS) }
-    ensures boxes { IfOk result (λ both. HasBoxes both.1) }
-    ensures same_voices { IfOk result (λ both. queues_of both.0.voices.items ≡ queues_of ends.voices.items) }
-    ensures same_posts { IfOk result (λ both. queues_of both.0.posts.items ≡ queues_of ends.posts.items) }
-    ensures same_desk { IfOk result (λ both. both.0.desk.queue ≡ ends.desk.queue) }
-    ensures shared { IfOk result (λ both.
-        SharesQueues (queues_of ends.posts.items) (queues_of ends.voices.items) ends.desk.queue both.1) }
-    ensures bell { IfOk result (λ both. both.1.bell.queue ≡ bell.queue) }
+    ensures { IfOk result (λ both. SharesHalf ends both.0 bell both.1) }
 {
     let Ends {
         voices,
@@ -169,11 +166,12 @@ fn share<L: Drop, N: Naming>(
     }
 }
 
-/// A bell, twice.
-pub(crate) fn new_bell<I: Drop>(alloc: Global) -> Result<(Bell<I>, Bell<I>), OutOfMemory>
-    ensures { IfOk result (λ both. both.1.queue ≡ both.0.queue) }
+/// A bell of this name, twice.
+pub(crate) fn new_bell<I: Drop>(alloc: Global, name: u32) -> Result<(Bell<I>, Bell<I>), OutOfMemory>
+    ensures same { IfOk result (λ both. both.1.queue ≡ both.0.queue) }
+    ensures name { IfOk result (λ both. both.0.queue.name ≡ name) }
 {
-    let mut bell = Bell::new(alloc)?;
+    let mut bell = Bell::named(alloc, name)?;
     match bell.share() {
         Ok(end) => Ok((bell, end)),
         Err(error) => {
@@ -204,30 +202,19 @@ fn push_both<A: Drop, B: Drop>(
     }
 }
 
-// One bell more, and what its worker shares.
+// One bell more, and what its worker shares. The bell has the number of the worker for its name.
 fn add_worker<L: Drop, N: Naming>(
     alloc: Global,
+    worker: u8,
     ends: Ends,
     bells: &mut Vec<Bell<BellItem<L, N>>>,
     shared: &mut Vec<Shared<L, N>>,
 ) -> Result<Ends, OutOfMemory>
-    requires voices { length ends.voices.items ≡ SLOTS }
-    requires posts { length ends.posts.items ≡ SLOTS }
-    requires boxes { All HasBoxes shared.old.items }
-    requires shared { AllByRecursion (SharesQueues (queues_of ends.posts.items) (queues_of ends.voices.items)
-        ends.desk.queue) shared.old.items }
-    requires bells { bells_of shared.old.items ≡ queues_of bells.old.items }
-    ensures voices { IfOk result (λ ends. length ends.voices.items ≡ SLOTS) }
-    ensures posts { IfOk result (λ ends. length ends.posts.items ≡ SLOTS) }
-    ensures boxes { All HasBoxes shared.new.items }
-    ensures shared { IfOk result (λ ends.
-        AllByRecursion (SharesQueues (queues_of ends.posts.items) (queues_of ends.voices.items) ends.desk.queue)
-        shared.new.items) }
-    ensures bells { OnOk result (bells_of shared.new.items ≡ queues_of bells.new.items) }
-    ensures one_bell { OnOk result (length bells.new.items ≡ length bells.old.items + 1) }
-    ensures one_more { OnOk result (length shared.new.items ≡ length shared.old.items + 1) }
+    requires few { worker < 8 }
+    requires shared { HaveShared worker ends bells.old.items shared.old.items }
+    ensures { IfOk result (λ ends. HaveShared (worker + 1) ends bells.new.items shared.new.items) }
 {
-    let (bell, end) = match new_bell(alloc) {
+    let (bell, end) = match new_bell(alloc, u32::from(worker)) {
         Ok(both) => both,
         Err(error) => {
             drop(ends);
@@ -253,18 +240,22 @@ fn add_worker<L: Drop, N: Naming>(
 impl<L: Drop, N: Naming> Queues<L, N> {
     /// Empty queues for this many workers: two boxes for each slot, a desk, and a bell for each worker. All workers
     /// share the boxes and the desk, and each has the bell at its place.
-    pub(crate) fn new(alloc: Global, workers: usize) -> Result<Queues<L, N>, OutOfMemory>
+    pub(crate) fn new(alloc: Global, workers: u8) -> Result<Queues<L, N>, OutOfMemory>
+        requires { workers ≤ 8 }
         ensures { IfOk result (AreFor workers) }
     {
+        let voices = boxes(alloc)?;
+        let posts = boxes(alloc)?;
+        let desk = Desk::new(alloc)?;
         let mut ends = Ends {
-            voices: boxes(alloc)?,
-            posts: boxes(alloc)?,
-            desk: Desk::new(alloc)?,
+            voices,
+            posts,
+            desk,
         };
         let mut bells = Vec::new(alloc);
         let mut shared = Vec::new(alloc);
-        'workers: for _worker in 0..workers {
-            ends = add_worker(alloc, ends, &mut bells, &mut shared)?;
+        'workers: for worker in 0..workers {
+            ends = add_worker(alloc, worker, ends, &mut bells, &mut shared)?;
         }
         let Ends { posts, desk, .. } = ends;
         Ok(Queues {

@@ -1,11 +1,13 @@
 //! The roles of a server before their first turn.
 
-ghost use Rattle.std.specs.Prelude.{◌≡◌, ◌<◌, [], IfErr, IfOk, length};
+ghost use Rattle.std.specs.Prelude.{◌≡◌, ◌<◌, ◌≤◌, [], IfErr, IfOk, length};
 ghost use Rattle.std.specs.List.{All, AllZip};
 ghost use Rattle.mum_keeper.specs.Archive.{queue_of};
+ghost use Rattle.mum_outbox.specs.Calls.{HasNumbers};
 ghost use Rattle.mum_published.specs.Calls.{IsFresh, appended, latest};
 ghost use Rattle.mum_serve.specs.Clocks.{clock_at};
 ghost use Rattle.mum_serve.specs.Joined.{post_queues};
+ghost use Rattle.mum_serve.specs.Numbers.{HasOwnNumber};
 ghost use Rattle.mum_serve.specs.Opened.{AreOpened, ControlBegins};
 ghost use Rattle.mum_serve.specs.Queues.{AreShared, HasBoxes};
 ghost use Rattle.mum_serve.specs.Running.{HaveBegun};
@@ -69,18 +71,22 @@ fn make_parts<'a, L: Drop, N: Naming>(
     alloc: Global,
     publisher: &'a mut Publisher,
     state: State,
-    workers: usize,
+    workers: u8,
 ) -> Result<Parts<'a, L, N>, OutOfMemory>
     requires opening { publisher.old.opening ≡ N.opening }
     requires state { state ≡ latest publisher.old }
     requires fresh { appended publisher.old ≡ [] }
     requires pending { publisher.old.pending ≡ [] }
+    requires no_login { publisher.old.roll ≡ [] }
+    requires few { workers ≤ 8 }
     ensures control { IfOk result (λ parts. ControlBegins N.opening parts.control) }
     ensures bells { IfOk result (λ parts. length parts.bells.items ≡ workers) }
     ensures shared { IfOk result (λ parts. length parts.shared.items ≡ workers) }
     ensures boxes { IfOk result (λ parts. All HasBoxes parts.shared.items) }
     ensures joined { IfOk result (λ parts.
         AreShared (post_queues parts.control.posts) parts.desk.queue (queues_of parts.bells.items) parts.shared.items) }
+    ensures posts { IfOk result (λ parts. All HasOwnNumber parts.control.posts) }
+    ensures desk { IfOk result (λ parts. HasNumbers 1 parts.desk) }
 {
     let Ok(queues) = Queues::new(alloc, workers) else {
         drop(state);
@@ -137,7 +143,7 @@ fn open_workers<D: Door + Send, N: Serving + Viewing + Keeping, R: Wait + Copy +
         let (Some(pass), Some(ends)) = (passes.next(), shared.next()) else {
             unreachable!()
         };
-        match Worker::open(*rt, alloc, number, pass, ends, FreeGate, closings) {
+        match Worker::open(*rt, alloc, number, count, pass, ends, FreeGate, closings) {
             Ok(worker) => workers.push_reserved(worker),
             Err(error) => {
                 drop(passes);
@@ -173,10 +179,12 @@ pub(crate) fn start<
     requires state { beginning.state ≡ latest publisher.old }
     requires fresh { appended publisher.old ≡ [] }
     requires pending { publisher.old.pending ≡ [] }
+    requires no_login { publisher.old.roll ≡ [] }
     requires proper { IsProper N.opening.state }
     requires passes { All (IsFresh N.opening) beginning.passes.items }
     requires one_each { length beginning.passes.items ≡ beginning.workers }
     requires some { 0 < beginning.workers }
+    requires few { beginning.workers ≤ 8 }
     requires door { opening_at D.facts door ≡ N.door }
     requires connections { 0 < asked.now.connections }
     ensures begun { IfOk result (λ started. HaveBegun N.opening door (clock_at K.last K.calls clock) asked.now.journal
@@ -189,7 +197,7 @@ pub(crate) fn start<
         workers: count,
         passes,
     } = beginning;
-    let Ok(parts) = make_parts::<D::Conn, N>(alloc, publisher, state, usize::from(count)) else {
+    let Ok(parts) = make_parts::<D::Conn, N>(alloc, publisher, state, count) else {
         drop(passes);
         drop(store);
         return Err((door, clock));

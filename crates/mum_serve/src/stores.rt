@@ -54,7 +54,7 @@ pub(crate) fn open_store<P: Keeper + Send, N: Keeping, R: Wait + Copy + Send>(
     let Some(pass) = passes.pop() else {
         unreachable!()
     };
-    let Ok((bell, end)) = new_bell(alloc) else {
+    let Ok((bell, end)) = new_bell(alloc, 0) else {
         drop(rows);
         drop(pass);
         return Err(keeper);

@@ -7,14 +7,14 @@ use Rattle.mum_opening.specs.Opening.{document_edits}
 use Rattle.mum_opening.proofs.Described.{edits_are}
 use Rattle.mum_record.specs.declared.journal.Journal.{Journal}
 use Rattle.mum_serve.specs.Asked.{Lent, Service, service}
-use Rattle.mum_serve.specs.Program.{DescribesConfig, WritesAll}
+use Rattle.mum_serve.specs.Program.{DescribesConfig, WritesText, text_of}
 use Rattle.mum_serve.specs.Serving.{ServesOver}
 use Rattle.mum_serve.specs.declared.program.Input.{Input}
 use Rattle.mum_serve.specs.declared.server.Served.{Served}
 use Rattle.mum_state.specs.declared.edit.Edit.{Edit}
 use Rattle.mum_serve.proofs.Ending.{as_many_lists}
-use Rattle.mum_serve.proofs.Judged.{all_served}
 use Rattle.mum_serve.proofs.Refused.{keeps_same}
+use Rattle.mum_serve.proofs.Written.{all_served}
 use Rattle.mum_serve.proofs.program.serve_input.Goals as goal
 
 -- the edits that were read are those of the document
@@ -79,7 +79,7 @@ returns-in-Whole-clause-ends g c =
       serves = opens_so g.D.Conn.Link.facts g.D.Door.facts g.K.Clock.last g.K.Clock.calls g.P.Keeper.facts (service c.args.asked.now) c.args.said _ _ _ c.requires.described whole.ensures.serves;
       ran = whole.ensures.counts;
       writes =
-          subst (λ (asked : Option Journal). WritesAll asked whole.summary c.write_out.result old new)
+          subst (λ (asked : Option Journal). WritesText (text_of asked whole.summary) whole.summary c.write_out.result old new)
           c.journal_asked-journal.ensures.journal c.write_out.ensures.writes;
     })
 

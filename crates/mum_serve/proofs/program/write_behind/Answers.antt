@@ -1,7 +1,7 @@
 -- Behind the text that is written a front of the last lines is.
 use Rattle.std.proofs.Common.{◌∙◌, sym}
 use Rattle.mum_io.proofs.OutsideLemmas.{AppendsFront-behind}
-use Rattle.mum_serve.proofs.Judged.{err_of, ok_of}
+use Rattle.mum_serve.proofs.Written.{err_of, ok_of}
 use Rattle.mum_serve.proofs.program.write_behind.Goals as goal
 
 pub returns-then-is_err-2-clause-writes : goal.returns-then-is_err-2-clause-writes

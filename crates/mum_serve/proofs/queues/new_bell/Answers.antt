@@ -1,7 +1,10 @@
--- Both are of one queue.
+-- Both are of one queue, with its name.
 use Rattle.std.proofs.Common.{◌∙◌, ap, sym}
 use Rattle.mum_outbox.specs.Facts.{QueueFacts}
 use Rattle.mum_serve.proofs.queues.new_bell.Goals as goal
 
-pub returns-in-Ok : goal.returns-in-Ok
-returns-in-Ok g c = ap (λ (owner : QueueFacts). owner.queue) c.in-Ok.ensures.1 ∙ sym (ap (λ (owner : QueueFacts). owner.queue) c.in-Ok.ensures.0)
+pub returns-in-Ok-clause-same : goal.returns-in-Ok-clause-same
+returns-in-Ok-clause-same g c = ap (λ (owner : QueueFacts). owner.queue) c.in-Ok.ensures.1 ∙ sym (ap (λ (owner : QueueFacts). owner.queue) c.in-Ok.ensures.0)
+
+pub returns-in-Ok-clause-name : goal.returns-in-Ok-clause-name
+returns-in-Ok-clause-name g c = ap (λ (owner : QueueFacts). owner.queue.name) c.in-Ok.ensures.0 ∙ c.in_ok-bell.ensures.name_is

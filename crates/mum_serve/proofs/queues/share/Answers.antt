@@ -1,27 +1,14 @@
--- Each owner that is made is of the same queue.
-use Rattle.std.proofs.Common.{◌∙◌, ap}
-use Rattle.mum_outbox.specs.Facts.{QueueFacts}
-use Rattle.mum_serve.proofs.Sharing.{as_many}
+-- Each owner keeps the lower half of its numbers, and the other gets the upper half.
+use Rattle.std.proofs.Common.{refl}
 use Rattle.mum_serve.proofs.queues.share.Goals as goal
 
-pub returns-in-Ok-share_boxes-clause-voices : goal.returns-in-Ok-share_boxes-clause-voices
-returns-in-Ok-share_boxes-clause-voices g c = as_many _ _ c.in-Ok-share_boxes.ensures.voices ∙ c.requires.voices
-
-pub returns-in-Ok-share_boxes-clause-posts : goal.returns-in-Ok-share_boxes-clause-posts
-returns-in-Ok-share_boxes-clause-posts g c = as_many _ _ c.in-Ok-share_boxes.ensures.posts ∙ c.requires.posts
-
-pub returns-in-Ok-share_boxes-clause-boxes : goal.returns-in-Ok-share_boxes-clause-boxes
-returns-in-Ok-share_boxes-clause-boxes g c = record {
-  voice = as_many _ _ c.in-Ok-share_boxes.ensures.voice ∙ c.requires.voices;
-  posts = as_many _ _ c.in-Ok-share_boxes.ensures.post ∙ c.requires.posts;
-}
-
-pub returns-in-Ok-share_boxes-clause-same_desk : goal.returns-in-Ok-share_boxes-clause-same_desk
-returns-in-Ok-share_boxes-clause-same_desk g c = ap (λ (owner : QueueFacts). owner.queue) c.in-Ok.ensures.0
-
-pub returns-in-Ok-share_boxes-clause-shared : goal.returns-in-Ok-share_boxes-clause-shared
-returns-in-Ok-share_boxes-clause-shared g c = record {
-  posts_are = c.in-Ok-share_boxes.ensures.post;
-  voices_are = c.in-Ok-share_boxes.ensures.voice;
-  desk_is = ap (λ (owner : QueueFacts). owner.queue) c.in-Ok.ensures.1;
+pub returns-in-Ok-share_boxes : goal.returns-in-Ok-share_boxes
+returns-in-Ok-share_boxes g c = record {
+  voices = c.in-Ok-share_boxes.ensures.voices;
+  posts = c.in-Ok-share_boxes.ensures.posts;
+  desk = c.in-Ok.ensures.0;
+  voice_half = c.in-Ok-share_boxes.ensures.voice;
+  post_half = c.in-Ok-share_boxes.ensures.post;
+  desk_half = c.in-Ok.ensures.1;
+  bell_is = refl;
 }

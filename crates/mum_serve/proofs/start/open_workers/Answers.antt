@@ -1,6 +1,6 @@
 -- One worker more takes the next pass and the next ends.
-use Rattle.std.proofs.Common.{◌∙◌, List, Option, is_some, length, ap, subst, sym, arith}
-use Rattle.std.specs.List.{All}
+use Rattle.std.proofs.Common.{◌≡◌, ◌∙◌, List, Option, is_some, length, ap, subst, sym, arith}
+use Rattle.std.specs.List.{All, AllByRecursion}
 use Rattle.std.specs.Vec.Iter.{into_iter_items}
 use Rattle.std.proofs.lemmas.List.Elements.{All-head, All-rest}
 use Rattle.mum_published.specs.Calls.{IsFresh}
@@ -8,7 +8,7 @@ use Rattle.mum_published.specs.Facts.{PassFacts}
 use Rattle.mum_serve.specs.Opened.{AreOpenedFrom}
 use Rattle.mum_serve.specs.Queues.{HasBoxes}
 use Rattle.mum_worker.specs.Facts.{WorkerFacts}
-use Rattle.mum_serve.proofs.Opening.{many_more, opened_more, over_more, over_nobody, worker_begins}
+use Rattle.mum_serve.proofs.Opening.{among_more, many_more, opened_more, over_more, over_nobody, worker_begins}
 use Rattle.mum_serve.proofs.start.open_workers.Goals.{in_default-2-via-in-Some+in_default, in_default-2-via-in_default}
 use Rattle.mum_serve.proofs.start.open_workers.Goals as goal
 
@@ -38,6 +38,7 @@ workers-init g c =
       subst (λ (workers : List (WorkerFacts _)). AreOpenedFrom g.N.Naming.opening c.args.closings 0 workers) (sym room.items) tt,
       nobody,
       omega (arith, capacity, asked),
+      subst (AllByRecursion (λ (worker : WorkerFacts _). worker.workers ≡ c.args.count)) (sym room.items) tt,
     )
 
 pub unreachable-requires : goal.unreachable-requires
@@ -101,4 +102,5 @@ workers-preserved g c =
           (worker_begins g.N.Naming.opening c.in-Some-Some.pass c.args.closings c.workers.number c.in-Some-Some.ends worker.worker fresh worker.ensures.opened worker.ensures.joins) was.7,
       many_more c.workers.number c.workers.workers.items c.push_reserved.new.self.items worker.worker was.8 pushed,
       omega (arith, room, same),
+      among_more c.args.count c.workers.workers.items c.push_reserved.new.self.items worker.worker pushed worker.ensures.workers was.10,
     )

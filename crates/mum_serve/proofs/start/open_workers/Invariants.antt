@@ -1,5 +1,5 @@
 use Rattle.std.proofs.Common.{◌≡◌, ◌≤◌, ◌+◌, length}
-use Rattle.std.specs.List.{All}
+use Rattle.std.specs.List.{All, AllByRecursion}
 use Rattle.std.specs.Vec.{vec_capacity}
 use Rattle.std.specs.Vec.Iter.{into_iter_items, into_iter_len}
 use Rattle.mum_published.specs.Calls.{IsFresh}
@@ -20,3 +20,4 @@ invariant-workers g l =
     × AreOpenedFrom g.N.Naming.opening l.fn.closings 0 l.workers.items
     × (length l.workers.items ≡ l.number)
     × (l.fn.count ≤ vec_capacity l.workers)
+    × AllByRecursion (λ worker. worker.workers ≡ l.fn.count) l.workers.items

@@ -1,7 +1,13 @@
 -- The owner and the workers are joined by the queues that were made.
-use Rattle.std.proofs.Common.{Option, subst}
+use Rattle.std.proofs.Common.{Option, ap, subst, sym}
+use Rattle.std.specs.List.{All}
+use Rattle.mum_control.specs.Facts.{ControlFacts}
 use Rattle.mum_keeper.specs.Archive.{queue_of}
+use Rattle.mum_outbox.proofs.Giving.{pass_below}
 use Rattle.mum_owner.specs.Bell.{queues}
+use Rattle.mum_owner.specs.Facts.{OwnerFacts}
+use Rattle.mum_serve.specs.Numbers.{HasOwnNumber}
+use Rattle.mum_serve.proofs.Numbering.{workers_numbered}
 use Rattle.mum_serve.specs.Opened.{AreOpened}
 use Rattle.mum_serve.proofs.Joining.{are_joined}
 use Rattle.mum_serve.proofs.Clocking.{clock_begins}
@@ -22,6 +28,11 @@ returns-in-Ok-open-clause-begun g c =
       joined =
           are_joined parts.parts.control c.args.door c.args.asked.now.connections c.args.asked.now.journal parts.parts.bells.items (queue_of c.args.store) parts.parts.desk owner.owner parts.parts.shared.items workers.workers.items
           owner.ensures.owner owner.ensures.desk parts.ensures.joined workers.ensures.over;
+      numbered = record {
+        desk = pass_below parts.parts.desk owner.owner.desk.pass parts.ensures.desk owner.ensures.desk;
+        posts = subst (λ (k : ControlFacts). All HasOwnNumber k.posts) (sym (ap (λ (o : OwnerFacts _ _). o.control) owner.ensures.owner)) parts.ensures.posts;
+        each = workers_numbered parts.parts.shared.items workers.workers.items parts.ensures.boxes workers.ensures.over;
+      };
     }
 
 -- the owner puts into the queue of the bell that it was given

@@ -19,6 +19,7 @@ use Rattle.mum_outbox.specs.declared.queue.Offered.{Offered}
 use Rattle.mum_outbox.specs.declared.rule.TheConstants.{LAST}
 use Rattle.mum_port.specs.Did.{action_of}
 use Rattle.mum_port.specs.Facts.{PortFacts}
+use Rattle.mum_published.specs.declared.roll.Login.{Login}
 use Rattle.mum_published.specs.Bell.{Rung, Answer, Comes, Lagging, NoMore}
 use Rattle.mum_published.specs.Calls.{ask_at}
 use Rattle.mum_published.specs.Facts.{NoteFacts, Opening, PassFacts}
@@ -33,7 +34,7 @@ use Rattle.mum_voice.specs.Packet.{Parts}
 use Rattle.mum_session.specs.Machine.{session_of}
 use Rattle.mum_worker.specs.Boxes.{BoxesFacts}
 use Rattle.mum_worker.specs.Facts.{WorkerFacts}
-use Rattle.mum_worker.specs.Hearing.{Hears, LearnsGiven}
+use Rattle.mum_worker.specs.Hearing.{Admits, Hears, LearnsGiven}
 use Rattle.mum_worker.specs.Opening.{HasOpened, IsUnused}
 use Rattle.mum_worker.specs.Routing.{CommonFacts, RoutesPacket}
 use Rattle.mum_worker.specs.Stepping.{PortSteps, Shares}
@@ -210,6 +211,13 @@ learnt : (note : Option NoteFacts) (old new : RouterFacts) → LearnsGiven note 
 learnt None old new same = ap (λ (r : RouterFacts). r.outs) same
 learnt (Some note) old new learns = ap (λ (r : RouterFacts). r.outs) learns.1
 
+-- what is learnt of logins is neither asked nor offered
+asks_admitted : (roll : List Login) (old new : RouterFacts) → Admits roll old new → new.pass.asks ≡ old.pass.asks
+asks_admitted roll old new admits = ap (λ (p : PassFacts). p.asks) admits.0.same
+
+outs_admitted : (roll : List Login) (old new : RouterFacts) → Admits roll old new → new.outs ≡ old.outs
+outs_admitted roll old new admits = ap (λ (r : RouterFacts). r.outs) admits.1
+
 sum_one : {X : Type 0} (f : X → ℕ) (x : X) → sum_by f (x ∷ []) ≡ f x
 sum_one f x = omega arith
 
@@ -293,8 +301,9 @@ module _ (opening : Opening) where
     heard : (item : Option (Rung L)) (old new : WorkerFacts L) → Hears facts item old new → Counts opening old.common.router new.common.router (told_by item)
     heard None old new same = both_same old.common new.common (ap (λ (w : WorkerFacts L). w.common) same)
     heard (Some (Answer reply)) old new hears =
-        no_look opening old.common.router new.common.router (Told reply ∷ []) refl (asks_learnt reply.note old.common.router new.common.router hears.takes.learns)
-        (learnt reply.note old.common.router new.common.router hears.takes.learns)
+        no_look opening old.common.router new.common.router (Told reply ∷ []) refl
+        (asks_admitted reply.roll hears.takes.noted_by new.common.router hears.takes.admits ∙ asks_learnt reply.note old.common.router hears.takes.noted_by hears.takes.learns)
+        (outs_admitted reply.roll hears.takes.noted_by new.common.router hears.takes.admits ∙ learnt reply.note old.common.router hears.takes.noted_by hears.takes.learns)
     heard (Some (Comes connection link)) old new hears = stays opening old.common.router new.common.router hears.router
     heard (Some (Lagging session)) old new hears = stays opening old.common.router new.common.router hears.router
     heard (Some NoMore) old new same = both_same old.common new.common (ap (λ (w : WorkerFacts L). w.common) same)

@@ -1,13 +1,14 @@
 -- What turns of an owner append and write down, beside the commands that they decide.
 use Rattle.std.proofs.Common.{◌≡◌, ◌∙◌, ℕ, ◌+◌, Bool, true, false, cond, List, [], ◌∷◌, ◌++◌, append_assoc, append-nil, length, Option, Some, None, refl, ap, sym, subst, inl, inr, arith, length-append}
 use Rattle.std.specs.Prelude.{◌&&◌, ◌||◌, is_none, is_some, MatchBool, MatchOption}
-use Rattle.atomic_table.specs.Seated.{TableId}
+use Rattle.std.proofs.lemmas.List.Concat.{flat_map-append}
+use Rattle.mum_outbox.specs.Facts.{QueueId}
 use Rattle.mum_base.specs.declared.number.SessionId.{SessionId}
 use Rattle.mum_base.specs.declared.number.Slot.{Slot}
 use Rattle.mum_base.specs.declared.reply.Mark.{Mark}
 use Rattle.mum_base.specs.declared.reply.ReplyEnd.{ReplyEnd}
 use Rattle.mum_base.specs.declared.reply.ReplyEnd.TheVariants as ends
-use Rattle.mum_control.specs.Commanded.{Commanded, Decides, Publishes, current, next_revision, with_edit}
+use Rattle.mum_control.specs.Commanded.{Commanded, Decides, Publishes, current, next_revision, with_accepted}
 use Rattle.mum_control.specs.Facts.{ControlFacts}
 use Rattle.mum_control.specs.Kept.{slot_of}
 use Rattle.mum_control.specs.Posting.{EmptiesPost, PostsNext}
@@ -22,7 +23,7 @@ use Rattle.mum_notify.specs.declared.notice.Notice.{Notice}
 use Rattle.mum_owner.specs.Banning.{Answers, IsGivenOrRefused, ListComesTo, SettledBy, SettlesList, TestedBy, ban_reply, banned_in, book_after, is_banned, list_reply, with_warden}
 use Rattle.mum_owner.specs.Decided.{with_command}
 use Rattle.mum_owner.specs.Facts.{GuestsFacts, OwnerFacts, ScribeFacts}
-use Rattle.mum_owner.specs.Given.{IsGiven, replied, starved}
+use Rattle.mum_owner.specs.Given.{IsGiven, replied, roll_of, starved}
 use Rattle.mum_owner.specs.Guests.{joined_by, left, owned, session_of}
 use Rattle.mum_owner.specs.Laws.{came_by, came_where, connections_given}
 use Rattle.mum_owner.specs.Opened.{IsOpened}
@@ -32,10 +33,13 @@ use Rattle.mum_owner.specs.Turned.{ArchivesBy, Asks, OwnerTurned, PostsOne, Pres
 use Rattle.mum_owner.specs.Written.{entries_by, is_leave, is_login, prepared, recorded, refused}
 use Rattle.mum_owner.specs.declared.kept.Coming.{Coming}
 use Rattle.mum_owner.specs.declared.kept.Lag.{Lag}
+use Rattle.mum_owner.proofs.Rolling.{decided_roll}
 use Rattle.mum_port.specs.declared.item.DeskItem.{DeskItem}
 use Rattle.mum_port.specs.declared.item.DeskItem.TheVariants as items
+use Rattle.mum_published.specs.declared.roll.Login.{Login}
 use Rattle.mum_published.specs.Calls.{all_published, appended}
 use Rattle.mum_published.specs.Facts.{NoteFacts, Opening, PublisherFacts, ReplyFacts}
+use Rattle.mum_published.specs.Rolls.{login_of}
 use Rattle.mum_record.specs.declared.journal.ControlEntry.{ControlEntry}
 use Rattle.mum_bans.specs.Book.{Book}
 use Rattle.mum_warden.specs.Answer.{sent}
@@ -47,7 +51,7 @@ use Rattle.mum_state.specs.declared.edit.Edit.{Edit}
 use Rattle.mum_state.specs.declared.verdict.Verdict.{Verdict}
 use Rattle.mum_state.specs.declared.verdict.Verdict.TheVariants.{Accepted, Lacks, Refused, Rejected, Answer, Ignored}
 use Rattle.mum_step_laws.specs.OwnerTurns.{Decision, decided_as, decided_by, decided_command, decided_given, decided_in, decided_item, decided_leave, decided_owned, decided_receiving, decided_settling, decided_tested, decided_waiting, decisions_of}
-use Rattle.mum_serve_laws.specs.Decisions.{decisions, edits_after, entries_after, entry_of}
+use Rattle.mum_serve_laws.specs.Decisions.{decisions, edits_after, entries_after, entry_of, logins_decided}
 
 -- ---- lists of decisions
 
@@ -71,14 +75,14 @@ pub record Grows (old : PublisherFacts) (edits : List Edit) (new : PublisherFact
 published_same : (publisher : PublisherFacts) → appended (all_published publisher) ≡ appended publisher
 published_same publisher = append-nil (appended publisher)
 
-grown_by : (publisher : PublisherFacts) (edit : Edit) (note : Option NoteFacts) (after : PublisherFacts) → Publishes (with_edit publisher edit) note after → Grows publisher (edit ∷ []) after
-grown_by publisher edit (Some note) after publishes = record {
+grown_by : (publisher : PublisherFacts) (connection : ℕ) (edit : Edit) (note : Option NoteFacts) (after : PublisherFacts) → Publishes (with_accepted publisher connection edit) note after → Grows publisher (edit ∷ []) after
+grown_by publisher connection edit (Some note) after publishes = record {
   opening = ap (λ (p : PublisherFacts). p.opening) publishes.1;
   all =
-      ap (λ (p : PublisherFacts). appended p) publishes.1 ∙ published_same (with_edit publisher edit)
+      ap (λ (p : PublisherFacts). appended p) publishes.1 ∙ published_same (with_accepted publisher connection edit)
       ∙ sym (append_assoc publisher.published publisher.pending (edit ∷ []));
 }
-grown_by publisher edit None after publishes = record {
+grown_by publisher connection edit None after publishes = record {
   opening = ap (λ (p : PublisherFacts). p.opening) publishes;
   all = ap (λ (p : PublisherFacts). appended p) publishes ∙ sym (append_assoc publisher.published publisher.pending (edit ∷ []));
 }
@@ -92,7 +96,7 @@ not_grown old outcome new is = record {
 pub decided_grows : (old : ControlFacts) (connection : ℕ) (session : Option SessionId) (decided : Verdict) (reply : ReplyFacts) (new : ControlFacts)
     → Decides old connection session decided reply new → Grows old.publisher (edits_of decided) new.publisher × (new.mark ≡ Some (mark (next_revision old) decided))
 decided_grows old connection session (Accepted edit) reply new accepts =
-    (grown_by old.publisher edit reply.note new.publisher accepts.published, ap (λ (c : ControlFacts). c.mark) accepts.others)
+    (grown_by old.publisher connection edit reply.note new.publisher accepts.published, ap (λ (c : ControlFacts). c.mark) accepts.others)
 decided_grows old connection session (Lacks perm channel) reply new denies = (not_grown old _ new denies.0, ap (λ (c : ControlFacts). c.mark) denies.0)
 decided_grows old connection session (Refused kind) reply new denies = (not_grown old _ new denies.0, ap (λ (c : ControlFacts). c.mark) denies.0)
 decided_grows old connection session (Rejected kind) reply new denies = (not_grown old _ new denies.0, ap (λ (c : ControlFacts). c.mark) denies.0)
@@ -101,22 +105,24 @@ decided_grows old connection session (Ignored why) reply new denies = (not_grown
 
 -- ---- what decisions leave
 
--- these decisions lead from the one to the other: what was appended, and what was written down
+-- these decisions lead from the one to the other: what was appended, what was written down, and which logins were accepted
 pub record Leads (old new : ControlFacts) (before after : ScribeFacts) (made : List Decision) : Type 0 where
   pub opening : new.publisher.opening ≡ old.publisher.opening
   pub all : appended new.publisher ≡ edits_after old.publisher.opening (appended old.publisher) made
   pub asked : after.is_asked ≡ before.is_asked
   pub entries : before.is_asked ≡ true → after.entries ≡ before.entries ++ entries_after old.publisher.opening (appended old.publisher) made
   pub unasked : before.is_asked ≡ false → after.entries ≡ before.entries
+  pub roll : new.publisher.roll ≡ old.publisher.roll ++ logins_decided made
 
 silent : (old new : ControlFacts) (before after : ScribeFacts) → new.publisher.opening ≡ old.publisher.opening → appended new.publisher ≡ appended old.publisher
-    → after.is_asked ≡ before.is_asked → after.entries ≡ before.entries → Leads old new before after []
-silent old new before after opening all asked entries = record {
+    → after.is_asked ≡ before.is_asked → after.entries ≡ before.entries → new.publisher.roll ≡ old.publisher.roll → Leads old new before after []
+silent old new before after opening all asked entries roll = record {
   opening = opening;
   all = all;
   asked = asked;
   entries = λ is. entries ∙ sym (append-nil before.entries);
   unasked = λ is. entries;
+  roll = roll ∙ sym (append-nil old.publisher.roll);
 }
 
 then_leads : (old mid new : ControlFacts) (before between after : ScribeFacts) (first later : List Decision)
@@ -139,17 +145,21 @@ then_leads old mid new before between after first later one other =
           ∙ append_assoc before.entries (entries_after opening edits first) (entries_after opening (edits_after opening edits first) later)
           ∙ ap (λ (es : List ControlEntry). before.entries ++ es) (sym (entries_join opening edits first later));
       unasked = λ is. other.unasked (one.asked ∙ is) ∙ one.unasked is;
+      roll = other.roll ∙ ap (λ (l : List Login). l ++ logins_decided later) one.roll
+          ∙ append_assoc old.publisher.roll (logins_decided first) (logins_decided later)
+          ∙ ap (λ (l : List Login). old.publisher.roll ++ l) (sym (flat_map-append (λ (d : Decision). login_of d.command.connection d.reply.end) first later));
     }
 
 -- ---- a command
 
--- of the control owner only what was appended is seen
+-- of the control owner only what was appended and its roll are seen
 record KeepsList (old new : ControlFacts) : Type 0 where
   opening : new.publisher.opening ≡ old.publisher.opening
   all : appended new.publisher ≡ appended old.publisher
+  roll : new.publisher.roll ≡ old.publisher.roll
 
 same_list : (old new : ControlFacts) → new ≡ old → KeepsList old new
-same_list old new same = record { opening = ap (λ (k : ControlFacts). k.publisher.opening) same; all = ap (λ (k : ControlFacts). appended k.publisher) same }
+same_list old new same = record { opening = ap (λ (k : ControlFacts). k.publisher.opening) same; all = ap (λ (k : ControlFacts). appended k.publisher) same; roll = ap (λ (k : ControlFacts). k.publisher.roll) same }
 
 none_written : (asked : Bool) (command : Command) (connection : ℕ) → entries_by connection (prepared asked command) None ≡ []
 none_written true command connection = refl
@@ -164,6 +174,7 @@ dropped old new command scribe settled no_memory is settles =
     ∙ ap (λ (c : ControlFacts). scribe.entries ++ entries_by command.connection (prepared scribe.is_asked command) c.mark) is
     ∙ ap (λ (es : List ControlEntry). scribe.entries ++ es) (none_written scribe.is_asked command command.connection)
     ∙ append-nil scribe.entries)
+    (ap (λ (c : ControlFacts). c.publisher.roll) is)
 
 decided : (old new : ControlFacts) (command : Command) (reply : ReplyFacts) (scribe settled : ScribeFacts) (no_memory : Bool)
     → Decides old command.connection command.session (verdict (current old) command.session command.what) reply new
@@ -182,29 +193,31 @@ decided old new command reply scribe settled no_memory decides settles =
           ap (λ (s : ScribeFacts). s.entries) settles
           ∙ ap (λ (b : Bool). scribe.entries ++ entries_by command.connection (prepared b command) new.mark) is
           ∙ append-nil scribe.entries;
+      roll = decided_roll old command.connection command.session (verdict (current old) command.session command.what) reply new decides
+          ∙ ap (λ (l : List Login). old.publisher.roll ++ l) (sym (append-nil (login_of command.connection reply.end)));
     }
 
 commanded : (old emptied new : ControlFacts) (command : Command) (reply : ReplyFacts) (scribe settled : ScribeFacts) → KeepsList old emptied
     → settled ≡ recorded command.connection new.mark reply.no_memory (record scribe { draft = prepared scribe.is_asked command })
     → (given : Commanded emptied command reply new) → Leads old new scribe settled (decided_by emptied command reply new given)
 commanded old emptied new command reply scribe settled keeps settles (inl drops) =
-    then_leads old emptied new scribe scribe settled [] [] (silent old emptied scribe scribe keeps.opening keeps.all refl refl)
+    then_leads old emptied new scribe scribe settled [] [] (silent old emptied scribe scribe keeps.opening keeps.all refl refl keeps.roll)
     (dropped emptied new command scribe settled reply.no_memory drops.0 settles)
 commanded old emptied new command reply scribe settled keeps settles (inr decides) =
-    then_leads old emptied new scribe scribe settled [] (record { command = command; reply = reply } ∷ []) (silent old emptied scribe scribe keeps.opening keeps.all refl refl)
+    then_leads old emptied new scribe scribe settled [] (record { command = command; reply = reply } ∷ []) (silent old emptied scribe scribe keeps.opening keeps.all refl refl keeps.roll)
     (decided emptied new command reply scribe settled reply.no_memory decides settles)
 
 emptied_slot : (old : ControlFacts) (slot : Option Slot) (after : ControlFacts) → EmptiesPost old slot after → KeepsList old after
 emptied_slot old None after same = same_list old after same
-emptied_slot old (Some slot) after empties = record { opening = ap (λ (k : ControlFacts). k.publisher.opening) empties.1; all = ap (λ (k : ControlFacts). appended k.publisher) empties.1 }
+emptied_slot old (Some slot) after empties = record { opening = ap (λ (k : ControlFacts). k.publisher.opening) empties.1; all = ap (λ (k : ControlFacts). appended k.publisher) empties.1; roll = ap (λ (k : ControlFacts). k.publisher.roll) empties.1 }
 
 emptied_kept : (old : ControlFacts) (session : Option SessionId) (after : ControlFacts) → EmptiesFor old session after → KeepsList old after
 emptied_kept old None after same = same_list old after same
 emptied_kept old (Some session) after empties = emptied_slot old (slot_of (current old) session) after empties
 
 posted_kept : (old : ControlFacts) (pending : List Notice) (answer : Posted) (after : ControlFacts) → PostsNext old pending answer after → KeepsList old after
-posted_kept old [] answer after posts = record { opening = ap (λ (k : ControlFacts). k.publisher.opening) posts.1; all = ap (λ (k : ControlFacts). appended k.publisher) posts.1 }
-posted_kept old (notice ∷ rest) answer after posts = record { opening = ap (λ (k : ControlFacts). k.publisher.opening) posts.others; all = ap (λ (k : ControlFacts). appended k.publisher) posts.others }
+posted_kept old [] answer after posts = record { opening = ap (λ (k : ControlFacts). k.publisher.opening) posts.1; all = ap (λ (k : ControlFacts). appended k.publisher) posts.1; roll = ap (λ (k : ControlFacts). k.publisher.roll) posts.1 }
+posted_kept old (notice ∷ rest) answer after posts = record { opening = ap (λ (k : ControlFacts). k.publisher.opening) posts.others; all = ap (λ (k : ControlFacts). appended k.publisher) posts.others; roll = ap (λ (k : ControlFacts). k.publisher.roll) posts.others }
 
 -- ---- the desk
 
@@ -225,7 +238,7 @@ module _ {D L : Type 0} where
 
   still : (old new : OwnerFacts D L) → KeepsList old.control new.control → new.scribe ≡ old.scribe → new.guests.given ≡ old.guests.given → Moves old new []
   still old new keeps same given = record {
-    leads = silent old.control new.control old.scribe new.scribe keeps.opening keeps.all (ap (λ (s : ScribeFacts). s.is_asked) same) (ap (λ (s : ScribeFacts). s.entries) same);
+    leads = silent old.control new.control old.scribe new.scribe keeps.opening keeps.all (ap (λ (s : ScribeFacts). s.is_asked) same) (ap (λ (s : ScribeFacts). s.entries) same) keeps.roll;
     given = given;
   }
 
@@ -249,7 +262,8 @@ module _ {D L : Type 0} where
   given_moves old command new (inr drops) = record {
     leads = silent old.control new.control old.scribe new.scribe
         (ap (λ (o : OwnerFacts D L). o.control.publisher.opening) drops.others) (ap (λ (o : OwnerFacts D L). appended o.control.publisher) drops.others)
-        (ap (λ (o : OwnerFacts D L). o.scribe.is_asked) drops.others) (ap (λ (o : OwnerFacts D L). o.scribe.entries) drops.others);
+        (ap (λ (o : OwnerFacts D L). o.scribe.is_asked) drops.others) (ap (λ (o : OwnerFacts D L). o.scribe.entries) drops.others)
+        (ap (λ (o : OwnerFacts D L). roll_of o) drops.others);
     given = ap (λ (o : OwnerFacts D L). o.guests.given) drops.others;
   }
 
@@ -263,7 +277,8 @@ module _ {D L : Type 0} where
   leave_moves old connection was new (inr drops) = record {
     leads = silent old.control new.control old.scribe new.scribe
         (ap (λ (o : OwnerFacts D L). o.control.publisher.opening) drops.others) (ap (λ (o : OwnerFacts D L). appended o.control.publisher) drops.others)
-        (ap (λ (o : OwnerFacts D L). o.scribe.is_asked) drops.others) (ap (λ (o : OwnerFacts D L). o.scribe.entries) drops.others);
+        (ap (λ (o : OwnerFacts D L). o.scribe.is_asked) drops.others) (ap (λ (o : OwnerFacts D L). o.scribe.entries) drops.others)
+        (ap (λ (o : OwnerFacts D L). roll_of o) drops.others);
     given = ap (λ (o : OwnerFacts D L). o.guests.given) drops.others;
   }
 
@@ -282,7 +297,8 @@ module _ {D L : Type 0} where
   refused_moves old new is = record {
     leads = silent old.control new.control old.scribe new.scribe
         (ap (λ (o : OwnerFacts D L). o.control.publisher.opening) is) (ap (λ (o : OwnerFacts D L). appended o.control.publisher) is)
-        (ap (λ (o : OwnerFacts D L). o.scribe.is_asked) is) (ap (λ (o : OwnerFacts D L). o.scribe.entries) is);
+        (ap (λ (o : OwnerFacts D L). o.scribe.is_asked) is) (ap (λ (o : OwnerFacts D L). o.scribe.entries) is)
+        (ap (λ (o : OwnerFacts D L). roll_of o) is);
     given = ap (λ (o : OwnerFacts D L). o.guests.given) is;
   }
 
@@ -290,7 +306,8 @@ module _ {D L : Type 0} where
   starved_moves old connection new is = record {
     leads = silent old.control new.control old.scribe new.scribe
         (ap (λ (o : OwnerFacts D L). o.control.publisher.opening) is) (ap (λ (o : OwnerFacts D L). appended o.control.publisher) is)
-        (ap (λ (o : OwnerFacts D L). o.scribe.is_asked) is) (ap (λ (o : OwnerFacts D L). o.scribe.entries) is);
+        (ap (λ (o : OwnerFacts D L). o.scribe.is_asked) is) (ap (λ (o : OwnerFacts D L). o.scribe.entries) is)
+        (ap (λ (o : OwnerFacts D L). roll_of o) is);
     given = ap (λ (o : OwnerFacts D L). o.guests.given) is;
   }
 
@@ -300,7 +317,7 @@ module _ {D L : Type 0} where
   answered_moves old reply new (inr is) = starved_moves old reply.connection new is
 
   tested_moves : (banned : Bool) (old : OwnerFacts D L) (login : Command) (new : OwnerFacts D L) (tested : TestedBy banned old login new) → Moves old new (decided_tested banned old login new tested)
-  tested_moves true old login new answers = answered_moves old (ban_reply login.connection) new answers
+  tested_moves true old login new answers = answered_moves old (ban_reply (roll_of old) login.connection) new answers
   tested_moves false old login new given = given_moves old login new given
 
   -- whatever the warden is before
@@ -330,7 +347,7 @@ module _ {D L : Type 0} where
 
   list_moves : (old : OwnerFacts D L) (connection : ℕ) (session : SessionId) (payload : List ℕ) (new : OwnerFacts D L) → SettlesList old connection session payload new → Moves old new []
   list_moves old connection session payload new settles =
-      list_comes_moves settles.warden old (list_reply connection (sent session (verdict_in old.warden.book settles.allowed payload)))
+      list_comes_moves settles.warden old (list_reply (roll_of old) connection (sent session (verdict_in old.warden.book settles.allowed payload)))
       (book_after old.warden.book settles.allowed payload settles.warden.last) new settles.comes_to
 
   receiving_moves : (leave waits : Bool) (old : OwnerFacts D L) (command : Command) (new : OwnerFacts D L) (received : ReceivesBy leave waits old command new)
@@ -383,6 +400,7 @@ module _ {D L : Type 0} where
       still old new (record {
         opening = ap (λ (o : OwnerFacts D L). o.control.publisher.opening) done.1;
         all = ap (λ (o : OwnerFacts D L). appended o.control.publisher) done.1 ∙ published_same old.control.publisher;
+        roll = ap (λ (o : OwnerFacts D L). roll_of o) done.1;
       }) (ap (λ (o : OwnerFacts D L). o.scribe) done.1) (ap (λ (o : OwnerFacts D L). o.guests.given) done.1)
   published_moves old false new same = rests old new same
 
@@ -430,6 +448,7 @@ module _ {D L : Type 0} (door_facts : D → DoorFacts) (link_facts : L → LinkF
   asks_lead false old worked new asks = silent old.control new.control old.scribe new.scribe
       (ap (λ (o : OwnerFacts D L). o.control.publisher.opening) asks.others) (ap (λ (o : OwnerFacts D L). appended o.control.publisher) asks.others)
       (ap (λ (o : OwnerFacts D L). o.scribe.is_asked) asks.others) (ap (λ (o : OwnerFacts D L). o.scribe.entries) asks.others)
+      (ap (λ (o : OwnerFacts D L). roll_of o) asks.others)
 
   asks_given : (b : Bool) (old : OwnerFacts D L) (worked : Bool) (new : OwnerFacts D L) (asks : Asks door_facts link_facts b old worked new)
       → new.guests.given ≡ old.guests.given + length (came_where door_facts link_facts b old worked new asks)
@@ -496,6 +515,10 @@ module _ {D L : Type 0} (door_facts : D → DoorFacts) (link_facts : L → LinkF
       → appended new.control.publisher ≡ edits_after old.control.publisher.opening (appended old.control.publisher) (decisions door_facts link_facts old turns new all)
   edits_decided old turns new all = (turns_lead old turns new all).leads.all
 
+  pub logins_accepted : (old : OwnerFacts D L) (turns : List Turn) (new : OwnerFacts D L) (all : TurnsTo (OwnerTurned door_facts link_facts) old turns new)
+      → roll_of new ≡ roll_of old ++ logins_decided (decisions door_facts link_facts old turns new all)
+  logins_accepted old turns new all = (turns_lead old turns new all).leads.roll
+
   pub entries_decided : (old : OwnerFacts D L) (turns : List Turn) (new : OwnerFacts D L) (all : TurnsTo (OwnerTurned door_facts link_facts) old turns new) → old.scribe.is_asked ≡ true
       → new.scribe.entries ≡ old.scribe.entries ++ entries_after old.control.publisher.opening (appended old.control.publisher) (decisions door_facts link_facts old turns new all)
   entries_decided old turns new all asked = (turns_lead old turns new all).leads.entries asked
@@ -503,7 +526,7 @@ module _ {D L : Type 0} (door_facts : D → DoorFacts) (link_facts : L → LinkF
   pub none_unasked : (old : OwnerFacts D L) (turns : List Turn) (new : OwnerFacts D L) (all : TurnsTo (OwnerTurned door_facts link_facts) old turns new) → old.scribe.is_asked ≡ false → new.scribe.entries ≡ old.scribe.entries
   none_unasked old turns new all unasked = (turns_lead old turns new all).leads.unasked unasked
 
-  pub connections_counted : (control : ControlFacts) (door : D) (connections : ℕ) (journal : Bool) (queues : List TableId) (store : Option TableId) (opened owner : OwnerFacts D L) (turns : List Turn)
+  pub connections_counted : (control : ControlFacts) (door : D) (connections : ℕ) (journal : Bool) (queues : List QueueId) (store : Option QueueId) (opened owner : OwnerFacts D L) (turns : List Turn)
       → IsOpened control door connections journal queues store opened → (all : TurnsTo (OwnerTurned door_facts link_facts) opened turns owner)
       → owner.guests.given ≡ length (connections_given door_facts link_facts opened turns owner all)
   connections_counted control door connections journal queues store opened owner turns new all =

@@ -1,7 +1,7 @@
 -- What the keeper has at the end of a run.
 use Rattle.std.proofs.Common.{◌≡◌, ◌∙◌, ℕ, Bool, true, false, List, Option, None, Some, IfSome, ap, sym, subst}
 use Rattle.std.specs.Prelude.{◌||◌}
-use Rattle.atomic_table.specs.Seated.{TableId}
+use Rattle.mum_outbox.specs.Facts.{QueueId}
 use Rattle.mum_io.specs.Door.{DoorFacts}
 use Rattle.mum_io.specs.Link.{LinkFacts}
 use Rattle.mum_keeper.specs.Keeping.{KeeperFacts}
@@ -44,7 +44,7 @@ module _ {P : Type 0} (keeper_facts : P → KeeperFacts) where
   abbrev HasTheEnd : P → StateValue → List ℕ → Type 0
   HasTheEnd left state path = HoldsKept keeper_facts left state × IfSome (keeper_facts left).opened_at (λ known. known ≡ path)
 
-  pub kept_well : (began : Opening) (path : Option (List ℕ)) (keeper loaded left : P) (rows : Option KeptRows) (archive : Option TableId) (store : Option (StoreFacts P)) (state : StateValue) (failed starved : Bool)
+  pub kept_well : (began : Opening) (path : Option (List ℕ)) (keeper loaded left : P) (rows : Option KeptRows) (archive : Option QueueId) (store : Option (StoreFacts P)) (state : StateValue) (failed starved : Bool)
       → Loads keeper_facts path keeper loaded rows → HasStored keeper_facts began rows loaded archive store → CameToStore keeper_facts (opening_of (keeper_facts loaded)) state (Some loaded) store failed starved left
       → failed ≡ false → starved ≡ false → IfSome path (HasTheEnd left state)
   kept_well began None keeper loaded left rows archive store state failed starved loads stored came well enough = tt

@@ -1,8 +1,8 @@
 mod Handled
 mod Counting
 mod Noting
-mod Deciding
-mod Settling
+pub mod Deciding
+pub mod Settling
 mod Running
 mod Owning
 mod KeptEnd

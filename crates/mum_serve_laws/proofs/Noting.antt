@@ -18,13 +18,14 @@ use Rattle.mum_published.specs.Bell.{Rung, Answer, Comes, Lagging, NoMore}
 use Rattle.mum_published.specs.Facts.{Opening, PassFacts}
 use Rattle.mum_session.specs.Machine.{session_of}
 use Rattle.mum_worker.specs.Boxes.{BoxesFacts}
-use Rattle.mum_worker.specs.Facts.{WorkerFacts}
+use Rattle.mum_worker.specs.Facts.{WorkerFacts, intake_of}
 use Rattle.mum_worker.specs.Hearing.{Hears, LagsWhereIts, TakesOrTurns}
 use Rattle.mum_worker.specs.Opening.{HasOpened}
 use Rattle.mum_worker.specs.Record.{RecordFacts, after_close, after_step, first_record, is_memory, without_room}
 use Rattle.mum_worker.specs.Routing.{CommonFacts, RoutesPacket}
 use Rattle.mum_worker.specs.Stepping.{PortSteps, Shares}
 use Rattle.mum_worker.specs.Turning.{Turned, WorkerTurned, shares_of}
+use Rattle.mum_worker.specs.declared.intake.Intake.{Intake}
 use Rattle.mum_worker_laws.specs.Laws.{Moment, look_made}
 use Rattle.mum_serve_laws.specs.Counted.{causes_along, causes_heard, causes_in, causes_lagged, causes_lagging, causes_turned, strays_along, strays_in, strays_stepped, strays_turned}
 use Rattle.mum_serve_laws.proofs.Handled.{handled}
@@ -159,15 +160,15 @@ module _ (opening : Opening) where
         behind 0 (causes_lagged facts opening session old before new between one) (causes_lagging facts opening session olds between news after rest) before between after
         (lagged session old before new between one) (lagging session olds between news after rest)
 
-    comes : (number connection : ℕ) (link : L) (ports : List (PortFacts L)) (kept : RecordFacts) (ports_after : List (PortFacts L)) (kept_after : RecordFacts) → TakesOrTurns number connection link ports kept ports_after kept_after → Notes 0 [] kept kept_after
-    comes number connection link ports kept ports_after kept_after (inl takes) =
+    comes : (intake : Intake) (connection : ℕ) (link : L) (ports : List (PortFacts L)) (kept : RecordFacts) (intake_after : Intake) (ports_after : List (PortFacts L)) (kept_after : RecordFacts) → TakesOrTurns intake connection link ports kept intake_after ports_after kept_after → Notes 0 [] kept kept_after
+    comes intake connection link ports kept intake_after ports_after kept_after (inl takes) =
         quiet kept kept_after (ap (λ (k : RecordFacts). k.stale) takes.kept_is) (ap (λ (k : RecordFacts). k.no_memory) takes.kept_is)
-    comes number connection link ports kept ports_after kept_after (inr turns) = rests kept kept_after turns.kept_same
+    comes intake connection link ports kept intake_after ports_after kept_after (inr turns) = rests kept kept_after turns.kept_same
 
     heard : (item : Option (Rung L)) (old new : WorkerFacts L) (hears : Hears facts item old new) → Notes 0 (causes_heard facts opening item old new hears) old.common.kept new.common.kept
     heard None old new same = rests old.common.kept new.common.kept (ap (λ (w : WorkerFacts L). w.common.kept) same)
     heard (Some (Answer reply)) old new hears = closed reply.connection hears.takes.closed old.common.kept new.common.kept hears.takes.noted
-    heard (Some (Comes connection link)) old new hears = comes old.number connection link old.ports old.common.kept new.ports new.common.kept hears.takes
+    heard (Some (Comes connection link)) old new hears = comes (intake_of old) connection link old.ports old.common.kept (intake_of new) new.ports new.common.kept hears.takes
     heard (Some (Lagging session)) old new hears = lagging session old.ports old.common.kept hears.each.stepped new.common.kept hears.each.along
     heard (Some NoMore) old new same = rests old.common.kept new.common.kept (ap (λ (w : WorkerFacts L). w.common.kept) same)
 

@@ -1,8 +1,8 @@
 -- What a run of a server came to, beside the turns of its roles.
 use Rattle.std.proofs.Common.{◌≡◌, ◌∙◌, ℕ, ◌+◌, ◌-◌, ◌^◌, min, Bool, true, false, List, [], ◌∷◌, ◌++◌, map, length, Option, Some, refl, ap, sym, subst, arith, length-append}
 use Rattle.std.specs.Prelude.{◌||◌, All}
-use Rattle.std.specs.List.{AllZip, filter_map, flat_map, list_any, sum_by}
-use Rattle.std.proofs.lemmas.List.Elements.{All-append, All-nil}
+use Rattle.std.specs.List.{AllZip, Contains, filter_map, flat_map, list_any, sum_by}
+use Rattle.std.proofs.lemmas.List.Elements.{All-append, All-nil, Contains-append_left}
 use Rattle.std.proofs.lemmas.List.Folds.{list_any-append}
 use Rattle.std.proofs.lemmas.List.Sums.{sum_by-append}
 use mathlib.Core.List.{IsPrefix}
@@ -17,7 +17,8 @@ use Rattle.mum_kept.specs.declared.rows.KeptRows.{KeptRows}
 use Rattle.mum_owner.specs.Facts.{OwnerFacts}
 use Rattle.mum_published.proofs.Prefixes.{prefix_trans}
 use Rattle.mum_published.specs.Calls.{appended, state_of}
-use Rattle.mum_published.specs.Facts.{Opening, PassFacts}
+use Rattle.mum_published.specs.declared.roll.Login.{Login}
+use Rattle.mum_published.specs.Facts.{Opening, PassFacts, PublisherFacts}
 use Rattle.mum_record.specs.declared.journal.ControlEntry.{ControlEntry}
 use Rattle.mum_record.specs.declared.journal.WorkerEntry.{WorkerEntry}
 use Rattle.mum_router.specs.Offering.{copies_of, full_of}
@@ -42,14 +43,20 @@ use Rattle.mum_worker.specs.Facts.{WorkerFacts}
 use Rattle.mum_worker.specs.Opening.{HasOpened}
 use Rattle.mum_worker.specs.Record.{is_memory}
 use Rattle.mum_worker.specs.Turning.{WorkerTurned}
-use Rattle.mum_worker_laws.specs.Laws.{Look, history, looks_in}
+use Rattle.mum_worker_laws.specs.Laws.{Look, history, login_made, looks_in}
 use Rattle.mum_worker_laws.specs.Voices.{Talk, talk_in, talk_made}
 use Rattle.mum_serve_laws.specs.Counted.{GoesToHearers, causes_in, copies_refused, copies_sent, strays_in, up_to_64}
-use Rattle.mum_serve_laws.specs.Decisions.{edits_after, entries_after}
+use Rattle.mum_serve_laws.specs.Decisions.{edits_after, entries_after, logins_decided}
 use Rattle.mum_serve_laws.specs.Runs.{AreOfTheTurns, AreRouted, AreWritten, causes_of_each, decisions_of_run, edits_of_run, looks_of_each, strays_of_each}
 use Rattle.mum_serve_laws.proofs.Counting.{copies_are_refused, copies_are_sent, go_to_hearers, looks_counted}
-use Rattle.mum_serve_laws.proofs.Deciding.{connections_counted, edits_decided, entries_decided, none_unasked}
+use Rattle.mum_serve_laws.proofs.Deciding.{connections_counted, edits_decided, entries_decided, logins_accepted, none_unasked}
 use Rattle.mum_serve_laws.proofs.Noting.{memory_noted, stale_counted}
+
+-- ---- lists that go on
+
+-- what a list has is in each that begins with it
+stays_in : {A : Type 0} (front whole : List A) → IsPrefix front whole → (x : A) → Contains front x → Contains whole x
+stays_in {A} front whole begins x has = subst (λ (l : List A). Contains l x) begins.1 (Contains-append_left front begins.0 x has)
 
 -- ---- sums
 
@@ -187,15 +194,36 @@ module _ {L : Type 0} (facts : L → LinkFacts) (opening : Opening) where
   SeesEnd = (old worker : WorkerFacts L) (turns : List Turn) (all : TurnsTo (WorkerTurned facts opening) old turns worker)
       → All (λ look. IsPrefix look.edits worker.common.router.pass.seen) (looks_in (history facts opening old turns worker all))
 
-  all_within : SeesEnd → (published list : List Edit) → IsPrefix published list → (olds news : List (WorkerFacts L)) (led : AllZip (TurnsLead (WorkerTurned facts opening)) olds news)
-      → AreWithin published news → All (SawFrom list) (flat (looks_of_each facts opening olds news led))
-  all_within sees published list front [] [] led within = All-nil (SawFrom list)
-  all_within sees published list front [] (new ∷ news) led within = absurd led
-  all_within sees published list front (old ∷ olds) [] led within = absurd led
-  all_within sees published list front (old ∷ olds) (new ∷ news) led within =
+  all_within : SeesEnd → (publisher : PublisherFacts) (list : List Edit) → IsPrefix publisher.published list → (olds news : List (WorkerFacts L)) (led : AllZip (TurnsLead (WorkerTurned facts opening)) olds news)
+      → AreWithin publisher news → All (SawFrom list) (flat (looks_of_each facts opening olds news led))
+  all_within sees publisher list front [] [] led within = All-nil (SawFrom list)
+  all_within sees publisher list front [] (new ∷ news) led within = absurd led
+  all_within sees publisher list front (old ∷ olds) [] led within = absurd led
+  all_within sees publisher list front (old ∷ olds) (new ∷ news) led within =
       All-append (SawFrom list) (looks_in (history facts opening old led.0.0 new led.0.1)) (flat (looks_of_each facts opening olds news led.1))
-      (λ k d inside. prefix_trans _ new.common.router.pass.seen list (sees old new led.0.0 led.0.1 k d inside) (prefix_trans new.common.router.pass.seen published list within.0.seen front))
-      (all_within sees published list front olds news led.1 within.1)
+      (λ k d inside. prefix_trans _ new.common.router.pass.seen list (sees old new led.0.0 led.0.1 k d inside) (prefix_trans new.common.router.pass.seen publisher.published list within.0.seen front))
+      (all_within sees publisher list front olds news led.1 within.1)
+
+  -- ---- whose they are
+
+  abbrev SpeaksFor : List Login → Look → Type 0
+  SpeaksFor logins look = Contains logins (login_made look)
+
+  abbrev AreAdmitted : Type 0
+  AreAdmitted = (number : ℕ) (pass : PassFacts) (journal : Option ℕ) (opened worker : WorkerFacts L) (turns : List Turn) → HasOpened number pass journal opened
+      → (all : TurnsTo (WorkerTurned facts opening) opened turns worker)
+      → All (SpeaksFor worker.common.router.pass.roll) (looks_in (history facts opening opened turns worker all))
+
+  all_admitted : AreAdmitted → (publisher : PublisherFacts) (closings : Option ℕ) (number : ℕ) (olds news : List (WorkerFacts L)) → AreOpenedFrom opening closings number olds
+      → (led : AllZip (TurnsLead (WorkerTurned facts opening)) olds news) → AreWithin publisher news → All (SpeaksFor publisher.roll) (flat (looks_of_each facts opening olds news led))
+  all_admitted admitted publisher closings number [] [] begins led within = All-nil (SpeaksFor publisher.roll)
+  all_admitted admitted publisher closings number [] (new ∷ news) begins led within = absurd led
+  all_admitted admitted publisher closings number (old ∷ olds) [] begins led within = absurd led
+  all_admitted admitted publisher closings number (old ∷ olds) (new ∷ news) begins led within =
+      let roll : List Login = new.common.router.pass.roll in
+      All-append (SpeaksFor publisher.roll) (looks_in (history facts opening old led.0.0 new led.0.1)) (flat (looks_of_each facts opening olds news led.1))
+      (λ k d inside. stays_in roll publisher.roll within.0.roll _ (admitted number (fresh_pass opening) closings old new led.0.0 begins.0.opened led.0.1 k d inside))
+      (all_admitted admitted publisher closings (number + 1) olds news begins.1 led.1 within.1)
 
   all_hear : (olds news : List (WorkerFacts L)) (led : AllZip (TurnsLead (WorkerTurned facts opening)) olds news) → All (GoesToHearers opening) (flat (looks_of_each facts opening olds news led))
   all_hear [] [] led = All-nil (GoesToHearers opening)
@@ -266,12 +294,22 @@ module _ {D K P L : Type 0} (facts : L → LinkFacts) (door_facts : D → DoorFa
     nothing = λ is. run.came.controls ∙ none_unasked door_facts facts run.turned.first_owner run.turned.owner_turned.0 run.owner run.turned.owner_turned.1 (first_asked ∙ is) ∙ first_entries;
   }
 
-  pub are_routed : SeesEnd facts run.began → AreRouted facts door_facts last calls keeper_facts state asked workers rows opened summary entries left run
-  are_routed sees = record {
-    begins = all_within facts run.began sees run.owner.control.publisher.published (edits_of_run facts door_facts last calls keeper_facts state asked workers rows opened summary entries left run)
+  -- whose logins the owner accepted
+  roll_is : run.owner.control.publisher.roll ≡ logins_decided made
+  roll_is =
+      let first = run.turned.first_owner in
+      logins_accepted door_facts facts first run.turned.owner_turned.0 run.owner run.turned.owner_turned.1
+      ∙ ap (λ (l : List Login). l ++ logins_decided made) run.turned.begun.owner_begins.control.no_login
+
+  pub are_routed : SeesEnd facts run.began → AreAdmitted facts run.began → AreRouted facts door_facts last calls keeper_facts state asked workers rows opened summary entries left run
+  are_routed sees admitted = record {
+    begins = all_within facts run.began sees run.owner.control.publisher (edits_of_run facts door_facts last calls keeper_facts state asked workers rows opened summary entries left run)
         (run.owner.control.publisher.pending, list_is) run.turned.first_crew run.crew run.turned.crew_turned run.one_list;
     hearers = all_hear facts run.began run.turned.first_crew run.crew run.turned.crew_turned;
     opening = run.began_at;
+    speakers = subst (λ (l : List Login). All (SpeaksFor facts run.began l) (flat (looks_of_each facts run.began run.turned.first_crew run.crew run.turned.crew_turned))) roll_is
+        (all_admitted facts run.began admitted run.owner.control.publisher (closing_room asked.journal asked.connections workers) 0 run.turned.first_crew run.crew
+        run.turned.begun.crew_begins.each run.turned.crew_turned run.one_list);
   }
 
   -- the state after all that was accepted

@@ -1,7 +1,7 @@
 -- What an owner decided, as its turns have it.
 use Rattle.std.specs.Prelude.{◌≡◌, ◌+◌, ℕ, Bool, true, false, List, [], ◌∷◌, ◌++◌, length, map, Option}
-use Rattle.std.specs.List.{AllByRecursion}
-use Rattle.atomic_table.specs.Seated.{TableId}
+use Rattle.std.specs.List.{AllByRecursion, flat_map}
+use Rattle.mum_outbox.specs.Facts.{QueueId}
 use Rattle.mum_control.specs.Facts.{ControlFacts}
 use Rattle.mum_core.specs.Laws.{IsSubsequenceBy}
 use Rattle.mum_crew.specs.Turns.{TurnsTo}
@@ -10,13 +10,16 @@ use Rattle.mum_io.specs.Door.{DoorFacts}
 use Rattle.mum_io.specs.Link.{LinkFacts}
 use Rattle.mum_owner.specs.Decided.{with_command}
 use Rattle.mum_owner.specs.Facts.{OwnerFacts}
+use Rattle.mum_owner.specs.Given.{roll_of}
 use Rattle.mum_owner.specs.Guests.{session_of}
 use Rattle.mum_owner.specs.Laws.{Settled, connections_given, settled_in}
 use Rattle.mum_owner.specs.Opened.{IsOpened}
 use Rattle.mum_owner.specs.Turned.{OwnerTurned}
 use Rattle.mum_owner.specs.Written.{is_leave, own_frame, version_of}
+use Rattle.mum_published.specs.declared.roll.Login.{Login}
 use Rattle.mum_published.specs.Calls.{appended, state_of}
 use Rattle.mum_published.specs.Facts.{Opening}
+use Rattle.mum_published.specs.Rolls.{login_of}
 use Rattle.mum_record.specs.declared.journal.ControlEntry.{ControlEntry}
 use Rattle.mum_session.specs.Reply.{mark}
 use Rattle.mum_session.specs.Verdict.{verdict}
@@ -76,6 +79,11 @@ entries_after opening edits [] = []
 entries_after opening edits (decision ∷ others) =
     entry_of opening edits decision.command ∷ entries_after opening (with_command opening edits decision.command) others
 
+-- the logins that were accepted by these decisions, in order: each of the connection of its command, with the session that
+-- its reply gives
+abbrev pub logins_decided : List Decision → List Login
+logins_decided decisions = flat_map (λ decision. login_of decision.command.connection decision.reply.end) decisions
+
 -- ---- the laws
 
 -- what an owner appended are the edits of its decisions
@@ -84,6 +92,12 @@ EditsAreTheDecisions D L door_facts link_facts =
     (old owner : OwnerFacts D L) (turns : List Turn) (all : TurnsTo (OwnerTurned door_facts link_facts) old turns owner)
     → appended owner.control.publisher
     ≡ edits_after old.control.publisher.opening (appended old.control.publisher) (decisions door_facts link_facts old turns owner all)
+
+-- what it puts on its roll are the logins of its decisions
+abbrev pub LoginsAreTheDecisions : (D L : Type 0) → (D → DoorFacts) → (L → LinkFacts) → Type 0
+LoginsAreTheDecisions D L door_facts link_facts =
+    (old owner : OwnerFacts D L) (turns : List Turn) (all : TurnsTo (OwnerTurned door_facts link_facts) old turns owner)
+    → roll_of owner ≡ roll_of old ++ logins_decided (decisions door_facts link_facts old turns owner all)
 
 -- what it has in a journal that was asked for are the entries of its decisions
 abbrev pub EntriesAreTheDecisions : (D L : Type 0) → (D → DoorFacts) → (L → LinkFacts) → Type 0
@@ -116,7 +130,7 @@ DecisionsAreForTheirSessions D L door_facts link_facts =
 -- as many connections are counted as the door gave in the turns
 abbrev pub ConnectionsAreThoseGiven : (D L : Type 0) → (D → DoorFacts) → (L → LinkFacts) → Type 0
 ConnectionsAreThoseGiven D L door_facts link_facts =
-    (control : ControlFacts) (door : D) (connections : ℕ) (journal : Bool) (queues : List TableId) (store : Option TableId)
+    (control : ControlFacts) (door : D) (connections : ℕ) (journal : Bool) (queues : List QueueId) (store : Option QueueId)
     (opened owner : OwnerFacts D L) (turns : List Turn) → IsOpened control door connections journal queues store opened
     → (all : TurnsTo (OwnerTurned door_facts link_facts) opened turns owner)
     → owner.guests.given ≡ length (connections_given door_facts link_facts opened turns owner all)

@@ -1,6 +1,6 @@
 -- What a run of a server came to, as the turns of its roles have it.
 use Rattle.std.specs.Prelude.{◌≡◌, ◌+◌, ◌||◌, ℕ, true, false, List, [], ◌∷◌, ◌++◌, length, map, IfSome, Option}
-use Rattle.std.specs.List.{All, AllZip, filter_map, flat_map, list_any, sum_by}
+use Rattle.std.specs.List.{All, AllZip, Contains, filter_map, flat_map, list_any, sum_by}
 use mathlib.Core.List.{IsPrefix}
 use Rattle.mum_base.specs.declared.number.Cause.{Cause}
 use Rattle.mum_crew.specs.Turns.{TurnsLead}
@@ -11,6 +11,7 @@ use Rattle.mum_keeper.specs.Turns.{HoldsKept}
 use Rattle.mum_kept.specs.declared.rows.KeptRows.{KeptRows}
 use Rattle.mum_owner.specs.Laws.{connections_given}
 use Rattle.mum_owner.specs.declared.kept.Coming.{Coming}
+use Rattle.mum_published.specs.declared.roll.Login.{Login}
 use Rattle.mum_published.specs.Calls.{state_of}
 use Rattle.mum_published.specs.Facts.{Opening}
 use Rattle.mum_serve.specs.Asked.{Service}
@@ -27,10 +28,10 @@ use Rattle.mum_step_laws.specs.OwnerTurns.{Decision}
 use Rattle.mum_worker.specs.Facts.{WorkerFacts}
 use Rattle.mum_worker.specs.Record.{is_memory}
 use Rattle.mum_worker.specs.Turning.{WorkerTurned}
-use Rattle.mum_worker_laws.specs.Laws.{Look, history, looks_in}
+use Rattle.mum_worker_laws.specs.Laws.{Look, history, login_made, looks_in}
 use Rattle.mum_worker_laws.specs.Voices.{talk_in, talk_made}
 use Rattle.mum_serve_laws.specs.Counted.{GoesToHearers, causes_in, copies_refused, copies_sent, strays_in, up_to_64}
-use Rattle.mum_serve_laws.specs.Decisions.{decisions, edits_after, entries_after}
+use Rattle.mum_serve_laws.specs.Decisions.{decisions, edits_after, entries_after, logins_decided}
 
 -- ---- the workers of a run, one after the other
 
@@ -68,6 +69,10 @@ module _ {D K P L : Type 0} (facts : L → LinkFacts) (door_facts : D → DoorFa
   abbrev pub decisions_of_run : List Decision
   decisions_of_run = decisions door_facts facts run.turned.first_owner run.turned.owner_turned.0 run.owner run.turned.owner_turned.1
 
+  -- the logins that these accepted, in order
+  abbrev pub logins_of_run : List Login
+  logins_of_run = logins_decided decisions_of_run
+
   -- the edits that these accepted, each decided at the state after those before it
   abbrev pub edits_of_run : List Edit
   edits_of_run = edits_after run.began [] decisions_of_run
@@ -100,11 +105,13 @@ module _ {D K P L : Type 0} (facts : L → LinkFacts) (door_facts : D → DoorFa
     pub voices : asked.journal ≡ true → map (filter_map talk_in) entries.by_worker ≡ map (map talk_made) looks_by_worker
     pub nothing : asked.journal ≡ false → entries.controls ≡ []
 
-  -- each packet goes to those who hear it after a beginning of the edits that were accepted
+  -- each packet goes to those who hear it after a beginning of the edits that were accepted, and nobody speaks for another
   pub record AreRouted : Type 0 where
     pub begins : All (λ look. IsPrefix look.edits edits_of_run) looks_of_run
     pub hearers : All (GoesToHearers run.began) looks_of_run
     pub opening : run.began.state ≡ state
+    -- it is of a session that an accepted login gave to the connection that sent it
+    pub speakers : All (λ look. Contains logins_of_run (login_made look)) looks_of_run
 
 -- ---- kept channels
 

@@ -15,7 +15,7 @@ ghost use Rattle.mum_serve_laws.specs.Runs.{AreOfTheTurns, AreRouted, AreWritten
 
 use mum_io::{Clock, Door};
 use mum_keeper::Keeper;
-use mum_worker_laws::laws::{looks_are_within, voice_entries_are_the_looks};
+use mum_worker_laws::laws::{looks_are_within, speakers_are_admitted, voice_entries_are_the_looks};
 
 /// The totals of a run are sums over its turns: the connections that the door gave, the edits of the commands that were
 /// decided, and of all workers the packets that were routed, their copies, and the parcels for other sessions.
@@ -40,7 +40,8 @@ pub fn entries_are_of_the_turns<D: Door, K: Clock, P: Keeper>()
 }
 
 /// There is one list of accepted edits, those of the commands that the owner decided, and each packet of each worker
-/// goes to those who hear it after a beginning of that list.
+/// goes to those who hear it after a beginning of that list. Nobody speaks for another: each is routed for a session that
+/// one of these commands, a login, gave to the connection that sent it.
 pub fn packets_go_by_the_decisions<D: Door, K: Clock, P: Keeper>()
     ensures { (state : StateValue) (asked : Service) (workers : ℕ) (rows : Option KeptRows) (opened : Objects D K P)
         (summary : Summary) (entries : Entries) (left : Objects D K P) →
@@ -49,6 +50,7 @@ pub fn packets_go_by_the_decisions<D: Door, K: Clock, P: Keeper>()
         run }
 {
     looks_are_within::<D::Conn>();
+    speakers_are_admitted::<D::Conn>();
 }
 
 /// Where channels are kept, and neither a call of the keeper failed nor memory ran out, the keeper has at the end the rows

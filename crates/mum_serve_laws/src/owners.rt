@@ -1,6 +1,6 @@
 //! What an owner counts and writes down is what it decided. These functions do nothing: each contract is a theorem.
 
-ghost use Rattle.mum_serve_laws.specs.Decisions.{ConnectionsAreThoseGiven, DecisionsAreForTheirSessions, DecisionsAreOfTheDesk, EditsAreTheDecisions, EntriesAreTheDecisions, NoEntriesUnasked};
+ghost use Rattle.mum_serve_laws.specs.Decisions.{ConnectionsAreThoseGiven, DecisionsAreForTheirSessions, DecisionsAreOfTheDesk, EditsAreTheDecisions, EntriesAreTheDecisions, LoginsAreTheDecisions, NoEntriesUnasked};
 
 use mum_doorway::Entrance;
 
@@ -8,6 +8,12 @@ use mum_doorway::Entrance;
 /// all that was accepted before it.
 pub fn accepted_edits_are_the_decisions<D: Entrance>()
     ensures { EditsAreTheDecisions D D.Peer D.facts D.Peer.facts }
+{}
+
+/// The logins that were accepted are those of the commands that turns decided, in order: each of the connection of its
+/// command, with the session that it was given.
+pub fn accepted_logins_are_the_decisions<D: Entrance>()
+    ensures { LoginsAreTheDecisions D D.Peer D.facts D.Peer.facts }
 {}
 
 /// Where a journal was asked for, its control entries are those of the commands that turns decided, one for each and in

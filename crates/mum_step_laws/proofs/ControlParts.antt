@@ -5,7 +5,7 @@ use Rattle.std.specs.Option.{option_map, option_map_or}
 use Rattle.std.proofs.lemmas.Bool.{and_parts, ltb-true}
 use Rattle.std.proofs.lemmas.List.{append-nil, map-append}
 use Rattle.mum_base.specs.declared.number.SessionId.{SessionId}
-use Rattle.mum_control.specs.Commanded.{Accepts, Decides, Denies, IsDropped, Publishes, current as now, next_revision as next, with_edit}
+use Rattle.mum_control.specs.Commanded.{Accepts, Decides, Denies, IsDropped, Publishes, current as now, next_revision as next, with_accepted}
 use Rattle.mum_control.specs.Facts.{ControlFacts}
 use Rattle.mum_control.specs.Posting.{answer_of, parcel_of}
 use Rattle.mum_control.specs.declared.posted.Posted.{Posted}
@@ -67,8 +67,8 @@ open_still core c change = from (nat_lt 0 c) refl
 -- ---- a command
 
 -- the edits of a publisher with one more
-appended_one : (publisher : PublisherFacts) (edit : Edit) → appended (with_edit publisher edit) ≡ appended publisher ++ edit ∷ []
-appended_one publisher edit = sym (append_assoc publisher.published publisher.pending (edit ∷ []))
+appended_one : (publisher : PublisherFacts) (connection : ℕ) (edit : Edit) → appended (with_accepted publisher connection edit) ≡ appended publisher ++ edit ∷ []
+appended_one publisher connection edit = sym (append_assoc publisher.published publisher.pending (edit ∷ []))
 
 decided_core : (core : CoreState) (c : ℕ) (one : Option Verdict) (decided : Verdict) → one ≡ Some decided
     → option_map_or (edit_step.decides core c) one core ≡ edit_step.decides core c decided
@@ -159,7 +159,7 @@ module _ (old : ControlFacts) (command : Command) (core : CoreState) (owns : Own
       }
 
   -- a command that is accepted and waits to be published
-  accepted_unpublished : (edit : Edit) (reply_given : ReplyFacts) (new : ControlFacts) → reply_given.note ≡ None → new.publisher ≡ with_edit old.publisher edit
+  accepted_unpublished : (edit : Edit) (reply_given : ReplyFacts) (new : ControlFacts) → reply_given.note ≡ None → new.publisher ≡ with_accepted old.publisher c edit
       → edit_step.decision core c ≡ Some (Accepted edit) → Accepts old c edit reply_given new → DecidesAsEdit command reply_given new core
   accepted_unpublished edit reply_given new unnoted publisher is accepts =
       let after = after_is (Accepted edit) is in
@@ -170,7 +170,7 @@ module _ (old : ControlFacts) (command : Command) (core : CoreState) (owns : Own
         allowed = allowed_is;
         owns = subst (λ (k : CoreState). OwnsAs new k) (sym whole) (record {
           opening_is = owns.opening_is ∙ ap (λ (p : PublisherFacts). p.opening.state) (sym publisher);
-          accepted_are = ap (λ (xs : List Edit). xs ++ edit ∷ []) owns.accepted_are ∙ sym (appended_one old.publisher edit) ∙ ap appended (sym publisher);
+          accepted_are = ap (λ (xs : List Edit). xs ++ edit ∷ []) owns.accepted_are ∙ sym (appended_one old.publisher c edit) ∙ ap appended (sym publisher);
           published_are = owns.published_are ∙ ap (λ (p : PublisherFacts). length p.published) (sym publisher);
           pending_are = pending_more edit new accepts;
         });
@@ -187,14 +187,14 @@ module _ (old : ControlFacts) (command : Command) (core : CoreState) (owns : Own
 
   -- a command that is accepted and published
   accepted_published : (edit : Edit) (reply_given : ReplyFacts) (new : ControlFacts) (note : NoteFacts) → reply_given.note ≡ Some note
-      → note.edits ≡ appended (with_edit old.publisher edit) → new.publisher ≡ all_published (with_edit old.publisher edit)
+      → note.edits ≡ appended (with_accepted old.publisher c edit) → new.publisher ≡ all_published (with_accepted old.publisher c edit)
       → edit_step.decision core c ≡ Some (Accepted edit) → Accepts old c edit reply_given new → DecidesAsEdit command reply_given new core
   accepted_published edit reply_given new note noted edits publisher is accepts =
       let after = after_is (Accepted edit) is in
       let shown : CoreState = does (edited core c (Accepted edit)) steps.Publish in
       let whole : published_with reply_given.note (does core (steps.Edit c)) ≡ shown =
       ap (λ (n : Option NoteFacts). published_with n (does core (steps.Edit c))) noted ∙ ap (λ (k : CoreState). does k steps.Publish) after in
-      let all : core.accepted ++ edit ∷ [] ≡ appended (with_edit old.publisher edit) = ap (λ (xs : List Edit). xs ++ edit ∷ []) owns.accepted_are ∙ sym (appended_one old.publisher edit) in
+      let all : core.accepted ++ edit ∷ [] ≡ appended (with_accepted old.publisher c edit) = ap (λ (xs : List Edit). xs ++ edit ∷ []) owns.accepted_are ∙ sym (appended_one old.publisher c edit) in
       let waits : (connection_at shown c).decided ≡ Some (edit_step.reply_to core c (Accepted edit)) → illegal shown (steps.Tell c (Some (length note.edits))) ≡ None = λ waits.
       let revision : tell_step.edit_revision (connection_at shown c).decided ≡ length core.accepted + 1 = ap tell_step.edit_revision waits in
       let count : length note.edits ≡ length core.accepted + 1 = ap length (edits ∙ sym all) ∙ length-append core.accepted (edit ∷ []) in
@@ -210,7 +210,7 @@ module _ (old : ControlFacts) (command : Command) (core : CoreState) (owns : Own
         allowed = allowed_is;
         owns = subst (λ (k : CoreState). OwnsAs new k) (sym whole) (record {
           opening_is = owns.opening_is ∙ ap (λ (p : PublisherFacts). p.opening.state) (sym publisher);
-          accepted_are = all ∙ sym (append-nil (appended (with_edit old.publisher edit))) ∙ ap appended (sym publisher);
+          accepted_are = all ∙ sym (append-nil (appended (with_accepted old.publisher c edit))) ∙ ap appended (sym publisher);
           published_are = ap length all ∙ ap (λ (p : PublisherFacts). length p.published) (sym publisher);
           pending_are = pending_more edit new accepts;
         });
@@ -223,7 +223,7 @@ module _ (old : ControlFacts) (command : Command) (core : CoreState) (owns : Own
             (subst (λ (n : Option NoteFacts). illegal shown (steps.Tell c (revision_noted n)) ≡ None) (sym noted) (waits (waits_is (Accepted edit) by_frame)));
       }
 
-  accepted : (edit : Edit) (reply_given : ReplyFacts) (new : ControlFacts) (note : Option NoteFacts) → reply_given.note ≡ note → Publishes (with_edit old.publisher edit) note new.publisher
+  accepted : (edit : Edit) (reply_given : ReplyFacts) (new : ControlFacts) (note : Option NoteFacts) → reply_given.note ≡ note → Publishes (with_accepted old.publisher c edit) note new.publisher
       → edit_step.decision core c ≡ Some (Accepted edit) → Accepts old c edit reply_given new → DecidesAsEdit command reply_given new core
   accepted edit reply_given new None noted publishes is accepts = accepted_unpublished edit reply_given new noted publishes is accepts
   accepted edit reply_given new (Some note) noted publishes is accepts =

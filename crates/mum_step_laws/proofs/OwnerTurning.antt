@@ -22,7 +22,7 @@ use Rattle.mum_outbox.specs.declared.queue.Offered.{Offered}
 use Rattle.mum_outbox.specs.declared.queue.Offered.TheVariants.{Sent, Full}
 use Rattle.mum_owner.specs.Banning.{Answers, IsGivenOrRefused, ListComesTo, SettledBy, SettlesList, TestedBy, ban_reply, banned_in, book_after, is_banned, list_reply, with_warden}
 use Rattle.mum_owner.specs.Facts.{OwnerFacts}
-use Rattle.mum_owner.specs.Given.{IsGiven}
+use Rattle.mum_owner.specs.Given.{IsGiven, roll_of}
 use Rattle.mum_owner.specs.Guests.{owned, session_of}
 use Rattle.mum_owner.specs.Serving.{EmptiesFor, LeaveIsGiven, Next, Receives, ReceivesBy, ReceivesItem, Rests, Serves, ServesDesk, leave_of, must_wait, next, with_pass}
 use Rattle.mum_owner.specs.Serving.Next.{Again, Goes, Rest, Take}
@@ -144,7 +144,7 @@ module _ {D L : Type 0} where
   replied_moves old reply new (inr is) = rests old.control new.control (ap (λ (o : OwnerFacts D L). o.control) is)
 
   tested_moves : (banned : Bool) (old : OwnerFacts D L) (login : Command) (new : OwnerFacts D L) (tested : TestedBy banned old login new) → Moves old new (decided_tested banned old login new tested)
-  tested_moves true old login new answers = replied_moves old (ban_reply login.connection) new answers
+  tested_moves true old login new answers = replied_moves old (ban_reply (roll_of old) login.connection) new answers
   tested_moves false old login new given = given_moves old login new given
 
   settling_moves : (login : Bool) (banned : Option SessionId) (old : OwnerFacts D L) (command : Command) (new : OwnerFacts D L) (given : SettledBy login banned old command new)
@@ -167,7 +167,7 @@ module _ {D L : Type 0} where
 
   list_moves : (old : OwnerFacts D L) (connection : ℕ) (session : SessionId) (payload : List ℕ) (new : OwnerFacts D L) → SettlesList old connection session payload new → Moves old new []
   list_moves old connection session payload new settles =
-      list_comes_moves settles.warden old (list_reply connection (sent session (verdict_in old.warden.book settles.allowed payload)))
+      list_comes_moves settles.warden old (list_reply (roll_of old) connection (sent session (verdict_in old.warden.book settles.allowed payload)))
       (book_after old.warden.book settles.allowed payload settles.warden.last) new settles.comes_to
 
   leave_moves : (old : OwnerFacts D L) (connection : ℕ) (decided : Bool) (new : OwnerFacts D L) (given : LeaveIsGiven old connection decided new) → Moves old new (decided_leave old connection decided new given)

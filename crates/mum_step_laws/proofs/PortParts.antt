@@ -197,7 +197,8 @@ last_one (y ∷ xs) x d = last_one xs x d
 
 module _ {L : Type 0} where
   pub opens : ConnectionsAreOpened L
-  opens number connection link ports kept ports_after kept_after takes core next within =
+  opens intake connection link ports kept intake_after ports_after kept_after takes core next within =
+      let number : ℕ = intake.number in
       let after = does core (steps.Open connection number) in
       let first : nat_lt 0 connection ≡ true = lt-ltb 0 connection (omega (arith, next)) in
       let place : connection - 1 ≡ length core.connections = omega (arith, next) in

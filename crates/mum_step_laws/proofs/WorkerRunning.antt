@@ -23,6 +23,7 @@ use Rattle.mum_core.specs.steps.Look as look_step
 use Rattle.mum_core.specs.steps.Offer as offer_step
 use Rattle.mum_core.specs.steps.Tell as tell_step
 use Rattle.mum_published.proofs.Prefixes.{prefix_trans}
+use Rattle.mum_published.specs.declared.roll.Login.{Login}
 use Rattle.mum_published.specs.Facts.{NoteFacts, Opening, PassFacts, ReplyFacts}
 use Rattle.mum_record.specs.declared.step.Step.TheVariants.{Frame, Look, Offer, Tell}
 use Rattle.mum_router.specs.Facts.{RouterFacts}
@@ -35,7 +36,7 @@ use Rattle.mum_state.specs.After.{at, led_to}
 use Rattle.mum_state.specs.State.{StateValue}
 use Rattle.mum_state.specs.declared.edit.Edit.{Edit}
 use Rattle.mum_voice.specs.Packet.{Parts}
-use Rattle.mum_worker.specs.Hearing.{LearnsGiven}
+use Rattle.mum_worker.specs.Hearing.{Admits, LearnsGiven}
 use Rattle.mum_worker_laws.specs.Laws.{Look as Packet, Moment, Told, Looked, look_in, looks_in}
 use Rattle.mum_step_laws.specs.ControlSteps.{revision_noted}
 use Rattle.mum_step_laws.specs.WorkerRuns.{Allows, AllowsEach, Hold, LookAt, HasNoted, MaySpeak, MayBeTold, Note, NotesAreTold, OfferNext, WorkerStep, WorkerStepsAreSteps, after_step, after_steps, copies_offered, offered, offered_by, packet_in, steps_of}
@@ -311,13 +312,31 @@ module _ (opening : Opening) (published : List Edit) where
     };
   }
 
-  pub leads_told : (reply : ReplyFacts) (old new : RouterFacts) → LearnsGiven reply.note old new → Leads old new (Told reply ∷ [])
-  leads_told reply old new learns = record {
+  -- of edits a pass knows no more once it learnt of logins
+  leads_admitted : (roll : List Login) (old mid new : RouterFacts) (moments : List Moment) → Admits roll mid new → Leads old mid moments → Leads old new moments
+  leads_admitted roll old mid new moments admits leads =
+      let known : new.pass.known ≡ mid.pass.known = ap (λ (p : PassFacts). p.known) admits.0.same in record {
+        knows = subst (λ (l : List Edit). IsPrefix old.pass.known l) (sym known) leads.knows;
+        runs = λ front worker stands.
+            let runs = leads.runs (subst (λ (l : List Edit). IsPrefix l published) known front) worker stands in record {
+              allowed = runs.allowed;
+              offers = runs.offers;
+              stands = record {
+                seen_is = runs.stands.seen_is ∙ ap (λ (p : PassFacts). length p.seen) (sym admits.0.same);
+                least_is = runs.stands.least_is ∙ ap (λ (p : PassFacts). length p.known) (sym admits.0.same);
+                held_is = runs.stands.held_is;
+                copies_are = runs.stands.copies_are;
+              };
+            };
+      }
+
+  pub leads_told : (reply : ReplyFacts) (old mid new : RouterFacts) → LearnsGiven reply.note old mid → Admits reply.roll mid new → Leads old new (Told reply ∷ [])
+  leads_told reply old mid new learns admits = leads_admitted reply.roll old mid new (Told reply ∷ []) admits (record {
     knows = from reply.note learns;
-    runs = told_runs reply old new learns;
-  }
+    runs = told_runs reply old mid learns;
+  })
     where
-      from : (note : Option NoteFacts) → LearnsGiven note old new → IsPrefix old.pass.known new.pass.known
+      from : (note : Option NoteFacts) → LearnsGiven note old mid → IsPrefix old.pass.known mid.pass.known
       from None same = ([], append-nil old.pass.known ∙ ap (λ (r : RouterFacts). r.pass.known) (sym same))
       from (Some note) given = given.0.mine
 

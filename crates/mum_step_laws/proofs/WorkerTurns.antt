@@ -22,7 +22,7 @@ use Rattle.mum_state.specs.declared.edit.Edit.{Edit}
 use Rattle.mum_voice.specs.Packet.{Parts}
 use Rattle.mum_worker.specs.Boxes.{BoxesFacts}
 use Rattle.mum_worker.specs.Facts.{WorkerFacts}
-use Rattle.mum_worker.specs.Hearing.{Hears, LearnsGiven}
+use Rattle.mum_worker.specs.Hearing.{Admits, Hears, LearnsGiven}
 use Rattle.mum_worker.specs.Routing.{CommonFacts, RoutesPacket}
 use Rattle.mum_worker.specs.Stepping.{PortSteps, Shares}
 use Rattle.mum_worker.specs.Turning.{Turned, WorkerTurned, shares_of}
@@ -34,7 +34,7 @@ use Rattle.mum_step_laws.proofs.WorkerRunning.{Leads, leads_on, leads_same, lead
 -- thing after another
 record Walks (opening : Opening) (R : RouterFacts → RouterFacts → List Moment → Type 0) : Type 0 where
   same : (old new : RouterFacts) → new ≡ old → R old new []
-  told : (reply : ReplyFacts) (old new : RouterFacts) → LearnsGiven reply.note old new → R old new (Told reply ∷ [])
+  told : (reply : ReplyFacts) (old mid new : RouterFacts) → LearnsGiven reply.note old mid → Admits reply.roll mid new → R old new (Told reply ∷ [])
   saw : (connection : ℕ) (old : RouterFacts) (speaker : SessionId) (packet : Parts) (edits : List Edit) (deliveries : List Delivery) (new : RouterFacts) (routed : Routed)
       → RoutesAt opening old speaker packet edits deliveries new routed
       → R old new (Looked (record { connection = connection; speaker = speaker; packet = packet; edits = edits; deliveries = deliveries }) ∷ [])
@@ -77,7 +77,7 @@ module _ (opening : Opening) (R : RouterFacts → RouterFacts → List Moment �
 
     heard : (item : Option (Rung L)) (old new : WorkerFacts L) → Hears facts item old new → R old.common.router new.common.router (told_by item)
     heard None old new is = same_common old.common new.common (ap (λ (w : WorkerFacts L). w.common) is)
-    heard (Some (Answer reply)) old new hears = walks.told reply old.common.router new.common.router hears.takes.learns
+    heard (Some (Answer reply)) old new hears = walks.told reply old.common.router hears.takes.noted_by new.common.router hears.takes.learns hears.takes.admits
     heard (Some (Comes connection link)) old new hears = walks.same old.common.router new.common.router hears.router
     heard (Some (Lagging session)) old new hears = walks.same old.common.router new.common.router hears.router
     heard (Some NoMore) old new is = same_common old.common new.common (ap (λ (w : WorkerFacts L). w.common) is)
@@ -114,7 +114,7 @@ module _ (opening : Opening) (published : List Edit) where
 module _ {L : Type 0} (facts : L → LinkFacts) where
   pub workers : WorkersAreWorkers facts
   workers opening number pass journal opened worker turns published begun fresh all front =
-      let first : opened.common.router.pass ≡ record { opening = opening; seen = []; known = []; asks = [] } = begun.pass_is ∙ fresh in
+      let first : opened.common.router.pass ≡ record { opening = opening; seen = []; known = []; asks = []; roll = [] } = begun.pass_is ∙ fresh in
       let leads = turned_all opening (Leads opening published) (leads_walk opening published) facts opened turns worker all in
       let runs = leads.runs front idle (record {
         seen_is = ap (λ (p : PassFacts). length p.seen) (sym first);

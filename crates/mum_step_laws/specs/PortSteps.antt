@@ -51,6 +51,7 @@ use Rattle.mum_state.specs.State.{StateValue}
 use Rattle.mum_state.specs.declared.verdict.Verdict.{Verdict}
 use Rattle.mum_state.specs.declared.verdict.Verdict.TheVariants.{Accepted}
 use Rattle.mum_worker.specs.Hearing.{TakesIn}
+use Rattle.mum_worker.specs.declared.intake.Intake.{Intake}
 use Rattle.mum_worker.specs.Record.{RecordFacts}
 use Rattle.mum_worker.specs.Routing.{CommonFacts, RoutesPacket}
 use Rattle.mum_worker_laws.specs.Lives.{Said, said_by}
@@ -76,13 +77,13 @@ pub record IsOpenAs (machine : Machine) (core : CoreState) : Type 0 where
 -- knows it
 abbrev pub ConnectionsAreOpened : Type 0 → Type 0
 ConnectionsAreOpened L =
-    (number connection : ℕ) (link : L) (ports : List (PortFacts L)) (kept : RecordFacts)
-    (ports_after : List (PortFacts L)) (kept_after : RecordFacts)
-    → TakesIn number connection link ports kept ports_after kept_after
-    → (core : CoreState) → connection ≡ length core.connections + 1 → number < length core.workers
-    → (illegal core (Open connection number) ≡ None)
+    (intake : Intake) (connection : ℕ) (link : L) (ports : List (PortFacts L)) (kept : RecordFacts)
+    (intake_after : Intake) (ports_after : List (PortFacts L)) (kept_after : RecordFacts)
+    → TakesIn intake connection link ports kept intake_after ports_after kept_after
+    → (core : CoreState) → connection ≡ length core.connections + 1 → intake.number < length core.workers
+    → (illegal core (Open connection intake.number) ≡ None)
     × ((port : PortFacts L) × (ports_after ≡ ports ++ port ∷ []) × (port.machine.connection ≡ connection)
-    × IsOpenAs port.machine (does core (Open connection number)))
+    × IsOpenAs port.machine (does core (Open connection intake.number)))
 
 -- ---- a frame
 

@@ -1,0 +1,4 @@
+pub mod Recorded
+pub mod Order
+pub mod Orderly
+pub mod OfRuns

@@ -15,3 +15,5 @@ mod GrantedLast
 mod HeardLaws
 mod UserRequestLaws
 mod ChannelRequestLaws
+mod ContentLaws
+mod TargetLaws

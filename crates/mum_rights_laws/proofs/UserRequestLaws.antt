@@ -35,7 +35,8 @@ use Rattle.mum_rules_user.specs.declared.message.UserMessage.{UserMessage}
 use Rattle.mum_rules_user.specs.declared.message.UserMessage.TheVariants.{Join, Target, User as Changes}
 use Rattle.mum_rights_laws.specs.Speech.{LogsInAgain, MayRuleSpeech}
 use Rattle.mum_rights_laws.specs.UserCommands.{IsAbout}
-use Rattle.mum_rights_laws.specs.UserRequests.{IsAsAsked, LoginsRenewTokens, OtherTargetsStand, TheUnnamedStand, UserStatesAreDone, deaf_asked, is_listed, mute_asked}
+use Rattle.mum_rights_laws.specs.Listed.{is_listed}
+use Rattle.mum_rights_laws.specs.UserRequests.{IsAsAsked, LoginsRenewTokens, OtherTargetsStand, TheUnnamedStand, UserStatesAreDone, deaf_asked, mute_asked}
 use Rattle.mum_rights_laws.proofs.Seated.{goes, left_aims, seated, targeted_apart, was_there}
 use Rattle.mum_rights_laws.proofs.SessionLaws.{number_is, suppressed_by}
 use Rattle.mum_rights_laws.proofs.Settled.{aims as aims_are, listening, same_session}

@@ -1,3 +1,4 @@
+pub mod Listed
 pub mod Rights
 pub mod Standing
 pub mod UserCommands
@@ -13,3 +14,5 @@ pub mod ByLists
 pub mod HeardByLists
 pub mod UserRequests
 pub mod ChannelRequests
+pub mod Contents
+pub mod Targets

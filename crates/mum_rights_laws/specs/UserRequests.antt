@@ -1,6 +1,5 @@
 -- What a message on users asks for is what changes, and nothing else does.
-use Rattle.std.specs.Prelude.{◌≡◌, ◌⊎◌, ℕ, ◌==◌, ◌&&◌, ◌||◌, not, nat_lt, Bool, true, false, List, length, filter, take, Option, Some, None, unwrap_or}
-use Rattle.std.specs.List.{list_any}
+use Rattle.std.specs.Prelude.{◌≡◌, ◌⊎◌, ℕ, ◌&&◌, ◌||◌, not, nat_lt, Bool, true, false, length, filter, take, Option, Some, None, unwrap_or}
 use Rattle.mum_base.specs.declared.number.ChannelId.{ChannelId}
 use Rattle.mum_msg_rule.specs.declared.voice_target.VoiceTarget.{VoiceTarget}
 use Rattle.mum_msg_state.specs.declared.authenticate.Authenticate.{Authenticate}
@@ -11,6 +10,7 @@ use Rattle.mum_users.specs.Targets.{target_of}
 use Rattle.mum_users.specs.declared.user.User.{User}
 use Rattle.mum_rules_user.specs.declared.message.UserMessage.TheVariants.{Join, Target, User as Changes}
 use Rattle.mum_rights_laws.specs.Speech.{LogsInAgain}
+use Rattle.mum_rights_laws.specs.Listed.{is_listed}
 use Rattle.mum_rights_laws.specs.Standing.{OfStaying}
 use Rattle.mum_rights_laws.specs.UserCommands.{IsAbout, OfUserCommands}
 
@@ -44,10 +44,6 @@ pub record IsAsAsked (asked : UserState) (was now : User) : Type 0 where
   pub context : now.context ≡ unwrap_or asked.plugin_context was.context
   pub tokens : now.tokens ≡ was.tokens
   pub speaks : asked.suppress ≡ Some false → now.suppress ≡ false
-
--- the channel is one of these numbers
-abbrev pub is_listed : List ℕ → ChannelId → Bool
-is_listed numbers channel = list_any (λ number. number == channel.0) numbers
 
 -- whom a UserState is about is as it asks, and listens to what it did and is to listen to, but for what it is to leave and
 -- what is gone

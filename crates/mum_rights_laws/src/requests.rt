@@ -1,5 +1,6 @@
 //! That a message on users changes what it asks for, and nothing else. These functions do nothing: each contract is a theorem.
 
+ghost use Rattle.mum_rights_laws.specs.Targets.{TargetsAreDone};
 ghost use Rattle.mum_rights_laws.specs.UserRequests.{LoginsRenewTokens, OtherTargetsStand, TheUnnamedStand, UserStatesAreDone};
 
 /// Whom a UserState is about has the flags, the channel and the texts that it asks for, and listens to what it asks for; what
@@ -19,4 +20,9 @@ pub fn the_unnamed_stand()
 /// but for its suppression.
 pub fn logins_renew_tokens()
     ensures { LoginsRenewTokens }
+{}
+
+/// Whoever sends a VoiceTarget has under its number exactly the items of the message; where these are none, no target.
+pub fn targets_are_done()
+    ensures { TargetsAreDone }
 {}

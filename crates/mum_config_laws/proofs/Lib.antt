@@ -1,0 +1,9 @@
+mod Lists
+mod SaidValues
+mod SaidEntries
+mod Going
+mod GoingAccounts
+mod GoingChannels
+mod GoingLinks
+mod Opening
+mod Asking

@@ -1,0 +1,4 @@
+pub mod Values
+pub mod Entries
+pub mod Opened
+pub mod Passwords

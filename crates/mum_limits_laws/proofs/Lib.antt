@@ -1,0 +1,12 @@
+mod WithinLaws
+mod Cases
+mod FullLaws
+mod LoginLaws
+mod HeardLaws
+mod HeardUserLaws
+mod Wanted
+mod NeedLaws
+mod NeedUserLaws
+mod Limited
+mod RefusalLaws
+mod RefusalUserLaws

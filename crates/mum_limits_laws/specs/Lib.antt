@@ -1,0 +1,10 @@
+pub mod Denials
+pub mod Within
+pub mod Full
+pub mod Logins
+pub mod Heard
+pub mod HeardUsers
+pub mod ChannelNeeds
+pub mod UserNeeds
+pub mod ChannelLimits
+pub mod UserLimits

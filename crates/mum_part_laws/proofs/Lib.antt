@@ -1,0 +1,8 @@
+pub mod Chains
+pub mod TreeLaws
+mod RosterLaws
+mod GroupLaws
+mod NameLaws
+mod SubLaws
+pub mod ChangeLaws
+mod TextLaws

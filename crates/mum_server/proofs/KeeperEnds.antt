@@ -1,5 +1,5 @@
 -- What became of the keeper of a run that ended for its sake.
-use Rattle.std.proofs.Common.{◌≡◌, ◌∙◌, ℕ, Bool, true, false, List, Option, None, Some, ap, sym, subst, refl, inl, inr, arith}
+use Rattle.std.proofs.Common.{◌≡◌, ◌∙◌, ℕ, Bool, true, false, List, Option, None, Some, ap, sym, subst, inl, inr}
 use Rattle.mum_crew.specs.Crew.{CrewCounts}
 use Rattle.mum_io.specs.Counts.{Rose}
 use Rattle.mum_io.specs.Door.{DoorFacts}
@@ -9,63 +9,16 @@ use Rattle.mum_keeper.specs.Mirror.{opening_of}
 use Rattle.mum_keeper.specs.Store.{StoreFacts}
 use Rattle.mum_keeper.specs.declared.naming.KeeperOpening.{KeeperOpening}
 use Rattle.mum_kept.specs.declared.rows.KeptRows.{KeptRows}
-use Rattle.mum_record.specs.declared.journal.Journal.{Journal}
 use Rattle.mum_serve.specs.Asked.{Lent, Service}
 use Rattle.mum_serve.specs.Loading.{FailsToLoad, Loads, LoadsBadRows}
-use Rattle.mum_serve.specs.Program.{EndsAt, EndsWith, HasServed, ServesNobody, WritesAll}
+use Rattle.mum_serve.specs.Program.{EndsAt, EndsWith, HasServed, ServesNobody}
 use Rattle.mum_serve.specs.Stores.{CameToStore}
 use Rattle.mum_serve.specs.declared.program.Input.{Input}
 use Rattle.mum_serve.specs.declared.program.ServerEnd.{ServerEnd}
 use Rattle.mum_serve.specs.declared.program.ServerEnd.TheVariants as ends
 use Rattle.mum_serve.specs.declared.server.Served.TheVariants as served
-use Rattle.mum_serve.specs.declared.summary.Summary.{Summary}
 use Rattle.mum_state.specs.State.{StateValue}
-use Rattle.mum_server.specs.End.{status_of}
-use Rattle.mum_server.specs.Program.{Reports}
-use Rattle.mum_server.specs.Serve.{GaveBadRows, KeeperFailed, ServerReports}
-use Rattle.mum_server.specs.declared.end.End.{End}
-use Rattle.mum_server.specs.declared.end.End.TheVariants.{Faulty, Finished, OutOfMemory, ReadFault, WriteFault}
-use Rattle.mum_server.specs.declared.end.LineFault.TheVariants.{AuditWrong, BadConfig}
-
--- ---- the statuses
-
--- a status is that of its end, or memory ran out
-not_reported : (end : End) (status wanted : ℕ) (old new : Option (List ℕ)) (failed : Type 0) → Reports end status old new failed → status ≡ wanted → (status_of end ≡ wanted → ⊥) → (70 ≡ wanted → ⊥) → ⊥
-not_reported end status wanted old new failed (inl told) is one other = one (sym told.0 ∙ is)
-not_reported end status wanted old new failed (inr told) is one other = other (sym told.1 ∙ is)
-
--- status 12 is that of a keeper that failed alone
-pub fails_at_twelve : (end : ServerEnd) (status : ℕ) (old new : Option (List ℕ)) (failed : Type 0) → ServerReports end status old new failed → status ≡ 12 → end ≡ ends.KeeperFault
-fails_at_twelve ends.Finished status old new failed told is = absurd (not_reported Finished status 12 old new failed told is (λ same. omega arith) (λ same. omega arith))
-fails_at_twelve (ends.BadConfig code key) status old new failed told is = absurd (not_reported (Faulty 1 (BadConfig code key)) status 12 old new failed told is (λ same. omega arith) (λ same. omega arith))
-fails_at_twelve ends.ReadFault status old new failed told is = absurd (not_reported ReadFault status 12 old new failed told is (λ same. omega arith) (λ same. omega arith))
-fails_at_twelve ends.WriteFault status old new failed told is = absurd (not_reported WriteFault status 12 old new failed told is (λ same. omega arith) (λ same. omega arith))
-fails_at_twelve ends.DoorFault status old new failed told is = let other = told.0 in absurd (omega (arith, other, is))
-fails_at_twelve ends.CrewFault status old new failed told is = let other = told.0 in absurd (omega (arith, other, is))
-fails_at_twelve ends.KeeperFault status old new failed told is = refl
-fails_at_twelve ends.BadStore status old new failed told is = let other = told.0 in absurd (omega (arith, other, is))
-fails_at_twelve (ends.AuditWrong line given defined) status old new failed told is = absurd (not_reported (Faulty line (AuditWrong given defined)) status 12 old new failed told is (λ same. omega arith) (λ same. omega arith))
-fails_at_twelve ends.OutOfMemory status old new failed told is = absurd (not_reported OutOfMemory status 12 old new failed told is (λ same. omega arith) (λ same. omega arith))
-
--- status 13 is that of bad rows alone
-pub bad_at_thirteen : (end : ServerEnd) (status : ℕ) (old new : Option (List ℕ)) (failed : Type 0) → ServerReports end status old new failed → status ≡ 13 → end ≡ ends.BadStore
-bad_at_thirteen ends.Finished status old new failed told is = absurd (not_reported Finished status 13 old new failed told is (λ same. omega arith) (λ same. omega arith))
-bad_at_thirteen (ends.BadConfig code key) status old new failed told is = absurd (not_reported (Faulty 1 (BadConfig code key)) status 13 old new failed told is (λ same. omega arith) (λ same. omega arith))
-bad_at_thirteen ends.ReadFault status old new failed told is = absurd (not_reported ReadFault status 13 old new failed told is (λ same. omega arith) (λ same. omega arith))
-bad_at_thirteen ends.WriteFault status old new failed told is = absurd (not_reported WriteFault status 13 old new failed told is (λ same. omega arith) (λ same. omega arith))
-bad_at_thirteen ends.DoorFault status old new failed told is = let other = told.0 in absurd (omega (arith, other, is))
-bad_at_thirteen ends.CrewFault status old new failed told is = let other = told.0 in absurd (omega (arith, other, is))
-bad_at_thirteen ends.KeeperFault status old new failed told is = let other = told.0 in absurd (omega (arith, other, is))
-bad_at_thirteen ends.BadStore status old new failed told is = refl
-bad_at_thirteen (ends.AuditWrong line given defined) status old new failed told is = absurd (not_reported (Faulty line (AuditWrong given defined)) status 13 old new failed told is (λ same. omega arith) (λ same. omega arith))
-bad_at_thirteen ends.OutOfMemory status old new failed told is = absurd (not_reported OutOfMemory status 13 old new failed told is (λ same. omega arith) (λ same. omega arith))
-
--- ---- the keeper
-
--- what was written says that the keeper failed
-failed_of : (journal : Option Journal) (summary : Summary) (old new : Option (List ℕ)) → WritesAll journal summary ends.KeeperFault old new → summary.keeper_failed ≡ true
-failed_of None summary old new writes = writes.2
-failed_of (Some journal) summary old new writes = writes.1.2
+use Rattle.mum_server.specs.Serve.{GaveBadRows, KeeperFailed}
 
 module _ {P : Type 0} (keeper_facts : P → KeeperFacts) where
   -- a keeper that gave its rows counted nothing
@@ -97,7 +50,7 @@ module _ {D K P L : Type 0} (facts : L → LinkFacts) (door_facts : D → DoorFa
       let over = has.serves in
       let began = over.serves in
       let run = began.serves.run in
-      let failed : has.summary.keeper_failed ≡ true = failed_of _ has.summary old new has.writes in
+      let failed : has.summary.keeper_failed ≡ true = has.writes.2 in
       let rose = counted_some keeper_facts (opening_of (keeper_facts began.serves.opened.keeper)) _ (Some began.serves.opened.keeper) run.store has.summary.keeper_failed run.starved over.left.keeper run.store_came failed in
       let counted = ap (λ (p : P). (keeper_facts p).faults) began.serves.keeper ∙ counted_none keeper_facts asked.keep over.objects.keeper began.loaded began.rows began.loads in
       let both : Rose (keeper_facts over.objects.keeper).faults (keeper_facts over.left.keeper).faults = subst (λ (n : ℕ). Rose n (keeper_facts over.left.keeper).faults) counted rose in

@@ -6,11 +6,10 @@ use Rattle.mum_io.specs.Outside.{AppendsFront, Rose}
 use Rattle.mum_io.proofs.OutsideLemmas.{AppendsFront-whole}
 use Rattle.mum_record.proofs.Numbers.{number_within-decimal}
 use Rattle.mum_server.proofs.Asked.{words_asked}
-use Rattle.mum_server.specs.Command.{Asks, IsExercise, audit_words, replay_words}
+use Rattle.mum_server.specs.Command.{Asks, IsExercise, IsNoCommand, audit_words, replay_words}
 use Rattle.mum_server.specs.Audit.{audit_of}
 use Rattle.mum_server.specs.End.{fault_status, memory_line, said, said_of, status_of}
-use Rattle.mum_server.specs.Exercise.{exercise_outcome}
-use Rattle.mum_server.specs.Program.{Ends, IsCutShort, IsWhole, ReadsCounted, Reports, Tells, WritesCounted, outcome_of}
+use Rattle.mum_server.specs.Program.{Ends, IsCutShort, IsWhole, ReadsCounted, Reports, Tells, WritesCounted, exercise_outcome, outcome_of}
 use Rattle.mum_server.specs.Replay.{Outcome, replayed}
 use Rattle.mum_server.specs.declared.command.Command.{Command}
 use Rattle.mum_server.specs.declared.command.Command.TheVariants.{Replay, Audit, Exercise}
@@ -32,6 +31,12 @@ pub asks_audit : (words : List (List ℕ)) (command : Command) → Asks words (S
 asks_audit words Audit asks is = refl
 asks_audit words Replay asks is = let other = sym is ∙ asks in cc
 asks_audit words (Exercise seed rounds) asks is = let other = sym is ∙ asks.words_are in cc
+
+-- words that ask for a command are no other words
+pub asks_for_one : (words : List (List ℕ)) (command : Command) → Asks words (Some command) → IsNoCommand words → ⊥
+asks_for_one words Replay asks other = other.no_replay asks
+asks_for_one words Audit asks other = other.no_audit asks
+asks_for_one words (Exercise seed rounds) asks other = other.no_exercise seed rounds asks
 
 -- words that ask for an exercise ask for that one
 pub asks_that : (words : List (List ℕ)) (command : Command) (seed rounds : ℕ) → Asks words (Some command) → IsExercise words seed rounds → command ≡ Exercise seed rounds

@@ -2,9 +2,6 @@ pub mod Command
 pub mod End
 pub mod Replay
 pub mod Runs
-pub mod Draws
-pub mod Acts
-pub mod Exercise
 pub mod JournalText
 pub mod Audit
 pub mod Program

@@ -5,8 +5,7 @@ use Rattle.mum_io.specs.Outside.{AppendsFront, Rose}
 use Rattle.mum_server.specs.Audit.{audit_of}
 use Rattle.mum_server.specs.Command.{IsExercise, IsNoCommand, audit_words, replay_words}
 use Rattle.mum_server.specs.End.{memory_line, read_fault_line, said, statuses, write_fault_line}
-use Rattle.mum_server.specs.Exercise.{exercise_outcome}
-use Rattle.mum_server.specs.Program.{IsWhole, IsCutShort, Tells, usage_line}
+use Rattle.mum_server.specs.Program.{IsWhole, IsCutShort, Tells, exercise_outcome, usage_line}
 use Rattle.mum_server.specs.Replay.{replayed}
 
 -- the faults of an input, and the bytes that it has left

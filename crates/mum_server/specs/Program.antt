@@ -5,10 +5,10 @@ use Rattle.mum_io.specs.Outside.{Appends, AppendsFront, Rose}
 use Rattle.mum_server.specs.declared.command.Command.{Command}
 use Rattle.mum_server.specs.declared.command.Command.TheVariants as commands
 use Rattle.mum_server.specs.declared.end.End.{End}
-use Rattle.mum_server.specs.declared.end.End.TheVariants.{Faulty, ReadFault, WriteFault, OutOfMemory}
+use Rattle.mum_server.specs.declared.end.End.TheVariants.{Finished, Faulty, ReadFault, WriteFault, OutOfMemory}
 use Rattle.mum_server.specs.End.{status_of, said_of, memory_line}
 use Rattle.mum_server.specs.Audit.{audit_of}
-use Rattle.mum_server.specs.Exercise.{exercise_outcome}
+use Rattle.mum_exercise.specs.Exercise.{account}
 use Rattle.mum_server.specs.Replay.{Outcome, replayed}
 
 abbrev pub usage_line : List ℕ
@@ -26,6 +26,10 @@ IsCutShort status read_failed write_failed = ((status ≡ 3) × read_failed) ⊎
 -- the line was written, or a front of it where the sink failed in this call
 abbrev pub Tells : List ℕ → Option (List ℕ) → Option (List ℕ) → Type 0 → Type 0
 Tells line old new failed = Appends old new line ⊎ (AppendsFront old new line × failed)
+
+-- the line of an exercise
+abbrev pub exercise_outcome : ℕ → ℕ → Outcome
+exercise_outcome seed rounds = record { text = account seed rounds; ending = Finished }
 
 -- what a command comes to, where the input tells its bytes
 abbrev pub outcome_of : Command → Option (List ℕ) → Option Outcome

@@ -1,5 +1,6 @@
 -- What a run that serves answers and says.
-use Rattle.std.specs.Prelude.{◌≡◌, ◌⊎◌, ℕ, List, [], ◌∷◌, ◌++◌, codes, Option, Some, None}
+use Rattle.std.specs.Prelude.{◌≡◌, ◌⊎◌, ℕ, true, List, [], ◌∷◌, ◌++◌, codes, Option, Some, None}
+use Rattle.mum_audit.specs.Legal.{IsLegal}
 use Rattle.mum_crew.specs.Crew.{CrewCounts}
 use Rattle.mum_io.specs.Counts.{Rose}
 use Rattle.mum_io.specs.Link.{LinkFacts}
@@ -7,14 +8,19 @@ use Rattle.mum_keeper.specs.Keeping.{AreRowsOf, KeeperFacts}
 use Rattle.mum_kept.specs.Good.{IsGood}
 use Rattle.mum_kept.specs.declared.rows.KeptRows.{KeptRows}
 use Rattle.mum_io.specs.Door.{DoorFacts}
+use Rattle.mum_journal_laws.specs.OneServer.{IsOneServer}
+use Rattle.mum_opening.specs.Opening.{document_edits}
 use Rattle.mum_serve.specs.Asked.{Lent, Service}
-use Rattle.mum_serve.specs.Program.{EndsAt, ReadsCounted, RunsInCrew, WritesCounted}
+use Rattle.mum_serve.specs.Journals.{journal_of}
+use Rattle.mum_serve.specs.Loading.{state_over}
+use Rattle.mum_serve.specs.Program.{EndsAt, HasServed, ReadsCounted, RunsInCrew, WritesCounted}
+use Rattle.mum_serve.specs.declared.program.Input.{Input}
 use Rattle.mum_serve.specs.declared.program.ServerEnd.{ServerEnd}
 use Rattle.mum_serve.specs.declared.program.ServerEnd.TheVariants as ends
 use Rattle.mum_server.specs.Plain.{InputFacts, SinkFacts}
 use Rattle.mum_server.specs.Program.{Reports, Tells}
 use Rattle.mum_server.specs.declared.end.End.TheVariants.{Finished, Faulty, ReadFault, WriteFault, OutOfMemory}
-use Rattle.mum_server.specs.declared.end.LineFault.TheVariants.{BadConfig, AuditWrong}
+use Rattle.mum_server.specs.declared.end.LineFault.TheVariants.{BadConfig}
 
 abbrev pub door_fault_line : List ℕ
 door_fault_line = codes "murmur: 8 DoorFault" ++ 10 ∷ []
@@ -35,7 +41,6 @@ ServerReports (ends.BadConfig code key) status old new failed = Reports (Faulty 
 ServerReports ends.ReadFault status old new failed = Reports ReadFault status old new failed
 ServerReports ends.WriteFault status old new failed = Reports WriteFault status old new failed
 ServerReports ends.DoorFault status old new failed = (status ≡ 8) × Tells door_fault_line old new failed
-ServerReports (ends.AuditWrong line given defined) status old new failed = Reports (Faulty line (AuditWrong given defined)) status old new failed
 ServerReports ends.CrewFault status old new failed = (status ≡ 9) × Tells crew_fault_line old new failed
 ServerReports ends.KeeperFault status old new failed = (status ≡ 12) × Tells keeper_fault_line old new failed
 ServerReports ends.BadStore status old new failed = (status ≡ 13) × Tells bad_store_line old new failed
@@ -61,10 +66,27 @@ GaveBadRows keeper_facts None = ⊥
 GaveBadRows keeper_facts (Some left) = (rows : KeptRows) × AreRowsOf (keeper_facts left).rows rows × (IsGood rows → ⊥)
 
 module _ {D K P L : Type 0} (facts : L → LinkFacts) (door_facts : D → DoorFacts) (last calls : K → ℕ) (keeper_facts : P → KeeperFacts) where
+  -- the run of whoever was served in a run that ended so is that of one server
+  abbrev pub ServesAsOne : Service → ServerEnd → Lent D K P → Lent D K P → Option (List ℕ) → Option (List ℕ) → CrewCounts → CrewCounts → Type 0
+  ServesAsOne asked end objects left old new crew crew_after =
+      (input : Input) (served : HasServed facts door_facts last calls keeper_facts asked input end objects left old new crew crew_after)
+      → IsOneServer facts door_facts last calls keeper_facts (state_over (document_edits input.document) served.serves.serves.rows) asked
+      input.config.workers served.serves.serves.rows served.serves.serves.serves.opened served.summary served.entries served.serves.left
+      served.serves.serves.serves.run
+
+  -- the journal that was asked for, of whoever was served in a run that ended so, is legal
+  abbrev pub LeavesLegalJournal : Service → ServerEnd → Lent D K P → Lent D K P → Option (List ℕ) → Option (List ℕ) → CrewCounts → CrewCounts → Type 0
+  LeavesLegalJournal asked end objects left old new crew crew_after =
+      asked.journal ≡ true
+      → (input : Input) (served : HasServed facts door_facts last calls keeper_facts asked input end objects left old new crew crew_after)
+      → IsLegal (journal_of input.config.workers input.document served.entries)
+
   -- a server was run that was asked to do this: how it ended, and what was answered and said of that
   pub record RunsServer (asked : Service) (input input_after : InputFacts) (output output_after errors errors_after : SinkFacts) (objects left : Lent D K P) (crew crew_after : CrewCounts) (status : ℕ) : Type 0 where
     pub end : ServerEnd
     pub ends : EndsAt facts door_facts last calls keeper_facts asked input.left end objects left output.written output_after.written crew crew_after
+    pub one : ServesAsOne asked end objects left output.written output_after.written crew crew_after
+    pub legal : LeavesLegalJournal asked end objects left output.written output_after.written crew crew_after
     pub runs : RunsInCrew end crew crew_after
     pub reads : ReadsCounted end input.faults input_after.faults
     pub writes : WritesCounted end output.faults output_after.faults

@@ -1,6 +1,6 @@
 //! What the words of the command line ask for.
 
-ghost use Rattle.std.specs.Prelude.{◌≡◌, ◌↔◌, ◌<◌, ◌∷◌, ◌^◌, [], ℕ, IfSome, IsTrue, MatchOption, map, string_bytes};
+ghost use Rattle.std.specs.Prelude.{◌≡◌, ◌↔◌, ◌<◌, ◌∷◌, ◌^◌, [], ℕ, false, is_some, IfSome, IsTrue, MatchOption, map, string_bytes};
 ghost use Rattle.mum_serve.specs.Asked.{Service};
 ghost use Rattle.mum_server.specs.Command.{Asks, AsksDoor, AsksKeep, AsksRun, AsksTail, AsksView, BeginsWithServe};
 ghost use Rattle.mum_server.specs.Command.{IsExercise, IsServe, audit_words, later_roles, replay_words};
@@ -244,5 +244,17 @@ pub fn later_roles(words: &[String]) -> usize
     match serve_in(words) {
         Some(asked) => usize::from(asked.view.is_some()) + usize::from(asked.keep.is_some()),
         None => 0,
+    }
+}
+
+/// Whether the words ask for a run that keeps channels. One of the roles behind its workers then has to hear of the
+/// owner's work.
+pub fn keeps_channels(words: &[String]) -> bool
+    ensures served { (asked : Service) → IsServe (map string_bytes words.now) asked → result ≡ is_some asked.keep }
+    ensures other { ((asked : Service) → IsServe (map string_bytes words.now) asked → ⊥) → result ≡ false }
+{
+    match serve_in(words) {
+        Some(asked) => asked.keep.is_some(),
+        None => false,
     }
 }

@@ -1,22 +1,17 @@
-//! What follows from the definitions for every recording, every journal, every exercise and the words of every server.
+//! What follows from the definitions for every recording, every journal and the words of every server.
 //! These functions do nothing: each contract is a theorem.
 
 ghost use Rattle.std.specs.Prelude.{◌≡◌, ◌↔◌, ℕ, List, Option, None, IfSome, Ok};
 ghost use Rattle.mum_state.specs.Proper.{IsProper};
 ghost use Rattle.mum_record.specs.Head.{AreLimits};
-ghost use Rattle.mum_record.specs.declared.head.Version.TheVariants.{One};
 ghost use Rattle.mum_record.specs.declared.journal.Journal.{Journal};
 ghost use Rattle.mum_audit.specs.Legal.{IsLegal};
-ghost use Rattle.mum_core.specs.Core.{start};
-ghost use Rattle.mum_core.specs.Laws.{IsRun, ran};
 ghost use Rattle.mum_serve.specs.Asked.{Service};
 ghost use Rattle.mum_server.specs.Audit.{audit_of};
 ghost use Rattle.mum_server.specs.Command.{IsServe};
-ghost use Rattle.mum_server.specs.Exercise.{document, exercised};
 ghost use Rattle.mum_server.specs.JournalText.{journal_read};
 ghost use Rattle.mum_server.specs.declared.end.End.TheVariants.{Finished};
 ghost use Rattle.mum_opening.specs.Opening.{document_fault, opening};
-ghost use Rattle.mum_server.specs.declared.exercise.TheConstants.{WORKERS};
 
 /// The steps of a recording begin at a proper state, whatever its limits and its configuration: so what the core's laws
 /// say of runs from a proper opening holds of every recording.
@@ -31,15 +26,6 @@ pub fn legal_journals_pass()
     ensures { (bytes : List ℕ) (journal : Journal) → journal_read bytes ≡ Ok journal → document_fault journal.config
         ≡ None
         → ((audit_of bytes).ending ≡ Finished) ↔ IsLegal journal }
-{}
-
-/// The steps of an exercise are a recording: each is allowed where it comes, and they lead to the core of
-/// which the program tells.
-pub fn exercises_are_runs()
-    ensures allowed { (seed rounds : ℕ) → IsRun (start One (opening None document) WORKERS)
-        (exercised seed rounds).steps }
-    ensures led { (seed rounds : ℕ) → ran (start One (opening None document) WORKERS) (exercised seed rounds).steps
-        ≡ (exercised seed rounds).core }
 {}
 
 /// The words of a run that serves ask for one run alone, whatever its addresses are: a word has its meaning by its

@@ -1,23 +1,19 @@
 //! The program's call: its words, its streams, its status.
 
-ghost use Rattle.std.specs.Prelude.{◌≡◌, ◌⊎◌, ◌==◌, ℕ, map, string_bytes, IsTrue, IfSome};
-ghost use Rattle.std.specs.List.{list_any};
-ghost use Rattle.mum_io.specs.Outside.{AppendsFront, Rose};
-ghost use Rattle.mum_server.specs.Audit.{audit_of};
-ghost use Rattle.mum_server.specs.Command.{IsExercise, IsNoCommand, audit_words, replay_words};
-ghost use Rattle.mum_server.specs.End.{memory_line, read_fault_line, said, said_of, statuses, write_fault_line};
-ghost use Rattle.mum_server.specs.Exercise.{exercise_outcome};
-ghost use Rattle.mum_server.specs.Program.{IsWhole, IsCutShort, Tells, Ends, ReadsCounted, WritesCounted, Reports};
-ghost use Rattle.mum_server.specs.Program.{outcome_of, usage_line};
-ghost use Rattle.mum_server.specs.Replay.{replayed};
+ghost use Rattle.std.specs.Prelude.{◌≡◌, ℕ, map, string_bytes, IfSome};
+ghost use Rattle.mum_io.specs.Outside.{Rose};
+ghost use Rattle.mum_server.specs.End.{memory_line, said};
+ghost use Rattle.mum_server.specs.Plain.{RunsPlainly};
+ghost use Rattle.mum_server.specs.Program.{Tells, Ends, ReadsCounted, WritesCounted, Reports};
+ghost use Rattle.mum_server.specs.Program.{exercise_outcome, outcome_of};
 ghost use Rattle.mum_server.specs.declared.command.Command.TheVariants.{Exercise};
 ghost use Rattle.mum_server.specs.declared.end.End.TheVariants.{Faulty};
 
 use crate::audit::audit_input;
 use crate::command::{Command, command_of};
 use crate::end::{End, LineFault, MEMORY_LINE, READ_FAULT_LINE, WRITE_FAULT_LINE};
-use crate::exercise::account;
 use crate::replay::replay;
+use mum_exercise::account;
 use mum_io::{Sink, Source, write_all};
 use std::alloc::Global;
 
@@ -120,57 +116,14 @@ pub fn run_plain<I: Source, O: Sink, E: Sink>(
     output: &mut O,
     errors: &mut E,
 ) -> u8
-    // The transcript and the status are those of the recording with its configuration, or the run is cut
-    // short for a cause.
-    ensures replay { map string_bytes words.now ≡ replay_words → IfSome (I.left input.old) (λ bytes.
-        IsWhole (replayed bytes) result (O.written output.old) (O.written output.new)
-        ⊎ (AppendsFront (O.written output.old) (O.written output.new) (replayed bytes).text
-        × IsCutShort result (Rose (I.faults input.old) (I.faults input.new))
-        (Rose (O.faults output.old) (O.faults output.new)))) }
-    // The line of that status is said.
-    ensures says { map string_bytes words.now ≡ replay_words → IfSome (I.left input.old) (λ bytes.
-        Tells (said result (replayed bytes).ending) (E.written errors.old) (E.written errors.new)
-        (Rose (E.faults errors.old) (E.faults errors.new))) }
-    // The counts of a legal journal are written, or the status is that of its first fault, or the run is cut short.
-    ensures audit { map string_bytes words.now ≡ audit_words → IfSome (I.left input.old) (λ bytes.
-        IsWhole (audit_of bytes) result (O.written output.old) (O.written output.new)
-        ⊎ (AppendsFront (O.written output.old) (O.written output.new) (audit_of bytes).text
-        × IsCutShort result (Rose (I.faults input.old) (I.faults input.new))
-        (Rose (O.faults output.old) (O.faults output.new)))) }
-    ensures audit_says { map string_bytes words.now ≡ audit_words → IfSome (I.left input.old) (λ bytes.
-        Tells (said result (audit_of bytes).ending) (E.written errors.old) (E.written errors.new)
-        (Rose (E.faults errors.old) (E.faults errors.new))) }
-    // An exercise reads nothing. Its line is written and the status is 0, or it is cut short by a write
-    // that failed or by want of memory.
-    ensures exercise { (seed rounds : ℕ) → IsExercise (map string_bytes words.now) seed rounds →
-        (input.new ≡ input.old)
-        × (IsWhole (exercise_outcome seed rounds) result (O.written output.old) (O.written output.new)
-        ⊎ (AppendsFront (O.written output.old) (O.written output.new) (exercise_outcome seed rounds).text
-        × IsCutShort result ⊥ (Rose (O.faults output.old) (O.faults output.new)))) }
-    ensures exercise_says { (seed rounds : ℕ) → IsExercise (map string_bytes words.now) seed rounds →
-        Tells (said result (exercise_outcome seed rounds).ending)
-        (E.written errors.old) (E.written errors.new) (Rose (E.faults errors.old) (E.faults errors.new)) }
-    // Whatever the input tells of its bytes, the two faults have their cause.
-    ensures read_fault { result ≡ 3 → Rose (I.faults input.old) (I.faults input.new) }
-    ensures write_fault { result ≡ 4 → Rose (O.faults output.old) (O.faults output.new) }
-    // Other words are no command: nothing is read, and nothing but the usage is written.
-    ensures usage { IsNoCommand (map string_bytes words.now) → (result ≡ 1) × (input.new ≡ input.old)
-        × (output.new ≡ output.old)
-        × Tells usage_line (E.written errors.old) (E.written errors.new)
-        (Rose (E.faults errors.old) (E.faults errors.new)) }
-    // And the usage is for other words alone.
-    ensures usage_alone { result ≡ 1 → IsNoCommand (map string_bytes words.now) }
-    // A read or a write that failed is told as such.
-    ensures no_other_read { (result ≡ 3 → ⊥) → I.faults input.new ≡ I.faults input.old }
-    ensures no_other_write { (result ≡ 4 → ⊥) → O.faults output.new ≡ O.faults output.old }
-    // There is no other status, and these three have one line each.
-    ensures status { IsTrue (list_any (λ status. status == result) statuses) }
-    ensures read_line { result ≡ 3 → Tells read_fault_line (E.written errors.old) (E.written errors.new)
-        (Rose (E.faults errors.old) (E.faults errors.new)) }
-    ensures write_line { result ≡ 4 → Tells write_fault_line (E.written errors.old) (E.written errors.new)
-        (Rose (E.faults errors.old) (E.faults errors.new)) }
-    ensures memory_line { result ≡ 70 → Tells memory_line (E.written errors.old) (E.written errors.new)
-        (Rose (E.faults errors.old) (E.faults errors.new)) }
+    ensures { RunsPlainly (map string_bytes words.now)
+        (record { left = I.left input.old; faults = I.faults input.old })
+        (record { left = I.left input.new; faults = I.faults input.new })
+        (record { written = O.written output.old; faults = O.faults output.old })
+        (record { written = O.written output.new; faults = O.faults output.new })
+        (record { written = E.written errors.old; faults = E.faults errors.old })
+        (record { written = E.written errors.new; faults = E.faults errors.new })
+        (input.new ≡ input.old) (output.new ≡ output.old) result }
 {
     let Some(command) = command_of(words) else {
         say(errors, USAGE_LINE);

@@ -4,7 +4,7 @@
 
 use mum_edge::Machine;
 use mum_io::{Input, Output};
-use mum_server::{later_roles, murmur, out_of_memory};
+use mum_server::{keeps_channels, later_roles, murmur, out_of_memory};
 use mum_sql_keeper::SqlKeeper;
 use std::io::{ErrorKind, IsTerminal};
 use std::process::ExitCode;
@@ -43,6 +43,8 @@ fn main(rt: HostRuntime) -> ExitCode {
         view,
         clock,
     } = machine;
+    // the role that keeps channels is woken by nothing else
+    crew.later.hear_owner = keeps_channels(&words);
     let mut door = Some(door);
     let mut view = Some(view);
     let mut clock = Some(clock);

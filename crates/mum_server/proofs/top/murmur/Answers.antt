@@ -1,39 +1,17 @@
 -- What is answered of a run without `serve` is what such a run answers.
 use Rattle.std.proofs.Common.{◌≡◌, map, refl, string_bytes}
 use Rattle.mum_io.specs.Counts.{Rose}
+use Rattle.mum_opening.specs.Opening.{document_edits}
 use Rattle.mum_serve.specs.Asked.{service}
+use Rattle.mum_serve.specs.Loading.{state_over}
 use Rattle.mum_serve.specs.declared.program.ServerEnd.TheVariants.{BadStore, KeeperFault}
-use Rattle.mum_server.proofs.KeeperEnds.{bad_at_thirteen, fails_at_twelve, keeper_failed, rows_were_bad}
+use Rattle.mum_server.proofs.KeeperEnds.{keeper_failed, rows_were_bad}
+use Rattle.mum_server.proofs.ServerStatuses.{bad_at_thirteen, fails_at_twelve, never_five}
 use Rattle.mum_server.proofs.ServeWords.{asked_once}
 use Rattle.mum_server.proofs.top.murmur.Goals as goal
 
 pub returns-then-not-begins_with_serve-clause-plain : goal.returns-then-not-begins_with_serve-clause-plain
-returns-then-not-begins_with_serve-clause-plain g c = λ never.
-    let plain = c.run_plain.ensures in (
-      record {
-        replay = plain.replay;
-        says = plain.says;
-        audit = plain.audit;
-        audit_says = plain.audit_says;
-        exercise = plain.exercise;
-        exercise_says = plain.exercise_says;
-        read_fault = plain.read_fault;
-        write_fault = plain.write_fault;
-        no_other_read = plain.no_other_read;
-        no_other_write = plain.no_other_write;
-        usage = plain.usage;
-        usage_alone = plain.usage_alone;
-        status_is = plain.status;
-        read_line = plain.read_line;
-        write_line = plain.write_line;
-        memory_line = plain.memory_line;
-      },
-      refl,
-      refl,
-      refl,
-      refl,
-      refl,
-    )
+returns-then-not-begins_with_serve-clause-plain g c = λ never. (c.run_plain.ensures, refl, refl, refl, refl, refl)
 
 pub returns-in_default-clause-serves : goal.returns-in_default-clause-serves
 returns-in_default-clause-serves g c = λ asked asks. absurd (c.in_default.ensures.asked asked asks)
@@ -44,6 +22,12 @@ returns-clause-serves g c = λ asked asks.
     rw same (record {
       end = c.run_server-end.result;
       ends = c.run_server-end.ensures.ends;
+      one = λ input served.
+          let loads = served.serves.serves in
+          c.runs_are_of_one_server.ensures (state_over (document_edits input.document) loads.rows) (service c.in-Some.asked) input.config.workers
+          loads.rows loads.serves.opened served.summary served.entries served.serves.left loads.serves.run;
+      legal = λ journal input served.
+          c.served_journals_are_legal.ensures (service c.in-Some.asked) input c.run_server-end.result _ _ _ _ _ _ served journal (c.in-Some.ensures.asked.apart journal);
       runs = c.run_server-end.ensures.runs;
       reads = c.run_server-end.ensures.reads;
       writes = c.run_server-end.ensures.writes;
@@ -77,3 +61,9 @@ returns-clause-bad_store g c = λ thirteen.
     (record { door = c.run_server-end.new.door; view = c.run_server-end.new.view; clock = c.run_server-end.new.clock; keeper = c.run_server-end.new.keeper })
     (g.O.Sink.written c.args.output.now) (g.O.Sink.written c.run_server-end.new.output) (g.C.Crew.counts c.args.crew.now) (g.C.Crew.counts c.run_server-end.new.crew)
     is c.run_server-end.ensures.ends
+
+-- no end of a server has that status
+pub returns-clause-audit_fault : goal.returns-clause-audit_fault
+returns-clause-audit_fault g c = λ five begins.
+    never_five c.run_server-end.result c.report_server.result (g.E.Sink.written c.args.errors.now) (g.E.Sink.written c.report_server.new.errors) (Rose (g.E.Sink.faults c.args.errors.now) (g.E.Sink.faults c.report_server.new.errors))
+    c.report_server.ensures five

@@ -1,0 +1,6 @@
+-- The words ask for a run, so they are no other words.
+use Rattle.mum_serve.specs.Asked.{service}
+use Rattle.mum_server.proofs.command.keeps_channels.Goals as goal
+
+pub returns-in-Some-clause-other : goal.returns-in-Some-clause-other
+returns-in-Some-clause-other c = λ never. absurd (never (service c.in-Some.asked) c.in-Some.ensures.asked)

@@ -1,6 +1,0 @@
-use Rattle.std.proofs.Common.{◌≡◌}
-use Rattle.mum_server.specs.Exercise.{joined}
-use Rattle.mum_server.proofs.exercise.Course.join_all.Given as goal
-
-abbrev pub invariant-loop-before : goal.invariant-loop-before
-invariant-loop-before l = l.self ≡ joined l.before

@@ -1,6 +1,0 @@
-use Rattle.std.proofs.Common.{◌≡◌}
-use Rattle.mum_server.specs.Exercise.{progress}
-use Rattle.mum_server.proofs.exercise.Course.play_all.Given as goal
-
-abbrev pub invariant-loop-before : goal.invariant-loop-before
-invariant-loop-before l = (l.self ≡ (progress l.seed l.before).course) × (l.draws ≡ (progress l.seed l.before).draws)

@@ -1,8 +1,10 @@
 //! Rows that are kept, and the channels that are made of them again.
 
+ghost use Rattle.mum_kept.specs.Standing.{HavePoliciesOf};
+
 use anyhow::{Result, ensure};
 use mum_base::{ChannelId, Items, Octets, OutOfMemory, Text};
-use mum_kept::{KeptChannel, KeptRows, good_rows, kept_rows, rebuild};
+use mum_kept::{KeptChannel, KeptRows, good_rows, kept_rows, kept_rows_sharing, rebuild};
 use mum_state::{Edit, State};
 use mum_tree::ChannelInfo;
 use std::alloc::Global;
@@ -58,8 +60,19 @@ fn apply(told: &mut String, state: &mut State, edits: &[Edit]) -> Result<()> {
     Ok(())
 }
 
-/// What is kept of a state that was made of rows.
-#[tactic(auto, using(mum_kept::proofs::Whole::tree_of_good))]
+/// Rows, and what is kept of a state that has their policies.
+fn say_both(alloc: Global, told: &mut String, state: &State, rows: &KeptRows) -> Result<()>
+    requires { HavePoliciesOf state.now rows.now.channels }
+{
+    say(told, rows)?;
+    let again = kept_rows_sharing(alloc, state, rows)?;
+    let said = say(told, &again);
+    drop(again);
+    said
+}
+
+/// What is kept of a state that was made of rows, twice: the second time with the policies of the first.
+#[tactic(auto, using(mum_kept::proofs::Whole::tree_of_good, mum_kept::proofs::Standing::kept_has))]
 fn make_again(alloc: Global, told: &mut String, state: &mut State, rows: &KeptRows) -> Result<()> {
     let good = good_rows(alloc, rows)?;
     ensure!(good, "the rows are good");
@@ -69,7 +82,7 @@ fn make_again(alloc: Global, told: &mut String, state: &mut State, rows: &KeptRo
     drop(edits);
     applied?;
     let kept = kept_rows(alloc, state)?;
-    let said = say(told, &kept);
+    let said = say_both(alloc, told, state, &kept);
     drop(kept);
     said
 }

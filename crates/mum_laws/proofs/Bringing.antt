@@ -22,7 +22,7 @@ use Rattle.mum_core.specs.steps.Post as post_step
 use Rattle.mum_core.proofs.Changed.{changed_other, changed_same, length-changed}
 use Rattle.mum_core.proofs.Delivered.{delivered}
 use Rattle.mum_core.proofs.Places.{placed}
-use Rattle.mum_server.specs.Exercise.{brings}
+use Rattle.mum_exercise.specs.Exercise.{brings}
 use Rattle.mum_laws.proofs.Resting.{HasSeat, Rests, may_take, passed, seat_as}
 
 -- ---- what stays while notices are brought

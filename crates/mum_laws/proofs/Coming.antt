@@ -40,7 +40,7 @@ use Rattle.mum_msg_state.specs.Messages.{authenticate}
 use Rattle.mum_notify.proofs.Bounds.{bound, items-few}
 use Rattle.mum_session.specs.Verdict.{verdict}
 use Rattle.mum_session.specs.declared.command.Asked.TheVariants.{User as OfUser}
-use Rattle.mum_server.specs.Acts.{login, user_name}
+use Rattle.mum_exercise.specs.Acts.{login, user_name}
 
 -- ---- what holds of each number below another
 

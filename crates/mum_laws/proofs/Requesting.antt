@@ -47,8 +47,8 @@ use Rattle.mum_core.specs.steps.Frame as frame_step
 use Rattle.mum_core.specs.steps.Tell as tell_step
 use Rattle.mum_core.proofs.Changed.{changed-by, length-changed}
 use Rattle.mum_core.proofs.Places.{conn}
-use Rattle.mum_server.specs.Exercise.{brings, decided, note}
-use Rattle.mum_server.specs.declared.exercise.TheConstants.{WORKERS}
+use Rattle.mum_exercise.specs.Exercise.{brings, decided, note}
+use Rattle.mum_exercise.specs.declared.exercise.TheConstants.{WORKERS}
 use Rattle.mum_laws.proofs.Resting.{AreSeated, HasSeat, IsFree, OnlyAt, Rest, Rests, at_rest, here, is_there, no_hands, only_at, passed, seats_of}
 use Rattle.mum_laws.proofs.Bringing.{AllBrought, AreEmpty, Pends, Takes, all_brought}
 

@@ -17,7 +17,7 @@ use Rattle.mum_core.specs.Lists.{changed_at}
 use Rattle.mum_core.specs.Worker.{WorkerState, in_hand}
 use Rattle.mum_core.proofs.Changed.{changed_other, changed_same, length-changed}
 use Rattle.mum_core.proofs.Places.{at_place, conn, placed}
-use Rattle.mum_server.specs.declared.exercise.TheConstants.{WORKERS}
+use Rattle.mum_exercise.specs.declared.exercise.TheConstants.{WORKERS}
 
 -- ---- what is at rest
 

@@ -50,9 +50,9 @@ use Rattle.mum_core.proofs.Changed.{changed_other, changed_same, length-changed}
 use Rattle.mum_core.proofs.Delivered.{delivered}
 use Rattle.mum_core.proofs.Places.{conn}
 use Rattle.mum_core.proofs.RunLaws.{puts_workers, taken_core}
-use Rattle.mum_server.specs.Acts.{packet_bytes, voice_frame}
-use Rattle.mum_server.specs.Exercise.{worker_of}
-use Rattle.mum_server.specs.declared.exercise.TheConstants.{WORKERS}
+use Rattle.mum_exercise.specs.Acts.{packet_bytes, voice_frame}
+use Rattle.mum_exercise.specs.Exercise.{worker_of}
+use Rattle.mum_exercise.specs.declared.exercise.TheConstants.{WORKERS}
 use Rattle.mum_laws.proofs.Bringing.{AreEmpty}
 use Rattle.mum_laws.proofs.Requesting.{frame_allowed}
 use Rattle.mum_laws.proofs.Resting.{AreSeated, HasSeat, IsFree, Rest, Rests, at_rest, here, may_take, passed, seats_of}

@@ -46,15 +46,15 @@ use Rattle.mum_core.specs.Step.{does, illegal}
 use Rattle.mum_core.specs.Worker.{idle}
 use Rattle.mum_core.proofs.Lower.{SeatsNext, verdict_seats}
 use Rattle.mum_core.proofs.Places.{conn}
-use Rattle.mum_server.specs.Exercise as exercise
-use Rattle.mum_server.specs.Acts.{aiming, channel_frame, entering, linking, listening, login_frame, self_muting, target_frame, user_frame, user_name, voice_frame}
-use Rattle.mum_server.specs.Draws.{drawn_act, drawn_below, drawn_round, seeded}
-use Rattle.mum_server.specs.Exercise.{CourseValue, Progress, all_taken, begun, brings, counted, decided, document, exercised, note, taken, worker_of}
+use Rattle.mum_exercise.specs.Exercise as exercise
+use Rattle.mum_exercise.specs.Acts.{aiming, channel_frame, entering, linking, listening, login_frame, self_muting, target_frame, user_frame, user_name, voice_frame}
+use Rattle.mum_exercise.specs.Draws.{drawn_act, drawn_below, drawn_round, seeded}
+use Rattle.mum_exercise.specs.Exercise.{CourseValue, Progress, all_taken, begun, brings, counted, decided, document, exercised, note, taken, worker_of}
 use Rattle.mum_opening.specs.Opening.{opening}
-use Rattle.mum_server.specs.declared.draws.Act.{Act}
-use Rattle.mum_server.specs.declared.draws.Act.TheVariants.{Talk, Enter, Link, SetSelfMute, Listen, Aim}
-use Rattle.mum_server.specs.declared.draws.TheConstants.{USERS}
-use Rattle.mum_server.specs.declared.exercise.TheConstants.{WORKERS}
+use Rattle.mum_exercise.specs.declared.draws.Act.{Act}
+use Rattle.mum_exercise.specs.declared.draws.Act.TheVariants.{Talk, Enter, Link, SetSelfMute, Listen, Aim}
+use Rattle.mum_exercise.specs.declared.draws.TheConstants.{USERS}
+use Rattle.mum_exercise.specs.declared.exercise.TheConstants.{WORKERS}
 use Rattle.mum_laws.specs.Exercises.{IsDone, acted, commanded, exercised_whole, joined, progress, spoken, with_step, with_steps}
 use Rattle.mum_laws.proofs.Coming.{Ready, comes, login_accepted, name_short, name_text, ready_next}
 use Rattle.mum_laws.proofs.Finding.{idle_at}

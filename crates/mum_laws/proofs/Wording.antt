@@ -38,7 +38,7 @@ use Rattle.mum_core.specs.Core.{CoreState, connection_at}
 use Rattle.mum_core.specs.Machine.{machine_of}
 use Rattle.mum_core.specs.Step.{frame_action}
 use Rattle.mum_core.proofs.Places.{conn}
-use Rattle.mum_server.specs.Acts.{aiming, blank_user, channel_frame, entering, linking, listening, login, self_muting, target_frame, user_frame}
+use Rattle.mum_exercise.specs.Acts.{aiming, blank_user, channel_frame, entering, linking, listening, login, self_muting, target_frame, user_frame}
 use Rattle.mum_laws.proofs.Resting.{Rest, at_rest, here, seats_of}
 use Rattle.mum_laws.proofs.Speaking.{kind_read, payload_read}
 

@@ -7,12 +7,12 @@ use Rattle.mum_record.specs.declared.step.Step.TheVariants.{Open, Frame, Edit, P
 use Rattle.mum_core.specs.Core.{CoreState, posts_at, worker_at}
 use Rattle.mum_core.specs.Step.{does}
 use Rattle.mum_core.specs.declared.worker.Outgoing.{Outgoing}
-use Rattle.mum_server.specs.Acts.{aiming, channel_frame, entering, linking, listening, login_frame, self_muting, target_frame, user_frame, voice_frame}
-use Rattle.mum_server.specs.Draws.{drawn_round, seeded}
-use Rattle.mum_server.specs.Exercise.{CourseValue, Progress, begun, counted, decided, note, worker_of}
-use Rattle.mum_server.specs.declared.draws.Act.{Act}
-use Rattle.mum_server.specs.declared.draws.Act.TheVariants.{Talk, Enter, Link, SetSelfMute, Listen, Aim}
-use Rattle.mum_server.specs.declared.draws.TheConstants.{USERS}
+use Rattle.mum_exercise.specs.Acts.{aiming, channel_frame, entering, linking, listening, login_frame, self_muting, target_frame, user_frame, voice_frame}
+use Rattle.mum_exercise.specs.Draws.{drawn_round, seeded}
+use Rattle.mum_exercise.specs.Exercise.{CourseValue, Progress, begun, counted, decided, note, worker_of}
+use Rattle.mum_exercise.specs.declared.draws.Act.{Act}
+use Rattle.mum_exercise.specs.declared.draws.Act.TheVariants.{Talk, Enter, Link, SetSelfMute, Listen, Aim}
+use Rattle.mum_exercise.specs.declared.draws.TheConstants.{USERS}
 
 -- a step is taken, whatever the core says of it
 abbrev pub with_step : CourseValue → Step → CourseValue

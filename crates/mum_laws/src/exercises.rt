@@ -3,7 +3,7 @@
 ghost use Rattle.std.specs.Prelude.{◌≡◌, ◌<◌, ◌≤◌, ◌^◌, ℕ, Some};
 ghost use Rattle.mum_base.specs.declared.number.Slot.{Slot};
 ghost use Rattle.mum_core.specs.Core.{connection_at};
-ghost use Rattle.mum_server.specs.Exercise.{exercised};
+ghost use Rattle.mum_exercise.specs.Exercise.{exercised};
 ghost use Rattle.mum_laws.specs.Exercises.{IsDone, exercised_whole};
 
 /// No step of an exercise is left out: it is what it would be if each step were taken, allowed or not. The packet of a

@@ -4,12 +4,13 @@
 ghost use Rattle.std.specs.Prelude.{◌≡◌, ◌<◌, ◌≤◌, IfSome, MatchOption, OnOk};
 ghost use Rattle.std.specs.List.{All};
 ghost use Rattle.std.specs.Option.{ForSome};
-ghost use Rattle.mum_published.specs.Calls.{Learnt, latest};
+ghost use Rattle.mum_published.specs.Calls.{Admitted, Learnt, latest};
+ghost use Rattle.mum_published.specs.Facts.{PassFacts};
 
 use arrayvec::ArrayVec;
 use mum_base::{Octets, OutOfMemory, ReplyEnd, SessionId, Text};
 use mum_outbox::{Bell, BoxPass, Offered};
-use mum_published::{Ask, Naming, Note, Pass, Publisher, Reply, open};
+use mum_published::{Ask, Login, Naming, Note, Pass, Publisher, Reply, open};
 use mum_state::{DEFAULT_BANDWIDTH, Edit, State};
 use std::alloc::{AllocError, Global};
 use std::marker::Brand;
@@ -232,7 +233,7 @@ fn two_passes_look_at_once(rt: HostRuntime) {
     assert_eq!(rt; both, (true, true));
 }
 
-/// Takes the next reply, and learns its note, which is known to be of the pass's own `open`.
+/// Takes the next reply, and learns its note and its roll, which are known to be of the pass's own `open`.
 fn learn_next<N: Naming, R: Wait>(
     rt: &R,
     bell: &Bell<Reply<N>>,
@@ -242,14 +243,16 @@ fn learn_next<N: Naming, R: Wait>(
     requires queue { hand.old.queue ≡ bell.now.queue }
     requires opening { pass.old.opening ≡ N.opening }
     ensures of { IfSome result (λ reply. ForSome reply.note (λ note. note.book ≡ pass.old.opening.book)) }
-    ensures learnt { IfSome result (λ reply. MatchOption reply.note (pass.new ≡ pass.old)
-        (λ note. Learnt pass.old note.edits pass.new)) }
+    ensures learnt { IfSome result (λ reply. (noted : PassFacts)
+        × MatchOption reply.note (noted ≡ pass.old) (λ note. Learnt pass.old note.edits noted)
+        × Admitted noted reply.roll pass.new) }
     ensures none { MatchOption result (pass.new ≡ pass.old) (λ reply. pass.new.opening ≡ N.opening) }
 {
     let reply = bell.take_as(rt, hand)?;
     if let Some(note) = &reply.note {
         pass.learn(note);
     }
+    pass.admit(&reply.roll);
     Some(reply)
 }
 
@@ -270,7 +273,13 @@ fn relay<N: Naming, R: Abort + Wait>(
     let mut hand = bell.pass();
     let note = publish_one(rt, alloc, publisher, twin, DEFAULT_BANDWIDTH + 1);
     let wire = Octets::from_vec(Vec::new(alloc));
-    let reply = Reply::new(7, ReplyEnd::Decided, Some(note), wire, false);
+    let login = Login {
+        connection: 7,
+        session: SessionId(1),
+    };
+    publisher.admit(rt, login);
+    let roll = publisher.roll();
+    let reply = Reply::new(7, ReplyEnd::Decided, Some(note), wire, false, roll);
     let offered = bell.offer_as(rt, &mut hand, reply);
     assert!(rt; matches!(offered, Offered::Sent), "the bell has room");
     drop(offered);

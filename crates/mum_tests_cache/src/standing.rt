@@ -1,16 +1,15 @@
-//! `mum_cache`: an entry that stands is not walked again. A body that walks at each call does not end in the
-//! time that a test has.
+//! `mum_cache`: an entry that stands is not walked again by the calls that a router makes. A body that walks at each
+//! call does not end in the time that a test has.
 
 ghost use Rattle.std.specs.Prelude.{◌≡◌, ◌<◌};
-ghost use Rattle.mum_cache.specs.Perms.{ArePermsSound, IsThere};
-ghost use Rattle.mum_cache.specs.Routes.{AreRoutesSound};
+ghost use Rattle.mum_cache.specs.Caches.{AreSound};
 
 use crate::edits::{enter, entry, join, make, set_policy, take};
 use mum_base::{AccountId, ChannelId, Items, Perm, SessionId, Slot, Steps, Text};
+use mum_cache::Caches;
 use mum_cache::laws::nothing_is_sound;
-use mum_cache::{PermCache, RouteCache};
 use mum_policy::{AclEntry, Group};
-use mum_route::{Audience, TALK};
+use mum_route::{Audience, Rights, TALK};
 use mum_state::{Edit, State};
 use mum_tree::Scratch;
 use std::alloc::Global;
@@ -87,51 +86,37 @@ fn fill(rt: &impl Abort, alloc: Global, state: &mut State) {
     take(rt, state, enter(rt, alloc, OWN, DEEPEST));
 }
 
-/// Asks for the permission and the route, so many times, over one pair of caches.
+/// Asks for the permission and the route, so many times, over the same caches.
 fn ask<L: Ledger>(
     rt: &impl Abort,
     blank: Blank,
     state: &State,
-    perms: &mut PermCache,
-    routes: &mut RouteCache,
+    caches: &mut Caches,
     scratch: &mut Scratch,
 )
     requires name { blank.name ≡ L.name }
     requires parts { blank.parts ≡ L.parts }
     requires some { 0 < blank.parts }
-    requires there { IsThere state.now OWN DEEPEST }
-    requires perms { ArePermsSound state.now perms.old }
-    requires routes { AreRoutesSound state.now routes.old }
+    requires sound { AreSound state.now caches.old }
 {
     let mut steps = Steps::<L>::new(blank);
     let mut audience = Audience::new();
     for _ in 0..TIMES {
-        let held = perms.permissions_at(state, OWN, DEEPEST, &mut steps);
-        assert_eq!(rt; held.0, 0xB0E);
-        routes.route_at(perms, state, OWN, TALK, scratch, &mut steps, &mut audience);
+        let held = caches.perms.held(state, OWN, DEEPEST, &mut steps);
+        assert_eq!(rt; held, Some(Perm(0xB0E)));
+        caches.route_at(state, OWN, TALK, scratch, &mut steps, &mut audience);
         assert!(rt; audience.is_empty(), "nobody else is there");
     }
 }
 
 /// Asks over new caches.
-fn ask_over_new_caches(rt: &impl Abort, alloc: Global, state: &State)
-    requires { IsThere state.now OWN DEEPEST }
-{
-    let mut perms = PermCache::new(alloc).expect(rt, "memory");
-    let mut routes = RouteCache::new(alloc).expect(rt, "memory");
+fn ask_over_new_caches(rt: &impl Abort, alloc: Global, state: &State) {
+    let mut caches = Caches::new(alloc).expect(rt, "memory");
     let mut scratch = Scratch::new(alloc).expect(rt, "memory");
     nothing_is_sound();
-    ask::<Brand>(
-        rt,
-        Blank::new(1),
-        state,
-        &mut perms,
-        &mut routes,
-        &mut scratch,
-    );
+    ask::<Brand>(rt, Blank::new(1), state, &mut caches, &mut scratch);
     drop(scratch);
-    drop(routes);
-    drop(perms);
+    drop(caches);
 }
 
 #[test]
@@ -139,11 +124,6 @@ fn standing_entry_is_not_walked(rt: HostRuntime) {
     let alloc = rt.alloc();
     let mut state = State::empty(alloc).expect(&rt, "memory");
     fill(&rt, alloc, &mut state);
-    assert!(rt;
-        state.roster().session(OWN).is_some(),
-        "the session is there"
-    );
-    assert!(rt; state.tree().is_there(DEEPEST), "the channel is there");
     ask_over_new_caches(&rt, alloc, &state);
     drop(state);
 }

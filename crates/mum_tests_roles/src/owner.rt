@@ -1,19 +1,19 @@
 //! `mum_owner`: the journal of an owner to whom a client logs in, mutes itself, is denied a channel and leaves.
 
-ghost use Rattle.std.specs.Prelude.{◌≡◌, [], length};
+ghost use Rattle.std.specs.Prelude.{◌≡◌, [], false, length};
 ghost use Rattle.mum_base.specs.declared.number.TheConstants.{SLOTS as slots};
 ghost use Rattle.mum_published.specs.Calls.{appended, latest};
 ghost use Rattle.mum_record.specs.Journal.{Each, IsWritableControl};
 
 use crate::ends::{Ends, queues};
 use crate::opening::{begin, boxes_of};
-use mum_base::{Items, Octets};
+use mum_base::{Items, Octets, OutOfMemory};
 use mum_control::Control;
-use mum_frame::whole_frame;
+use mum_frame::{Frame, whole_frame};
 use mum_io::{Clock, Door, DoorEvent, LinkEvent, MemClock, MemDoor, MemLink};
 use mum_outbox::PostBox;
 use mum_owner::{Owner, OwnerEnd, Serving};
-use mum_port::DeskItem;
+use mum_port::{DeskItem, Request};
 use mum_published::{Naming, Publisher};
 use mum_record::{ControlEntry, Journal, write_journal};
 use mum_rules_user::UserMessage;
@@ -46,6 +46,20 @@ worker 0
 end
 ";
 
+// The request of a frame, if it asks for a command.
+fn request_of(
+    alloc: Global,
+    session: &mut Session,
+    frame: Frame,
+) -> Result<Option<Request>, OutOfMemory>
+    requires { session.old.awaits ≡ false }
+{
+    match session.frame(alloc, frame)? {
+        Action::Ask(command) => Ok(Some(Request::new(command))),
+        _ => Ok(None),
+    }
+}
+
 /// The port of the connection, and the queues between its worker and the owner.
 #[derive(Drop)]
 pub(crate) struct Peer<L: Drop, N: Naming> {
@@ -77,9 +91,9 @@ impl<L: Drop, N: Naming> Peer<L, N> {
         );
         let view = whole_frame(bytes).expect(rt, "a frame");
         let frame = view.to_frame(alloc).expect(rt, "memory");
-        match self.session.frame(alloc, frame).expect(rt, "memory") {
-            Action::Ask(command) => self.ends.put(rt, DeskItem::Command(command)),
-            _ => {}
+        let asked = request_of(alloc, &mut self.session, frame).expect(rt, "memory");
+        if let Some(request) = asked {
+            self.ends.put(rt, DeskItem::Command(request));
         }
     }
 
@@ -91,7 +105,7 @@ impl<L: Drop, N: Naming> Peer<L, N> {
             session: self.session.session(),
             what: Asked::User(UserMessage::Leave),
         };
-        self.ends.put(rt, DeskItem::Command(command));
+        self.ends.put(rt, DeskItem::Command(Request::new(command)));
         self.ends.put(rt, DeskItem::Closed { connection: 1 });
     }
 }

@@ -1,0 +1,6 @@
+use Rattle.std.proofs.Common.{◌≡◌}
+use Rattle.mum_exercise.specs.Exercise.{IsAlike, progress}
+use Rattle.mum_exercise.proofs.exercise.Course.count_all.Given as goal
+
+abbrev pub invariant-loop-before : goal.invariant-loop-before
+invariant-loop-before l = IsAlike l.self (progress l.seed l.before).course × (l.draws ≡ (progress l.seed l.before).draws)

@@ -1,0 +1,23 @@
+-- The document of an exercise has no fault, and the core begins at what it describes.
+use Rattle.std.proofs.Common.{◌≡◌, ◌∙◌, None, IfOk, ap, subst}
+use Rattle.mum_record.specs.declared.head.Version.TheVariants.{One}
+use Rattle.mum_state.specs.State.{StateValue}
+use Rattle.mum_core.specs.Core.{start}
+use Rattle.mum_opening.specs.Opening.{document_fault, opening}
+use Rattle.mum_exercise.specs.declared.exercise.TheConstants.{WORKERS}
+use Rattle.mum_exercise.proofs.Documents.{document_good, document_read}
+use Rattle.mum_exercise.proofs.exercise.core_at_opening.Goals as goal
+
+pub open-requires : goal.open-requires
+open-requires c = record { faultless = ap document_fault (c.as_bytes.ensures.value ∙ document_read) ∙ document_good }
+
+pub returns-in_err-opening-clause-good : goal.returns-in_err-opening-clause-good
+returns-in_err-opening-clause-good c = document_good
+
+pub returns-clause-core : goal.returns-clause-core
+returns-clause-core c =
+    subst (λ (state : StateValue). IfOk c.begin.result (λ core. core ≡ start One state WORKERS))
+    (c.in_ok-opening.ensures ∙ ap (opening None) (c.as_bytes.ensures.value ∙ document_read)) c.begin.ensures
+
+pub returns-clause-good : goal.returns-clause-good
+returns-clause-good c = document_good

@@ -17,7 +17,7 @@ import tempfile
 import time
 
 from bans import ban, bytes_of, listed, set_list
-from client import Client, Ended
+from client import PATIENCE, Client, Ended
 from limits_test import comes_in
 from reader.mumble import PERMISSIONS
 from stock_client_test import Children, Sound, StockClient
@@ -110,7 +110,7 @@ class Bans:
         self.administrator.click(UPDATE)
         self.administrator.click(OK)
         wanted = {"address": bytes_of(BANNED), "mask": 96 + 24, "reason": "noise all day", "duration": 0}
-        wait(lambda: self.listed() == [wanted], 10)
+        wait(lambda: self.listed() == [wanted], PATIENCE)
         assert not comes_in(self.at.port, NEIGHBOUR)
 
     def the_list_removes_it(self):
@@ -118,7 +118,7 @@ class Bans:
         self.picture("bans-changed")
         self.administrator.click(REMOVE)
         self.administrator.click(OK)
-        wait(lambda: self.listed() == [], 10)
+        wait(lambda: self.listed() == [], PATIENCE)
         assert comes_in(self.at.port, BANNED) and comes_in(self.at.port, NEIGHBOUR)
 
     def a_client_that_is_banned_shows_it(self):

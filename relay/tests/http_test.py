@@ -14,6 +14,7 @@ import threading
 import time
 from contextlib import contextmanager
 
+from client import PATIENCE
 from server import ViewServer
 from trial import RELAY, free_port, run_checks, wait
 from viewing import TRAPS, TWO_USERS, Viewing, document, example, in_pieces, longest, silent, user, whole
@@ -78,7 +79,7 @@ class Relay:
         self.log_path = os.path.join(folder, "relay.log")
         with open(self.log_path, "w") as log:
             self.process = subprocess.Popen(["haproxy", "-db", "-f", path], cwd=folder, stdout=log, stderr=log)
-        wait(lambda: self.listens() or self.process.poll() is not None, 20)
+        wait(lambda: self.listens() or self.process.poll() is not None, PATIENCE)
         assert self.process.poll() is None, self.log()
 
     def listens(self):

@@ -4,8 +4,10 @@ import hashlib
 import os
 import shutil
 import sqlite3
+import subprocess
+import sys
 import tempfile
-from contextlib import closing
+from contextlib import closing, contextmanager
 
 from client import PATIENCE
 from reader import kept
@@ -107,6 +109,20 @@ def refused(folder, path, status=12, line="murmur: 12 KeeperFault", beside=()):
     return lines
 
 
+@contextmanager
+def holding(path, statement):
+    """Another process has run a statement on a database, and keeps it open."""
+    words = "import sqlite3, sys; one = sqlite3.connect(sys.argv[1], isolation_level=None)\n" \
+            "one.execute(sys.argv[2]); print('ready', flush=True); sys.stdin.read()"
+    holder = subprocess.Popen([sys.executable, "-c", words, path, statement], stdin=subprocess.PIPE,
+                              stdout=subprocess.PIPE, text=True)
+    assert holder.stdout.readline() == "ready\n"
+    try:
+        yield
+    finally:
+        holder.communicate()
+
+
 class HastyServer(KeepingServer):
     """One that is not waited for."""
 
@@ -202,3 +218,44 @@ class Editor:
         for change in self.edits:
             change(channels, links)
             yield channels, links
+
+
+def place_in(folder, name="kept.db"):
+    """A path in a new folder, in which nothing else lies."""
+    below = os.path.join(folder, f"at {len(os.listdir(folder))}")
+    os.mkdir(below)
+    return os.path.join(below, name)
+
+
+def edited(client):
+    """Edits of each kind, and the editor that made them."""
+    editor = Editor(client)
+    hall = editor.make("Hall", description="a 'quoted' text", position=-3, max_users=20)
+    stage, attic = editor.make("Stage", hall), editor.make("Grüße", ROOT)
+    cellar = editor.make("Cellar", attic)
+    gone = editor.make("Gone", stage)
+    editor.link(hall, stage)
+    editor.link(cellar, hall)
+    editor.link(attic, gone)
+    editor.edit(hall, name="Great hall", parent=attic)
+    editor.set_list(hall, {"inherit_acls": False, "groups": [{"name": "team", "inheritable": False, "add": [0, 7]}],
+                           "acls": [{"account": 7, "subs": False, "grant": 0x1}, {"group": "all", "deny": 0x4}]})
+    editor.link(cellar, hall, False)
+    editor.remove(gone)
+    editor.edit(ROOT, description="welcome", max_users=100)
+    editor.settle()
+    return editor
+
+
+def filled(folder):
+    """A file with some channels that a server made and closed, and what is in it."""
+    path = place_in(folder)
+    editor = run_once(folder, path, edited)
+    return path, (editor.channels, editor.links)
+
+
+def starts_as_before(folder, path, seen):
+    """A server takes the file, and shows and keeps the channels that are in it."""
+    told = run_once(folder, path, lambda client: dict(client.channels))
+    assert told == {row[1]: number for number, row in seen[0].items()}, told
+    assert seen_in(kept.read(path)) == seen

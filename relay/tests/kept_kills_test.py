@@ -1,21 +1,25 @@
 #!/usr/bin/env python3
 """Tests of kept channels that kill the server: what is in the file then is what was there after some beginning of
-the edits that were accepted, and after a second of rest after all of them. MURMUR is the program; KILLS says how often
-it is killed (5). Prints a line a test; the status is 1 where one failed."""
+the edits that were accepted, and after a second of rest after all of them; and a server that is started again shows it.
+MURMUR is the program; KILLS says how often it is killed while a client edits (5), RESTS how often after a rest (a fifth
+of KILLS). Prints a line a test; the status is 1 where one failed."""
+import math
 import os
 import random
 import sys
 import tempfile
 import time
 
-from keeping import ROOT, Editor, HastyServer, KeepingServer, copied, is_whole, run_once, seen_in
+from keeping import (ROOT, Editor, HastyServer, KeepingServer, copied, edited, filled, is_kept, is_whole, place_in,
+                     run_once, seen_in, starts_as_before)
 from reader import kept
 from server import Tests
 
 KILLS = int(os.environ.get("KILLS", "5"))
+RESTS = int(os.environ.get("RESTS", str(max(1, KILLS // 5))))
 CHANNELS = 1000
-# When it is killed, in seconds behind the first edit: mostly while it keeps.
-LATEST_KILL = 3.0
+# What is there where no channel was ever made.
+ROOT_ALONE = ({ROOT: (ROOT, "Root", "", 0, 0, {})}, set())
 # How long it may take until all that was accepted is kept, in seconds.
 REST = 1
 
@@ -86,66 +90,94 @@ def beginning_of(editor, path, folder, before):
     is compared."""
     there = seen_in(kept.read(path))
     is_whole(copied(path, folder))
+    if there == ({}, set()):
+        assert before == ROOT_ALONE, "what was kept before is lost"
+        return 0
     for count, state in enumerate(editor.states(*before)):
         if state == there:
             return count
     raise AssertionError(f"no beginning of {len(editor.edits)} edits has these {len(there[0])} channels")
 
 
-def killed_once(folder, generator, rests):
-    """Kills a server while a client edits, or a second after it did, and starts another over its file. How many edits
-    were sent, and how many of them were kept."""
-    path, nothing = os.path.join(folder, "kept.db"), ({}, set())
+def begun(folder, path, is_new):
+    """What is kept before a client edits: nothing but the root in a new file, else what an earlier server kept."""
+    if is_new:
+        return ROOT_ALONE
+    editor = run_once(below(folder, "before"), path, edited)
+    return editor.channels, editor.links
+
+
+def time_to_keep(folder, generator):
+    """How many seconds it takes until a thousand channels and the edits between are all kept."""
+    path = os.path.join(folder, "kept.db")
+    with KeepingServer(below(folder, "first"), path) as server:
+        editor, began = Editor(server.superuser()), time.monotonic()
+        edit_until(editor, generator, math.inf)
+        is_kept(path, editor, folder)
+        return time.monotonic() - began
+
+
+def killed_once(folder, generator, is_new, seconds=None):
+    """Kills a server so many seconds after its client began to edit, or, without a number, a second after all of its
+    edits, and starts another over its file. How many edits were sent, and how many of them were kept."""
+    path = os.path.join(folder, "kept.db")
+    before = begun(folder, path, is_new)
     with KeepingServer(below(folder, "first"), path) as server:
         assert server.is_open(), server.log()
-        editor = Editor(server.superuser())
-        edit_until(editor, generator, time.monotonic() + (3600 if rests else generator.uniform(0, LATEST_KILL)))
-        if rests:
+        editor = Editor(server.superuser(), dict(before[0]), set(before[1]))
+        end = math.inf if seconds is None else time.monotonic() + seconds
+        edit_until(editor, generator, end)
+        if seconds is None:
             editor.settle()
             time.sleep(REST)
+        else:
+            time.sleep(max(0, end - time.monotonic()))
         server.process.kill()
         server.process.wait()
-    root = ({ROOT: (ROOT, "Root", "", 0, 0, {})}, set())
+    count = beginning_of(editor, path, folder, before)
     there = seen_in(kept.read(path))
-    count = 0 if there == nothing else beginning_of(editor, path, folder, root)
-    if rests:
-        assert count == len(editor.edits), (count, len(editor.edits))
-    run_once(below(folder, "second"), path)
-    again = seen_in(kept.read(path))
-    assert again == there or there == nothing and set(again[0]) == {ROOT}, "a start changed what was kept"
+    starts_as_before(below(folder, "second"), path, there if there[0] else ROOT_ALONE)
     return len(editor.edits), count
 
 
 @test
 def a_beginning_is_kept_when_it_is_killed(folder):
+    """At any moment until all would be kept, in a new file, and in one in which an earlier server kept channels."""
     generator, counts = random.Random(1), []
+    longest = time_to_keep(folder, generator)
     for turn in range(KILLS):
-        counts.append(killed_once(below(folder, f"kill {turn}"), generator, False))
-    assert any(kept_edits for _, kept_edits in counts) or KILLS < 3, counts
-    sent, lost = sum(sent for sent, _ in counts), sum(sent - count for sent, count in counts)
-    return f"{KILLS} kills, {lost} of {sent} edits lost"
+        with tempfile.TemporaryDirectory(dir=folder) as place:
+            counts.append(killed_once(place, generator, turn % 2 == 0, generator.uniform(0, longest)))
+    amid = sum(0 < kept_edits < sent for sent, kept_edits in counts)
+    assert amid >= KILLS // 4, (longest, counts)
+    sent, lost = sum(sent for sent, _ in counts), sum(sent - kept_edits for sent, kept_edits in counts)
+    return f"{KILLS} kills within {longest:.1f} s, {amid} of them while it kept, {lost} of {sent} edits lost"
 
 
 @test
 def all_is_kept_after_a_second_of_rest(folder):
-    generator = random.Random(2)
-    sent = sum(killed_once(below(folder, f"kill {turn}"), generator, True)[0] for turn in range(max(1, KILLS // 5)))
-    return f"{sent} edits"
+    generator, edits = random.Random(2), 0
+    for turn in range(RESTS):
+        with tempfile.TemporaryDirectory(dir=folder) as place:
+            sent, kept_edits = killed_once(place, generator, turn % 2 == 0)
+        assert kept_edits == sent, (turn, kept_edits, sent)
+        edits += sent
+    return f"{RESTS} rests, {edits} edits"
 
 
 @test
 def kills_at_a_start_leave_a_file_that_the_next_start_takes(folder):
-    """Also where it was killed while it made the file."""
+    """Also where it was killed while it made the file; and what an earlier server kept stays."""
     generator = random.Random(3)
-    path = os.path.join(tempfile.mkdtemp(dir=folder), "kept.db")
-    for turn in range(4 * KILLS):
-        with HastyServer(below(folder, f"start {turn}"), path) as server:
-            time.sleep(generator.uniform(0, 0.1))
-            server.process.kill()
-            server.process.wait()
-        if turn % 4 == 3:
-            run_once(below(folder, f"whole {turn}"), path)
-            os.remove(path)
+    for turn in range(KILLS):
+        with tempfile.TemporaryDirectory(dir=folder) as place:
+            path, seen = (place_in(place), ROOT_ALONE) if turn % 2 == 0 else filled(place)
+            for start in range(4):
+                with HastyServer(below(place, f"start {start}"), path) as server:
+                    time.sleep(generator.uniform(0, 0.1))
+                    server.process.kill()
+                    server.process.wait()
+            starts_as_before(place, path, seen)
     return f"{4 * KILLS} kills"
 
 

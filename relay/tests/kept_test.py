@@ -1,21 +1,20 @@
 #!/usr/bin/env python3
 """Tests of the file in which a server keeps its channels: what is in it, and that one which is damaged, another
 program's, in use or out of reach is refused and stays as it is. MURMUR is the program. WHOLE=1 changes each byte of the
-first page, and not each 64th. Those that mount a file system need root; those that have calls of the system fail need
-strace. Prints a line a test; the status is 1 where one failed."""
+first page, and not each 64th. Prints a line a test; the status is 1 where one failed."""
 import json
 import os
 import random
-import signal
 import sqlite3
 import subprocess
 import sys
 import tempfile
 import time
-from contextlib import closing, contextmanager
+from contextlib import closing
 
 from client import PATIENCE
-from keeping import DOCUMENT, ROOT, Editor, KeepingServer, content, is_kept, is_whole, refused, run_once, seen_in
+from keeping import (DOCUMENT, ROOT, Editor, KeepingServer, content, edited, filled, holding, is_kept, is_whole,
+                     place_in, refused, run_once, seen_in, starts_as_before)
 from reader import kept
 from reader.mumble import CHANNEL_STATE, encode
 from server import Tests
@@ -24,50 +23,13 @@ from trial import PROGRAM, RELAY, free_port, wait
 TOP = os.path.dirname(RELAY)
 STEP = 1 if os.environ.get("WHOLE") else 64
 PAGE = 4096
+# For how long a thread that has nothing to do may go on, in seconds.
+REST = 1
+# How many channels make a look at all of them take longer than an edit.
+MANY = 300
 BAD_STORE = "murmur: 13 BadStore"
 
 test = Tests()
-
-
-def place_in(folder, name="kept.db"):
-    """A path in a new folder, in which nothing else lies."""
-    below = os.path.join(folder, f"at {len(os.listdir(folder))}")
-    os.mkdir(below)
-    return os.path.join(below, name)
-
-
-def edited(client):
-    """Edits of each kind, and the editor that made them."""
-    editor = Editor(client)
-    hall = editor.make("Hall", description="a 'quoted' text", position=-3, max_users=20)
-    stage, attic = editor.make("Stage", hall), editor.make("Grüße", ROOT)
-    cellar = editor.make("Cellar", attic)
-    gone = editor.make("Gone", stage)
-    editor.link(hall, stage)
-    editor.link(cellar, hall)
-    editor.link(attic, gone)
-    editor.edit(hall, name="Great hall", parent=attic)
-    editor.set_list(hall, {"inherit_acls": False, "groups": [{"name": "team", "inheritable": False, "add": [0, 7]}],
-                           "acls": [{"account": 7, "subs": False, "grant": 0x1}, {"group": "all", "deny": 0x4}]})
-    editor.link(cellar, hall, False)
-    editor.remove(gone)
-    editor.edit(ROOT, description="welcome", max_users=100)
-    editor.settle()
-    return editor
-
-
-def filled(folder):
-    """A file with some channels that a server made and closed, and what is in it."""
-    path = place_in(folder)
-    editor = run_once(folder, path, edited)
-    return path, (editor.channels, editor.links)
-
-
-def starts_as_before(folder, path, seen):
-    """A server takes the file, and shows and keeps the channels that are in it."""
-    told = run_once(folder, path, lambda client: dict(client.channels))
-    assert told == {row[1]: number for number, row in seen[0].items()}, told
-    assert seen_in(kept.read(path)) == seen
 
 
 # ---- what is kept
@@ -84,6 +46,57 @@ def what_is_edited_is_kept(folder):
         client.wait_until(lambda: "for now" in client.channels)
     run_once(folder, path, with_a_temporary_one)
     starts_as_before(folder, path, seen)
+
+
+def running_times(server):
+    """The threads of a server, and for how long each has run."""
+    tasks = f"/proc/{server.process.pid}/task"
+    times = {}
+    for task in os.listdir(tasks):
+        with open(f"{tasks}/{task}/schedstat") as file:
+            times[task] = file.read().split()[0]
+    return times
+
+
+def sleeps(server):
+    """Whether the threads of a server have begun, and none of them runs for a while."""
+    before = running_times(server)
+    time.sleep(REST)
+    return len(before) > 1 and running_times(server) == before
+
+
+@test
+def what_is_edited_is_kept_while_nothing_else_happens(folder):
+    """Also where all threads slept before. More clients may come: where none does, threads wake others as they end."""
+    path = place_in(folder)
+    with KeepingServer(folder, path, connections=2) as server:
+        wait(lambda: sleeps(server), PATIENCE)
+        editor = Editor(server.superuser())
+        for name in ("Hall", "Stage"):
+            editor.make(name)
+            editor.settle()
+            is_kept(path, editor, folder)
+            time.sleep(REST)
+
+
+@test
+def an_end_is_not_held_up_by_what_is_still_to_be_kept(folder):
+    """Many edits more than notes wait for the store, and then nobody is there."""
+    path = place_in(folder)
+
+    def renamed_often(client):
+        editor = Editor(client)
+        first = editor.make("first")
+        for number in range(MANY):
+            editor.make(f"channel {number}")
+        for number in range(10 * MANY):
+            editor.edit(first, name=f"name {number}")
+            if number % 20 == 0:
+                editor.read()
+        editor.settle()
+        return editor
+    editor = run_once(folder, path, renamed_often)
+    assert seen_in(kept.read(path)) == (editor.channels, editor.links)
 
 
 @test
@@ -179,16 +192,13 @@ def rows_that_no_server_writes_are_a_fault(folder):
 
 
 @test
-def a_transaction_of_sqlite3_refuses(folder):
+def a_transaction_of_another_program_refuses(folder):
     path, seen = filled(folder)
-    holder = subprocess.Popen(["sqlite3", path], stdin=subprocess.PIPE, stdout=subprocess.PIPE, text=True)
-    holder.stdin.write("BEGIN IMMEDIATE;\nSELECT count(*) FROM links;\n")
-    holder.stdin.flush()
-    holder.stdout.readline()
-    before = set(os.listdir(os.path.dirname(path)))
-    refused(folder, path)
-    holder.communicate("ROLLBACK;\n")
-    assert before >= set(os.listdir(os.path.dirname(path)))
+    for statement in ("BEGIN IMMEDIATE", "BEGIN EXCLUSIVE"):
+        with holding(path, statement):
+            before = set(os.listdir(os.path.dirname(path)))
+            refused(folder, path)
+        assert before >= set(os.listdir(os.path.dirname(path)))
     starts_as_before(folder, path, seen)
 
 
@@ -200,8 +210,10 @@ def a_second_server_is_refused(folder):
         with KeepingServer(tempfile.mkdtemp(dir=folder), path) as other:
             code, output, lines = other.ended()
         assert (code, output, lines[-1]) == (12, "", "murmur: 12 KeeperFault"), (code, output, lines)
-        done = subprocess.run(["sqlite3", path, "SELECT * FROM links"], capture_output=True, text=True, check=False)
-        assert "locked" in done.stderr, done
+        done = subprocess.run([sys.executable, "-c", "import sqlite3, sys\n"
+                               "sqlite3.connect(sys.argv[1]).execute('SELECT * FROM links')", path],
+                              capture_output=True, text=True, timeout=PATIENCE, check=False)
+        assert "database is locked" in done.stderr, done
 
 
 @test
@@ -278,121 +290,6 @@ def a_log_that_is_gone_is_no_harm_after_an_end_in_order(folder):
     if os.path.exists(path + "-wal"):
         os.remove(path + "-wal")
     starts_as_before(folder, path, seen)
-
-
-# ---- a disk that is full or fails
-
-@contextmanager
-def mounted(folder, size):
-    """A file system of this size in memory."""
-    place = os.path.join(folder, "mounted")
-    os.mkdir(place)
-    subprocess.run(["mount", "-t", "tmpfs", "-o", f"size={size}", "none", place], check=True)
-    try:
-        yield place
-    finally:
-        subprocess.run(["umount", place], check=True)
-
-
-def fill(place):
-    """Leaves no room on a file system."""
-    with open(os.path.join(place, "fill"), "wb", buffering=0) as file:
-        try:
-            while file.write(bytes(PAGE)):
-                pass
-        except OSError:
-            pass
-
-
-@test
-def a_full_disk_refuses_a_new_file(folder):
-    with mounted(folder, "64k") as place:
-        path = os.path.join(place, "kept.db")
-        with KeepingServer(tempfile.mkdtemp(dir=folder), path) as server:
-            assert not server.is_open(), "it serves"
-            code, output, lines = server.ended()
-        assert (code, output, lines[-1]) == (12, "", "murmur: 12 KeeperFault"), (code, lines)
-        subprocess.run(["mount", "-o", "remount,size=16m", place], check=True)
-        editor = run_once(folder, path, edited)
-        assert seen_in(kept.read(path)) == (editor.channels, editor.links)
-
-
-@test
-def a_disk_that_gets_full_costs_nothing_but_that_time(folder):
-    """What is edited meanwhile is kept as soon as there is room; the server ends with 12 all the same."""
-    with mounted(folder, "16m") as place:
-        path = os.path.join(place, "kept.db")
-        with KeepingServer(tempfile.mkdtemp(dir=folder), path) as server:
-            editor = Editor(server.superuser())
-            for number in range(300):
-                if number == 100:
-                    editor.settle()
-                    fill(place)
-                editor.make(f"channel {number}", description="x" * 2000)
-            editor.settle()
-            time.sleep(1)
-            os.remove(os.path.join(place, "fill"))
-            editor.make("the last")
-            editor.settle()
-            is_kept(path, editor, folder)
-            editor.client.close()
-            code, _, lines = server.ended()
-        failed = "murmur: channels are not kept: " in server.log()
-        assert code == (12 if failed else 0), (code, lines)
-        assert not failed or lines[-1] == "murmur: 12 KeeperFault", lines
-        assert failed == ("murmur: channels are kept again" in lines), lines
-        assert seen_in(kept.read(path)) == (editor.channels, editor.links)
-    return f"it {'was' if failed else 'was not'} met"
-
-
-@contextmanager
-def failing(server, call, number):
-    """The calls of this name fail in a running server from this one on."""
-    words = ["strace", "-f", "-p", str(server.process.pid), "-o", os.path.join(server.folder, "calls"), "-e",
-             f"trace={call}", "-e", f"inject={call}:error=EIO:when={number}+"]
-    with subprocess.Popen(words, stderr=subprocess.PIPE, text=True) as tracer:
-        wait(lambda: "attached" in tracer.stderr.readline(), PATIENCE)
-        try:
-            yield
-        finally:
-            tracer.send_signal(signal.SIGINT)
-            tracer.communicate(timeout=PATIENCE)
-
-
-@test
-def a_disk_that_fails_costs_nothing_but_that_time(folder):
-    """Where syncs or writes fail, what was to be kept is taken back, and kept later; the server ends with 12."""
-    for call in ("fdatasync", "fsync", "pwrite64"):
-        path, failed = place_in(folder), 0
-        with KeepingServer(tempfile.mkdtemp(dir=folder), path) as server:
-            editor = Editor(server.superuser())
-            first = editor.make("first")
-            for number in (1, 2, 3):
-                with failing(server, call, number):
-                    editor.make(f"while it fails {number}")
-                    editor.settle()
-                    time.sleep(1)
-                editor.edit(first, name=f"after {number}")
-                editor.settle()
-                is_kept(path, editor, folder)
-            editor.client.close()
-            code, _, lines = server.ended()
-        failed = lines.count("murmur: channels are kept again")
-        assert code == (12 if failed else 0), (call, code, lines)
-        assert call != "pwrite64" or failed, lines
-        assert seen_in(kept.read(path)) == (editor.channels, editor.links)
-        is_whole(path)
-
-
-@test
-def a_mount_that_is_read_only_is_refused(folder):
-    with mounted(folder, "16m") as place:
-        path = os.path.join(place, "kept.db")
-        editor = run_once(folder, path, edited)
-        subprocess.run(["mount", "-o", "remount,ro", place], check=True)
-        refused(folder, path)
-        subprocess.run(["mount", "-o", "remount,rw", place], check=True)
-        starts_as_before(folder, path, (editor.channels, editor.links))
 
 
 if __name__ == "__main__":

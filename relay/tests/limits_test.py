@@ -5,22 +5,26 @@ Each test comes from addresses of its own below 127.0.0.0/8, since the relay cou
 import itertools
 import os
 import re
+import signal
 import socket
 import ssl
 import subprocess
 import tempfile
 import threading
 import time
+from concurrent.futures import ThreadPoolExecutor
 
-from client import Client, Ended, parse, trusting_context
-from reader.mumble import AUTHENTICATE, REJECT, TEXT_MESSAGE, USER_REMOVE, VERSION
+from client import PATIENCE, Client, Ended, parse, trusting_context
+from reader.mumble import AUTHENTICATE, PING, REJECT, TEXT_MESSAGE, USER_REMOVE, VERSION
 from reader.wire import HEADER, frame, message
-from trial import PASSWORD, PROGRAM, RELAY, free_port, said_by, wait
+from trial import PASSWORD, PROGRAM, RELAY, free_port, is_asleep, said_by, wait
 
 # The limits of haproxy.cfg: connections at once, logins in two minutes, wrong passwords in five, tries in ten seconds.
 AT_ONCE, LOGINS, WRONG_PASSWORDS, TRIES = 30, 40, 6, 60
-# How long the relay waits for a client that sends nothing, in seconds.
-SILENCE = 10
+# How long the relay waits for a client that sends nothing, and for a server that does not answer, in seconds.
+SILENCE, SERVER_SILENCE = 10, 30
+# The most connections that the server has open at once, and so those that the relay passes on.
+CONNECTION_LIMIT = 1024
 # What a Reject says: the password of an account is wrong, a name is in use.
 WRONG_PASSWORD, NAME_IN_USE = 3, 5
 
@@ -66,7 +70,7 @@ def lines(at, source):
 
 
 def is_reported(at, source, *line):
-    wait(lambda: line in lines(at, source), 5)
+    wait(lambda: line in lines(at, source), PATIENCE)
 
 
 def connections(at, source):
@@ -85,7 +89,7 @@ def only_a_whole_login_uses_up_a_connection(at):
         client.close()
     time.sleep(0.5)
     assert connections(at, "127.0.4.1") == 0, "a part of a login uses up a connection"
-    wait(lambda: lines(at, "127.0.4.1") == [("-", "PR", "no-login")] * len(cuts), 5)
+    wait(lambda: lines(at, "127.0.4.1") == [("-", "PR", "no-login")] * len(cuts), PATIENCE)
     # nor does one that haproxy cannot look at as a whole
     client = Client(at.port, "127.0.4.1")
     client.send(AUTHENTICATE, message((1, "long"), *[(3, "x" * 100)] * 200))
@@ -113,7 +117,7 @@ def only_a_whole_login_uses_up_a_connection(at):
     client.send(AUTHENTICATE, message((1, "without"), (3, "x" * 100), (3, "y" * 10000), (5, 1)))
     client.wait_until(lambda: client.session)
     client.close()
-    wait(lambda: connections(at, "127.0.4.2") == 4, 5)
+    wait(lambda: connections(at, "127.0.4.2") == 4, PATIENCE)
 
 
 @test
@@ -147,7 +151,7 @@ def one_address_has_30_connections_at_once(at):
     is_reported(at, "127.0.2.1", "-", "PR", "too-many-at-once")
     assert comes_in(at.port, "127.0.2.2"), "another address suffers for it"
     here.pop().close()
-    wait(lambda: comes_in(at.port, "127.0.2.1"), 5)
+    wait(lambda: comes_in(at.port, "127.0.2.1"), PATIENCE)
     for client in here:
         client.close()
 
@@ -194,11 +198,11 @@ def wrong_passwords_are_counted_and_nothing_else(at):
     assert {rejection(at.port, "127.0.2.5", "guest") for _ in range(WRONG_PASSWORDS + 2)} == {NAME_IN_USE}
     here.close()
     assert comes_in(at.port, "127.0.2.5", "SuperUser", PASSWORD)
-    wait(lambda: sum(word == "rejected" for _, _, word in lines(at, "127.0.2.5")) == WRONG_PASSWORDS + 2, 5)
+    wait(lambda: sum(word == "rejected" for _, _, word in lines(at, "127.0.2.5")) == WRONG_PASSWORDS + 2, PATIENCE)
     guesses = {rejection(at.port, "127.0.2.6", "SuperUser", f"guess {i}") for i in range(WRONG_PASSWORDS)}
     assert guesses == {WRONG_PASSWORD}
     wrong = [("SuperUser", "wrong-password")] * WRONG_PASSWORDS
-    wait(lambda: [line[::2] for line in lines(at, "127.0.2.6")] == wrong, 5)
+    wait(lambda: [line[::2] for line in lines(at, "127.0.2.6")] == wrong, PATIENCE)
     assert not comes_in(at.port, "127.0.2.6", "SuperUser", PASSWORD) and not comes_in(at.port, "127.0.2.6")
     is_reported(at, "127.0.2.6", "SuperUser", "PR", "wrong-passwords")
     assert comes_in(at.port, "127.0.2.7"), "another address suffers for it"
@@ -218,7 +222,7 @@ def the_log_has_names_and_no_passwords(at):
         except Ended:
             pass
         client.close()
-        wait(lambda: written in [name for name, _, _ in lines(at, "127.0.4.6")], 5)
+        wait(lambda: written in [name for name, _, _ in lines(at, "127.0.4.6")], PATIENCE)
     assert len(lines(at, "127.0.4.6")) == 4 and word not in at.log()
     # what is cut off or lies about its length is the server's to refuse
     longest = b"\x0a" + b"\xff" * 8 + b"\x7f"
@@ -230,7 +234,7 @@ def the_log_has_names_and_no_passwords(at):
         except Ended:
             pass
         client.close()
-    wait(lambda: connections(at, "127.0.4.8") == len(lines(at, "127.0.4.8")) == 6, 5)
+    wait(lambda: connections(at, "127.0.4.8") == len(lines(at, "127.0.4.8")) == 6, PATIENCE)
     assert {name for name, _, _ in lines(at, "127.0.4.8")} == {"-"}
     # of two names the one counts that the server takes
     client = Client(at.port, "127.0.4.7")
@@ -238,20 +242,23 @@ def the_log_has_names_and_no_passwords(at):
     client.wait_until(lambda: client.session)
     assert client.users[client.session]["name"] == "last"
     client.close()
-    wait(lambda: "last" in [name for name, _, _ in lines(at, "127.0.4.7")], 5)
+    wait(lambda: "last" in [name for name, _, _ in lines(at, "127.0.4.7")], PATIENCE)
 
 
 class FastRelay:
     """The relay of a trial with another port, no server yet, and clocks that go ten times as fast: what is counted in
-    two minutes is counted in 12 seconds, and a client that tries every ten seconds is one that tries every second."""
+    two minutes is counted in 12 seconds, and a client that tries every ten seconds is one that tries every second. It
+    passes on this many connections at once."""
 
-    def __init__(self, at):
+    def __init__(self, at, slots=CONNECTION_LIMIT):
         self.folder, self.port = tempfile.mkdtemp(dir=at.folder), free_port()
         with open(at.path("haproxy.cfg")) as configuration:
             text = re.sub(r"^( *bind) \S+(?= .*ssl)", rf"\1 127.0.0.1:{self.port}", configuration.read(), flags=re.M)
         text = re.sub(r"(_rate)\((\d+)m\)", lambda rate: f"{rate[1]}({6 * int(rate[2])}s)", text)
         text = text.replace("_rate(10s)", "_rate(1s)")
         text = text.replace("timeout connect 5s", "timeout connect 5s\n    retries 0")
+        assert f" maxconn {CONNECTION_LIMIT}\n" in text, text
+        text = text.replace(f" maxconn {CONNECTION_LIMIT}\n", f" maxconn {slots}\n")
         for name in ("admin.sock", "murmur.sock"):
             text = text.replace(name, os.path.join(self.folder, name))
         path = os.path.join(self.folder, "fast.cfg")
@@ -261,7 +268,7 @@ class FastRelay:
         self.running, self.configuration = [], at.path("murmur.json")
         with open(self.log_path, "w") as log:
             self.running.append(subprocess.Popen(["haproxy", "-db", "-f", path], cwd=at.folder, stdout=log, stderr=log))
-        wait(self.listens, 20)
+        wait(self.listens, PATIENCE)
 
     def listens(self):
         try:
@@ -279,7 +286,11 @@ class FastRelay:
         with open(self.configuration) as configuration:
             self.running.append(subprocess.Popen(words, cwd=self.folder, stdin=configuration, stdout=subprocess.DEVNULL,
                                                  stderr=subprocess.DEVNULL))
-        wait(lambda: os.path.exists(os.path.join(self.folder, "murmur.sock")), 20)
+        wait(lambda: os.path.exists(os.path.join(self.folder, "murmur.sock")), PATIENCE)
+
+    def settle(self):
+        """Waits until the server has taken its memory."""
+        wait(lambda: is_asleep(self.running[-1]), 60)
 
     def __enter__(self):
         return self
@@ -287,6 +298,8 @@ class FastRelay:
     def __exit__(self, *_):
         for process in self.running:
             process.terminate()
+            # it may be one that was stopped
+            process.send_signal(signal.SIGCONT)
             process.wait(20)
 
 
@@ -366,7 +379,7 @@ def only_certificates_of_a_firm_get_in(at):
     with open(at.path("firm.log"), "w") as log:
         relay = subprocess.Popen(["haproxy", "-db", "-f", "firm.cfg"], cwd=at.folder, stdout=log, stderr=log)
     try:
-        wait(lambda: os.path.exists(at.path("firm.sock")), 20)
+        wait(lambda: os.path.exists(at.path("firm.sock")), PATIENCE)
         answers = {(who, name): comes_in(port, source, name, context=context) for who, source, name, context in (
             ("ann", "127.0.8.4", "ann", ann), ("ann", "127.0.8.5", "SuperUser", ann), ("bob", "127.0.8.6", "bob", bob),
             ("stranger", "127.0.8.7", "ann", stranger), ("nobody", "127.0.8.8", "ann", None))}
@@ -421,6 +434,61 @@ def silent_until_closed(at, source, begin, seconds):
     except Ended:
         seconds.append(time.monotonic() - began)
     client.close()
+
+
+def goes_after(relay, name, pings=False):
+    """How long a client is there that sends its login and then, if anything, pings, and what the relay says of it."""
+    client = Client(relay.port, "127.0.8.9")
+    began = time.monotonic()
+    client.stream.sendall(login_frames(name))
+    try:
+        while time.monotonic() < began + 2 * SERVER_SILENCE:
+            client.read(SILENCE / 4)
+            if pings:
+                client.send(PING)
+    except (Ended, OSError):
+        pass
+    seconds = time.monotonic() - began
+    client.close()
+    assert client.session is None, f"{name} came in"
+    wait(lambda: name in (line[0] for line in lines(relay, "127.0.8.9")), PATIENCE)
+    return seconds, dict(line[:2] for line in lines(relay, "127.0.8.9"))[name]
+
+
+def all_at_once(*calls):
+    """What each of these answers."""
+    with ThreadPoolExecutor(len(calls)) as threads:
+        return [answer.result() for answer in [threads.submit(*call) for call in calls]]
+
+
+@test
+def whose_login_waits_is_gone_after_a_while(at):
+    with FastRelay(at) as relay:
+        relay.serve()
+        relay.settle()
+        # it decides nothing more
+        relay.running[-1].send_signal(signal.SIGSTOP)
+        gone = all_at_once((goes_after, relay, "silent"), (goes_after, relay, "pings", True))
+        assert [why for _, why in gone] == ["cD", "sD"], gone
+        assert all(SERVER_SILENCE - 1 < seconds < SERVER_SILENCE + SILENCE for seconds, _ in gone), gone
+    return " and ".join(f"{seconds:.1f} s" for seconds, _ in gone)
+
+
+@test
+def who_waits_for_a_slot_is_gone_as_who_is_silent(at):
+    with FastRelay(at, slots=1) as relay:
+        relay.serve()
+        relay.settle()
+        first = Client(relay.port, "127.0.8.10").log_in("first")
+        staying = threading.Thread(target=first.stay, args=(2 * SILENCE,))
+        staying.start()
+        gone = all_at_once((goes_after, relay, "silent"), (goes_after, relay, "pings", True))
+        assert [why for _, why in gone] == ["sQ", "sQ"], gone
+        assert all(SILENCE - 1 < seconds < 2 * SILENCE for seconds, _ in gone), gone
+        staying.join()
+        first.close()
+        assert comes_in(relay.port, "127.0.8.9", "next")
+    return " and ".join(f"{seconds:.1f} s" for seconds, _ in gone)
 
 
 @test

@@ -8,7 +8,8 @@ import re
 
 from mumble_server import enter, log_in, permissions_of
 from reader.mumble import AUTHENTICATE, PERMISSIONS
-from reader.question import answer_to
+from reader.question import answer_to, channel_named
+from reader.rights import rights_of
 from reader.wire import message
 
 FLOORS, ROOMS = 10, 29
@@ -149,3 +150,12 @@ def may_here(document, answers, question):
     who, inside, permission, path, _ = question
     said = answer_to(document, answers, who, permission, path)
     return said.startswith("yes") != (inside and said.endswith("once inside"))
+
+
+def wrong_answers(server, document):
+    """The questions of the table that a running server answers otherwise, or docs/who-may of a configuration, each with
+    both answers; how many there are; and the two clients that asked."""
+    asked, answers = list(questions()), rights_of(document)
+    askers = Askers(server, {question[3]: channel_named(document, question[3]) for question in asked})
+    found = [(question, askers.may(*question[:4]), may_here(document, answers, question)) for question in asked]
+    return [one for one in found if one[1:] != 2 * (one[0][4],)], len(asked), askers

@@ -9,10 +9,12 @@ import subprocess
 import sys
 import tempfile
 
+from keeping import holding
 from migration import TOP, bytes_of, filled, migrated, run, taken
-from murmurd_firm import firm
-from murmurd_test import EVERYTHING, holding, many
+from murmurd_firm import firm, wrong_answers
+from murmurd_test import EVERYTHING, many
 from reader import kept
+from reader.rights import read_document
 from server import Tests
 
 test = Tests()
@@ -86,6 +88,21 @@ def channels_keep_their_numbers(folder):
     whole, said = printed(path, document)
     assert "the numbers of channels" in said, said
     assert [one["name"] for one in whole["channels"][1:]] == ["High", "Low", "Two"], whole["channels"]
+
+
+@test
+def rights_of_what_is_kept_are_those_that_the_server_answers(folder):
+    """A firm of 300 channels is kept; the server that it was taken from answers the questions as the table does, and so
+    does docs/who-may of the configuration that is printed of the kept file."""
+    server = filled(folder, firm())
+    document, path, _ = kept_of(folder, server.database)
+    rows = kept.read(path)
+    assert "channels" not in document and (len(rows.channels), len(rows.links)) == (301, 100), rows
+    whole, _ = printed(path, document)
+    with server:
+        wrong, count, _ = wrong_answers(server, read_document(json.dumps(whole)))
+    assert not wrong, wrong
+    return f"{count} questions"
 
 
 @test

@@ -3,7 +3,6 @@
 the rights of the configuration are those that the mumble-server itself answers. MURMUR is the program that accepts the
 configurations; it serves nothing. Prints a line a test; the status is 1 where one failed. Words are the names of tests
 to run."""
-import contextlib
 import os
 import sqlite3
 import stat
@@ -11,12 +10,13 @@ import subprocess
 import sys
 import tempfile
 
+from keeping import holding
 from migration import NO_DIGEST, TOP, base, bytes_of, filled, migrated, refused, run, sha, taken
 from mumble_server import BAN_LIST, copied, log_in, permissions_of, welcome_of
-from murmurd_firm import PASSWORD, Askers, firm, may_here, questions
+from murmurd_firm import PASSWORD, firm, wrong_answers
 from reader.mumble import PERMISSIONS
 from reader.question import channel_named
-from reader.rights import read_document, rights_of
+from reader.rights import read_document
 from reader.wire import message
 from server import Tests
 
@@ -263,20 +263,6 @@ def a_damaged_database_is_refused(folder):
     return f"{len(cuts)} lengths, {len(spoiled) - len(cuts)} pages, {empty} of them empty"
 
 
-@contextlib.contextmanager
-def holding(path, statement):
-    """Another process has run a statement on a database, and keeps it open."""
-    words = "import sqlite3, sys; one = sqlite3.connect(sys.argv[1], isolation_level=None)\n" \
-            "one.execute(sys.argv[2]); print('ready', flush=True); sys.stdin.read()"
-    holder = subprocess.Popen([sys.executable, "-c", words, path, statement], stdin=subprocess.PIPE,
-                              stdout=subprocess.PIPE, text=True)
-    assert holder.stdout.readline() == "ready\n"
-    try:
-        yield
-    finally:
-        holder.communicate()
-
-
 @test
 def a_database_in_use_is_read_whole_or_refused(folder):
     """While the server runs on it, it can be read; while somebody writes, it is refused; what another has not finished
@@ -429,16 +415,12 @@ def bans_are_those_that_an_administrator_set(folder):
 def rights_are_those_that_the_server_answers(folder):
     """A firm of 300 channels is taken; the server answers the questions as the table does, and so does docs/who-may. A
     list that means something else here is named by the report."""
-    server, asked = filled(folder, firm()), list(questions())
+    server = filled(folder, firm())
     text, lines = migrated(server.database).stdout, taken(server.database)[1]
     document = read_document(text)
     assert len(document["channels"]) == 301 and len(document["links"]) == 100, document
-    answers, paths = rights_of(document), {question[3] for question in asked}
     with server:
-        askers = Askers(server, {path: channel_named(document, path) for path in paths})
-        wrong = [(*question, theirs, ours) for question in asked
-                 if (theirs := askers.may(*question[:4])) != question[4]
-                 or (ours := may_here(document, answers, question)) != question[4]]
+        wrong, count, askers = wrong_answers(server, document)
         assert not wrong, wrong
         assert askers.may("guests", True, "Enter", "Floor 7 / Room 16")
         # below the list with `sub`, whoever is beside the channel that is asked about has more here
@@ -453,7 +435,7 @@ def rights_are_those_that_the_server_answers(folder):
         words = [os.path.join(TOP, "docs/who-may"), file.name, "may", "cat", "Write", "Floor 1 / Room 10"]
         said = subprocess.run(words, capture_output=True, text=True, timeout=300, check=False)
         assert said.stdout.startswith("yes: cat (3) may Write in "), said
-    return f"{len(asked)} questions, {len(text.encode()):,} bytes"
+    return f"{count} questions, {len(text.encode()):,} bytes"
 
 
 if __name__ == "__main__":

@@ -20,7 +20,7 @@ import warnings
 
 import limits_test
 from bans import BAN_LIST, ban, listed
-from client import ENTER, Client, Ended, parse, trusting_context
+from client import ENTER, PATIENCE, Client, Ended, parse, trusting_context
 from reader.mumble import (AUTHENTICATE, CRYPT_SETUP, PERMISSION_DENIED, PING, REJECT, TEXT_MESSAGE, USER_REMOVE,
                            VERSION, VOICE)
 from limits_test import comes_in, is_reported, lines, login_frames
@@ -130,7 +130,7 @@ def who_is_banned_is_told_so_and_nobody_else(at):
     assert is_closed(bob.stream)
     assert listed(administrator) == [ban("127.0.5.2", reason="begone")], listed(administrator)
     assert is_banned(at, "127.0.5.2", "bob")
-    wait(lambda: any(line[0] == "bob" and line[2] == "rejected" for line in lines(at, "127.0.5.2")), 5)
+    wait(lambda: any(line[0] == "bob" and line[2] == "rejected" for line in lines(at, "127.0.5.2")), PATIENCE)
     # the other stays, leaves and comes back
     cat.send(VOICE, bytes([0x80, 1, 3, 7, 7, 7]))
     assert administrator.wait(VOICE)[2:] == bytes([1, 3, 7, 7, 7])
@@ -194,10 +194,10 @@ def addresses_are_kept_out(at):
 @test
 def the_server_gets_the_address(at):
     Client(at.port, "127.0.3.1").log_in("address").close()
-    wait(lambda: re.search(r"^murmur: \d+ from 127\.0\.3\.1\b", at.log(), re.M), 5)
+    wait(lambda: re.search(r"^murmur: \d+ from 127\.0\.3\.1\b", at.log(), re.M), PATIENCE)
     if os.path.exists("/proc/net/if_inet6"):
         Client(at.port, "::1", "::1").log_in("address6").close()
-        wait(lambda: re.search(r"^murmur: \d+ from \[?::1\b", at.log(), re.M), 5)
+        wait(lambda: re.search(r"^murmur: \d+ from \[?::1\b", at.log(), re.M), PATIENCE)
 
 
 @test
@@ -326,12 +326,12 @@ def drain_closes_the_clients_of_workers_that_a_reload_left(at):
     master = subprocess.Popen(["haproxy", "-W", "-S", at.path("master.sock"), "-f", "master.cfg"], cwd=at.folder,
                               stdout=subprocess.DEVNULL, stderr=subprocess.DEVNULL)
     try:
-        wait(lambda: not_refused(port) and os.path.exists(at.path("second.sock")), 20)
+        wait(lambda: not_refused(port) and os.path.exists(at.path("second.sock")), PATIENCE)
         before = Client(port, "127.0.3.3").log_in("before")
         # its worker may be there before the master hears signals
-        wait(lambda: processes(at.path("master.sock")), 20)
+        wait(lambda: processes(at.path("master.sock")), PATIENCE)
         master.send_signal(signal.SIGUSR2)
-        wait(lambda: re.search(rb"# old workers\n\d", processes(at.path("master.sock"))), 20)
+        wait(lambda: re.search(rb"# old workers\n\d", processes(at.path("master.sock"))), PATIENCE)
         after = Client(port, "127.0.3.3").log_in("after")
         drain_closes([before, after], [os.path.join(RELAY, "drain"), at.path("second-stop.sock")])
         assert server.wait(20) == 0

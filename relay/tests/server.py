@@ -10,7 +10,7 @@ import sys
 import tempfile
 
 from client import PATIENCE, PlainClient
-from trial import PROGRAM, free_port, run_checks, wait
+from trial import PROGRAM, free_port, is_asleep, run_checks, wait
 
 # How many descriptors the tests and their servers may have open.
 DESCRIPTORS = 4096
@@ -39,7 +39,8 @@ class Server:
             self.process = subprocess.Popen([PROGRAM, "serve", self.address, str(connections), *words], cwd=folder,
                                             stdin=standard_input, stdout=subprocess.PIPE, stderr=log, text=True,
                                             env={**os.environ, **environment})
-        wait(lambda: self.is_open() or self.process.poll() is not None, PATIENCE)
+        # it takes its memory once it listens
+        wait(lambda: self.process.poll() is not None or (self.is_open() and is_asleep(self.process)), 2 * PATIENCE)
 
     def is_open(self):
         return "murmur: listening on " in self.log()

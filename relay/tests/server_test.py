@@ -167,19 +167,28 @@ def a_login_may_end_at_each_byte(folder):
 
 @test
 def one_more_than_may_be_open_waits(folder):
-    with Server(folder, CONNECTION_LIMIT + 1) as server:
+    def wanting_in(name):
+        client = server.client()
+        client.send(AUTHENTICATE, message((1, name), (5, 1)))
+        return client
+
+    with Server(folder, CONNECTION_LIMIT + 2) as server:
         streams = [server.connect() for _ in range(CONNECTION_LIMIT)]
-        wait(lambda: f"murmur: {CONNECTION_LIMIT} from " in server.log(), 20)
-        last = server.client()
-        last.send(VERSION)
-        last.send(AUTHENTICATE, message((1, "last"), (5, 1)))
-        last.stay(1)
-        assert last.session is None and f"murmur: {CONNECTION_LIMIT + 1} from " not in server.log()
+        wait(lambda: f"murmur: {CONNECTION_LIMIT} from " in server.log(), PATIENCE)
+        first, second = wanting_in("first"), wanting_in("second")
+        # not as long as a thread sleeps that nobody wakes, which is a second
+        first.stay(0.5)
+        assert first.session is None and f"murmur: {CONNECTION_LIMIT + 1} from " not in server.log()
         streams.pop().close()
-        last.wait_until(lambda: last.session)
-        for stream in (last, *streams):
+        first.wait_until(lambda: first.session)
+        # as much as a client that goes, one that the server closes itself leaves its place to the next one at once
+        streams[-1].sendall(frame(AUTHENTICATE, message((1, "first"), (5, 1))))
+        second.wait_until(lambda: second.session)
+        assert is_closed(streams[-1])
+        for stream in (first, second, *streams):
             stream.close()
-        assert server.totals()["connections"] == CONNECTION_LIMIT + 1
+        assert server.totals()["connections"] == CONNECTION_LIMIT + 2
+        assert "overslept" not in server.log(), server.log()
 
 
 @test
@@ -391,7 +400,7 @@ def what_users_changed_is_saved_as_a_configuration(folder):
         user.send(ACL, message((1, 2), (2, 1), (4, deny_enter)))
         user.stay(0.5)
         user.close()
-        wait(lambda: "murmur: 1 closed" in server.log(), 10)
+        wait(lambda: "murmur: 1 closed" in server.log(), PATIENCE)
         saved = subprocess.run([os.path.join(RELAY, "save"), "--plain", server.address,
                                 os.path.join(folder, "murmur.json")], capture_output=True, text=True, timeout=60,
                                env={**os.environ, "MURMUR_PASSWORD": password}, check=False)

@@ -25,12 +25,16 @@ from trial import RELAY, free_port, wait
 
 # More connections than may be open at once.
 MANY = 1100
+# How many connections may wait for their headers at once.
+WAITING = 64
 # The longest payload of a frame, and how many such frames may be under way at once.
 LONGEST, LONG_FRAMES = 8_388_607, 8
 # How long what a client left behind is read, in seconds.
 LEFT_BEHIND_LIMIT = 10
 # How much more memory a server may have once all who sent much have gone, in megabytes.
 MEMORY_LEFT = 20
+# How much later than it should a busy machine may do something, in seconds.
+SLACK = 9
 # Long enough for what must not happen, in seconds.
 A_WHILE = 0.5
 
@@ -364,6 +368,37 @@ def headers_that_lie_or_are_cut_are_closed(folder):
 
 
 @test
+def who_sends_no_header_keeps_others_waiting_no_longer_than_that(folder):
+    # silent, in the midst of the signature, and of the address
+    begins = [b"", SIGNATURE[:6], header("203.0.113.9")[:20]]
+    with Server(folder, 2, f"proxy:127.0.0.1:{free_port()}") as server:
+        began = time.monotonic()
+        silent = [server.connect() for _ in range(WAITING)]
+        for number, stream in enumerate(silent):
+            stream.sendall(begins[number % len(begins)])
+        # all places are taken, so the next ones wait for one, also those whose header is whole
+        late = [server.connect() for _ in range(2)]
+        late[0].sendall(header("203.0.113.7") + ping(1))
+        assert read_exactly(late[0], len(ping(1))) == ping(1)
+        came = time.monotonic() - began
+        assert HEADER_PATIENCE - 1 < came < HEADER_PATIENCE + SLACK, f"after {came:.1f} s"
+        for stream in silent:
+            assert is_closed(stream, SLACK)
+        assert is_closed(late[1], HEADER_PATIENCE + SLACK)
+        gone = time.monotonic() - began
+        assert gone > 2 * HEADER_PATIENCE - 2, f"after {gone:.1f} s"
+        last = server.connect()
+        last.sendall(header("203.0.113.8") + ping(2))
+        assert read_exactly(last, len(ping(2))) == ping(2)
+        late[0].close()
+        last.close()
+        assert server.totals()["connections"] == 2
+        assert re.findall(r" from (.*)$", server.log(), re.M) == ["203.0.113.7", "203.0.113.8"], server.log()
+        never_overslept(server)
+    return f"let in after {came:.1f} s"
+
+
+@test
 def a_long_frame_waits_until_another_link_is_closed(folder):
     with Server(folder, LONG_FRAMES + 2, "unix:the.sock", MURMUR_PACE="none") as server:
         def announce():
@@ -392,6 +427,34 @@ def a_long_frame_waits_until_another_link_is_closed(folder):
         for stream in (waits, hangs_up, *streams):
             stream.close()
         server.totals()
+
+
+def ticks(server):
+    """How long the threads of a server ran, in ticks of the clock."""
+    with open(f"/proc/{server.process.pid}/stat") as stat:
+        return sum(map(int, stat.read().rpartition(")")[2].split()[11:13]))
+
+
+def rests(server):
+    """Whether none of its threads runs for a while."""
+    before = ticks(server)
+    time.sleep(A_WHILE)
+    return ticks(server) == before
+
+
+@test
+def who_has_nothing_to_do_sleeps(folder):
+    with Server(folder, 2) as server:
+        wait(lambda: rests(server), PATIENCE)
+        # also where somebody is there, and where somebody was
+        stays, goes = server.client().log_in("stays"), server.client().log_in("goes")
+        wait(lambda: rests(server), PATIENCE)
+        goes.close()
+        stays.wait_until(lambda: stays.user("goes") is None or None)
+        wait(lambda: rests(server), PATIENCE)
+        stays.close()
+        server.totals()
+        never_overslept(server)
 
 
 def resident(server):

@@ -22,7 +22,7 @@ import sys
 import tempfile
 from concurrent.futures import ThreadPoolExecutor
 
-from client import Client
+from client import PATIENCE, Client
 from reader.mumble import VOICE
 from trial import PASSWORD, RELAY, Installation, run_checks, wait
 
@@ -97,7 +97,7 @@ class Sound:
         log = os.path.join(folder, "sound.log")
         children.start(words, log, env={**os.environ, "HOME": home, "XDG_RUNTIME_DIR": os.path.join(home, "run"),
                                         "DBUS_SESSION_BUS_ADDRESS": "unix:path=/nonexistent"})
-        wait(lambda: os.path.exists(self.address), 20)
+        wait(lambda: os.path.exists(self.address), PATIENCE)
         for name, frequency in TONES.items():
             file = os.path.join(home, f"{name}.tone")
             second = array.array("h", (int(8000 * math.sin(2 * math.pi * frequency * i / RATE)) for i in range(RATE)))
@@ -182,7 +182,7 @@ class StockClient:
         with open(display, "w") as number:
             children.start(["Xvfb", "-displayfd", str(number.fileno()), "-screen", "0", "900x600x24", "-nolisten", "tcp"],
                            os.path.join(home, "display.log"), pass_fds=(number.fileno(),))
-        wait(lambda: os.path.getsize(display) and os.path.exists(bus), 20)
+        wait(lambda: os.path.getsize(display) and os.path.exists(bus), PATIENCE)
         with open(display) as number:
             shown = f":{number.read().strip()}"
         self.environment = {**os.environ, "HOME": home, "XDG_RUNTIME_DIR": os.path.join(home, "run"), "DISPLAY": shown,

@@ -13,11 +13,11 @@ import sys
 import threading
 import time
 
-from client import Ended, PlainClient
+from client import PATIENCE, Ended, PlainClient
 from reader.mumble import AUTHENTICATE, TEXT_MESSAGE, VERSION, VOICE
 from reader.wire import message
 from server import Server, Tests, header, is_closed
-from trial import PROGRAM, RELAY, free_port, wait
+from trial import PROGRAM, RELAY, free_port, is_asleep, wait
 
 # How soon a server ends that is asked to, in seconds.
 SOON = 10
@@ -59,8 +59,10 @@ class Stoppable(Server):
                                             stdin=subprocess.DEVNULL, stdout=subprocess.PIPE, stderr=log, text=True,
                                             env={**os.environ, "MURMUR_STOP": "unix:stop.sock", **environment})
         # the door comes last; its file is there just before it listens
-        wait(lambda: os.path.exists(os.path.join(folder, "the.sock")) or self.process.poll() is not None, 20)
-        time.sleep(0.1)
+        wait(lambda: self.process.poll() is not None or (self.is_open() and is_asleep(self.process)), PATIENCE)
+
+    def is_open(self):
+        return os.path.exists(os.path.join(self.folder, "the.sock"))
 
 
 def journal_of(server):
@@ -299,14 +301,14 @@ def who_cannot_be_accepted_is_said_once(folder):
         with Stoppable(folder, MURMUR_LOG=log) as server:
             resource.prlimit(server.process.pid, resource.RLIMIT_NOFILE, (FEW, FEW))
             streams = [server.connect() for _ in range(100)]
-            wait(lambda: "cannot accept" in server.log(), 10)
+            wait(lambda: "cannot accept" in server.log(), PATIENCE)
             time.sleep(2.5)
             line = "murmur: cannot accept connections: Too many open files (os error 24)\n"
             assert server.log().count("cannot accept") == 1 and line in server.log(), server.log()
             # as many as went away get in, and then it is said again
             for stream in streams[:5]:
                 stream.close()
-            wait(lambda: server.log().count(line) > 1, 10)
+            wait(lambda: server.log().count(line) > 1, PATIENCE)
             totals = stopped(server)
             assert FEW - 30 < totals["connections"] < FEW, totals
     return f"{totals['connections']} of 100 got in"
@@ -353,9 +355,9 @@ def at_a_terminal_it_says_what_it_reads(folder):
                                        stderr=errors, env={**os.environ, "MURMUR_LOG": "none"})
         try:
             if len(words) == 3:
-                wait(lambda: said in log(), 5)
+                wait(lambda: said in log(), PATIENCE)
                 os.write(terminal, b"{}\n\x04")
-                wait(lambda: os.path.exists(f"{folder}/the.sock"), 10)
+                wait(lambda: os.path.exists(f"{folder}/the.sock"), PATIENCE)
             else:
                 assert process.wait(10) == 1 and said not in log()
         finally:

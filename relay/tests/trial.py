@@ -37,6 +37,18 @@ def wait(asked, seconds):
         time.sleep(0.05)
 
 
+def is_asleep(process):
+    """Whether all threads of a process sleep, and so it has done what there was to do."""
+    folder, states = f"/proc/{process.pid}/task", []
+    try:
+        for thread in os.listdir(folder):
+            with open(f"{folder}/{thread}/stat") as stat:
+                states.append(stat.read().rpartition(")")[2].split()[0])
+    except OSError:
+        return False
+    return all(state == "S" for state in states)
+
+
 def free_port():
     with socket.socket() as probe:
         probe.bind(("127.0.0.1", 0))

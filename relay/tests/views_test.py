@@ -6,6 +6,7 @@ failed.
 """
 import json
 import os
+import select
 import socket
 import subprocess
 import sys
@@ -328,6 +329,8 @@ def a_long_document_is_read_slowly_and_who_reads_nothing_is_cut_off(folder):
             seconds = time.monotonic() - began
             same(first + read_to_the_end(stream), due)
         assert seconds < VIEW_PATIENCE + SLACK, seconds
+        # each has a patience of its own, and who reads before it is over gets all
+        wait(lambda: all(is_shut(stream) for stream in deaf), PATIENCE)
         cut = [read_to_the_end_or_reset(stream) for stream in deaf]
         assert all(due.startswith(one) and len(one) < len(due) for one in cut), [len(one) for one in cut]
         by_bytes, whole = slowly.result()
@@ -347,6 +350,13 @@ def held(stream):
         return False
     finally:
         stream.settimeout(PATIENCE)
+
+
+def is_shut(stream):
+    """Whether the server has closed a connection in the machine, whatever is left to be read of it."""
+    events = select.poll()
+    events.register(stream, select.POLLRDHUP)
+    return bool(events.poll(0))
 
 
 def read_slowly(stream, seconds):

@@ -7,7 +7,7 @@ import tempfile
 from concurrent.futures import ThreadPoolExecutor
 from pathlib import Path
 
-from . import compare, exercise, mumble, program, why
+from . import compare, exercise, mumble, program, why, wire
 from .transcript import told_by_step
 
 EXERCISES, ROUNDS = 200, 60
@@ -316,8 +316,7 @@ class Played:
         """A packet is looked for at what is published, and each copy is offered."""
         published = sum(what.startswith("accepted") for _, what in self.came)
         packet = bytes([0x80 | target, 1]) + bytes.fromhex("03aabbcc")
-        frame = (1).to_bytes(2, "big") + len(packet).to_bytes(4, "big") + packet
-        self.steps += [f"frame {who} {frame.hex()}", f"look {who % 2} {published}"]
+        self.steps += [f"frame {who} {wire.frame(mumble.VOICE, packet).hex()}", f"look {who % 2} {published}"]
         self.steps += [f"offer {who % 2}"] * int(self.note()[3])
 
     def play(self, users, acts):

@@ -103,7 +103,8 @@ NAMES = {
 def split_frame(digits):
     """The type of a frame in hexadecimal digits, and its payload."""
     frame = bytes.fromhex(digits)
-    return int.from_bytes(frame[:2], "big"), frame[6:]
+    kind, _ = wire.HEADER.unpack_from(frame)
+    return kind, frame[wire.HEADER.size:]
 
 
 def voice_number(packet):

@@ -9,6 +9,7 @@ from .transcript import told_by_step
 
 TOP = Path(__file__).resolve().parents[2]
 SECONDS = 120
+UNPROVED = "murmur-unproved: NOT PROVED."
 
 
 def words_of(error):
@@ -46,8 +47,10 @@ def bytes_of(text):
 
 
 def lines_of(output):
-    """The lines of what was written, each of which ends with a line feed."""
-    return output.decode("utf-8", "replace").removesuffix("\n").split("\n") if output else []
+    """The lines of what was written, each of which ends with a line feed, but for what a program without proofs says of
+    itself where it serves."""
+    lines = output.decode("utf-8", "replace").removesuffix("\n").split("\n") if output else []
+    return lines[1:] if lines and lines[0].startswith(UNPROVED) else lines
 
 
 def run(words, text=""):

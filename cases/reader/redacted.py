@@ -55,20 +55,10 @@ def numeral(number, length):
 
 def spans_of(payload):
     """The fields of a payload with the places of what they hold: number, wire type, first byte, last byte and one."""
-    at = 0
-    while at < len(payload):
-        key, at = wire.read_varint(payload, at)
-        if key & 7 == 0:
-            _, end = wire.read_varint(payload, at)
-        elif key & 7 == 2:
-            size, at = wire.read_varint(payload, at)
-            end = at + size
-        else:
-            end = at + (8 if key & 7 == 1 else 4)
-        if end > len(payload):
+    for number, wire_type, first, behind in wire.spans(payload):
+        if behind > len(payload):
             raise NotReadable("a field runs past the end of its message")
-        yield key >> 3, key & 7, at, end
-        at = end
+        yield number, wire_type, first, behind
 
 
 def with_blocks_changed(payload, table, change):

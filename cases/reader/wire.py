@@ -51,19 +51,25 @@ def read_varint(data, at):
             return value, at
 
 
-def read_fields(payload):
-    """The fields of a payload: triples of a number, a wire type and a value, which is a number or bytes."""
+def spans(payload):
+    """Where the fields of a payload are: of each its number, its wire type, its first byte and the one behind its last."""
     at = 0
     while at < len(payload):
-        key, at = read_varint(payload, at)
+        key, first = read_varint(payload, at)
         if key & 7 == NUMBER:
-            value, at = read_varint(payload, at)
+            _, at = read_varint(payload, first)
+        elif key & 7 == BLOCK:
+            size, first = read_varint(payload, first)
+            at = first + size
         else:
-            size = 8 if key & 7 == EIGHT_BYTES else 4
-            if key & 7 == BLOCK:
-                size, at = read_varint(payload, at)
-            value, at = payload[at:at + size], at + size
-        yield key >> 3, key & 7, value
+            at = first + (8 if key & 7 == EIGHT_BYTES else 4)
+        yield key >> 3, key & 7, first, at
+
+
+def read_fields(payload):
+    """The fields of a payload: triples of a number, a wire type and a value, which is a number or bytes."""
+    for number, wire_type, first, behind in spans(payload):
+        yield number, wire_type, read_varint(payload, first)[0] if wire_type == NUMBER else payload[first:behind]
 
 
 def read_frames(data):

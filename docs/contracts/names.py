@@ -6,10 +6,12 @@ from .calls import CLAUSE, blocks_of, calls_of, name_of, types_of
 from .crates import ROOT, brought, crates, files_of, text_of
 from .page import libraries
 
-PAGES = tuple(f"docs/{page}.md" for page in ("PROMISES", "ARCHITECTURE", "TRUST", "LIMITS", "DECISIONS", "READING"))
+NAMED = ("PROMISES", "ARCHITECTURE", "TRUST", "LIMITS", "DECISIONS", "READING")
+PAGES = ("CONTRIBUTING.md", *(f"docs/{page}.md" for page in NAMED))
 CODE = re.compile(r"`(\w+(?:(?:::|/)[\w.]+)*)`")
 OF_CRATE = re.compile(r"`(\w+)` of `(mum_\w+)`")
 CONSTANT = re.compile(r"\bconst ([A-Z][A-Z_]+): \w+ = (\w+);")
+LISTED = re.compile(r"^([A-Z][A-Z_]+) = ", re.MULTILINE)
 DECLARED = re.compile(
     r"\b(?:fn|struct|enum|trait|type|mod|const|static|ghost|pub(?: \w+)*?) ([\w']+)\b(?= *(?:[:(;={<]|$))", re.MULTILINE
 )
@@ -48,9 +50,17 @@ def is_known(code, known):
     return all(part in known for part in re.split("::|/", code)) and name in members().get(of_type, {name})
 
 
+def scripted():
+    """The names of the tables of cases, and of what the scripts behind cases and pages list."""
+    tables = {path.name for path in (ROOT / "cases").glob("*/*")}
+    scripts = [*(ROOT / "cases").glob("*/*.py"), *(ROOT / "docs").glob("*/*.py")]
+    return tables.union(*(LISTED.findall(path.read_text(encoding="utf-8")) for path in scripts))
+
+
 def unknown_names():
     """The names that no source has, or not the crate of which a page says that it has them."""
     every = set(re.findall(r"\w+", (ROOT / "crates.txt").read_text(encoding="utf-8"))).union(*map(declared, crates()))
+    every |= scripted()
     for page in PAGES:
         for number, line in enumerate((ROOT / page).read_text(encoding="utf-8").splitlines(), 1):
             for code in CODE.findall(line):

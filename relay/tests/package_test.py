@@ -110,17 +110,19 @@ def make_deb_refuses_what_the_gate_has_not_passed():
         subprocess.run(["git", "init", "-q", folder], check=True)
         author = ["-c", "user.name=test", "-c", "user.email=test@localhost"]
         subprocess.run(["git", *author, "commit", "-q", "--allow-empty", "-m", "test"], cwd=folder, check=True)
-        program, record = (os.path.join(folder, name) for name in ("crates/murmur/out/murmur", ".ci/out/gate"))
+        program, why, record = (os.path.join(folder, name) for name in
+                                ("crates/murmur/out/murmur", "crates/murmur_why/out/murmur_why", ".ci/out/gate"))
 
         def answer(content=b"a program", **change):
-            for file in (program, record):
+            contents = {program: content, why: b"another program"}
+            for file in (*contents, record):
                 os.makedirs(os.path.dirname(file), exist_ok=True)
-            with open(program, "wb") as file:
-                file.write(content)
-            os.chmod(program, 0o755)
-            digest = hashlib.sha256(content).hexdigest()
+            for file, its in contents.items():
+                Path(file).write_bytes(its)
+                os.chmod(file, 0o755)
+            digest, why_digest = (hashlib.sha256(its).hexdigest() for its in contents.values())
             lines = {"commit": "commit 0123456789abcdef", "kit": "kit of the test", "program": f"program {digest}",
-                     "end": "7 passed, 0 failed", **change}
+                     "why": f"murmur-why {why_digest}", "end": "7 passed, 0 failed", **change}
             with open(record, "w") as file:
                 file.write("".join(line + "\n" for line in lines.values()))
             return made()
@@ -137,6 +139,7 @@ def make_deb_refuses_what_the_gate_has_not_passed():
         assert "the gate failed" in answer(end="0 passed, 0 failed")
         assert "no commit has" in answer(commit="commit 0123456789abcdef-dirty")
         assert "is not the program of that gate" in answer(program=f"program {'0' * 64}")
+        assert "murmur_why is not the program of that gate" in answer(why=f"murmur-why {'0' * 64}")
         assert "is unproved" in answer(b"a program with the mark murmur-unproved in it")
         os.remove(record)
         os.remove(program)

@@ -3,7 +3,8 @@
 ghost use Rattle.std.specs.Prelude.{◌≡◌};
 
 use crate::station::{PollSleeper, WAKER};
-use mio::{Events, Poll, Registry, Token, Waker};
+use crate::stream::StreamPolls;
+use mio::{Events, Poll, Token, Waker};
 use mum_crew::{Crew, CrewEnd, Plan, RunTally};
 use mum_link::{Board, Hub, LaterRoles, Life, LinkStation, Shares, Stations, THREAD_LIMIT};
 use std::alloc::{AllocError, Global};
@@ -71,14 +72,15 @@ impl<X: Net + Clock + Copy> ThreadCrew<X> {
         Ok(boards)
     }
 
-    /// Where sockets are registered at the polls of its threads.
-    pub(crate) fn registries(&self, alloc: Global) -> io::Result<Arc<Vec<Registry>>> {
+    /// What sockets share, with the polls of its threads.
+    pub(crate) fn polls(&self, alloc: Global) -> io::Result<Arc<StreamPolls>> {
         let stations = self.stations.as_slice();
         let mut registries = Vec::with_capacity(alloc, stations.len())?;
         for station in stations.iter() {
             registries.push(station.sleeper.poll.registry().try_clone()?)?;
         }
-        Ok(Arc::new(alloc, registries)?)
+        let polls = StreamPolls::new(alloc, registries)?;
+        Ok(Arc::new(alloc, polls)?)
     }
 }
 

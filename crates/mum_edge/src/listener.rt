@@ -2,7 +2,7 @@
 
 use crate::peer::Peer;
 use crate::socket_file;
-use crate::stream::Stream;
+use crate::stream::{Stream, StreamPolls};
 use mio::net::{TcpListener, UnixListener};
 use mio::{Interest, Registry, Token};
 use mum_address::{Address, Place, ipv6_of, own_address, socket_path};
@@ -70,7 +70,7 @@ impl Bound {
 pub struct SocketListener<X> {
     rt: X,
     bound: Option<Bound>,
-    registries: Arc<Vec<Registry>>,
+    polls: Arc<StreamPolls>,
     fault: Option<i32>,
     life: Life<X>,
     stop_at: Option<String>,
@@ -86,7 +86,7 @@ impl<X: Net + Files + Eprint> SocketListener<X> {
     /// them, so as to be notified soon of what the peer took.
     pub(crate) fn new(
         rt: X,
-        registries: Arc<Vec<Registry>>,
+        polls: Arc<StreamPolls>,
         fault: Option<i32>,
         life: Life<X>,
         stop_at: Option<String>,
@@ -95,7 +95,7 @@ impl<X: Net + Files + Eprint> SocketListener<X> {
         SocketListener {
             rt,
             bound: None,
-            registries,
+            polls,
             fault,
             life,
             stop_at,
@@ -109,7 +109,7 @@ impl<X: Net + Files + Eprint> SocketListener<X> {
         if let Some(code) = self.fault {
             return Err(io::Error::from_raw_os_error(code));
         }
-        match self.registries.get(thread) {
+        match self.polls.registry(thread) {
             Some(registry) => Ok(registry),
             None => Err(io::Error::from(ErrorKind::NotFound)),
         }
@@ -200,8 +200,8 @@ impl<X: Net + Files + Eprint + Copy> Listener for SocketListener<X> {
         }
         self.came = self.came.saturating_add(1);
         let address = own_address(from, self.came);
-        let registries = self.registries.clone()?;
-        let peer = Peer::new(stream, from, address, registries, self.life);
+        let polls = self.polls.clone()?;
+        let peer = Peer::new(stream, from, address, polls, self.life);
         Ok((peer, address))
     }
 

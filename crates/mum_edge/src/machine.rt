@@ -4,7 +4,7 @@ use crate::clock::SystemClock;
 use crate::crew::{ThreadCrew, thread_count};
 use crate::listener::SocketListener;
 use crate::peer::Peer;
-use mio::Registry;
+use crate::stream::StreamPolls;
 use mum_address::reports_under;
 use mum_link::{Doorstep, Entrance, Hub, Life, Socket, SocketDoor};
 use mum_pace::Pace;
@@ -104,7 +104,7 @@ impl<X: AllocGlobal + Net + Files + Env + Eprint + Threads + Clock + Copy> Machi
         let step = Doorstep::of_users(setting.pace);
         let listener = SocketListener::new(rt, polls.clone()?, fault, life, setting.stop_at, false);
         let door = Entrance::new(alloc, hub.clone()?, crew.boards(alloc)?, step, listener);
-        let step = Doorstep::of_views(polls.len().saturating_sub(1));
+        let step = Doorstep::of_views(polls.threads().saturating_sub(1));
         let keeps_little = step.delivery.patience.is_some();
         let listener = SocketListener::new(rt, polls, fault, life.silent(), None, keeps_little);
         let view = Entrance::new(alloc, hub, crew.boards(alloc)?, step, listener);
@@ -117,7 +117,7 @@ impl<X: AllocGlobal + Net + Files + Env + Eprint + Threads + Clock + Copy> Machi
     }
 }
 
-// A crew of this many threads, and where sockets are registered at their polls.
+// A crew of this many threads, and what sockets share.
 fn crew_of<X: Net + Clock + Copy>(
     rt: X,
     alloc: Global,
@@ -125,9 +125,9 @@ fn crew_of<X: Net + Clock + Copy>(
     threads: usize,
     later_roles: usize,
     life: Life<X>,
-) -> io::Result<(ThreadCrew<X>, Arc<Vec<Registry>>)> {
+) -> io::Result<(ThreadCrew<X>, Arc<StreamPolls>)> {
     let crew = ThreadCrew::new(rt, alloc, hub.clone()?, threads, later_roles, life)?;
-    let polls = crew.registries(alloc)?;
+    let polls = crew.polls(alloc)?;
     Ok((crew, polls))
 }
 

@@ -5,12 +5,12 @@ ghost use Rattle.std.specs.Net.Addr.{ipv6_octets};
 ghost use Rattle.std.specs.Option.{option_map};
 ghost use Rattle.mum_link.specs.Faults.{CountsOneIf};
 
-use crate::stream::Stream;
-use mio::Registry;
+use crate::stream::{Stream, StreamPolls};
 use mum_address::is_made;
 use mum_link::{Life, Sightings, Socket, is_passing};
 use std::io;
 use std::io::{Eprint, ErrorKind};
+use std::mem::replace;
 use std::net::Ipv6Addr;
 use std::sync::Arc;
 
@@ -28,7 +28,7 @@ pub struct Peer<X> {
     address: Ipv6Addr,
     refusals: u64,
     failures: u64,
-    registries: Arc<Vec<Registry>>,
+    polls: Arc<StreamPolls>,
     watched: Option<(usize, usize)>,
     pub life: Life<X>,
     pub connection: u64,
@@ -53,7 +53,7 @@ impl<X> Peer<X> {
         stream: Stream,
         from: Ipv6Addr,
         address: Ipv6Addr,
-        registries: Arc<Vec<Registry>>,
+        polls: Arc<StreamPolls>,
         life: Life<X>,
     ) -> Peer<X>
         ensures { result.address ≡ address }
@@ -64,7 +64,7 @@ impl<X> Peer<X> {
             address,
             refusals: 0,
             failures: 0,
-            registries,
+            polls,
             watched: None,
             life,
             connection: 0,
@@ -84,7 +84,7 @@ impl<X> Peer<X> {
         ensures address { self.new.address ≡ self.old.address }
     {
         self.unwatch();
-        let Some(registry) = self.registries.get(thread) else {
+        let Some(registry) = self.polls.registry(thread) else {
             return Err(io::Error::from(ErrorKind::NotFound));
         };
         self.stream.register(registry, slot)?;
@@ -98,7 +98,7 @@ impl<X> Peer<X> {
         ensures failures { self.new.failures ≡ self.old.failures }
     {
         if let Some((thread, _)) = self.watched {
-            if let Some(registry) = self.registries.get(thread) {
+            if let Some(registry) = self.polls.registry(thread) {
                 let _gone_already = self.stream.deregister(registry);
             }
         }
@@ -115,20 +115,23 @@ impl<X> Peer<X> {
         let Some((thread, slot)) = self.watched else {
             return false;
         };
-        match self.registries.get(thread) {
+        match self.polls.registry(thread) {
             Some(registry) => self.stream.register_both(registry, slot).is_ok(),
             None => false,
         }
     }
 
-    fn drain(&self) {
+    // Throws away what has come. Whether more may come.
+    fn drain(&self) -> bool {
         let mut buf = [0u8; DRAIN_PIECE];
         for _ in 0..DRAIN_LIMIT / DRAIN_PIECE {
             match self.stream.read(&mut buf) {
-                Ok(count) if 0 < count => {}
-                _ => break,
+                Ok(0) => return false,
+                Ok(_) => {}
+                Err(error) => return error.kind() == ErrorKind::WouldBlock,
             }
         }
+        true
     }
 }
 
@@ -194,9 +197,13 @@ impl<X: Eprint + Drop> Socket for Peer<X> {
 
     fn leave(&mut self, milliseconds: u64, received: u64, sent: u64) {
         let _gone_already = self.stream.end_writing();
-        self.drain();
+        let may_send_on = self.drain();
         self.unwatch();
         let seconds = milliseconds.saturating_sub(self.opened) / 1000;
         self.life.went(self.connection, seconds, received, sent);
+        if may_send_on {
+            let stream = replace(&mut self.stream, Stream::Left);
+            self.polls.keep(stream);
+        }
     }
 }

@@ -4,8 +4,9 @@ ghost use Rattle.std.specs.Io.{ReadsAtMost, WritesAtMost};
 
 use mio::net::{TcpStream, UnixStream};
 use mio::{Interest, Registry, Token};
+use mum_link::Polls;
 use std::io;
-use std::io::{Read, Write};
+use std::io::{ErrorKind, Read, Write};
 use std::net::Shutdown;
 use std::os::fd::AsRawFd;
 
@@ -14,7 +15,12 @@ use std::os::fd::AsRawFd;
 pub enum Stream {
     Tcp(TcpStream),
     Unix(UnixStream),
+    /// That of a link that was shut: nothing comes over it.
+    Left,
 }
+
+/// What all streams share.
+pub type StreamPolls = Polls<Registry, Stream>;
 
 impl Stream {
     pub fn read(&self, buf: &mut [u8]) -> io::Result<usize>
@@ -23,6 +29,7 @@ impl Stream {
         match self {
             Stream::Tcp(stream) => (&*stream).read(buf),
             Stream::Unix(stream) => (&*stream).read(buf),
+            Stream::Left => Ok(0),
         }
     }
 
@@ -32,6 +39,7 @@ impl Stream {
         match self {
             Stream::Tcp(stream) => (&*stream).write(piece),
             Stream::Unix(stream) => (&*stream).write(piece),
+            Stream::Left => Err(io::Error::from(ErrorKind::NotConnected)),
         }
     }
 
@@ -39,7 +47,7 @@ impl Stream {
     pub fn set_no_delay(&self) -> io::Result<()> {
         match self {
             Stream::Tcp(stream) => stream.set_nodelay(true),
-            Stream::Unix(_) => Ok(()),
+            Stream::Unix(_) | Stream::Left => Ok(()),
         }
     }
 
@@ -60,6 +68,7 @@ impl Stream {
         match self {
             Stream::Tcp(stream) => stream.shutdown(Shutdown::Write),
             Stream::Unix(stream) => stream.shutdown(Shutdown::Write),
+            Stream::Left => Ok(()),
         }
     }
 
@@ -67,6 +76,7 @@ impl Stream {
         match self {
             Stream::Tcp(stream) => registry.register(stream, Token(slot), Interest::READABLE),
             Stream::Unix(stream) => registry.register(stream, Token(slot), Interest::READABLE),
+            Stream::Left => Ok(()),
         }
     }
 
@@ -76,6 +86,7 @@ impl Stream {
         match self {
             Stream::Tcp(stream) => registry.reregister(stream, Token(slot), both),
             Stream::Unix(stream) => registry.reregister(stream, Token(slot), both),
+            Stream::Left => Ok(()),
         }
     }
 
@@ -83,6 +94,7 @@ impl Stream {
         match self {
             Stream::Tcp(stream) => registry.deregister(stream),
             Stream::Unix(stream) => registry.deregister(stream),
+            Stream::Left => Ok(()),
         }
     }
 }

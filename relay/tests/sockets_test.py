@@ -218,6 +218,27 @@ def who_is_rejected_reads_why_and_then_the_end(folder):
 
 
 @test
+def who_was_rejected_may_send_on(folder):
+    """For a relay that cannot write throws away what it has not read."""
+    def rejected():
+        client = server.client()
+        client.send(AUTHENTICATE, message((1, "guest"), (2, "guessed"), (5, 1)))
+        assert dict(parse(client.wait(REJECT)))[1] == 4, client.frames
+        assert read_to_the_end(client.stream) == b""
+        return client
+
+    for address in (None, "unix:the.sock"):
+        with Server(folder, 2, address, document={"server_password_sha256": "0" * 64}) as server:
+            client = rejected()
+            for _ in range(3):
+                client.send(TEXT_MESSAGE, bytes(1000))
+                time.sleep(0.05)
+            client.close()
+            rejected().close()
+            assert server.totals()["accepted"] == 0
+
+
+@test
 def clients_hear_each_other_at_once(folder):
     with Server(folder, 2) as server:
         ann, bob = server.client().log_in("ann"), server.client().log_in("bob")

@@ -430,7 +430,7 @@ class AfterACopy:
         self.copy("password", "/usr/local/sbin/murmur-password", 0o755)
         self.copy("murmur.json", SETTINGS + "murmur.json", 0o600)
         for name in os.listdir(RELAY):
-            if name.endswith(".lua"):
+            if name.endswith((".lua", ".html")):
                 self.copy(name, f"/etc/haproxy/murmur/{name}")
         self.machine.run("openssl req -x509 -newkey ec -pkeyopt ec_paramgen_curve:prime256v1 -nodes -subj /CN=old"
                          " -keyout /etc/haproxy/murmur/server.pem -out /etc/haproxy/murmur/server.pem")
